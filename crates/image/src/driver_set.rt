@@ -1,0 +1,108 @@
+//! The type of a driver set.
+
+ghost use Rattle.std.specs.Prelude.{◌≡◌, ◌<◌, ◌↔◌, ℕ, IsOk, IfOk, IfErr, IfSome, slice_get};
+ghost use Rattle.model.specs.Set.{default_code};
+
+use crate::sound::is_sound;
+use model::instr::{Instr, Register, Return};
+use model::limits::DEFAULT_ROUTINE;
+use model::set::{Device, Driver};
+use model::status::{Major, Status};
+use std::marker::Model;
+
+/// A set of drivers and devices, each numbered in order from 0. Its type keeps the counts and stack
+/// sizes within their limits, and that every number names a thing that is there.
+#[derive(Drop)]
+pub struct DriverSet {
+    driver_list: Vec<Driver>,
+    device_list: Vec<Device>,
+}
+
+impl Model for DriverSet {
+    ghost use Rattle.model.specs.Set.{Set};
+    ghost use Rattle.model.specs.Sound.{IsSound};
+
+    ghost Value = { Set };
+
+    ghost view = { λ s. record { drivers = s.driver_list.items; devices = s.device_list.items } };
+
+    ghost invariant = { λ s. IsSound (record { drivers = s.driver_list.items; devices = s.device_list.items }) };
+}
+
+impl DriverSet {
+    ghost use Rattle.model.specs.Set.{Set, serving, instruction_at};
+    ghost use Rattle.model.specs.Sound.{IsSound};
+
+    /// The set of these drivers and devices. They are handed back exactly where they break a limit
+    /// or a number in them names nothing. Empty lists are a set.
+    pub fn of(
+        drivers: Vec<Driver>,
+        devices: Vec<Device>,
+    ) -> Result<DriverSet, (Vec<Driver>, Vec<Device>)>
+        ensures sound { IsOk result ↔ IsSound (record { drivers = drivers.items; devices = devices.items }) }
+        ensures set { IfOk result (λ set. set ≡ record { drivers = drivers.items; devices = devices.items }) }
+        ensures back { IfErr result (λ lists. lists ≡ record { 0 = drivers; 1 = devices }) }
+    {
+        if is_sound(drivers.as_slice(), devices.as_slice()) {
+            Ok(DriverSet {
+                driver_list: drivers,
+                device_list: devices,
+            })
+        } else {
+            Err((drivers, devices))
+        }
+    }
+
+    /// Its drivers, by number.
+    pub fn drivers(&self) -> &[Driver]
+        ensures drivers { result.now ≡ self.now.drivers }
+        ensures sound { IsSound self.now }
+    {
+        self.driver_list.as_slice()
+    }
+
+    /// Its devices, by number.
+    pub fn devices(&self) -> &[Device]
+        ensures devices { result.now ≡ self.now.devices }
+        ensures sound { IsSound self.now }
+    {
+        self.device_list.as_slice()
+    }
+
+    /// The number of the routine that serves a major function for a driver: the default routine's
+    /// where the driver names none.
+    pub fn handler(&self, driver: u8, major: Major) -> u8
+        ensures { result ≡ serving (slice_get self.now.drivers driver) major }
+    {
+        self.drivers()
+            .get(driver as usize)
+            .and_then(|driver| driver.handler(major))
+            .unwrap_or(DEFAULT_ROUTINE)
+    }
+
+    /// The instruction at a position of a routine of a driver, the default routine's among them.
+    pub fn instruction(&self, driver: u8, routine: u8, position: u16) -> Option<Instr>
+        ensures instruction { result ≡ instruction_at self.now driver routine position }
+        ensures near { IfSome result (λ _. position < 1024) }
+    {
+        if routine == DEFAULT_ROUTINE {
+            return default_instruction(position);
+        }
+        let driver = self.drivers().get(driver as usize)?;
+        let routine = driver.routines.as_slice().get(routine as usize)?;
+        routine.code.as_slice().get(position as usize).copied()
+    }
+}
+
+/// The default routine: it completes the packet in its first register with
+/// STATUS_INVALID_DEVICE_REQUEST, and returns that status.
+fn default_instruction(position: u16) -> Option<Instr>
+    ensures instruction { result ≡ slice_get default_code position }
+    ensures near { IfSome result (λ _. position < 2) }
+{
+    match position {
+        0 => Some(Instr::Complete(Register::FIRST, Status::InvalidDeviceRequest)),
+        1 => Some(Instr::Ret(Return::WithStatus(Status::InvalidDeviceRequest))),
+        _ => None,
+    }
+}

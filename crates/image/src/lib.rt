@@ -1,0 +1,10 @@
+//! Driver sets, as every layer above holds them.
+#![tactic(auto)]
+
+pub mod driver_set;
+mod sound;
+
+pub use driver_set::DriverSet;
+pub use model::instr::{Instr, Register, Return};
+pub use model::items::Items;
+pub use model::set::{Device, Driver, Routine, Sort};

@@ -1,0 +1,23 @@
+-- What a step does, as far as the rules on runs look at it.
+use Rattle.std.specs.Prelude.{ℕ}
+use Rattle.model.specs.declared.status.Status.{Status}
+
+pub data Action : Type 0 where
+  -- the activation executes an instruction
+  Executes : Action
+  -- a packet is looked at or written to
+  Touches : (packet : ℕ) → Action
+  -- a packet is issued, which opens a use of its first location
+  Issues : (packet : ℕ) → Action
+  -- IoCompleteRequest is called for a packet
+  Completes : (packet : ℕ) → Action
+  -- the current location of a packet is marked pending
+  Marks : (packet : ℕ) → Action
+  -- completion leaves the current location of a packet
+  Leaves : (packet : ℕ) → Action
+  -- a dispatch activation returns a status
+  Returns : (status : Status) → Action
+  -- a packet tops out: its completion has left its first location
+  TopsOut : (packet : ℕ) → Action
+  -- an operand is of a wrong kind, or the position is outside the routine
+  GoesWrong : Action

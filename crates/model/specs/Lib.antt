@@ -1,0 +1,14 @@
+pub mod Status
+pub mod Set
+pub mod Sound
+pub mod World
+pub mod Action
+pub mod Effect
+pub mod Trace
+pub mod Fault
+pub mod Run
+pub mod LocalRule
+pub mod Paths
+pub mod Typable
+pub mod Certificate
+pub mod Machine

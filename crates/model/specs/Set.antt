@@ -1,0 +1,49 @@
+-- Driver sets: drivers and devices, and which routine serves what.
+use Rattle.std.specs.Prelude.{ℕ, Bool, List, [], ◌∷◌, Option, None, Some, nat_eq, unwrap_or, option_and_then, slice_get, if◌then◌else◌}
+use Rattle.model.specs.declared.instr.Instr.{Instr}
+use Rattle.model.specs.declared.instr.Instr.TheVariants.{Complete, Ret}
+use Rattle.model.specs.declared.instr.Return.TheVariants.{WithStatus}
+use Rattle.model.specs.declared.set.Driver.{Driver}
+use Rattle.model.specs.declared.set.Device.{Device}
+use Rattle.model.specs.declared.set.Routine.{Routine}
+use Rattle.model.specs.declared.set.Sort.TheVariants.{Dispatch}
+use Rattle.model.specs.declared.status.Major.{Major}
+use Rattle.model.specs.declared.status.Major.TheVariants.{Read, Write, Control}
+use Rattle.model.specs.declared.status.Status.TheVariants.{InvalidDeviceRequest}
+
+-- a driver set: its drivers and its devices, each numbered in order from 0
+pub record Set : Type 0 where
+  pub drivers : List Driver
+  pub devices : List Device
+
+-- the routine that a driver names for a major function
+abbrev pub handler_of : Driver → Major → Option ℕ
+handler_of d Read = d.read
+handler_of d Write = d.write
+handler_of d Control = d.control
+
+-- the number of the routine that serves a major function where no driver names one
+abbrev pub default_number : ℕ
+default_number = 255
+
+-- that routine completes the packet with STATUS_INVALID_DEVICE_REQUEST and returns that status
+abbrev pub default_code : List Instr
+default_code = Complete 0 InvalidDeviceRequest ∷ Ret (WithStatus InvalidDeviceRequest) ∷ []
+
+abbrev pub default_routine : Routine
+default_routine = record { sort = Dispatch; code = default_code }
+
+-- the number of the routine that serves a major function for a driver
+abbrev pub serving : Option Driver → Major → ℕ
+serving driver major = unwrap_or (option_and_then (λ d. handler_of d major) driver) default_number
+
+-- the routine of a number, of a driver
+abbrev pub routine_of : Set → ℕ → ℕ → Option Routine
+routine_of set driver number =
+    if nat_eq number default_number
+    then Some default_routine
+    else option_and_then (λ d. slice_get d.routines number) (slice_get set.drivers driver)
+
+-- the instruction at a position of a routine
+abbrev pub instruction_at : Set → ℕ → ℕ → ℕ → Option Instr
+instruction_at set driver number position = option_and_then (λ r. slice_get r.code position) (routine_of set driver number)

@@ -1,0 +1,55 @@
+-- The trace of a run: its actions, newest first, each with the thread and the frame that did it.
+-- Activations and uses of stack locations are numbered here, and not in the machines.
+use Rattle.std.specs.Prelude.{ℕ, ◌+◌, List, [], ◌∷◌, ◌++◌, Option, None, Some, nat_eq, if◌then◌else◌}
+use Rattle.model.specs.Action.{Action, Executes, Touches, Issues, Completes, Marks, Leaves, Returns, TopsOut, GoesWrong}
+
+-- the use of a packet's location that a dispatch activation serves
+pub record Serving : Type 0 where
+  pub packet : ℕ
+  pub «use» : ℕ
+
+-- what the run knows a frame by: the I/O manager's frames have no number, and each routine frame
+-- is an activation with a number of its own
+pub data Tag : Type 0 where
+  Managing : Tag
+  Activated : (activation : ℕ) (serving : Option Serving) → Tag
+
+-- one action of the trace: a new use for an issue, the location's use for a mark and a leave
+pub record Entry : Type 0 where
+  pub thread : ℕ
+  pub tag : Tag
+  pub location : Option ℕ
+  pub action : Action
+
+-- how many uses were opened
+abbrev pub opens : Action → ℕ → ℕ
+opens (Issues n) count = count + 1
+opens _ count = count
+
+abbrev pub uses_opened : List Entry → ℕ
+uses_opened [] = 0
+uses_opened (e ∷ past) = opens e.action (uses_opened past)
+
+-- the use of a packet's current location
+abbrev pub use_after : Action → ℕ → Option ℕ → Option ℕ → Option ℕ
+use_after (Issues m) n opened before = if nat_eq m n then opened else before
+use_after _ n opened before = before
+
+abbrev pub current_use : List Entry → ℕ → Option ℕ
+current_use [] n = None
+current_use (e ∷ past) n = use_after e.action n e.location (current_use past n)
+
+-- the use that an action is about, after a past
+abbrev pub use_of : List Entry → Action → Option ℕ
+use_of past (Issues n) = Some (uses_opened past)
+use_of past (Marks n) = current_use past n
+use_of past (Leaves n) = current_use past n
+use_of past _ = None
+
+abbrev pub entry : List Entry → ℕ → Tag → Action → Entry
+entry past t tag action = record { thread = t; tag = tag; location = use_of past action; action = action }
+
+-- the past after the actions of an event, in order
+abbrev pub recorded : List Entry → ℕ → Tag → List Action → List Entry
+recorded past t tag [] = past
+recorded past t tag (action ∷ actions) = recorded (entry past t tag action ∷ past) t tag actions

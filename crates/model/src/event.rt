@@ -1,0 +1,75 @@
+//! What can happen in one atomic step, and what the run answers.
+
+use crate::status::{Major, Status};
+
+/// One event of a run.
+#[derive(Clone, Copy, Debug, PartialEq, Eq)]
+pub enum Event {
+    /// A request arrives: a new packet is sent to the device, on an idle thread.
+    Issue {
+        thread: u8,
+        device: u8,
+        major: Major,
+        argument: u64,
+    },
+    /// One step of the thread's top frame.
+    Step {
+        thread: u8,
+    },
+}
+
+/// A bug check, by its name in the bug check reference.
+#[derive(Clone, Copy, Debug, PartialEq, Eq)]
+pub enum BugCheck {
+    /// IRQL_NOT_LESS_OR_EQUAL, 0x0A.
+    IrqlNotLessOrEqual,
+    /// MULTIPLE_IRP_COMPLETE_REQUESTS, 0x44.
+    MultipleIrpCompleteRequests,
+}
+
+/// What a bug check is about.
+#[derive(Clone, Copy, Debug, PartialEq, Eq)]
+pub enum Subject {
+    /// The packet of this number.
+    Packet(u64),
+}
+
+/// A bug check and what it is about.
+#[derive(Clone, Copy, Debug, PartialEq, Eq)]
+pub struct Bug {
+    pub check: BugCheck,
+    pub subject: Subject,
+}
+
+/// The place of an instruction: driver, routine and position.
+#[derive(Clone, Copy, Debug, PartialEq, Eq)]
+pub struct Place {
+    pub driver: u8,
+    pub routine: u8,
+    pub position: u16,
+}
+
+/// What the run answers to an event.
+#[derive(Clone, Copy, Debug, PartialEq, Eq)]
+pub enum Reply {
+    /// A root frame stands on the thread, for the packet of this number.
+    Started(u64),
+    /// The thread has done a step.
+    Stepped,
+    /// The thread has done a step that left it without frames.
+    Finished,
+    /// The packet of this number has topped out, with its final status and information.
+    Topped {
+        packet: u64,
+        status: Status,
+        info: u64,
+    },
+    /// The thread has no frame; nothing changes.
+    Idle,
+    /// The event can't happen; nothing changes.
+    Refused,
+    /// A bug check: the run has stopped.
+    Bug(Bug),
+    /// An operand of a wrong kind, or a position outside its routine: the run has stopped.
+    Wrong(Place),
+}

@@ -1,0 +1,26 @@
+//! The limits of a driver set and of a run. All of them are this project's own.
+
+/// Drivers of a set, at most.
+pub const MAX_DRIVERS: usize = 8;
+/// Devices of a set, at most.
+pub const MAX_DEVICES: usize = 16;
+/// Routines of a driver, at most.
+pub const MAX_ROUTINES: usize = 32;
+/// Instructions of a routine, at most.
+pub const MAX_INSTRUCTIONS: usize = 1024;
+/// Registers of an activation.
+pub const REGISTERS: usize = 16;
+/// Stack locations of a packet, at most: a device's stack size is 1 to this.
+pub const MAX_STACK: usize = 16;
+/// Frames on a thread, at most.
+pub const MAX_FRAMES: usize = 32;
+/// Packets that are issued and have not topped out, at most.
+pub const MAX_LIVE_PACKETS: usize = 1024;
+/// Threads of a run, at most; it has at least one.
+pub const MAX_THREADS: usize = 32;
+/// Packets ever issued in a run, at most.
+pub const MAX_ISSUED: u64 = 18_446_744_073_709_551_615;
+
+/// The number of the routine that serves a major function for which a driver names none: it
+/// completes the packet with STATUS_INVALID_DEVICE_REQUEST and returns that.
+pub const DEFAULT_ROUTINE: u8 = 255;

@@ -1,0 +1,53 @@
+//! Driver sets: drivers with their routines, and devices.
+
+ghost use Rattle.std.specs.Prelude.{◌≡◌};
+
+use crate::instr::Instr;
+use crate::items::Items;
+use crate::status::Major;
+
+/// What a routine is for: it decides how the routine is called and what it may do.
+#[derive(Clone, Copy, Debug, PartialEq, Eq)]
+pub enum Sort {
+    /// A dispatch routine: it is handed a packet at PASSIVE_LEVEL and returns a status.
+    Dispatch,
+}
+
+/// A routine: its sort and its instructions.
+#[derive(Drop)]
+pub struct Routine {
+    pub sort: Sort,
+    pub code: Items<Instr>,
+}
+
+/// A driver: its routines, and the numbers of those that serve each major function.
+#[derive(Drop)]
+pub struct Driver {
+    pub routines: Items<Routine>,
+    pub read: Option<u8>,
+    pub write: Option<u8>,
+    pub control: Option<u8>,
+}
+
+/// A device: the number of its driver, and how many stack locations a packet needs that is sent to
+/// it, 1 to 16.
+#[derive(Clone, Copy, Debug, PartialEq, Eq)]
+pub struct Device {
+    pub driver: u8,
+    pub stack: u8,
+}
+
+impl Driver {
+    ghost use Rattle.model.specs.Set.{handler_of};
+
+    /// The number of the routine that it names for a major function.
+    pub fn handler(&self, major: Major) -> Option<u8>
+        ensures { result ≡ handler_of self.now major }
+    {
+        match major {
+            Major::Read => self.read,
+            Major::Write => self.write,
+            Major::Control => self.control,
+        }
+    }
+}

@@ -1,0 +1,73 @@
+//! The state of a run: threads with their frames, and packets with their stack locations.
+
+use crate::status::{Major, Status};
+use arrayvec::ArrayVec;
+
+/// The value of a register.
+#[derive(Clone, Copy, Debug, PartialEq, Eq)]
+pub enum Value {
+    /// Nothing.
+    Blank,
+    /// A number.
+    Num(u64),
+    /// The packet of this number.
+    Ref(u64),
+}
+
+/// A routine that runs: which one, for which device, and how far it is.
+#[derive(Drop)]
+pub struct Activation {
+    pub driver: u8,
+    pub routine: u8,
+    pub device: u8,
+    pub position: u16,
+    pub registers: [Value; 16],
+}
+
+/// One frame of a thread.
+#[derive(Drop)]
+pub enum Frame {
+    /// A routine that runs.
+    Routine(Activation),
+    /// The I/O manager, which completes the packet of this number.
+    Walk(u64),
+}
+
+impl Default for Frame {
+    fn default() -> Frame {
+        Frame::Walk(0)
+    }
+}
+
+/// A thread: its frames, the lowest first. A thread without frames is idle.
+#[derive(Drop)]
+pub struct Thread {
+    pub frames: ArrayVec<Frame, 32>,
+}
+
+/// An I/O stack location (IO_STACK_LOCATION): what the driver of its device is asked to do.
+#[derive(Clone, Copy, Debug, PartialEq, Eq, Default)]
+pub struct Location {
+    /// None while nothing was asked here.
+    pub major: Option<Major>,
+    pub argument: u64,
+    pub device: u8,
+    /// SL_PENDING_RETURNED of the control byte: IoMarkIrpPending was called here.
+    pub marked: bool,
+}
+
+/// A live packet (IRP): one that was issued and has not topped out.
+#[derive(Drop)]
+pub struct Packet {
+    /// Packets are numbered in the order of their issue.
+    pub number: u64,
+    /// Which location is current: 1 is the top driver's.
+    pub depth: u8,
+    /// All its locations, that of the top driver first.
+    pub locations: ArrayVec<Location, 16>,
+    pub status: Status,
+    /// IoStatus.Information.
+    pub info: u64,
+    /// IoCompleteRequest was called, and the I/O manager has the packet.
+    pub completing: bool,
+}
