@@ -1,0 +1,3 @@
+pub mod Cut
+pub mod Class
+pub mod Number

@@ -1,0 +1,105 @@
+//! A text cut into lines, and a line into tokens.
+
+ghost use Rattle.std.specs.Prelude.{◌≡◌, ◌++◌, [], IfOk, OnOk};
+ghost use Rattle.text.specs.Cut.{closed, code_of, comment_at, is_blank, is_clean, is_written, lines_of, parts_from, tokens_of};
+
+use crate::piece::Piece;
+use std::alloc::{AllocError, Global};
+
+/// The lines of a text, in order, without their LF. Bytes after the last LF are a line; nothing
+/// after it is none, so an empty text has no line.
+///
+/// # Errors
+///
+/// When memory runs out.
+#[tactic(auto, using(crate::proofs::Cuts::lines_end))]
+pub fn lines<'a>(alloc: Global, text: &'a [u8]) -> Result<Vec<Piece<'a>>, AllocError>
+    ensures { IfOk result (λ lines. lines.items ≡ lines_of text.now) }
+{
+    let mut found = Vec::new(alloc);
+    let mut start = 0;
+    for (i, byte) in text.iter().enumerate() {
+        if *byte == b'\n' {
+            found.push(Piece::of(&text[start..i]))?;
+            start = i + 1;
+        }
+    }
+    close(&mut found, &text[start..])?;
+    Ok(found)
+}
+
+/// The tokens of a line, in order: what stands before its comment, parted at blanks.
+///
+/// # Errors
+///
+/// When memory runs out.
+pub fn tokens<'a>(alloc: Global, line: &'a [u8]) -> Result<Vec<Piece<'a>>, AllocError>
+    ensures { IfOk result (λ tokens. tokens.items ≡ tokens_of line.now) }
+{
+    parted(alloc, before_comment(line))
+}
+
+/// The part of a line before the first `;`, or all of it.
+fn before_comment(line: &[u8]) -> &[u8]
+    ensures { result.now ≡ code_of line.now }
+{
+    match comment_at(line) {
+        Some(end) => &line[..end],
+        None => line,
+    }
+}
+
+/// Where the comment of a line begins, if it has one.
+fn comment_at(line: &[u8]) -> Option<usize>
+    ensures { result ≡ comment_at line.now }
+{
+    line.iter().position(|byte| *byte == b';')
+}
+
+/// The pieces between blanks that have a byte.
+#[tactic(auto, using(crate::proofs::Cuts::parts_end))]
+fn parted<'a>(alloc: Global, code: &'a [u8]) -> Result<Vec<Piece<'a>>, AllocError>
+    ensures { IfOk result (λ parts. parts.items ≡ parts_from [] code.now) }
+{
+    let mut found = Vec::new(alloc);
+    let mut start = 0;
+    for (i, byte) in code.iter().enumerate() {
+        if is_blank(*byte) {
+            close(&mut found, &code[start..i])?;
+            start = i + 1;
+        }
+    }
+    close(&mut found, &code[start..])?;
+    Ok(found)
+}
+
+/// Adds what is held to the pieces found, unless it is empty.
+fn close<'a>(found: &mut Vec<Piece<'a>>, held: &'a [u8]) -> Result<(), AllocError>
+    ensures { OnOk result (found.new.items ≡ found.old.items ++ closed held.now) }
+{
+    if !held.is_empty() {
+        found.push(Piece::of(held))?;
+    }
+    Ok(())
+}
+
+/// Whether a byte parts tokens: tab, CR or space.
+fn is_blank(byte: u8) -> bool
+    ensures { result ≡ is_blank byte }
+{
+    matches!(byte, b'\t' | b'\r' | b' ')
+}
+
+/// Whether a byte may stand in a line: tab, CR, or space to tilde.
+fn is_written(byte: u8) -> bool
+    ensures { result ≡ is_written byte }
+{
+    matches!(byte, b'\t' | b'\r' | b' '..=b'~')
+}
+
+/// Whether each byte of a line may stand in a line, those of a comment too.
+pub fn is_clean(line: &[u8]) -> bool
+    ensures { result ≡ is_clean line.now }
+{
+    line.iter().all(|byte| is_written(*byte))
+}

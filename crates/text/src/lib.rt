@@ -1,0 +1,13 @@
+//! Bytes of a text to lines, a line to tokens, and what a token is. Driver texts and schedules are
+//! read by the same rules.
+//!
+//! Lines end with LF. `;` begins a comment. Tokens are parted by tabs, spaces and CR. A token is a
+//! name, a word in capitals, a number, or a name with a colon.
+#![tactic(auto)]
+
+pub mod class;
+pub mod cut;
+pub mod number;
+pub mod piece;
+#[cfg(test)]
+mod tests;
