@@ -1,0 +1,140 @@
+-- The faults of a text in other words: which line is at fault, of which kind, and why.
+use Rattle.std.specs.Prelude.{ℕ, ◌≡◌, ◌<◌, ◌+◌, ◌⊎◌, Bool, true, false, not, ◌&&◌, List, [], ◌∷◌, ◌++◌, length, Option, Some, None, Ok, if◌then◌else◌}
+use Rattle.std.specs.List.{list_all}
+use Rattle.text.specs.Class.{is_token}
+use Rattle.text.specs.Cut.{is_clean, lines_of, tokens_of}
+use Rattle.model.specs.Set.{Set}
+use Rattle.asm.specs.declared.draft.Place.TheVariants.{Outside}
+use Rattle.asm.specs.declared.fault.AsmFault.{AsmFault}
+use Rattle.asm.specs.declared.fault.AsmKind.{AsmKind}
+use Rattle.asm.specs.declared.fault.AsmKind.TheVariants.{Lex, UnknownWord, DuplicateName, UnknownName, OutOfRange, Unclosed, OverLimit, Memory}
+use Rattle.asm.specs.declared.line.Body.{Body}
+use Rattle.asm.specs.declared.line.Body.TheVariants.{OpenDriver, CloseDriver, Handle, OpenRoutine, AddDevice}
+use Rattle.asm.specs.declared.line.Line.{Line}
+use Rattle.asm.specs.Line.{line_of, read_line}
+use Rattle.asm.specs.Outline.{Outline, nothing_read, has_room, is_again, is_among, is_out_of_range, misfit, noted, stands}
+use Rattle.asm.specs.Reading.{IsFaultOf, IsNamed}
+
+-- the number of a kind
+abbrev pub kind_number : AsmKind → ℕ
+kind_number Lex = 1
+kind_number UnknownWord = 2
+kind_number DuplicateName = 3
+kind_number UnknownName = 4
+kind_number OutOfRange = 5
+kind_number Unclosed = 6
+kind_number OverLimit = 7
+kind_number Memory = 8
+
+-- the tokens are no line, or one out of its place
+abbrev pub is_unknown : Outline → Option Line → Bool
+is_unknown o None = true
+is_unknown o (Some l) = not (stands o.place l.body)
+
+-- the tokens are a line that passes the test
+abbrev pub is_line : (Line → Bool) → Option Line → Bool
+is_line test None = false
+is_line test (Some l) = test l
+
+-- the line has a fault of this kind, after the lines of which the outline is
+abbrev pub shows : Outline → List ℕ → AsmKind → Bool
+shows o raw Lex = not (is_clean raw && list_all is_token (tokens_of raw))
+shows o raw UnknownWord = is_unknown o (line_of (tokens_of raw))
+shows o raw DuplicateName = is_line (λ l. is_again o l.label l.body) (line_of (tokens_of raw))
+shows o raw OutOfRange = is_line (λ l. is_out_of_range l.body) (line_of (tokens_of raw))
+shows o raw OverLimit = is_line (λ l. not (has_room o l.body)) (line_of (tokens_of raw))
+shows o raw _ = false
+
+-- of the kinds of fault that the line has, this is the least
+pub record IsLeastKind (o : Outline) (raw : List ℕ) (kind : AsmKind) : Type 0 where
+  pub shown : shows o raw kind ≡ true
+  pub least : (lesser : AsmKind) → kind_number lesser < kind_number kind → shows o raw lesser ≡ false
+
+-- these are the lines from number n on, each without a fault, and the outline at their end
+abbrev pub Reads : Outline → ℕ → List (List ℕ) → List Line → Outline → Type 0
+Reads o n [] [] end = o ≡ end
+Reads o n (raw ∷ raws) (l ∷ ls) end =
+    (read_line raw ≡ Ok l) × ((misfit o l ≡ None) × Reads (noted o n l.label l.body) (n + 1) raws ls end)
+Reads o n _ _ end = ⊥
+
+-- the first line with a fault, and the least kind of fault that it has
+pub record IsLineFault (o : Outline) (n : ℕ) (raws : List (List ℕ)) (fault : AsmFault) : Type 0 where
+  pub before : List (List ℕ)
+  pub raw : List ℕ
+  pub after : List (List ℕ)
+  pub lines : List Line
+  pub outline : Outline
+  pub split : raws ≡ before ++ raw ∷ after
+  pub read : Reads o n before lines outline
+  pub line : fault.line ≡ n + length before
+  pub kind : IsLeastKind outline raw fault.kind
+
+-- no line has a fault, but the text ends inside a driver or routine
+pub record IsEndFault (o : Outline) (n : ℕ) (raws : List (List ℕ)) (fault : AsmFault) : Type 0 where
+  pub lines : List Line
+  pub outline : Outline
+  pub read : Reads o n raws lines outline
+  pub unclosed : outline.place ≡ Outside → ⊥
+  pub line : fault.line ≡ n + length raws
+  pub kind : fault.kind ≡ Unclosed
+
+-- the names of the routines from a line to the end of the driver, after which there are these
+abbrev pub named_ahead : Body → List (List ℕ) → List (List ℕ)
+named_ahead CloseDriver after = []
+named_ahead (OpenRoutine name sort) after = name ∷ after
+named_ahead _ after = after
+
+-- the names of the routines from here to the end of the driver
+abbrev pub routines_ahead : List Line → List (List ℕ)
+routines_ahead [] = []
+routines_ahead (l ∷ ls) = named_ahead l.body (routines_ahead ls)
+
+-- the names of the drivers before the next line
+abbrev pub drivers_after : List (List ℕ) → Body → List (List ℕ)
+drivers_after drivers (OpenDriver name) = drivers ++ name ∷ []
+drivers_after drivers _ = drivers
+
+-- the names of the routines in the driver around the next line
+abbrev pub routines_around : List (List ℕ) → Body → List Line → List (List ℕ)
+routines_around routines (OpenDriver name) next = routines_ahead next
+routines_around routines _ next = routines
+
+-- the line's own number where it uses a name that nothing has: a routine that isn't in the driver
+-- around it, or a driver that isn't before it; else what comes of the lines after it
+abbrev pub unknown_at : List (List ℕ) → List (List ℕ) → ℕ → Body → Option ℕ → Option ℕ
+unknown_at drivers routines n (Handle major routine) after = if is_among routines routine then after else Some n
+unknown_at drivers routines n (AddDevice name driver stack) after = if is_among drivers driver then after else Some n
+unknown_at drivers routines n _ after = after
+
+-- the first line from number n on that uses a name which nothing has. Given are the names of the
+-- drivers before the lines and of the routines in the driver around the first of them.
+abbrev pub unknown_from : List (List ℕ) → List (List ℕ) → ℕ → List Line → Option ℕ
+unknown_from drivers routines n [] = None
+unknown_from drivers routines n (l ∷ ls) =
+    unknown_at drivers routines n l.body
+    (unknown_from (drivers_after drivers l.body) (routines_around routines l.body ls) (n + 1) ls)
+
+-- all lines of a text are without a fault, and it ends outside of drivers
+pub record IsRead (text : List ℕ) : Type 0 where
+  pub lines : List Line
+  pub outline : Outline
+  pub read : Reads nothing_read 1 (lines_of text) lines outline
+  pub closed : outline.place ≡ Outside
+
+-- the first fault of a text is the first line that has one, with the least kind that it has, or that
+-- the text ends too early; and only where there is none of these, the first use of an unknown name
+pub record IsFirst (text : List ℕ) (fault : AsmFault) : Type 0 where
+  pub other : (fault.kind ≡ UnknownName → ⊥) → IsLineFault nothing_read 1 (lines_of text) fault ⊎ IsEndFault nothing_read 1 (lines_of text) fault
+  pub unknown : fault.kind ≡ UnknownName → (all : IsRead text) × (unknown_from [] [] 1 all.lines ≡ Some fault.line)
+
+-- a text that names a set has no fault
+abbrev pub IsFaultless : List ℕ → Type 0
+IsFaultless text = (all : IsRead text) × (unknown_from [] [] 1 all.lines ≡ None)
+
+-- the fault that is given is the first
+abbrev pub FaultIsFirst : Type 0
+FaultIsFirst = (text : List ℕ) (fault : AsmFault) → IsFaultOf text fault → IsFirst text fault
+
+-- only a faultless text names a set
+abbrev pub NamedIsFaultless : Type 0
+NamedIsFaultless = (text : List ℕ) (set : Set) → IsNamed text set → IsFaultless text

@@ -1,0 +1,105 @@
+//! A line in its context: what is wrong with it.
+
+ghost use Rattle.std.specs.Prelude.{◌≡◌};
+ghost use Rattle.asm.specs.Outline.{handler_of, has_room, is_again, is_out_of_range, is_stack_size, misfit, stands};
+
+use crate::draft::{Draft, Place, Use};
+use crate::fault::AsmKind;
+use crate::line::{Body, Line};
+use crate::names::{is_among, is_known};
+use model::limits::{MAX_DEVICES, MAX_DRIVERS, MAX_INSTRUCTIONS, MAX_ROUTINES};
+use model::status::Major;
+
+impl<'a> Draft<'a> {
+    /// The least kind of fault that the line has where it stands.
+    pub fn misfit(&self, line: &Line<'a>) -> Option<AsmKind>
+        ensures { result ≡ misfit self.now line.now }
+    {
+        if !stands(self.place, &line.body) {
+            return Some(AsmKind::UnknownWord);
+        }
+        if self.is_again(line) {
+            return Some(AsmKind::DuplicateName);
+        }
+        if is_out_of_range(&line.body) {
+            return Some(AsmKind::OutOfRange);
+        }
+        if !self.has_room(&line.body) {
+            return Some(AsmKind::OverLimit);
+        }
+        None
+    }
+
+    /// Whether the line gives a name, a table entry or a label again.
+    fn is_again(&self, line: &Line<'a>) -> bool
+        ensures { result ≡ is_again self.now line.now.label line.now.body }
+    {
+        match &line.body {
+            Body::OpenDriver(name) => is_among(&self.driver_names, name),
+            Body::Handle(major, _) => self.handler_of(*major).is_some(),
+            Body::OpenRoutine(name, _) => is_among(&self.routine_names, name),
+            Body::AddDevice(name, _, _) => is_among(&self.device_names, name),
+            Body::Step(_) => is_known(&self.labels, &line.label),
+            Body::Blank | Body::CloseDriver | Body::CloseRoutine => false,
+        }
+    }
+
+    /// The routine that serves a major function in the open driver, as its line names it.
+    fn handler_of(&self, major: Major) -> &Option<Use<'a>>
+        ensures { result.now ≡ handler_of self.now major }
+    {
+        match major {
+            Major::Read => &self.read,
+            Major::Write => &self.write,
+            Major::Control => &self.control,
+        }
+    }
+
+    /// Whether there is room for what the line adds.
+    fn has_room(&self, body: &Body<'a>) -> bool
+        ensures { result ≡ has_room self.now body.now }
+    {
+        match body {
+            Body::OpenDriver(_) => self.driver_names.len() < MAX_DRIVERS,
+            Body::AddDevice(_, _, _) => self.device_names.len() < MAX_DEVICES,
+            Body::OpenRoutine(_, _) => self.routine_names.len() < MAX_ROUTINES,
+            Body::Step(_) => self.code.len() < MAX_INSTRUCTIONS,
+            _ => true,
+        }
+    }
+}
+
+/// Whether the line may stand in this place.
+fn stands(place: Place, body: &Body<'_>) -> bool
+    ensures { result ≡ stands place body.now }
+{
+    match body {
+        Body::Blank => true,
+        Body::OpenDriver(_) | Body::AddDevice(_, _, _) => matches!(place, Place::Outside),
+        Body::CloseDriver | Body::Handle(_, _) | Body::OpenRoutine(_, _) => {
+            matches!(place, Place::InDriver)
+        }
+        Body::CloseRoutine | Body::Step(_) => matches!(place, Place::InRoutine),
+    }
+}
+
+/// Whether an operand of the line is out of range.
+fn is_out_of_range(body: &Body<'_>) -> bool
+    ensures { result ≡ is_out_of_range body.now }
+{
+    match body {
+        Body::AddDevice(_, _, stack) => !is_stack_size(*stack),
+        Body::Step(instr) => instr.is_none(),
+        _ => false,
+    }
+}
+
+/// Whether a stack size is 1 to 16.
+fn is_stack_size(stack: Option<u64>) -> bool
+    ensures { result ≡ is_stack_size stack }
+{
+    match stack {
+        Some(stack) => 1 <= stack && stack <= 16,
+        None => false,
+    }
+}

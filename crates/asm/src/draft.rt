@@ -1,0 +1,92 @@
+//! What the lines of a driver text say so far.
+
+ghost use Rattle.std.specs.Prelude.{◌≡◌};
+ghost use Rattle.asm.specs.Outline.{nothing_read};
+
+use indexmap::IndexSet;
+use model::instr::Instr;
+use model::set::{Device, Driver, Routine, Sort};
+use std::alloc::Global;
+use std::marker::Model;
+use text::piece::Piece;
+
+/// Where a line stands.
+#[derive(Clone, Copy)]
+pub enum Place {
+    Outside,
+    InDriver,
+    InRoutine,
+}
+
+/// A line that uses a name: its number and the name.
+#[derive(Drop)]
+pub struct Use<'a> {
+    pub line: u64,
+    pub name: Piece<'a>,
+}
+
+/// What was read. Contracts see an `Outline`.
+#[derive(Drop)]
+pub struct Draft<'a> {
+    pub(crate) place: Place,
+    pub(crate) driver_names: IndexSet<Piece<'a>>,
+    pub(crate) drivers: Vec<Driver>,
+    pub(crate) device_names: IndexSet<Piece<'a>>,
+    pub(crate) devices: Vec<Device>,
+    pub(crate) routine_names: IndexSet<Piece<'a>>,
+    pub(crate) routines: Vec<Routine>,
+    pub(crate) read: Option<Use<'a>>,
+    pub(crate) write: Option<Use<'a>>,
+    pub(crate) control: Option<Use<'a>>,
+    pub(crate) sort: Sort,
+    pub(crate) labels: IndexSet<Piece<'a>>,
+    pub(crate) code: Vec<Instr>,
+    pub(crate) unknown: Option<u64>,
+}
+
+impl<'a> Model for Draft<'a> {
+    ghost use Rattle.asm.specs.Outline.{Outline};
+
+    ghost Value = { Outline };
+
+    ghost view = { λ d. record {
+      place = d.place;
+      driver_names = d.driver_names.keys;
+      drivers = d.drivers.items;
+      device_names = d.device_names.keys;
+      devices = d.devices.items;
+      routine_names = d.routine_names.keys;
+      routines = d.routines.items;
+      read = d.read;
+      write = d.write;
+      control = d.control;
+      sort = d.sort;
+      labels = d.labels.keys;
+      code = d.code.items;
+      unknown = d.unknown;
+    } };
+}
+
+impl<'a> Draft<'a> {
+    /// Nothing read yet.
+    pub fn new(alloc: Global) -> Draft<'a>
+        ensures { result ≡ nothing_read }
+    {
+        Draft {
+            place: Place::Outside,
+            driver_names: IndexSet::new(alloc),
+            drivers: Vec::new(alloc),
+            device_names: IndexSet::new(alloc),
+            devices: Vec::new(alloc),
+            routine_names: IndexSet::new(alloc),
+            routines: Vec::new(alloc),
+            read: None,
+            write: None,
+            control: None,
+            sort: Sort::Dispatch,
+            labels: IndexSet::new(alloc),
+            code: Vec::new(alloc),
+            unknown: None,
+        }
+    }
+}

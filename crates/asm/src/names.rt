@@ -1,0 +1,109 @@
+//! Names and what they number.
+
+ghost use Rattle.std.specs.Prelude.{◌≡◌, ◌≤◌, ◌++◌, [], ◌∷◌, false, length, OnOk, option_to_list};
+ghost use Rattle.asm.specs.Outline.{earliest, handler_in, is_among, is_known_label, missed, number_of};
+
+use crate::draft::Use;
+use indexmap::IndexSet;
+use std::alloc::AllocError;
+use text::piece::Piece;
+
+/// Whether the name is one of these.
+pub fn is_among(names: &IndexSet<Piece<'_>>, name: &Piece<'_>) -> bool
+    ensures { result ≡ is_among names.now.keys name.now }
+{
+    names.contains(name)
+}
+
+/// Whether there is a label and it is one of these.
+pub fn is_known(labels: &IndexSet<Piece<'_>>, label: &Option<Piece<'_>>) -> bool
+    ensures { result ≡ is_known_label labels.now.keys label.now }
+{
+    match label {
+        Some(label) => is_among(labels, label),
+        None => false,
+    }
+}
+
+/// What the name is the number of.
+pub fn number_of(names: &IndexSet<Piece<'_>>, name: &Piece<'_>) -> Option<u8>
+    requires { length names.now.keys ≤ 32 }
+    ensures { result ≡ number_of names.now.keys name.now }
+{
+    let number = names.get_index_of(name)?;
+    Some(number as u8)
+}
+
+/// The number of the routine that serves a major function.
+pub fn handler_in(names: &IndexSet<Piece<'_>>, handler: &Option<Use<'_>>) -> Option<u8>
+    requires { length names.now.keys ≤ 32 }
+    ensures { result ≡ handler_in names.now.keys handler.now }
+{
+    match handler {
+        Some(used) => number_of(names, &used.name),
+        None => None,
+    }
+}
+
+/// The line of a use of a name that isn't among these.
+pub fn missed(names: &IndexSet<Piece<'_>>, used: &Option<Use<'_>>) -> Option<u64>
+    ensures { result ≡ missed names.now.keys used.now }
+{
+    match used {
+        Some(used) => {
+            if is_among(names, &used.name) {
+                None
+            } else {
+                Some(used.line)
+            }
+        }
+        None => None,
+    }
+}
+
+/// The lesser of two lines.
+pub fn earliest(first: Option<u64>, second: Option<u64>) -> Option<u64>
+    ensures { result ≡ earliest first second }
+{
+    match (first, second) {
+        (Some(first), Some(second)) => Some(first.min(second)),
+        (Some(first), None) => Some(first),
+        (None, second) => second,
+    }
+}
+
+/// Adds a name that is new.
+pub fn add<'a>(names: &mut IndexSet<Piece<'a>>, name: Piece<'a>) -> Result<(), AllocError>
+    requires { is_among names.old.keys name ≡ false }
+    ensures { OnOk result (names.new.keys ≡ names.old.keys ++ name.entry ∷ []) }
+{
+    names.insert(name)?;
+    Ok(())
+}
+
+/// Adds a label, if there is one; it is new.
+pub fn add_label<'a>(
+    labels: &mut IndexSet<Piece<'a>>,
+    label: Option<Piece<'a>>,
+) -> Result<(), AllocError>
+    requires { is_known_label labels.old.keys label ≡ false }
+    ensures { OnOk result (labels.new.keys ≡ labels.old.keys ++ option_to_list label.entry) }
+{
+    match label {
+        Some(label) => add(labels, label),
+        None => Ok(()),
+    }
+}
+
+/// Adds what there is.
+pub fn push_some<T: Drop>(items: &mut Vec<T>, item: Option<T>) -> Result<(), AllocError>
+    ensures { OnOk result (items.new.items ≡ items.old.items ++ option_to_list item) }
+{
+    match item {
+        Some(item) => {
+            items.push(item)?;
+            Ok(())
+        }
+        None => Ok(()),
+    }
+}

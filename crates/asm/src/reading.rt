@@ -1,0 +1,120 @@
+//! The text read line by line, and the set that it names.
+
+ghost use Rattle.std.specs.Prelude.{◌≡◌, ◌⊎◌, ℕ, IfOk, MatchResult, OnOk, Ok, Err};
+ghost use Rattle.asm.specs.Outline.{nothing_read, IsOrderly};
+ghost use Rattle.asm.specs.declared.draft.Place.{Place};
+ghost use Rattle.asm.specs.Reading.{memory, read_on, reading, resolved, set_in, IsFaultOf, IsNamed};
+
+use crate::draft::{Draft, Place};
+use crate::fault::{AsmFault, AsmKind};
+use crate::form::read_line;
+use image::DriverSet;
+use std::alloc::{AllocError, Global};
+use text::cut::lines;
+use text::piece::Piece;
+
+/// The driver set that a text names.
+///
+/// # Errors
+///
+/// The text's first fault. `Memory` comes exactly where a growth was refused, which may be anywhere.
+pub fn assemble(alloc: Global, text: &[u8]) -> Result<DriverSet, AsmFault>
+    ensures { MatchResult result (λ set. IsNamed text.now set) (λ fault. (fault ≡ memory) ⊎ IsFaultOf text.now fault) }
+{
+    match set_in(alloc, text) {
+        Ok(answer) => answer,
+        Err(AllocError) => Err(AsmFault {
+            line: 0,
+            kind: AsmKind::Memory,
+        }),
+    }
+}
+
+/// The set that a text names, or its first fault.
+fn set_in(alloc: Global, text: &[u8]) -> Result<Result<DriverSet, AsmFault>, AllocError>
+    ensures { IfOk result (λ answer. answer ≡ set_in text.now) }
+{
+    let raws = lines(alloc, text)?;
+    let mut draft = Draft::new(alloc);
+    if let Err(fault) = draft.read_all(alloc, &raws)? {
+        return Ok(Err(fault));
+    }
+    Ok(draft.resolved())
+}
+
+impl<'a> Draft<'a> {
+    /// Reads lines to the end of the text, the first of which is line 1.
+    #[tactic(auto, using(crate::proofs::Turns::line_read, crate::proofs::Turns::line_refused, crate::proofs::Turns::all_read))]
+    fn read_all(
+        &mut self,
+        alloc: Global,
+        raws: &[Piece<'a>],
+    ) -> Result<Result<(), AsmFault>, AllocError>
+        requires { IsOrderly self.old }
+        ensures read { IfOk result (λ answer. MatchResult answer (λ _. reading self.old 1 raws.now ≡ Ok self.new) (λ fault. reading self.old 1 raws.now ≡ Err fault)) }
+        ensures closed { IfOk result (λ answer. OnOk answer (self.new.place ≡ Place.Outside)) }
+        ensures orderly { IfOk result (λ answer. OnOk answer (IsOrderly self.new)) }
+    {
+        for (i, raw) in raws.iter().enumerate() {
+            let line = i as u64 + 1;
+            if let Err(kind) = self.read_on(alloc, line, raw.bytes())? {
+                return Ok(Err(AsmFault { line, kind }));
+            }
+        }
+        match self.place {
+            Place::Outside => Ok(Ok(())),
+            _ => Ok(Err(AsmFault {
+                line: raws.len() as u64 + 1,
+                kind: AsmKind::Unclosed,
+            })),
+        }
+    }
+
+    /// Reads one line, whose number is `number`.
+    #[tactic(auto, using(crate::proofs::Orderly::fitting, crate::proofs::Orderly::orderly_on))]
+    fn read_on(
+        &mut self,
+        alloc: Global,
+        number: u64,
+        raw: &'a [u8],
+    ) -> Result<Result<(), AsmKind>, AllocError>
+        requires { IsOrderly self.old }
+        ensures read { IfOk result (λ answer. MatchResult answer (λ _. read_on self.old number raw.now ≡ Ok self.new) (λ kind. read_on self.old number raw.now ≡ Err kind)) }
+        ensures orderly { IfOk result (λ answer. OnOk answer (IsOrderly self.new)) }
+    {
+        let line = match read_line(alloc, raw)? {
+            Ok(line) => line,
+            Err(kind) => return Ok(Err(kind)),
+        };
+        if let Some(kind) = self.misfit(&line) {
+            return Ok(Err(kind));
+        }
+        self.note(alloc, number, line)?;
+        Ok(Ok(()))
+    }
+
+    /// The set that was read, unless a line uses an unknown name.
+    #[tactic(auto, using(crate::proofs::Orderly::sound))]
+    fn resolved(self) -> Result<DriverSet, AsmFault>
+        requires orderly { IsOrderly self }
+        requires closed { self.place ≡ Place.Outside }
+        ensures { result ≡ resolved self.entry self.entry.unknown }
+    {
+        let Draft {
+            drivers,
+            devices,
+            unknown,
+            ..
+        } = self;
+        if let Some(line) = unknown {
+            return Err(AsmFault {
+                line,
+                kind: AsmKind::UnknownName,
+            });
+        }
+        match DriverSet::of(drivers, devices) {
+            Ok(set) => Ok(set),
+            Err(_) => unreachable!(),
+        }
+    }
+}

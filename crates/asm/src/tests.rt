@@ -1,0 +1,188 @@
+//! Texts and what they name. The expected answers are those of an independent program.
+
+use crate::{AsmFault, AsmKind, assemble};
+use model::instr::{Instr, Register, Return};
+use model::status::Status;
+use std::alloc::{AllocError, Global};
+use std::process::Abort;
+use std::test::Fail;
+
+/// Lines that begin and end a routine whose instructions follow and stand between them.
+const HEAD: &str = "driver d\ndispatch READ f\nroutine f dispatch\n";
+
+const TAIL: &str = "endr\nendd\ndevice v d 1\n";
+
+/// A text of one routine with these lines.
+fn routine(alloc: Global, lines: &str) -> Result<String, AllocError> {
+    format!(in alloc; "{HEAD}{lines}{TAIL}")
+}
+
+#[test]
+fn names_a_set(rt: HostRuntime) -> Result<(), Fail> {
+    let text = b"; two drivers\ndriver a ; the first\n\tdispatch WRITE g\r\nroutine f dispatch\n\
+        x: mark r01\nret PENDING\nendr\ndispatch READ f\nroutine g dispatch\nconst r15 0xFf\n\
+        clear r15\ncomplete r0 BUSY\nret BUSY\nendr\nendd\n\ndriver b\nendd\ndevice v b 16\n\
+        device a a 0x1";
+    let set = assemble(rt.alloc(), text.as_slice())?;
+    let drivers = set.drivers();
+    assert_eq!(rt; drivers.len(), 2);
+    let first = &drivers[0];
+    assert_eq!(rt;
+        (first.read, first.write, first.control),
+        (Some(0), Some(1), None)
+    );
+    let routines = first.routines.as_slice();
+    assert_eq!(rt; routines.len(), 2);
+    let one = Register::of(1).ok_or("r1")?;
+    let last = Register::of(15).ok_or("r15")?;
+    let zero = Register::of(0).ok_or("r0")?;
+    let pending = Instr::Ret(Return::WithStatus(Status::Pending));
+    assert_eq!(rt;
+        routines[0].code.as_slice(),
+        [Instr::Mark(one), pending].as_slice()
+    );
+    let busy = Instr::Ret(Return::WithStatus(Status::Busy));
+    let code = [
+        Instr::Const(last, 255),
+        Instr::Clear(last),
+        Instr::Complete(zero, Status::Busy),
+        busy,
+    ];
+    assert_eq!(rt; routines[1].code.as_slice(), code.as_slice());
+    assert_eq!(rt; drivers[1].routines.as_slice().len(), 0);
+    let devices = set.devices();
+    assert_eq!(rt; devices.len(), 2);
+    assert_eq!(rt; (devices[0].driver, devices[0].stack), (1, 16));
+    assert_eq!(rt; (devices[1].driver, devices[1].stack), (0, 1));
+    Ok(())
+}
+
+#[test]
+fn names_the_empty_set(rt: HostRuntime) -> Result<(), Fail> {
+    for text in ["", "\n\n", " ; nothing\r\n", "driver d\nendd"] {
+        let set = assemble(rt.alloc(), text.as_bytes())?;
+        assert_eq!(rt; set.devices().len(), 0, "{text}");
+    }
+    Ok(())
+}
+
+/// A text, and the line and kind of its fault.
+fn expect_fault(
+    rt: &(impl Abort + AllocGlobal),
+    text: &str,
+    line: u64,
+    kind: AsmKind,
+) -> Result<(), Fail> {
+    let fault = assemble(rt.alloc(), text.as_bytes()).err();
+    assert_eq!(rt; fault, Some(AsmFault { line, kind }), "{text}");
+    Ok(())
+}
+
+#[test]
+fn gives_the_first_fault(rt: HostRuntime) -> Result<(), Fail> {
+    use AsmKind::{DuplicateName, Lex, OutOfRange, Unclosed, UnknownName, UnknownWord};
+    for (text, line, kind) in [
+        ("driver d", 2, Unclosed),
+        ("driver d\n", 2, Unclosed),
+        ("driver d\nroutine f dispatch\nret SUCCESS\n", 4, Unclosed),
+        ("driver d\ndispatch READ f\n", 3, Unclosed),
+        ("DV", 1, UnknownWord),
+        ("endd", 1, UnknownWord),
+        ("ret SUCCESS", 1, UnknownWord),
+        ("driver d x\nendd", 1, UnknownWord),
+        ("driver d\nroutine f startio\nendr\nendd", 2, UnknownWord),
+        ("driver d\ndevice v d 1\nendd", 2, UnknownWord),
+        ("driver d\nendd\ndevice v d\n", 3, UnknownWord),
+        ("driver A1\nendd", 1, Lex),
+        ("driver d ; \u{e9}\nendd", 1, Lex),
+        ("driver abcdefghijklmnopqrstuvwxyzabcdefg\nendd", 1, Lex),
+        ("x:clear r1", 1, Lex),
+        ("driver d\nendd\ndriver d\nendd", 3, DuplicateName),
+        (
+            "driver d\ndispatch READ f\ndispatch READ f\nendd",
+            3,
+            DuplicateName,
+        ),
+        (
+            "driver d\nroutine f dispatch\nendr\nroutine f dispatch\n",
+            4,
+            DuplicateName,
+        ),
+        (
+            "driver d\nendd\ndevice v d 1\ndevice v d 0",
+            4,
+            DuplicateName,
+        ),
+        ("driver d\nendd\ndevice v d 0", 3, OutOfRange),
+        ("driver d\nendd\ndevice v d 17", 3, OutOfRange),
+        (
+            "driver d\nendd\ndevice v d 18446744073709551617",
+            3,
+            OutOfRange,
+        ),
+        ("driver d\ndispatch READ f\nendd", 2, UnknownName),
+        ("device v d 1\ndriver d\nendd", 1, UnknownName),
+        ("device v d 1\ndriver d\n", 3, Unclosed),
+        (
+            "driver d\ndispatch CONTROL f\ndispatch READ f\nendd\ndevice v e 1",
+            2,
+            UnknownName,
+        ),
+    ] {
+        expect_fault(&rt, text, line, kind)?;
+    }
+    Ok(())
+}
+
+#[test]
+fn gives_the_first_fault_of_a_routine(rt: HostRuntime) -> Result<(), Fail> {
+    use AsmKind::{DuplicateName, OutOfRange, UnknownWord};
+    for (lines, line, kind) in [
+        ("clear r16\n", 4, OutOfRange),
+        ("clear r016\n", 4, OutOfRange),
+        ("clear r99999999999999999999\n", 4, OutOfRange),
+        ("const r1 4294967296\n", 4, OutOfRange),
+        ("clear r16 r1\n", 4, UnknownWord),
+        ("clear rx\n", 4, UnknownWord),
+        ("clear l1\n", 4, UnknownWord),
+        ("complete r0 DONE\n", 4, UnknownWord),
+        ("x:\n", 4, UnknownWord),
+        ("x: y: clear r1\n", 4, UnknownWord),
+        ("x: endr\n", 4, UnknownWord),
+        ("jmp x\n", 4, UnknownWord),
+        ("x: clear r1\nx: jmp x\n", 5, UnknownWord),
+        ("x: clear r1\nx: clear r16\n", 5, DuplicateName),
+    ] {
+        expect_fault(&rt, &routine(rt.alloc(), lines)?, line, kind)?;
+    }
+    Ok(())
+}
+
+/// So many lines, of which the words before and after each number are given.
+fn numbered(alloc: Global, count: u64, before: &str, after: &str) -> Result<String, AllocError> {
+    let mut text = String::new(alloc);
+    for i in 0..count {
+        write!(text, "{before}{i}{after}\n")?;
+    }
+    Ok(text)
+}
+
+#[test]
+fn refuses_more_than_a_set_may_have(rt: HostRuntime) -> Result<(), Fail> {
+    let alloc = rt.alloc();
+    let drivers = numbered(alloc, 9, "driver d", "\nendd")?;
+    expect_fault(&rt, &drivers, 17, AsmKind::OverLimit)?;
+    let devices = numbered(alloc, 17, "device v", " d 1")?;
+    let text = format!(in alloc; "driver d\nendd\n{devices}")?;
+    expect_fault(&rt, &text, 19, AsmKind::OverLimit)?;
+    let routines = numbered(alloc, 33, "routine f", " dispatch\nendr")?;
+    let text = format!(in alloc; "driver d\n{routines}endd")?;
+    expect_fault(&rt, &text, 66, AsmKind::OverLimit)?;
+    let most = numbered(alloc, 1024, "x", ": clear r1")?;
+    let full = routine(alloc, &most)?;
+    assert_eq!(rt; assemble(alloc, full.as_bytes()).is_ok(), true);
+    let text = routine(alloc, &format!(in alloc; "{most}clear r1\n")?)?;
+    expect_fault(&rt, &text, 1028, AsmKind::OverLimit)?;
+    let text = routine(alloc, &format!(in alloc; "{most}clear r16\n")?)?;
+    expect_fault(&rt, &text, 1028, AsmKind::OutOfRange)
+}

@@ -1,0 +1,89 @@
+//! The words of a driver text.
+
+ghost use Rattle.std.specs.Prelude.{◌≡◌};
+ghost use Rattle.asm.specs.Words.{keyword_of, major_of, sort_of, status_of};
+
+use crate::line::Keyword;
+use model::set::Sort;
+use model::status::{Major, Status};
+use text::class::is;
+
+/// The keyword that the token is.
+pub fn keyword_of(token: &[u8]) -> Option<Keyword>
+    ensures { result ≡ keyword_of token.now }
+{
+    if is(token, b"driver") {
+        Some(Keyword::Driver)
+    } else if is(token, b"endd") {
+        Some(Keyword::Endd)
+    } else if is(token, b"dispatch") {
+        Some(Keyword::Dispatch)
+    } else if is(token, b"routine") {
+        Some(Keyword::Routine)
+    } else if is(token, b"endr") {
+        Some(Keyword::Endr)
+    } else if is(token, b"device") {
+        Some(Keyword::Device)
+    } else if is(token, b"const") {
+        Some(Keyword::Const)
+    } else if is(token, b"clear") {
+        Some(Keyword::Clear)
+    } else if is(token, b"mark") {
+        Some(Keyword::Mark)
+    } else if is(token, b"complete") {
+        Some(Keyword::Complete)
+    } else if is(token, b"ret") {
+        Some(Keyword::Ret)
+    } else {
+        None
+    }
+}
+
+/// The status that the token names.
+pub fn status_of(token: &[u8]) -> Option<Status>
+    ensures { result ≡ status_of token.now }
+{
+    if is(token, b"SUCCESS") {
+        Some(Status::Success)
+    } else if is(token, b"PENDING") {
+        Some(Status::Pending)
+    } else if is(token, b"BUSY") {
+        Some(Status::Busy)
+    } else if is(token, b"UNSUCCESSFUL") {
+        Some(Status::Unsuccessful)
+    } else if is(token, b"INVALID_PARAMETER") {
+        Some(Status::InvalidParameter)
+    } else if is(token, b"INVALID_DEVICE_REQUEST") {
+        Some(Status::InvalidDeviceRequest)
+    } else if is(token, b"CANCELLED") {
+        Some(Status::Cancelled)
+    } else {
+        None
+    }
+}
+
+/// The major function that the token names.
+pub fn major_of(token: &[u8]) -> Option<Major>
+    ensures { result ≡ major_of token.now }
+{
+    if is(token, b"READ") {
+        Some(Major::Read)
+    } else if is(token, b"WRITE") {
+        Some(Major::Write)
+    } else if is(token, b"CONTROL") {
+        Some(Major::Control)
+    } else {
+        None
+    }
+}
+
+/// The sort of routine that the token names.
+pub fn sort_of(token: &[u8]) -> Option<Sort>
+    ensures { result ≡ sort_of token.now }
+{
+    if is(token, b"dispatch") {
+        Some(Sort::Dispatch)
+    } else {
+        None
+    }
+}
