@@ -1,0 +1,3 @@
+pub mod Arrivals
+pub mod Steps
+pub mod Verdicts

@@ -1,0 +1,6 @@
+use Rattle.std.specs.Prelude.{All, take}
+use Rattle.model.specs.Typable.{IsTypableRoutine}
+use Rattle.verifier.proofs.verdict.check_driver.Given as goal
+
+abbrev pub invariant-loop-number : goal.invariant-loop-number
+invariant-loop-number l = All IsTypableRoutine (take l.number l.routines)

@@ -1,0 +1,13 @@
+//! The verifier: a driver set is accepted if in each of its routines every position is reached in
+//! exactly one abstract state, over all paths, and no instruction breaks a rule in it.
+#![tactic(auto)]
+
+mod local_rule;
+mod routine_pass;
+pub mod verdict;
+
+pub use model::abs::{Refusal, Rule};
+pub use verdict::{Accepted, verify};
+
+#[cfg(test)]
+mod tests;

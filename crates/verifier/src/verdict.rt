@@ -1,0 +1,141 @@
+//! The verdict on a driver set, and the type of the sets that are accepted.
+
+ghost use Rattle.std.specs.Prelude.{◌≡◌, ◌≢◌, ◌⊎◌, IsSome, IfOk, IfErr, OnOk};
+ghost use Rattle.model.specs.Certificate.{certificate_of};
+ghost use Rattle.model.specs.Set.{routine_of};
+ghost use Rattle.model.specs.Sound.{DriverFits};
+ghost use Rattle.model.specs.Typable.{IsTypable, IsTypableDriver, IsFirstFault, at_start};
+ghost use Rattle.verifier.specs.Verdict.{IsRefusalOf, IsRefusalOfDriver, refusal_of};
+
+use crate::routine_pass::{Stop, check_routine};
+use image::DriverSet;
+use model::abs::{Refusal, Rule};
+use model::limits::DEFAULT_ROUTINE;
+use model::set::Driver;
+use std::alloc::Global;
+use std::marker::Model;
+
+/// The certificate of the default routine, which completes its packet and returns.
+const DEFAULT_CERTIFICATE: u32 = 2;
+
+/// A driver set that is typable. Only [`verify`] makes one.
+#[derive(Drop)]
+pub struct Accepted {
+    driver_set: DriverSet,
+}
+
+impl Model for Accepted {
+    ghost use Rattle.model.specs.Set.{Set};
+    ghost use Rattle.model.specs.Typable.{IsTypable};
+
+    ghost Value = { Set };
+
+    ghost view = { λ a. a.driver_set };
+
+    ghost invariant = { λ a. IsTypable a.driver_set };
+}
+
+impl Accepted {
+    /// The set.
+    pub fn set(&self) -> &DriverSet
+        ensures same { result.now ≡ self.now }
+        ensures typable { IsTypable self.now }
+    {
+        &self.driver_set
+    }
+
+    /// The set, to be run with every test or to be changed.
+    pub fn into_set(self) -> DriverSet
+        ensures { result ≡ self }
+    {
+        self.driver_set
+    }
+
+    /// The certificate of a routine, the default routine's included: how many instructions an
+    /// activation of it executes at most.
+    pub fn cert(&self, driver: u8, routine: u8) -> u32
+        requires { IsSome (routine_of self.now driver routine) }
+        ensures { result ≡ certificate_of self.now driver routine }
+    {
+        if routine == DEFAULT_ROUTINE {
+            return DEFAULT_CERTIFICATE;
+        }
+        let driver = &self.driver_set.drivers()[driver as usize];
+        let routine = &driver.routines.as_slice()[routine as usize];
+        routine.code.as_slice().len() as u32
+    }
+}
+
+/// Accepts a set exactly if it is typable, memory apart. Else it is handed back with its first
+/// fault: of the least driver, of its least routine, at the least position, the least rule. Where
+/// no memory is found the refusal says that, at driver 0, routine 0, position 0.
+pub fn verify(alloc: Global, set: DriverSet) -> Result<Accepted, (DriverSet, Refusal)>
+    ensures accepted { IfOk result (λ a. (a ≡ set) × IsTypable set) }
+    ensures refused { IfErr result (λ e. (e.0 ≡ set) × ((e.1 ≡ at_start Rule.Memory) ⊎ IsFirstFault set e.1)) }
+    ensures untypable { IfErr result (λ e. e.1.rule ≢ Rule.Memory → IsTypable set → ⊥) }
+{
+    match check_set(alloc, &set) {
+        Ok(()) => Ok(Accepted { driver_set: set }),
+        Err(refusal) => Err((set, refusal)),
+    }
+}
+
+/// Accepts a set like [`verify`].
+fn check_set(alloc: Global, set: &DriverSet) -> Result<(), Refusal>
+    ensures typable { OnOk result (IsTypable set.now) }
+    ensures refused { IfErr result (λ refusal. IsRefusalOf set.now refusal) }
+{
+    if set.devices().is_empty() {
+        return Err(at_start(Rule::Malformed));
+    }
+    let drivers = set.drivers();
+    for (number, driver) in drivers.iter().enumerate() {
+        check_driver(alloc, number as u8, driver)?;
+    }
+    Ok(())
+}
+
+/// Accepts the driver of this number exactly if all its routines are typable, memory apart; else it
+/// answers the refusal of their set.
+fn check_driver(alloc: Global, driver_number: u8, driver: &Driver) -> Result<(), Refusal>
+    requires { DriverFits driver.now }
+    ensures typable { OnOk result (IsTypableDriver driver.now) }
+    ensures refused { IfErr result (λ refusal. IsRefusalOfDriver driver.now driver_number refusal) }
+{
+    let routines = driver.routines.as_slice();
+    for (number, routine) in routines.iter().enumerate() {
+        if let Err(stop) = check_routine(alloc, routine) {
+            return Err(stop.refusal(driver_number, number as u8));
+        }
+    }
+    Ok(())
+}
+
+impl Stop {
+    /// The refusal of a set for a routine of it at which a pass stopped.
+    fn refusal(self, driver: u8, routine: u8) -> Refusal
+        ensures { result ≡ refusal_of driver routine self }
+    {
+        match self {
+            Stop::OutOfMemory => at_start(Rule::Memory),
+            Stop::Fault { at, rule } => Refusal {
+                driver,
+                routine,
+                at,
+                rule,
+            },
+        }
+    }
+}
+
+/// The refusal of a set for what isn't about one of its routines.
+fn at_start(rule: Rule) -> Refusal
+    ensures { result ≡ at_start rule }
+{
+    Refusal {
+        driver: 0,
+        routine: 0,
+        at: 0,
+        rule,
+    }
+}
