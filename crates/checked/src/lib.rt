@@ -1,0 +1,15 @@
+//! The reference machine: it runs any driver set event by event with every test, and stops at the
+//! first bug check or wrong operand.
+#![tactic(auto)]
+
+mod frame;
+pub mod machine;
+mod packets;
+mod routine;
+mod thread;
+mod world;
+
+pub use machine::Checked;
+
+#[cfg(test)]
+mod tests;

@@ -1,0 +1,128 @@
+//! The world of a run, and what an event does to it.
+
+ghost use Rattle.std.specs.Prelude.{◌≡◌, ◌∷◌, [], IfOk, slice_get, length};
+ghost use Rattle.checked.specs.Step.{event_now, step_now};
+ghost use Rattle.model.specs.World.{opening, entered as entered_of};
+
+use crate::packets::Packets;
+use crate::thread;
+use arrayvec::ArrayVec;
+use image::DriverSet;
+use model::event::{Event, Reply};
+use model::status::Major;
+use model::world::{Activation, Frame, Thread, Value};
+use std::alloc::{AllocError, Global};
+use std::marker::Model;
+
+/// The threads with their frames, and the packets.
+#[derive(Drop)]
+pub struct World {
+    thread_list: Vec<Thread>,
+    packets: Packets,
+}
+
+impl Model for World {
+    ghost use Rattle.model.specs.World.{World};
+
+    ghost Value = { World };
+
+    ghost view = { λ w. record { threads = w.thread_list.items; shared = w.packets } };
+}
+
+/// A routine that begins, and is handed a packet in its first register.
+fn entered(driver: u8, routine: u8, device: u8, packet: u64) -> Activation
+    ensures { result ≡ entered_of driver routine device packet }
+{
+    let mut registers = [Value::Blank; 16];
+    registers[0] = Value::Ref(packet);
+    Activation {
+        driver,
+        routine,
+        device,
+        position: 0,
+        registers,
+    }
+}
+
+/// A routine begins on an idle thread.
+fn begin(thread: &mut Thread, root: Activation)
+    requires { length thread.old.frames.items ≡ 0 }
+    ensures { thread.new ≡ record { frames = record { items = Frame.Routine root ∷ [] } } }
+{
+    thread.frames.push(Frame::Routine(root));
+}
+
+impl World {
+    /// So many idle threads, and no packet was ever issued. An error where memory is refused.
+    pub fn new(alloc: Global, threads: u8) -> Result<World, AllocError>
+        ensures { IfOk result (λ w. w ≡ opening threads) }
+    {
+        let mut thread_list = Vec::with_capacity(alloc, threads as usize)?;
+        for _thread in 0..threads {
+            thread_list.push(Thread {
+                frames: ArrayVec::new(),
+            })?;
+        }
+        let packets = Packets::new(alloc)?;
+        Ok(World {
+            thread_list,
+            packets,
+        })
+    }
+
+    /// What an event does, and its reply. After a bug check or a wrong operand nothing has changed.
+    pub fn perform(&mut self, set: &DriverSet, event: &Event) -> Reply
+        ensures { record { world = self.new; reply = result } ≡ event_now set.now self.old event.now }
+    {
+        match *event {
+            Event::Issue {
+                thread,
+                device,
+                major,
+                argument,
+            } => self.issue(set, thread, device, major, argument),
+            Event::Step { thread } => self.step(set, thread),
+        }
+    }
+
+    /// A new packet is sent to a device by an idle thread.
+    fn issue(
+        &mut self,
+        set: &DriverSet,
+        thread: u8,
+        device: u8,
+        major: Major,
+        argument: u64,
+    ) -> Reply
+        ensures { let event = Event.Issue thread device major argument in
+            record { world = self.new; reply = result } ≡ event_now set.now self.old event }
+    {
+        let idle = match self.thread_list.get(thread as usize) {
+            Some(caller) => caller.frames.is_empty(),
+            None => return Reply::Refused,
+        };
+        let target = match set.devices().get(device as usize) {
+            Some(target) => *target,
+            None => return Reply::Refused,
+        };
+        if !idle || !self.packets.can_issue() {
+            return Reply::Refused;
+        }
+        let routine = set.handler(target.driver, major);
+        let packet = self.packets.issue(device, major, argument, target.stack);
+        let root = entered(target.driver, routine, device, packet);
+        begin(&mut self.thread_list[thread as usize], root);
+        Reply::Started(packet)
+    }
+
+    /// A step of a thread's top frame.
+    fn step(&mut self, set: &DriverSet, thread: u8) -> Reply
+        ensures { let stepped = slice_get self.old.threads thread in
+            record { world = self.new; reply = result } ≡ step_now set.now self.old thread stepped }
+    {
+        match self.thread_list.get_mut(thread as usize) {
+            Some(stepped) => thread::step(set, &mut self.packets, stepped),
+            None => Reply::Refused,
+        }
+    }
+}
