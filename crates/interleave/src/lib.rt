@@ -1,0 +1,8 @@
+//! Schedules: which thread does what, event by event, read from their texts.
+#![tactic(auto)]
+
+pub mod parse;
+pub mod read;
+pub mod schedule;
+#[cfg(test)]
+mod tests;

@@ -1,0 +1,156 @@
+//! The text of a schedule.
+
+ghost use Rattle.std.specs.Prelude.{◌≡◌, ◌+◌, ◌≤◌, ◌<◌, ◌^◌, ◌++◌, ◌↔◌, ◌≢◌, [], length, drop, replicate, vec_len, IfOk, IfErr, OnOk, MatchResult};
+ghost use Rattle.interleave.specs.Listing.{IsFaultOf, IsWithinLimits, Lists, events_after, listing, opening, schedule_in, with_threads};
+ghost use Rattle.interleave.specs.Meaning.{IsListing, IsFirstFault};
+ghost use Rattle.text.specs.Cut.{lines_of};
+
+use crate::read::{Repeated, event_line, opening_line};
+use crate::schedule::{MAX_EVENTS, Schedule, ScheduleFault, ScheduleKind};
+use model::event::Event;
+use model::items::Items;
+use std::alloc::{AllocError, Global};
+use text::cut::lines;
+use text::piece::Piece;
+
+/// The schedule that a text lists.
+///
+/// A text that lists one gives its threads on the first line with a token, and on each later line
+/// its events, in their order; no text lists two.
+///
+/// # Errors
+///
+/// The first faulty line, with the least kind of what is wrong with it; `Memory` when memory runs
+/// out.
+#[tactic(auto, using(crate::proofs::Limits::listed_within))]
+pub fn parse_schedule(alloc: Global, text: &[u8]) -> Result<Schedule, ScheduleFault>
+    ensures listed { MatchResult result (Lists text.now) (IsFaultOf text.now) }
+    ensures limits { IfOk result IsWithinLimits }
+
+    // What is read is what the text says, and a fault is where it first fails to say a schedule.
+    ensures meaning { (s : Schedule) → Lists text.now s ↔ IsListing text.now s }
+    ensures fault { IfErr result (λ f. f.kind ≢ ScheduleKind.Memory → IsFirstFault 1 (lines_of text.now) f) }
+{
+    match schedule_in(alloc, text) {
+        Ok(Ok(schedule)) => Ok(schedule),
+        Ok(Err(fault)) => Err(fault),
+        Err(AllocError) => Err(ScheduleFault {
+            line: 0,
+            kind: ScheduleKind::Memory,
+        }),
+    }
+}
+
+/// The schedule or its first fault.
+fn schedule_in(alloc: Global, text: &[u8]) -> Result<Result<Schedule, ScheduleFault>, AllocError>
+    ensures { IfOk result (λ r. r ≡ schedule_in text.now) }
+{
+    let lines = lines(alloc, text)?;
+    match find_opening(alloc, lines.as_slice())? {
+        Ok(opening) => {
+            let rest = &lines[opening.lines..];
+            match list(alloc, rest, opening.lines as u64 + 1)? {
+                Ok(events) => Ok(Ok(Schedule {
+                    threads: opening.threads,
+                    events: Items::of(events),
+                })),
+                Err(fault) => Ok(Err(fault)),
+            }
+        }
+        Err(fault) => Ok(Err(fault)),
+    }
+}
+
+/// What the first line with a token says, and how many lines end with it.
+#[derive(Clone, Copy)]
+struct Opening {
+    threads: u8,
+    lines: usize,
+}
+
+/// The line that says how many threads there are.
+fn find_opening(
+    alloc: Global,
+    lines: &[Piece],
+) -> Result<Result<Opening, ScheduleFault>, AllocError>
+    ensures { IfOk result (λ r. MatchResult r (λ o. (o.lines ≤ length lines.now) × (opening 1 lines.now ≡ with_threads o.threads (listing [] (o.lines + 1) (drop o.lines lines.now)))) (λ fault. opening 1 lines.now ≡ Err fault)) }
+{
+    for (i, line) in lines.iter().enumerate() {
+        match opening_line(alloc, line.bytes())? {
+            Ok(Some(threads)) => {
+                return Ok(Ok(Opening {
+                    threads,
+                    lines: i + 1,
+                }));
+            }
+            Ok(None) => {}
+            Err(kind) => {
+                return Ok(Err(ScheduleFault {
+                    line: i as u64 + 1,
+                    kind,
+                }));
+            }
+        }
+    }
+    Ok(Err(ScheduleFault {
+        line: lines.len() as u64 + 1,
+        kind: ScheduleKind::UnknownWord,
+    }))
+}
+
+/// The events of lines of which the first has this number.
+fn list(
+    alloc: Global,
+    lines: &[Piece],
+    first: u64,
+) -> Result<Result<Vec<Event>, ScheduleFault>, AllocError>
+    requires { first + length lines.now < 2 ^ 64 }
+    ensures { IfOk result (λ r. MatchResult r (λ events. listing [] first lines.now ≡ Ok events.items) (λ fault. listing [] first lines.now ≡ Err fault)) }
+{
+    let mut events = Vec::new(alloc);
+    for (i, line) in lines.iter().enumerate() {
+        match add_line(alloc, &mut events, line.bytes())? {
+            Ok(()) => {}
+            Err(kind) => {
+                return Ok(Err(ScheduleFault {
+                    line: first + i as u64,
+                    kind,
+                }));
+            }
+        }
+    }
+    Ok(Ok(events))
+}
+
+/// Adds the events of a line.
+fn add_line(
+    alloc: Global,
+    events: &mut Vec<Event>,
+    line: &[u8],
+) -> Result<Result<(), ScheduleKind>, AllocError>
+    ensures { IfOk result (λ r. MatchResult r (λ _. events_after events.old.items line.now ≡ Ok events.new.items) (λ kind. events_after events.old.items line.now ≡ Err kind)) }
+{
+    match event_line(alloc, line)? {
+        Ok(Some(repeated)) => match events.len().checked_add(repeated.count) {
+            Some(length) => {
+                if length > MAX_EVENTS {
+                    return Ok(Err(ScheduleKind::TooLong));
+                }
+                repeat(events, repeated)?;
+                Ok(Ok(()))
+            }
+            None => Ok(Err(ScheduleKind::TooLong)),
+        },
+        Ok(None) => Ok(Ok(())),
+        Err(kind) => Ok(Err(kind)),
+    }
+}
+
+/// Adds an event as many times as it happens.
+fn repeat(events: &mut Vec<Event>, repeated: Repeated) -> Result<(), AllocError>
+    requires { vec_len events.old + repeated.count < 2 ^ 64 }
+    ensures { OnOk result (events.new.items ≡ events.old.items ++ replicate repeated.count repeated.event) }
+{
+    let length = events.len();
+    events.resize(length + repeated.count, repeated.event)
+}
