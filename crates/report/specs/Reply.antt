@@ -1,0 +1,33 @@
+-- The line of a trace for an event: its number, and what the run answered to it.
+use Rattle.std.specs.Prelude.{ℕ, List, [], ◌∷◌, ◌++◌, codes}
+use Rattle.std.specs.Fmt.{decimal}
+use Rattle.model.specs.declared.event.Place.{Place}
+use Rattle.model.specs.declared.event.Reply.{Reply}
+use Rattle.model.specs.declared.event.Reply.TheVariants.{Started, Stepped, Finished, Topped, Idle, Refused, Bug as BugCheckReply, Wrong}
+use Rattle.model.specs.declared.event.Subject.{Subject}
+use Rattle.model.specs.declared.event.Subject.TheVariants.{Packet}
+use Rattle.report.specs.Line.{line_of}
+use Rattle.report.specs.Number.{status_text, bug_check_text}
+
+-- what a bug check is about
+abbrev pub subject_words : Subject → List (List ℕ)
+subject_words (Packet n) = codes "packet" ∷ decimal n ∷ []
+
+-- a place: driver, routine and position
+abbrev pub place_text : Place → List ℕ
+place_text place = decimal place.driver ++ 46 ∷ (decimal place.routine ++ 46 ∷ decimal place.position)
+
+-- a reply
+abbrev pub reply_words : Reply → List (List ℕ)
+reply_words (Started n) = codes "started" ∷ decimal n ∷ []
+reply_words Stepped = codes "stepped" ∷ []
+reply_words Finished = codes "finished" ∷ []
+reply_words (Topped n status info) = codes "topped" ∷ decimal n ∷ status_text status ∷ decimal info ∷ []
+reply_words Idle = codes "idle" ∷ []
+reply_words Refused = codes "refused" ∷ []
+reply_words (BugCheckReply bug) = codes "bug" ∷ bug_check_text bug.check ∷ subject_words bug.subject
+reply_words (Wrong place) = codes "wrong" ∷ place_text place ∷ []
+
+-- the line of the event of a number
+abbrev pub reply_line : ℕ → Reply → List ℕ
+reply_line number reply = line_of (decimal number ∷ reply_words reply)

@@ -1,0 +1,35 @@
+-- The lines of a verdict.
+use Rattle.std.specs.Prelude.{ℕ, List, [], ◌∷◌, codes}
+use Rattle.std.specs.Fmt.{decimal}
+use Rattle.model.specs.declared.abs.Refusal.{Refusal}
+use Rattle.model.specs.declared.abs.Rule.{Rule}
+use Rattle.model.specs.declared.abs.Rule.TheVariants.{Malformed, Unreachable, WrongKind, DoubleCompletion, MarkIrpPending, Dropped, Memory}
+use Rattle.model.specs.declared.set.Sort.{Sort}
+use Rattle.model.specs.declared.set.Sort.TheVariants.{Dispatch}
+use Rattle.report.specs.Line.{line_of}
+
+-- the word of a sort
+abbrev pub sort_text : Sort → List ℕ
+sort_text Dispatch = codes "dispatch"
+
+-- a rule: its number and its name
+abbrev pub rule_text : Rule → List ℕ
+rule_text Malformed = codes "V1 Malformed"
+rule_text Unreachable = codes "V2 Unreachable"
+rule_text WrongKind = codes "V4 WrongKind"
+rule_text DoubleCompletion = codes "V5 DoubleCompletion"
+rule_text MarkIrpPending = codes "V6 MarkIrpPending"
+rule_text Dropped = codes "V13 Dropped"
+rule_text Memory = codes "V20 Memory"
+
+-- the line of a routine of an accepted set
+abbrev pub certificate_line : ℕ → ℕ → Sort → ℕ → List ℕ
+certificate_line driver routine sort certificate =
+    line_of
+    (codes "driver" ∷ decimal driver ∷ codes "routine" ∷ decimal routine ∷ sort_text sort ∷ codes "certificate" ∷ decimal certificate ∷ [])
+
+-- the line of a refused set
+abbrev pub refusal_line : Refusal → List ℕ
+refusal_line refusal =
+    line_of
+    (codes "refused" ∷ rule_text refusal.rule ∷ codes "driver" ∷ decimal refusal.driver ∷ codes "routine" ∷ decimal refusal.routine ∷ codes "at" ∷ decimal refusal.at ∷ [])
