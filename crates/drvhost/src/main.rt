@@ -1,0 +1,56 @@
+//! `drvhost`: the verdict and the trace of driver sets. See the library for what it answers.
+#![tactic(auto)]
+
+use std::alloc::AllocError;
+use std::env;
+use std::fs::File;
+use std::process::ExitCode;
+
+use drvhost_parts::check::check;
+use drvhost_parts::device::{Reader, Writer};
+use drvhost_parts::job::{Job, JobFault, refuse_words};
+use drvhost_parts::trace::trace;
+
+fn main(rt: HostRuntime) -> ExitCode {
+    let status = match arguments(&rt) {
+        Ok(words) => run(&rt, words.as_slice()),
+        Err(AllocError) => refuse_words(&JobFault::Memory, &mut Writer::new(rt.stderr())),
+    };
+    ExitCode::from(status)
+}
+
+/// The words after the program's name; none where they can't be had as text.
+fn arguments(rt: &HostRuntime) -> Result<Vec<String>, AllocError> {
+    match env::args(rt) {
+        Ok(words) => words.skip(1).collect(rt.alloc()),
+        Err(_) => Ok(Vec::new(rt.alloc())),
+    }
+}
+
+fn run(rt: &HostRuntime, words: &[String]) -> u8 {
+    let alloc = rt.alloc();
+    let mut out = Writer::new(rt.stdout());
+    let mut err = Writer::new(rt.stderr());
+    let words: Vec<&str> = match words.iter().map(|word| word.as_str()).collect(alloc) {
+        Ok(words) => words,
+        Err(AllocError) => return refuse_words(&JobFault::Memory, &mut err),
+    };
+    match Job::of(alloc, words.as_slice()) {
+        Ok(Job::Check { set }) => check(alloc, &mut open(rt, set), &mut out, &mut err),
+        Ok(Job::Trace {
+            set,
+            schedule,
+            verification,
+        }) => {
+            let mut set = open(rt, set);
+            let mut schedule = open(rt, schedule);
+            trace(alloc, &mut set, &mut schedule, verification, &mut out, &mut err)
+        }
+        Err(fault) => refuse_words(&fault, &mut err),
+    }
+}
+
+/// A file as a source.
+fn open(rt: &HostRuntime, name: &str) -> Reader<File> {
+    Reader::new(File::open(rt, name).ok())
+}

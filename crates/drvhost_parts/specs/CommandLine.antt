@@ -1,0 +1,59 @@
+-- The program's command line in the terms of `clap`, and which task its matches name.
+use Rattle.std.specs.Prelude.{◌≡◌, ℕ, List, Option, None, Some, true, codes}
+use Rattle.clap.specs.Words.{App, Row, Rule, Text, first_of, new_app, new_rule, one_of, with_rule, with_subcommand}
+use Rattle.clap.specs.declared.builder.ArgAction.TheVariants.{Set, SetTrue}
+use Rattle.drvhost_parts.specs.declared.job.Job.{Job}
+use Rattle.drvhost_parts.specs.declared.job.Job.TheVariants.{Check, Trace}
+use Rattle.drvhost_parts.specs.declared.job.JobFault.{JobFault}
+use Rattle.drvhost_parts.specs.declared.job.JobFault.TheVariants.{Usage, Memory}
+use Rattle.drvhost_parts.specs.declared.job.Verification.{Verification}
+use Rattle.drvhost_parts.specs.declared.job.Verification.TheVariants.{Required, Skipped}
+
+-- the name of a file, which has to be there
+abbrev pub file_argument : Text → Rule
+file_argument id = record (new_rule id) { required = true; action = Some Set }
+
+-- `--unchecked`
+abbrev pub unchecked_flag : Rule
+unchecked_flag = record (new_rule (codes "unchecked")) { long = Some (codes "unchecked"); action = Some SetTrue }
+
+-- `check FILE`
+abbrev pub check_command : App
+check_command = with_rule (new_app (codes "check")) (file_argument (codes "FILE"))
+
+-- `trace FILE SCHEDULE [--unchecked]`
+abbrev pub trace_command : App
+trace_command =
+    with_rule (with_rule (with_rule (new_app (codes "trace")) (file_argument (codes "FILE"))) (file_argument (codes "SCHEDULE"))) unchecked_flag
+
+-- the program, whose own name isn't among the words
+abbrev pub named_program : App
+named_program = new_app (codes "drvhost")
+
+abbrev pub bare_program : App
+bare_program = record named_program { top = record named_program.top { no_binary_name = true; subcommand_required = true } }
+
+abbrev pub program : App
+program = with_subcommand (with_subcommand bare_program check_command.top) trace_command.top
+
+-- what the flag's value says
+pub record IsFlag (value : Option Text) (verification : Verification) : Type 0 where
+  pub none : value ≡ None → verification ≡ Required
+  pub unset : value ≡ Some (codes "false") → verification ≡ Required
+  pub set : value ≡ Some (codes "true") → verification ≡ Skipped
+
+-- a subcommand with its matches names a task
+abbrev pub NamesTask : Text × List Row → Job → Type 0
+NamesTask found (Check set) = (found.0 ≡ codes "check") × (first_of (codes "FILE") found.1 ≡ Some set.now)
+NamesTask found (Trace set schedule verification) =
+    (found.0 ≡ codes "trace") × (first_of (codes "FILE") found.1 ≡ Some set.now) × (first_of (codes "SCHEDULE") found.1 ≡ Some schedule.now) × IsFlag (one_of (codes "unchecked") found.1) verification
+
+-- the matches name a task
+abbrev pub Names : Option (Text × List Row) → Job → Type 0
+Names None job = ⊥
+Names (Some found) job = NamesTask found job
+
+-- the exit status for words that name no task
+abbrev pub job_fault_status : JobFault → ℕ
+job_fault_status (Usage text) = 2
+job_fault_status Memory = 3

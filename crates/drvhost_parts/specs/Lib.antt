@@ -1,0 +1,3 @@
+pub mod CommandLine
+pub mod Device
+pub mod Fault

@@ -1,0 +1,124 @@
+//! What the program reads from and writes to.
+
+ghost use Rattle.std.specs.Prelude.{◌≡◌, ◌≤◌, ◌<◌, ℕ, IfOk, length};
+ghost use Rattle.drvhost_parts.specs.Device.{CanCount, Counts};
+
+use std::io::{Read, Write};
+
+/// A read or a write failed.
+#[derive(Clone, Copy, Debug, PartialEq, Eq)]
+pub struct Failed;
+
+/// Something to read bytes from.
+pub trait Source {
+    ghost failures: { Self → ℕ };
+
+    /// How often a read of it has failed so far.
+    fn failures(&self) -> u64
+        ensures { result ≡ failures self.now };
+
+    /// Reads some bytes into the front of `into`, and says how many: 0 at the end.
+    fn read(&mut self, into: &mut [u8]) -> Result<usize, Failed>
+        requires { CanCount (failures self.old) }
+        ensures within { IfOk result (λ count. count ≤ length into.old) }
+        ensures counted { Counts (failures self.old) result (failures self.new) };
+}
+
+/// Something to write bytes to.
+pub trait Sink {
+    ghost failures: { Self → ℕ };
+
+    /// How often a write to it has failed so far.
+    fn failures(&self) -> u64
+        ensures { result ≡ failures self.now };
+
+    /// Writes some bytes of the front of `bytes`, and says how many: at least one where there is
+    /// one.
+    fn write(&mut self, bytes: &[u8]) -> Result<usize, Failed>
+        requires { CanCount (failures self.old) }
+        ensures within { IfOk result (λ count. count ≤ length bytes.now) }
+        ensures some { IfOk result (λ count. 0 < length bytes.now → 0 < count) }
+        ensures counted { Counts (failures self.old) result (failures self.new) };
+}
+
+/// A reader as a source: a file, the standard input, or bytes in memory.
+#[derive(Drop)]
+pub struct Reader<R> {
+    reader: Option<R>,
+    failures: u64,
+}
+
+impl<R: Read> Reader<R> {
+    /// The source over a reader. Where there is none, as for a file that can't be opened, each read
+    /// fails.
+    pub fn new(reader: Option<R>) -> Reader<R>
+        ensures { ⟦<Reader<R> as Source>⟧.failures result ≡ 0 }
+    {
+        Reader {
+            reader,
+            failures: 0,
+        }
+    }
+}
+
+impl<R: Read> Source for Reader<R> {
+    ghost failures = { λ source. source.failures };
+
+    fn failures(&self) -> u64 {
+        self.failures
+    }
+
+    fn read(&mut self, into: &mut [u8]) -> Result<usize, Failed> {
+        if let Some(reader) = &mut self.reader {
+            if let Ok(count) = reader.read(into) {
+                return Ok(count);
+            }
+        }
+        self.failures += 1;
+        Err(Failed)
+    }
+}
+
+/// A writer as a sink: a file, a standard stream, or bytes in memory.
+#[derive(Drop)]
+pub struct Writer<W> {
+    writer: W,
+    failures: u64,
+}
+
+impl<W: Write> Writer<W> {
+    /// The sink over a writer.
+    pub fn new(writer: W) -> Writer<W>
+        ensures { ⟦<Writer<W> as Sink>⟧.failures result ≡ 0 }
+    {
+        Writer {
+            writer,
+            failures: 0,
+        }
+    }
+
+    /// The writer again.
+    pub fn into_inner(self) -> W
+        ensures { result ≡ self.writer }
+    {
+        self.writer
+    }
+}
+
+impl<W: Write> Sink for Writer<W> {
+    ghost failures = { λ sink. sink.failures };
+
+    fn failures(&self) -> u64 {
+        self.failures
+    }
+
+    fn write(&mut self, bytes: &[u8]) -> Result<usize, Failed> {
+        match self.writer.write(bytes) {
+            Ok(count) if count > 0 || bytes.is_empty() => Ok(count),
+            _ => {
+                self.failures += 1;
+                Err(Failed)
+            }
+        }
+    }
+}

@@ -1,0 +1,221 @@
+//! The program's command line.
+
+ghost use Rattle.std.specs.Prelude.{◌≡◌, List, ℕ, false, true, codes, map, IfErr, IfNone, IfOk, IfSome, OnOk, option_map, []};
+ghost use Rattle.clap.specs.Words.{app_of, fault_of, first_of, found_of, kind_of, one_of, rows_of, rule_of, subcommand_of, subcommand_rows_of, takes};
+ghost use Rattle.clap.specs.declared.builder.command.Command.TheViews.{out-Command as fields_of};
+ghost use Rattle.drvhost_parts.specs.CommandLine.{check_command, file_argument, job_fault_status, program, trace_command, unchecked_flag, IsFlag, Names, NamesTask};
+ghost use Rattle.drvhost_parts.specs.Device.{CanCount};
+
+use std::alloc::{AllocError, Global};
+use std::fmt;
+
+use clap::error::ErrorKind;
+use clap::{Arg, ArgAction, ArgMatches, Command};
+use report::fault::OUT_OF_MEMORY;
+use thiserror::Error;
+
+use crate::device::Sink;
+use crate::fault::say;
+
+/// Whether a set has to be accepted before it runs.
+#[derive(Clone, Copy, Debug, PartialEq, Eq)]
+pub enum Verification {
+    /// A refused set isn't run.
+    Required,
+    /// Any set is run.
+    Skipped,
+}
+
+/// A task for the program, with the names of its files.
+#[derive(Clone, Copy)]
+pub enum Job<'a> {
+    /// `check FILE`
+    Check { set: &'a str },
+    /// `trace FILE SCHEDULE [--unchecked]`
+    Trace {
+        set: &'a str,
+        schedule: &'a str,
+        verification: Verification,
+    },
+}
+
+/// Why there is no task.
+#[derive(Debug, Drop, Error)]
+pub enum JobFault {
+    /// The words name none, or ask for help: the text for the user.
+    #[error("{0}")]
+    Usage(String),
+    /// A growth was refused.
+    #[error("out of memory")]
+    Memory,
+}
+
+impl From<AllocError> for JobFault {
+    ghost use Rattle.drvhost_parts.specs.declared.job.JobFault.TheVariants.{Memory};
+
+    ghost from_gives = { λ _ fault. fault ≡ Memory };
+
+    fn from(_refused: AllocError) -> JobFault {
+        JobFault::Memory
+    }
+}
+
+impl<'a> Job<'a> {
+    /// The task that the words of a command line name, without the program's own name.
+    ///
+    /// # Errors
+    ///
+    /// `Usage` where they name none or ask for help, `Memory` when memory runs out.
+    pub fn of(alloc: Global, words: &'a [&'a str]) -> Result<Job<'a>, JobFault>
+        ensures task { IfOk result (Names (subcommand_of program (map (λ word. word.now) words.entry.now))) }
+        ensures taken { OnOk result (fault_of program (map (λ word. word.now) words.entry.now) ≡ []) }
+        ensures refused { IfErr result (λ fault. takes program (map (λ word. word.now) words.entry.now) ≡ true
+            → (job : Job) → Names (subcommand_of program (map (λ word. word.now) words.entry.now)) job → fault ≡ JobFault.Memory) }
+    {
+        let mut program = program(alloc)?;
+        match program.try_get_matches_from_mut(words) {
+            Ok(matches) => match named(&matches) {
+                Some(job) => Ok(job),
+                None => Err(JobFault::Usage(program.render_usage()?)),
+            },
+            Err(error) => Err(refused(alloc, &error)),
+        }
+    }
+}
+
+/// Answers words that name no task: writes the text for the user, and gives the exit status, 2 for a
+/// wrong command line and 3 where memory ran out.
+pub fn refuse_words<E: Sink>(fault: &JobFault, err: &mut E) -> u8
+    requires { CanCount (E.failures err.old) }
+    ensures { result ≡ job_fault_status fault.now }
+{
+    match fault {
+        JobFault::Usage(text) => {
+            say(err, text.as_str());
+            2
+        }
+        JobFault::Memory => {
+            say(err, OUT_OF_MEMORY);
+            3
+        }
+    }
+}
+
+/// What a refused command line is answered with.
+fn refused(alloc: Global, error: &clap::Error) -> JobFault
+    ensures { kind_of error.now ≡ ErrorKind.OutOfMemory → result ≡ JobFault.Memory }
+{
+    if error.kind() == ErrorKind::OutOfMemory {
+        return JobFault::Memory;
+    }
+    match error.to_string(alloc) {
+        Ok(text) => JobFault::Usage(text),
+        Err(_) => JobFault::Memory,
+    }
+}
+
+/// The program's command line.
+fn program<'a>(alloc: Global) -> Result<Command<'a>, AllocError>
+    ensures { IfOk result (λ command. app_of command ≡ program) }
+{
+    let check = check_command(alloc)?;
+    let trace = trace_command(alloc)?;
+    let program = Command::new(alloc, "drvhost")
+        .no_binary_name(true)
+        .subcommand_required(true);
+    program.subcommand(check)?.subcommand(trace)
+}
+
+fn check_command<'a>(alloc: Global) -> Result<Command<'a>, AllocError>
+    ensures app { IfOk result (λ command. app_of command ≡ check_command) }
+    ensures local { IfOk result (λ command. (fields_of command).has_globals ≡ false) }
+{
+    let set = file(alloc, "FILE", "The text of the driver set");
+    let command = Command::new(alloc, "check").about("Accepts or refuses a driver set");
+    command.arg(set)
+}
+
+fn trace_command<'a>(alloc: Global) -> Result<Command<'a>, AllocError>
+    ensures app { IfOk result (λ command. app_of command ≡ trace_command) }
+    ensures local { IfOk result (λ command. (fields_of command).has_globals ≡ false) }
+{
+    let set = file(alloc, "FILE", "The text of the driver set");
+    let schedule = file(alloc, "SCHEDULE", "The threads and the events");
+    let unchecked = unchecked_flag(alloc);
+    let command = Command::new(alloc, "trace")
+        .about("Runs a driver set by a schedule, and writes a line for each event");
+    command.arg(set)?.arg(schedule)?.arg(unchecked)
+}
+
+/// A required argument: the name of a file.
+fn file<'a>(alloc: Global, id: &'a str, help: &'a str) -> Arg<'a>
+    ensures rule { rule_of result ≡ file_argument id.entry.now }
+    ensures local { result.global ≡ false }
+{
+    Arg::new(alloc, id)
+        .required(true)
+        .action(ArgAction::Set)
+        .help(help)
+}
+
+fn unchecked_flag<'a>(alloc: Global) -> Arg<'a>
+    ensures rule { rule_of result ≡ unchecked_flag }
+    ensures local { result.global ≡ false }
+{
+    Arg::new(alloc, "unchecked")
+        .long("unchecked")
+        .action(ArgAction::SetTrue)
+        .help("Runs the set whether or not it is accepted")
+}
+
+/// The task that a parsed command line names.
+fn named<'a>(matches: &ArgMatches<'a>) -> Option<Job<'a>>
+    ensures some { IfSome result (Names (subcommand_rows_of matches.now)) }
+    ensures none { IfNone result ((job : Job) → Names (subcommand_rows_of matches.now) job → ⊥) }
+{
+    let (command, inner) = matches.subcommand()?;
+    match command {
+        "check" => check_named(inner),
+        "trace" => trace_named(inner),
+        _ => None,
+    }
+}
+
+fn check_named<'a>(matches: &ArgMatches<'a>) -> Option<Job<'a>>
+    ensures some { IfSome result (NamesTask (codes "check", rows_of (found_of matches.now))) }
+    ensures none { IfNone result ((job : Job) → NamesTask (codes "check", rows_of (found_of matches.now)) job → ⊥) }
+{
+    let set = argument(matches, "FILE")?;
+    Some(Job::Check { set })
+}
+
+fn trace_named<'a>(matches: &ArgMatches<'a>) -> Option<Job<'a>>
+    ensures some { IfSome result (NamesTask (codes "trace", rows_of (found_of matches.now))) }
+    ensures none { IfNone result ((job : Job) → NamesTask (codes "trace", rows_of (found_of matches.now)) job → ⊥) }
+{
+    let set = argument(matches, "FILE")?;
+    let schedule = argument(matches, "SCHEDULE")?;
+    let verification = flagged(matches);
+    Some(Job::Trace {
+        set,
+        schedule,
+        verification,
+    })
+}
+
+/// The value of an argument.
+fn argument<'a>(matches: &ArgMatches<'a>, id: &str) -> Option<&'a str>
+    ensures { option_map (λ value. value.now) result ≡ first_of id.now (rows_of (found_of matches.now)) }
+{
+    matches.get_str(id)
+}
+
+fn flagged(matches: &ArgMatches<'_>) -> Verification
+    ensures { IsFlag (one_of (codes "unchecked") (rows_of (found_of matches.now))) result }
+{
+    if matches.get_flag("unchecked") {
+        Verification::Skipped
+    } else {
+        Verification::Required
+    }
+}

@@ -1,0 +1,10 @@
+//! What the program does, over any devices: its command line, and the verdict and the trace of a
+//! driver set.
+#![tactic(auto)]
+
+pub mod check;
+pub mod device;
+pub mod fault;
+pub mod job;
+pub mod trace;
+mod transfer;

@@ -1,0 +1,136 @@
+//! The trace of a run.
+
+ghost use Rattle.std.specs.Prelude.{◌≡◌, ◌+◌, ◌<◌, ◌^◌, IfOk, length};
+ghost use Rattle.interleave.specs.Listing.{IsWithinLimits};
+ghost use Rattle.drvhost_parts.specs.Device.{CanCount};
+ghost use Rattle.drvhost_parts.specs.Fault.{AnswersBy, reads_failed, writes_failed};
+
+use std::alloc::{AllocError, Global};
+
+use checked::Checked;
+use interleave::parse::parse_schedule;
+use interleave::schedule::Schedule;
+use model::event::Event;
+use report::reply::reply_line;
+use verifier::verify;
+
+use crate::check::{read_set, refuse};
+use crate::device::{Sink, Source};
+use crate::fault::{End, Fault, finish, of_schedule};
+use crate::job::Verification;
+use crate::transfer::{read_whole, write_text};
+
+/// Events whose lines are written in one call.
+const EVENTS_A_BLOCK: usize = 4096;
+
+/// Runs a driver set by a schedule, and writes a line for each event, up to the first bug check or
+/// wrong operand. Where verification is required, a refused set isn't run, and what is written is
+/// the line of its refusal. The answer is the exit status: 0 where the run came to the end of its
+/// schedule, 1 where the set was refused or the run stopped, 2 where an input is faulty or a read
+/// or a write failed, 3 where memory ran out. Faults are told on the error writer: those of the set
+/// before a refusal, and a refusal before those of the schedule.
+pub fn trace<S: Source, P: Source, O: Sink, E: Sink>(
+    alloc: Global,
+    set: &mut S,
+    schedule: &mut P,
+    verification: Verification,
+    out: &mut O,
+    err: &mut E,
+) -> u8
+    requires set { CanCount (S.failures set.old) }
+    requires schedule { CanCount (P.failures schedule.old) }
+    requires out { CanCount (O.failures out.old) }
+    requires err { CanCount (E.failures err.old) }
+    ensures { AnswersBy (S.failures set.old + P.failures schedule.old) (S.failures set.new + P.failures schedule.new) (O.failures out.old) (O.failures out.new) result }
+{
+    let end = trace_set(alloc, set, schedule, verification, out);
+    finish(alloc, end, err)
+}
+
+fn trace_set<S: Source, P: Source, O: Sink>(
+    alloc: Global,
+    set: &mut S,
+    schedule: &mut P,
+    verification: Verification,
+    out: &mut O,
+) -> Result<End, Fault>
+    requires set { CanCount (S.failures set.old) }
+    requires schedule { CanCount (P.failures schedule.old) }
+    requires out { CanCount (O.failures out.old) }
+    ensures reads { S.failures set.new + P.failures schedule.new ≡ S.failures set.old + P.failures schedule.old + reads_failed result }
+    ensures writes { O.failures out.new ≡ O.failures out.old + writes_failed result }
+{
+    let mut set = read_set(alloc, set)?;
+    if verification == Verification::Required {
+        set = match verify(alloc, set) {
+            Ok(accepted) => accepted.into_set(),
+            Err((_set, refusal)) => return refuse(alloc, &refusal, out),
+        };
+    }
+    let schedule = read_schedule(alloc, schedule)?;
+    match Checked::new(alloc, set, schedule.threads) {
+        Ok(mut machine) => run(alloc, &mut machine, schedule.events.as_slice(), out),
+        Err((_set, _refused)) => Err(Fault::Memory),
+    }
+}
+
+/// The schedule that the text of a source lists.
+fn read_schedule<P: Source>(alloc: Global, source: &mut P) -> Result<Schedule, Fault>
+    requires { CanCount (P.failures source.old) }
+    ensures reads { P.failures source.new ≡ P.failures source.old + reads_failed result }
+    ensures writes { writes_failed result ≡ 0 }
+    ensures limits { IfOk result IsWithinLimits }
+{
+    let text = read_whole(alloc, source)?;
+    match parse_schedule(alloc, text.as_slice()) {
+        Ok(schedule) => Ok(schedule),
+        Err(fault) => Err(of_schedule(fault)),
+    }
+}
+
+/// Runs the events, and writes their lines.
+fn run<O: Sink>(
+    alloc: Global,
+    machine: &mut Checked,
+    events: &[Event],
+    out: &mut O,
+) -> Result<End, Fault>
+    requires { CanCount (O.failures out.old) }
+    ensures reads { reads_failed result ≡ 0 }
+    ensures writes { O.failures out.new ≡ O.failures out.old + writes_failed result }
+{
+    let total = events.len();
+    let mut rest = events;
+    while !rest.is_empty() {
+        let (block, after) = rest.split_at(rest.len().min(EVENTS_A_BLOCK));
+        let text = run_block(alloc, machine, total - rest.len(), block)?;
+        write_text(out, text.as_str())?;
+        if machine.stopped() {
+            return Ok(End::Stopped);
+        }
+        rest = after;
+    }
+    Ok(End::Complete)
+}
+
+/// Runs the events of a block, the first of which has this number, up to one that stops the run, and
+/// gives their lines.
+fn run_block(
+    alloc: Global,
+    machine: &mut Checked,
+    first: usize,
+    events: &[Event],
+) -> Result<String, AllocError>
+    requires { first + length events.now < 2 ^ 64 }
+{
+    let mut text = String::new(alloc);
+    for (offset, event) in events.iter().enumerate() {
+        let reply = machine.apply(event);
+        let line = reply_line(alloc, (first + offset) as u64, &reply)?;
+        text.push_str(line.as_str())?;
+        if machine.stopped() {
+            break;
+        }
+    }
+    Ok(text)
+}

@@ -1,0 +1,103 @@
+//! Devices that move few bytes a call, or fail at a chosen call.
+
+ghost use Rattle.std.specs.Prelude.{◌≡◌};
+
+use drvhost_parts::device::{Failed, Sink, Source};
+use std::alloc::Global;
+
+/// A source of bytes in memory.
+#[derive(Drop)]
+pub(crate) struct Slow<'a> {
+    bytes: &'a [u8],
+    /// Bytes a call, at most.
+    step: usize,
+    /// Calls before the one that fails.
+    good: Option<usize>,
+    failures: u64,
+}
+
+impl<'a> Slow<'a> {
+    pub(crate) fn new(bytes: &'a [u8], step: usize, good: Option<usize>) -> Slow<'a>
+        ensures { result.failures ≡ 0 }
+    {
+        Slow {
+            bytes,
+            step,
+            good,
+            failures: 0,
+        }
+    }
+}
+
+impl Source for Slow<'_> {
+    ghost failures = { λ source. source.failures };
+
+    fn failures(&self) -> u64 {
+        self.failures
+    }
+
+    fn read(&mut self, into: &mut [u8]) -> Result<usize, Failed> {
+        if is_failing(&mut self.good) {
+            self.failures += 1;
+            return Err(Failed);
+        }
+        let count = self.bytes.len().min(into.len()).min(self.step);
+        let (given, rest) = self.bytes.split_at(count);
+        into[..count].copy_from_slice(given);
+        self.bytes = rest;
+        Ok(count)
+    }
+}
+
+/// A sink in memory.
+#[derive(Drop)]
+pub(crate) struct Narrow {
+    pub(crate) written: Vec<u8>,
+    /// Bytes a call, at most; 0 is taken as 1.
+    step: usize,
+    /// Calls before the one that fails.
+    good: Option<usize>,
+    failures: u64,
+}
+
+impl Narrow {
+    pub(crate) fn new(alloc: Global, step: usize, good: Option<usize>) -> Narrow
+        ensures { result.failures ≡ 0 }
+    {
+        Narrow {
+            written: Vec::new(alloc),
+            step,
+            good,
+            failures: 0,
+        }
+    }
+}
+
+impl Sink for Narrow {
+    ghost failures = { λ sink. sink.failures };
+
+    fn failures(&self) -> u64 {
+        self.failures
+    }
+
+    fn write(&mut self, bytes: &[u8]) -> Result<usize, Failed> {
+        let count = bytes.len().min(self.step.max(1));
+        if is_failing(&mut self.good) || self.written.extend_from_slice(&bytes[..count]).is_err() {
+            self.failures += 1;
+            return Err(Failed);
+        }
+        Ok(count)
+    }
+}
+
+/// Counts a call, and says whether it is the one that fails.
+fn is_failing(good: &mut Option<usize>) -> bool {
+    match *good {
+        None => false,
+        Some(0) => true,
+        Some(left) => {
+            *good = Some(left - 1);
+            false
+        }
+    }
+}

@@ -1,0 +1,11 @@
+//! Tests of the program's library on worked sets and schedules, over devices in memory.
+#![tactic(auto)]
+
+#[cfg(test)]
+mod command_lines;
+#[cfg(test)]
+mod devices;
+#[cfg(test)]
+mod failures;
+#[cfg(test)]
+mod worked;
