@@ -1,4 +1,4 @@
-//! Texts and what they name. The expected answers are those of an independent program.
+//! Texts and what they name: the set, or the fault that the rules of the text give.
 
 use crate::{AsmFault, AsmKind, assemble};
 use model::instr::{Instr, Register, Return};

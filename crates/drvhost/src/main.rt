@@ -1,15 +1,16 @@
 //! `drvhost`: the verdict and the trace of driver sets. See the library for what it answers.
 #![tactic(auto)]
 
+ghost use Rattle.std.specs.Prelude.{◌≡◌};
+
+use drvhost_parts::check::check;
+use drvhost_parts::device::{Reader, Source, Writer};
+use drvhost_parts::job::{Job, JobFault, refuse_words};
+use drvhost_parts::trace::trace;
 use std::alloc::AllocError;
 use std::env;
 use std::fs::File;
 use std::process::ExitCode;
-
-use drvhost_parts::check::check;
-use drvhost_parts::device::{Reader, Writer};
-use drvhost_parts::job::{Job, JobFault, refuse_words};
-use drvhost_parts::trace::trace;
 
 fn main(rt: HostRuntime) -> ExitCode {
     let status = match arguments(&rt) {
@@ -37,20 +38,31 @@ fn run(rt: &HostRuntime, words: &[String]) -> u8 {
     };
     match Job::of(alloc, words.as_slice()) {
         Ok(Job::Check { set }) => check(alloc, &mut open(rt, set), &mut out, &mut err),
-        Ok(Job::Trace {
-            set,
-            schedule,
-            verification,
-        }) => {
+        Ok(
+            Job::Trace {
+                set,
+                schedule,
+                verification,
+            },
+        ) => {
             let mut set = open(rt, set);
             let mut schedule = open(rt, schedule);
-            trace(alloc, &mut set, &mut schedule, verification, &mut out, &mut err)
+            trace(
+                alloc,
+                &mut set,
+                &mut schedule,
+                verification,
+                &mut out,
+                &mut err,
+            )
         }
         Err(fault) => refuse_words(&fault, &mut err),
     }
 }
 
 /// A file as a source.
-fn open(rt: &HostRuntime, name: &str) -> Reader<File> {
+fn open(rt: &HostRuntime, name: &str) -> Reader<File>
+    ensures { ⟦<Reader<File> as Source>⟧.failures result ≡ 0 }
+{
     Reader::new(File::open(rt, name).ok())
 }

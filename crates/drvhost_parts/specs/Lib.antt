@@ -1,3 +1,4 @@
 pub mod CommandLine
 pub mod Device
 pub mod Fault
+pub mod Verdict

@@ -1,19 +1,20 @@
 //! The verdict on a driver set.
 
-ghost use Rattle.std.specs.Prelude.{◌≡◌, ◌+◌, ◌<◌, length};
+ghost use Rattle.std.specs.Prelude.{◌≡◌, ◌≢◌, ◌+◌, ◌<◌, IfOk, length, string_bytes};
+ghost use Rattle.model.specs.Typable.{IsFirstFault};
 ghost use Rattle.drvhost_parts.specs.Device.{CanCount};
 ghost use Rattle.drvhost_parts.specs.Fault.{AnswersBy, reads_failed, writes_failed};
-
-use std::alloc::{AllocError, Global};
-
-use image::DriverSet;
-use model::abs::{Refusal, Rule};
-use report::verdict::{ACCEPTED, certificate_line, refusal_line};
-use verifier::{Accepted, verify};
+ghost use Rattle.drvhost_parts.specs.Verdict.{IsVerdict};
 
 use crate::device::{Sink, Source};
 use crate::fault::{End, Fault, finish, of_text};
 use crate::transfer::{read_whole, write_text};
+use image::DriverSet;
+use model::abs::{Refusal, Rule};
+use model::memory::OutOfMemory;
+use report::verdict::{ACCEPTED, certificate_line, refusal_line};
+use std::alloc::{AllocError, Global};
+use verifier::{Accepted, verify};
 
 /// Writes whether a driver set is accepted, with the certificates of its routines, or why it is
 /// refused. The answer is the exit status: 0 accepted, 1 refused, 2 where its text is faulty or a
@@ -40,14 +41,9 @@ fn check_set<S: Source, O: Sink>(alloc: Global, set: &mut S, out: &mut O) -> Res
     ensures writes { O.failures out.new ≡ O.failures out.old + writes_failed result }
 {
     let set = read_set(alloc, set)?;
-    match verify(alloc, set) {
-        Ok(accepted) => {
-            let text = acceptance(alloc, &accepted)?;
-            write_text(out, text.as_str())?;
-            Ok(End::Complete)
-        }
-        Err((_set, refusal)) => refuse(alloc, &refusal, out),
-    }
+    let Verdict { end, text } = judge(alloc, set)?;
+    write_text(out, text.as_str())?;
+    Ok(end)
 }
 
 /// The set that the text of a source names.
@@ -63,18 +59,50 @@ pub(crate) fn read_set<S: Source>(alloc: Global, source: &mut S) -> Result<Drive
     }
 }
 
-/// Ends the job of a refused set with the line for it.
-pub(crate) fn refuse<O: Sink>(alloc: Global, refusal: &Refusal, out: &mut O) -> Result<End, Fault>
-    requires { CanCount (O.failures out.old) }
-    ensures reads { reads_failed result ≡ 0 }
-    ensures writes { O.failures out.new ≡ O.failures out.old + writes_failed result }
+/// The verdict on a set: how the job ends, and what is written.
+#[derive(Drop)]
+pub struct Verdict {
+    pub end: End,
+    pub text: String,
+}
+
+/// Judges a set: the lines of an accepted one, or the line of a refusal.
+///
+/// # Errors
+///
+/// When memory runs out.
+pub fn judge(alloc: Global, set: DriverSet) -> Result<Verdict, OutOfMemory>
+    ensures { IfOk result (λ verdict. IsVerdict set verdict.end (string_bytes verdict.text)) }
+{
+    match verify(alloc, set) {
+        Ok(accepted) => {
+            let text = acceptance(alloc, &accepted)?;
+            Ok(Verdict {
+                end: End::Complete,
+                text,
+            })
+        }
+        Err((set, refusal)) => refused(alloc, &set, &refusal),
+    }
+}
+
+/// The verdict on a refused set.
+pub(crate) fn refused(
+    alloc: Global,
+    set: &DriverSet,
+    refusal: &Refusal,
+) -> Result<Verdict, OutOfMemory>
+    requires { refusal.now.rule ≢ Rule.Memory → IsFirstFault set.now refusal.now }
+    ensures { IfOk result (λ verdict. IsVerdict set.now verdict.end (string_bytes verdict.text)) }
 {
     if refusal.rule == Rule::Memory {
-        return Err(Fault::Memory);
+        return Err(OutOfMemory);
     }
-    let line = refusal_line(alloc, refusal)?;
-    write_text(out, line.as_str())?;
-    Ok(End::Stopped)
+    let text = refusal_line(alloc, refusal)?;
+    Ok(Verdict {
+        end: End::Stopped,
+        text,
+    })
 }
 
 /// The text for an accepted set: a line for each routine, in order.

@@ -4,15 +4,13 @@ ghost use Rattle.std.specs.Prelude.{◌≡◌, ◌⊎◌};
 ghost use Rattle.drvhost_parts.specs.Device.{CanCount};
 ghost use Rattle.drvhost_parts.specs.Fault.{IsFaultStatus, IsStatusOf, end_status, fault_status, schedule_fault, text_fault};
 
-use std::alloc::{AllocError, Global};
-
+use crate::device::Sink;
+use crate::transfer::write_whole;
 use asm::{AsmFault, AsmKind};
 use interleave::schedule::{ScheduleFault, ScheduleKind};
 use model::memory::OutOfMemory;
 use report::fault::{Input, OUT_OF_MEMORY, READ_FAILED, WRITE_FAILED, fault_line};
-
-use crate::device::Sink;
-use crate::transfer::write_whole;
+use std::alloc::{AllocError, Global};
 
 /// How a job that met no fault ended.
 #[derive(Clone, Copy)]
@@ -129,7 +127,10 @@ fn tell<E: Sink>(alloc: Global, fault: Fault, err: &mut E) -> u8
         }
         Fault::Schedule(ScheduleFault { line, kind }) => {
             let name = schedule_kind_name(kind);
-            return tell_line(fault_line(alloc, Input::Schedule, kind as u8, name, line), err);
+            return tell_line(
+                fault_line(alloc, Input::Schedule, kind as u8, name, line),
+                err,
+            );
         }
     }
     fault.status()

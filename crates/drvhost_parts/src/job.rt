@@ -6,16 +6,14 @@ ghost use Rattle.clap.specs.declared.builder.command.Command.TheViews.{out-Comma
 ghost use Rattle.drvhost_parts.specs.CommandLine.{check_command, file_argument, job_fault_status, program, trace_command, unchecked_flag, IsFlag, Names, NamesTask};
 ghost use Rattle.drvhost_parts.specs.Device.{CanCount};
 
-use std::alloc::{AllocError, Global};
-use std::fmt;
-
+use crate::device::Sink;
+use crate::fault::say;
 use clap::error::ErrorKind;
 use clap::{Arg, ArgAction, ArgMatches, Command};
 use report::fault::OUT_OF_MEMORY;
+use std::alloc::{AllocError, Global};
+use std::fmt;
 use thiserror::Error;
-
-use crate::device::Sink;
-use crate::fault::say;
 
 /// Whether a set has to be accepted before it runs.
 #[derive(Clone, Copy, Debug, PartialEq, Eq)]
@@ -30,7 +28,9 @@ pub enum Verification {
 #[derive(Clone, Copy)]
 pub enum Job<'a> {
     /// `check FILE`
-    Check { set: &'a str },
+    Check {
+        set: &'a str,
+    },
     /// `trace FILE SCHEDULE [--unchecked]`
     Trace {
         set: &'a str,
@@ -89,16 +89,12 @@ pub fn refuse_words<E: Sink>(fault: &JobFault, err: &mut E) -> u8
     requires { CanCount (E.failures err.old) }
     ensures { result ≡ job_fault_status fault.now }
 {
-    match fault {
-        JobFault::Usage(text) => {
-            say(err, text.as_str());
-            2
-        }
-        JobFault::Memory => {
-            say(err, OUT_OF_MEMORY);
-            3
-        }
-    }
+    let (text, status) = match fault {
+        JobFault::Usage(text) => (text.as_str(), 2),
+        JobFault::Memory => (OUT_OF_MEMORY, 3),
+    };
+    say(err, text);
+    status
 }
 
 /// What a refused command line is answered with.
@@ -142,8 +138,9 @@ fn trace_command<'a>(alloc: Global) -> Result<Command<'a>, AllocError>
     let set = file(alloc, "FILE", "The text of the driver set");
     let schedule = file(alloc, "SCHEDULE", "The threads and the events");
     let unchecked = unchecked_flag(alloc);
-    let command = Command::new(alloc, "trace")
-        .about("Runs a driver set by a schedule, and writes a line for each event");
+    let command = Command::new(alloc, "trace").about(
+        "Runs a driver set by a schedule, and writes a line for each event",
+    );
     command.arg(set)?.arg(schedule)?.arg(unchecked)
 }
 

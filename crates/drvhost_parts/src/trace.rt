@@ -1,24 +1,22 @@
 //! The trace of a run.
 
-ghost use Rattle.std.specs.Prelude.{◌≡◌, ◌+◌, ◌<◌, ◌^◌, IfOk, length};
+ghost use Rattle.std.specs.Prelude.{◌≡◌, ◌+◌, ◌<◌, ◌^◌, false, if◌then◌else◌, IfOk, length};
 ghost use Rattle.interleave.specs.Listing.{IsWithinLimits};
 ghost use Rattle.drvhost_parts.specs.Device.{CanCount};
 ghost use Rattle.drvhost_parts.specs.Fault.{AnswersBy, reads_failed, writes_failed};
 
-use std::alloc::{AllocError, Global};
-
+use crate::check::{Verdict, read_set, refused};
+use crate::device::{Sink, Source};
+use crate::fault::{End, Fault, finish, of_schedule};
+use crate::job::Verification;
+use crate::transfer::{read_whole, write_text};
 use checked::Checked;
 use interleave::parse::parse_schedule;
 use interleave::schedule::Schedule;
 use model::event::Event;
 use report::reply::reply_line;
+use std::alloc::{AllocError, Global};
 use verifier::verify;
-
-use crate::check::{read_set, refuse};
-use crate::device::{Sink, Source};
-use crate::fault::{End, Fault, finish, of_schedule};
-use crate::job::Verification;
-use crate::transfer::{read_whole, write_text};
 
 /// Events whose lines are written in one call.
 const EVENTS_A_BLOCK: usize = 4096;
@@ -64,7 +62,11 @@ fn trace_set<S: Source, P: Source, O: Sink>(
     if verification == Verification::Required {
         set = match verify(alloc, set) {
             Ok(accepted) => accepted.into_set(),
-            Err((_set, refusal)) => return refuse(alloc, &refusal, out),
+            Err((set, refusal)) => {
+                let Verdict { end, text } = refused(alloc, &set, &refusal)?;
+                write_text(out, text.as_str())?;
+                return Ok(end);
+            }
         };
     }
     let schedule = read_schedule(alloc, schedule)?;
@@ -95,9 +97,11 @@ fn run<O: Sink>(
     events: &[Event],
     out: &mut O,
 ) -> Result<End, Fault>
-    requires { CanCount (O.failures out.old) }
+    requires count { CanCount (O.failures out.old) }
+    requires fresh { machine.old.stopped ≡ false }
     ensures reads { reads_failed result ≡ 0 }
     ensures writes { O.failures out.new ≡ O.failures out.old + writes_failed result }
+    ensures stopped { IfOk result (λ end. end ≡ (if machine.new.stopped then End.Stopped else End.Complete)) }
 {
     let total = events.len();
     let mut rest = events;

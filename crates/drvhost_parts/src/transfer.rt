@@ -4,10 +4,9 @@ ghost use Rattle.std.specs.Prelude.{◌≡◌, ◌+◌, IfOk, vec_len};
 ghost use Rattle.drvhost_parts.specs.Device.{CanCount, Counts};
 ghost use Rattle.drvhost_parts.specs.Fault.{reads_failed, writes_failed};
 
-use std::alloc::{AllocError, Global};
-
 use crate::device::{Failed, Sink, Source};
 use crate::fault::Fault;
+use std::alloc::{AllocError, Global};
 
 /// Bytes moved a call, at most.
 pub(crate) const BLOCK: usize = 65_536;

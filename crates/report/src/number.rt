@@ -4,10 +4,9 @@ ghost use Rattle.std.specs.Prelude.{◌≡◌, Some};
 ghost use Rattle.report.specs.Number.{bug_check_code, bug_check_text, status_text};
 ghost use Rattle.report.specs.Reply.{place_text};
 
-use std::fmt;
-
 use model::event::{BugCheck, Place};
 use model::status::Status;
+use std::fmt;
 
 /// A status value: `0x` and eight digits.
 #[derive(Drop)]

@@ -3,12 +3,10 @@
 ghost use Rattle.std.specs.Prelude.{◌≡◌, IfOk, string_bytes};
 ghost use Rattle.report.specs.Reply.{reply_line};
 
-use std::alloc::{AllocError, Global};
-
+use crate::number::{BugCheckText, PlaceText, StatusText};
 use model::event::{Bug, Reply, Subject};
 use model::status::Status;
-
-use crate::number::{BugCheckText, PlaceText, StatusText};
+use std::alloc::{AllocError, Global};
 
 /// The line of the event of a number: the number, and what the run answered.
 ///

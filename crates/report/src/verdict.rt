@@ -3,10 +3,9 @@
 ghost use Rattle.std.specs.Prelude.{◌≡◌, IfOk, string_bytes};
 ghost use Rattle.report.specs.Verdict.{certificate_line, refusal_line, rule_text, sort_text};
 
-use std::alloc::{AllocError, Global};
-
 use model::abs::{Refusal, Rule};
 use model::set::Sort;
+use std::alloc::{AllocError, Global};
 
 /// The first line for an accepted set. A line for each of its routines follows.
 pub const ACCEPTED: &str = "accepted\n";

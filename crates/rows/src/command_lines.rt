@@ -11,10 +11,31 @@ fn tasks(rt: HostRuntime) -> Result<(), Fail> {
     let job = Job::of(alloc, &["check", "a.set"])?;
     assert!(rt; matches!(job, Job::Check { set: "a.set" }));
     let job = Job::of(alloc, &["trace", "a.set", "b.schedule"])?;
-    assert!(rt; matches!(job, Job::Trace { set: "a.set", schedule: "b.schedule", verification: Verification::Required }));
-    for words in [["trace", "a", "b", "--unchecked"], ["trace", "--unchecked", "a", "b"]] {
+    assert!(rt;
+        matches!(
+            job,
+            Job::Trace {
+                set: "a.set",
+                schedule: "b.schedule",
+                verification: Verification::Required
+            }
+        )
+    );
+    for words in [
+        ["trace", "a", "b", "--unchecked"],
+        ["trace", "--unchecked", "a", "b"],
+    ] {
         let job = Job::of(alloc, &words)?;
-        assert!(rt; matches!(job, Job::Trace { set: "a", schedule: "b", verification: Verification::Skipped }));
+        assert!(rt;
+            matches!(
+                job,
+                Job::Trace {
+                    set: "a",
+                    schedule: "b",
+                    verification: Verification::Skipped
+                }
+            )
+        );
     }
     Ok(())
 }

@@ -1,5 +1,7 @@
 //! Devices that fail, and devices that move one byte a call.
 
+ghost use Rattle.std.specs.Prelude.{◌≡◌};
+
 use crate::devices::{Narrow, Slow};
 use drvhost_parts::check::check;
 use drvhost_parts::device::{Reader, Sink, Source};
@@ -7,8 +9,11 @@ use drvhost_parts::job::Verification;
 use drvhost_parts::trace::trace;
 use std::alloc::Global;
 
-const SET: &str = "driver d\ndispatch READ f\nroutine f dispatch\ncomplete r0 SUCCESS\nret SUCCESS\nendr\nendd\ndevice v d 1\n";
+const SET: &str =
+    "driver d\ndispatch READ f\nroutine f dispatch\ncomplete r0 SUCCESS\nret SUCCESS\nendr\nendd\ndevice v d 1\n";
+
 const SCHEDULE: &str = "threads 1\nissue 0 0 READ 7\nstep 0 4\n";
+
 const LINES: &str = "0 started 0\n1 stepped\n2 topped 0 0x00000000 0\n3 finished\n4 idle\n";
 
 /// A trace with devices that are given by the calls before the one that fails.
@@ -34,7 +39,10 @@ fn one_byte_a_call(rt: HostRuntime) {
     let mut err = Narrow::new(alloc, 1, None);
     let mut set = Slow::new(SET.as_bytes(), 1, None);
     let mut schedule = Slow::new(SCHEDULE.as_bytes(), 1, None);
-    assert_eq!(rt; traced(alloc, &mut set, &mut schedule, &mut out, &mut err), 0);
+    assert_eq!(rt;
+        traced(alloc, &mut set, &mut schedule, &mut out, &mut err),
+        0
+    );
     assert!(rt; out.written.as_slice() == LINES.as_bytes());
     assert!(rt; err.written.is_empty());
 }
@@ -54,7 +62,11 @@ fn failed_reads(rt: HostRuntime) {
             assert_eq!(rt; status, if failed { 2 } else { 0 });
             assert_eq!(rt; set.failures() == 1, failed && is_set);
             assert_eq!(rt; schedule.failures() == 1, failed && !is_set);
-            let (lines, told) = if failed { ("", "read failed\n") } else { (LINES, "") };
+            let (lines, told) = if failed {
+                ("", "read failed\n")
+            } else {
+                (LINES, "")
+            };
             assert!(rt; out.written.as_slice() == lines.as_bytes());
             assert!(rt; err.written.as_slice() == told.as_bytes());
         }
@@ -91,6 +103,10 @@ fn no_one_to_tell(rt: HostRuntime) {
         assert_eq!(rt; check(alloc, &mut set, &mut out, &mut err), 2);
         assert_eq!(rt; set.failures(), 1);
         assert!(rt; out.written.is_empty());
-        assert!(rt; b"read failed\n".as_slice().starts_with(err.written.as_slice()));
+        assert!(rt;
+            b"read failed\n"
+                .as_slice()
+                .starts_with(err.written.as_slice())
+        );
     }
 }

@@ -1,0 +1,64 @@
+#!/usr/bin/env python3
+"""measure.py PROGRAM OTHER [RUNS]: times PROGRAM against OTHER, a second program that answers the same
+commands, on inputs at the limits, and prints the least of RUNS times (3 if left out) and the ratio.
+Both must answer the same bytes."""
+import os, subprocess, sys, tempfile, time
+
+def routine(name, instructions):
+    body = ['const r%d %d' % (1 + i % 15, i) for i in range(instructions - 2)]
+    return ['routine %s dispatch' % name] + body + ['complete r0 SUCCESS', 'ret SUCCESS', 'endr']
+
+def largest_set():
+    """8 drivers of 32 routines of 1,024 instructions, 16 devices."""
+    lines = []
+    for d in range(8):
+        lines += ['driver d%d' % d, 'dispatch READ f0']
+        for r in range(32):
+            lines += routine('f%d' % r, 1024)
+        lines.append('endd')
+    lines += ['device v%d d%d 16' % (i, i % 8) for i in range(16)]
+    return lines
+
+def one_routine(body):
+    return ['driver d', 'dispatch READ f', 'routine f dispatch'] + body + ['endr', 'endd', 'device v d 1']
+
+def cases():
+    long_routine = one_routine(['const r1 %d' % i for i in range(1022)] + ['complete r0 SUCCESS', 'ret SUCCESS'])
+    requests = ['threads 32']
+    for i in range(970):
+        requests += ['issue %d 0 READ %d' % (i % 32, i), 'step %d 1025' % (i % 32)]
+    yield 'check of the largest set', 'check', largest_set(), None
+    yield 'check of a text of 4 MB, most of it comments', 'check', ['; ' + 'x' * 78] * 50000 + largest_set()[:1], None
+    yield 'trace of 1,000,000 steps of an idle thread', 'trace', one_routine(['complete r0 SUCCESS', 'ret SUCCESS']), ['threads 1', 'step 0 1000000']
+    yield 'trace of 970 requests, 1,025 steps each', 'trace', long_routine, requests
+    yield 'trace of 1,023 live packets, 300,000 steps', 'trace', one_routine(['mark r0', 'clear r1', 'complete r0 SUCCESS', 'ret PENDING']), \
+        ['threads 32'] + ['issue %d 0 READ 0' % t for t in range(32)] + ['step %d' % (i % 32) for i in range(300000)]
+
+def least(program, words, runs):
+    best, out = None, None
+    for _ in range(runs):
+        begin = time.perf_counter()
+        done = subprocess.run([program] + words, stdin=subprocess.DEVNULL, capture_output=True)
+        spent = time.perf_counter() - begin
+        best = spent if best is None else min(best, spent)
+        out = (done.returncode, done.stdout, done.stderr)
+    return best, out
+
+def main():
+    program, other = os.path.abspath(sys.argv[1]), os.path.abspath(sys.argv[2])
+    runs = int(sys.argv[3]) if len(sys.argv) > 3 else 3
+    with tempfile.TemporaryDirectory() as folder:
+        for name, command, text, schedule in cases():
+            words = [command, os.path.join(folder, 'set')]
+            with open(words[1], 'w') as file:
+                file.write('\n'.join(text) + '\n')
+            if schedule is not None:
+                words.append(os.path.join(folder, 'schedule'))
+                with open(words[2], 'w') as file:
+                    file.write('\n'.join(schedule) + '\n')
+            ours, first = least(program, words, runs)
+            theirs, second = least(other, words, runs)
+            same = 'same answer' if first == second else 'ANSWERS DIFFER'
+            print('%-48s %7.3f s %7.3f s  ratio %5.2f  %s' % (name, ours, theirs, ours / theirs, same))
+
+main()
