@@ -31,7 +31,7 @@ def cases():
     yield 'check of a text of 4 MB, most of it comments', 'check', ['; ' + 'x' * 78] * 50000 + largest_set()[:1], None
     yield 'trace of 1,000,000 steps of an idle thread', 'trace', one_routine(['complete r0 SUCCESS', 'ret SUCCESS']), ['threads 1', 'step 0 1000000']
     yield 'trace of 970 requests, 1,025 steps each', 'trace', long_routine, requests
-    yield 'trace of 1,023 live packets, 300,000 steps', 'trace', one_routine(['mark r0', 'clear r1', 'complete r0 SUCCESS', 'ret PENDING']), \
+    yield 'trace of 300,000 steps on 32 threads', 'trace', one_routine(['mark r0', 'clear r1', 'complete r0 SUCCESS', 'ret PENDING']), \
         ['threads 32'] + ['issue %d 0 READ 0' % t for t in range(32)] + ['step %d' % (i % 32) for i in range(300000)]
 
 def least(program, words, runs):
