@@ -5,6 +5,6 @@ pub mod driver_set;
 mod sound;
 
 pub use driver_set::DriverSet;
-pub use model::instr::{Instr, Register, Return};
+pub use model::instr::{Cell, Field, Instr, Register, Return, SpinLock, Turns};
 pub use model::items::Items;
 pub use model::set::{Device, Driver, Routine, Sort};

@@ -1,10 +1,17 @@
 -- What a step does, as far as the rules on runs look at it.
 use Rattle.std.specs.Prelude.{ℕ}
+use Rattle.model.specs.declared.event.Lock.{Lock}
+use Rattle.model.specs.declared.event.OfDevice.{OfDevice}
 use Rattle.model.specs.declared.status.Status.{Status}
 
 pub data Action : Type 0 where
   -- the activation executes an instruction
   Executes : Action
+  -- the thread becomes the owner of a lock, or gives it back
+  Acquires : (lock : Lock) → Action
+  Releases : (lock : Lock) → Action
+  -- a paged cell is read or written
+  TouchesPaged : (cell : OfDevice) → Action
   -- a packet is looked at or written to
   Touches : (packet : ℕ) → Action
   -- a packet is issued, which opens a use of its first location

@@ -1,27 +1,33 @@
 -- What an event does to a world: the world after it, the actions that make it up, and the reply.
--- It tells what is refused, idle or wrong. It looks for no bug check: those are found from the
+-- It tells what is refused, idle, waited for or wrong. It looks for no bug check: those are found from the
 -- actions (the module Fault).
-use Rattle.std.specs.Prelude.{ℕ, ◌+◌, ◌-◌, ◌&&◌, Bool, true, false, List, [], ◌∷◌, ◌++◌, length, Option, None, Some, nat_eq, nat_lt, take, slice_get, slice_set, if◌then◌else◌}
+use Rattle.std.specs.Prelude.{ℕ, ◌+◌, ◌-◌, ◌%◌, ◌^◌, ◌&&◌, option_and_then, option_map, slice_index_or, Bool, List, [], ◌∷◌, ◌++◌, length, Option, None, Some, nat_eq, nat_lt, take, slice_get, slice_set, if◌then◌else◌}
 use Rattle.model.specs.declared.world.Activation.{Activation}
 use Rattle.model.specs.declared.world.Frame.{Frame}
 use Rattle.model.specs.declared.world.Frame.TheVariants.{Routine, Walk}
 use Rattle.model.specs.declared.world.Thread.{Thread}
 use Rattle.model.specs.declared.world.Packet.{Packet}
+use Rattle.model.specs.declared.world.Cells.{Cells}
+use Rattle.model.specs.declared.world.OpenLoop.{OpenLoop}
 use Rattle.model.specs.declared.world.Value.TheVariants.{Blank, Num}
 use Rattle.model.specs.declared.status.Status.{Status}
 use Rattle.model.specs.declared.status.Major.{Major}
 use Rattle.model.specs.declared.instr.Instr.{Instr}
-use Rattle.model.specs.declared.instr.Instr.TheVariants.{Const, Clear, Mark, Complete, Ret}
+use Rattle.model.specs.declared.instr.Field.{Field}
+use Rattle.model.specs.declared.instr.Instr.TheVariants.{Const, Move, Clear, Add, Subtract, JumpIfZero, JumpIfLess, Jump, Loop, End, Load, Store, LoadPaged, StorePaged, Get, Put, Mark, Acquire, Release, AcquireCancel, ReleaseCancel, Complete, Ret}
 use Rattle.model.specs.declared.instr.Return.{Return}
 use Rattle.model.specs.declared.instr.Return.TheVariants.{WithStatus}
 use Rattle.model.specs.declared.set.Device.{Device}
+use Rattle.model.specs.declared.event.Lock.{Lock}
+use Rattle.model.specs.declared.event.Lock.TheVariants.{SystemCancel, Spin}
+use Rattle.model.specs.declared.event.OfDevice.{OfDevice}
 use Rattle.model.specs.declared.event.Event.{Event}
 use Rattle.model.specs.declared.event.Event.TheVariants.{Issue, Step}
 use Rattle.model.specs.declared.event.Reply.{Reply}
-use Rattle.model.specs.declared.event.Reply.TheVariants.{Started, Stepped, Finished, Topped, Idle, Refused, Wrong}
-use Rattle.model.specs.Action.{Action, Executes, Touches, Issues, Completes, Marks, Leaves, Returns, TopsOut, GoesWrong}
+use Rattle.model.specs.declared.event.Reply.TheVariants.{Started, Stepped, Finished, Topped, Waited, Idle, Refused, Wrong}
+use Rattle.model.specs.Action.{Action, Executes, Acquires, Releases, TouchesPaged, Touches, Issues, Completes, Marks, Leaves, Returns, TopsOut, GoesWrong}
 use Rattle.model.specs.Set.{Set, serving, instruction_at}
-use Rattle.model.specs.World.{Shared, World, packet_of, with_packet, without_packet, packet_in, register, next, with_register, mark_current, completed, new_packet, entered}
+use Rattle.model.specs.World.{Shared, World, owner_of, with_owner, with_locks, with_cells, packet_of, with_packet, without_packet, packet_in, number_in, register, next, at_label, with_register, innermost, outer_loops, with_loops, field_of, with_info, mark_current, completed, new_packet, entered}
 
 -- what a frame's step leaves: the shared part of the world, the frames that stand in place of the
 -- one that ran (the lowest first), the actions in order, and the reply
@@ -44,6 +50,121 @@ goes_wrong s a =
 -- an instruction is executed, and the routine goes on
 abbrev pub goes_on : Shared → Activation → List Action → Outcome
 goes_on s a actions = record { shared = s; frames = Routine a ∷ []; actions = Executes ∷ actions; reply = Stepped }
+
+-- a register becomes a number that is computed, if the operands were numbers
+abbrev pub number_effect : Shared → Activation → ℕ → Option ℕ → Outcome
+number_effect s a r None = goes_wrong s a
+number_effect s a r (Some n) = goes_on s (next (with_register a r (Num n))) []
+
+-- what two numbers make, if both are numbers
+abbrev pub of_both : {A : Type 0} → (ℕ → ℕ → A) → Option ℕ → Option ℕ → Option A
+of_both f m n = option_and_then (λ x. option_map (λ y. f x y) n) m
+
+-- sums and differences wrap at 2^64
+abbrev pub sum_of : Activation → ℕ → ℕ → Option ℕ
+sum_of a r q = of_both (λ x y. (x + y) % 2 ^ 64) (number_in (register a r)) (number_in (register a q))
+
+abbrev pub difference_of : Activation → ℕ → ℕ → Option ℕ
+difference_of a r q = of_both (λ x y. (x + (2 ^ 64 - y)) % 2 ^ 64) (number_in (register a r)) (number_in (register a q))
+
+-- a jump, if the test's operands were numbers
+abbrev pub jump_effect : Shared → Activation → ℕ → Option Bool → Outcome
+jump_effect s a label None = goes_wrong s a
+jump_effect s a label (Some jumps) = goes_on s (if jumps then at_label a label else next a) []
+
+abbrev pub is_zero_at : Activation → ℕ → Option Bool
+is_zero_at a r = option_map (λ n. nat_eq n 0) (number_in (register a r))
+
+abbrev pub is_less_at : Activation → ℕ → ℕ → Option Bool
+is_less_at a r q = of_both nat_lt (number_in (register a r)) (number_in (register a q))
+
+-- `loop n`: opens a loop of n turns; at most four are open
+abbrev pub loop_effect : Shared → Activation → ℕ → Outcome
+loop_effect s a turns =
+    if nat_lt (length a.loops.items) 4
+    then goes_on s (next (with_loops a (a.loops.items ++ record { start = a.position + 1; turns = turns } ∷ []))) []
+    else goes_wrong s a
+
+-- `end`: where turns are left it goes back to the start of the loop's body, else it closes the loop
+abbrev pub turned : Activation → OpenLoop → Activation
+turned a l =
+    if nat_lt 1 l.turns
+    then at_label (with_loops a (outer_loops a ++ record { start = l.start; turns = l.turns - 1 } ∷ [])) l.start
+    else next (with_loops a (outer_loops a))
+
+abbrev pub end_effect : Shared → Activation → Option OpenLoop → Outcome
+end_effect s a None = goes_wrong s a
+end_effect s a (Some l) = goes_on s (turned a l) []
+
+-- a cell of the activation's device is read; no activation is of a device that isn't there
+abbrev pub cell_of : Activation → ℕ → OfDevice
+cell_of a c = record { device = a.device; number = c }
+
+abbrev pub load_effect : Shared → Activation → ℕ → ℕ → Option Cells → Outcome
+load_effect s a r c None = goes_wrong s a
+load_effect s a r c (Some cells) = goes_on s (next (with_register a r (Num (slice_index_or cells.plain c 0)))) []
+
+abbrev pub load_paged_effect : Shared → Activation → ℕ → ℕ → Option Cells → Outcome
+load_paged_effect s a r c None = goes_wrong s a
+load_paged_effect s a r c (Some cells) =
+    goes_on s (next (with_register a r (Num (slice_index_or cells.paged c 0)))) (TouchesPaged (cell_of a c) ∷ [])
+
+-- and written
+abbrev pub stored : Cells → ℕ → ℕ → Cells
+stored cells c n = record cells { plain = slice_set cells.plain c n }
+
+abbrev pub stored_paged : Cells → ℕ → ℕ → Cells
+stored_paged cells c n = record cells { paged = slice_set cells.paged c n }
+
+abbrev pub store_effect : Shared → Activation → ℕ → Option ℕ → Option Cells → Outcome
+store_effect s a c None cells = goes_wrong s a
+store_effect s a c (Some n) None = goes_wrong s a
+store_effect s a c (Some n) (Some cells) = goes_on (with_cells s a.device (stored cells c n)) (next a) []
+
+abbrev pub store_paged_effect : Shared → Activation → ℕ → Option ℕ → Option Cells → Outcome
+store_paged_effect s a c None cells = goes_wrong s a
+store_paged_effect s a c (Some n) None = goes_wrong s a
+store_paged_effect s a c (Some n) (Some cells) =
+    goes_on (with_cells s a.device (stored_paged cells c n)) (next a) (TouchesPaged (cell_of a c) ∷ [])
+
+-- `get r s F`: a field of a packet is read
+abbrev pub get_packet : Shared → Activation → ℕ → Field → ℕ → Option Packet → Outcome
+get_packet s a r field n None = goes_on s (next a) (Touches n ∷ [])
+get_packet s a r field n (Some p) = goes_on s (next (with_register a r (Num (field_of p field)))) (Touches n ∷ [])
+
+abbrev pub get_effect : Shared → Activation → ℕ → Field → Option ℕ → Outcome
+get_effect s a r field None = goes_wrong s a
+get_effect s a r field (Some n) = get_packet s a r field n (packet_of s n)
+
+-- `put s r`: the packet's information becomes a number
+abbrev pub put_packet : Shared → Activation → ℕ → ℕ → Option Packet → Outcome
+put_packet s a info n None = goes_on s (next a) (Touches n ∷ [])
+put_packet s a info n (Some p) = goes_on (with_packet s n (with_info p info)) (next a) (Touches n ∷ [])
+
+abbrev pub put_effect : Shared → Activation → Option ℕ → Option ℕ → Outcome
+put_effect s a None n = goes_wrong s a
+put_effect s a (Some info) None = goes_wrong s a
+put_effect s a (Some info) (Some n) = put_packet s a info n (packet_of s n)
+
+-- `acquire l`, `acqc`: a free lock becomes the thread's; it waits while another thread owns it
+abbrev pub waits : Shared → Activation → Outcome
+waits s a = record { shared = s; frames = Routine a ∷ []; actions = []; reply = Waited }
+
+abbrev pub acquire_owned : Shared → ℕ → Activation → Lock → Option ℕ → Outcome
+acquire_owned s t a lock None = goes_on (with_locks s (with_owner s.locks lock (Some t))) (next a) (Acquires lock ∷ [])
+acquire_owned s t a lock (Some owner) = if nat_eq owner t then goes_on s (next a) (Acquires lock ∷ []) else waits s a
+
+abbrev pub acquire_effect : Shared → ℕ → Activation → Lock → Option (Option ℕ) → Outcome
+acquire_effect s t a lock None = goes_wrong s a
+acquire_effect s t a lock (Some owner) = acquire_owned s t a lock owner
+
+-- `release l`, `relc`: the lock becomes free
+abbrev pub release_effect : Shared → Activation → Lock → Option (Option ℕ) → Outcome
+release_effect s a lock None = goes_wrong s a
+release_effect s a lock (Some owner) = goes_on (with_locks s (with_owner s.locks lock None)) (next a) (Releases lock ∷ [])
+
+abbrev pub spin_lock : Activation → ℕ → Lock
+spin_lock a lock = Spin (record { device = a.device; number = lock })
 
 -- `mark r`: the current location of the packet is marked
 abbrev pub mark_packet : Shared → Activation → ℕ → Option Packet → Outcome
@@ -74,17 +195,36 @@ abbrev pub return_effect : Shared → Return → Outcome
 return_effect s (WithStatus status) =
     record { shared = s; frames = []; actions = Executes ∷ Returns status ∷ []; reply = Stepped }
 
--- the instruction at the activation's position
-abbrev pub instruction_effect : Shared → Activation → Instr → Outcome
-instruction_effect s a (Const r n) = goes_on s (next (with_register a r (Num n))) []
-instruction_effect s a (Clear r) = goes_on s (next (with_register a r Blank)) []
-instruction_effect s a (Mark r) = mark_effect s a (packet_in s (register a r))
-instruction_effect s a (Complete r status) = complete_effect s a status (packet_in s (register a r))
-instruction_effect s a (Ret form) = return_effect s form
+-- the instruction at the activation's position, on a thread
+abbrev pub instruction_effect : Shared → ℕ → Activation → Instr → Outcome
+instruction_effect s t a (Const r n) = goes_on s (next (with_register a r (Num n))) []
+instruction_effect s t a (Move r q) = goes_on s (next (with_register a r (register a q))) []
+instruction_effect s t a (Clear r) = goes_on s (next (with_register a r Blank)) []
+instruction_effect s t a (Add r q) = number_effect s a r (sum_of a r q)
+instruction_effect s t a (Subtract r q) = number_effect s a r (difference_of a r q)
+instruction_effect s t a (JumpIfZero r label) = jump_effect s a label (is_zero_at a r)
+instruction_effect s t a (JumpIfLess r q label) = jump_effect s a label (is_less_at a r q)
+instruction_effect s t a (Jump label) = goes_on s (at_label a label) []
+instruction_effect s t a (Loop turns) = loop_effect s a turns
+instruction_effect s t a End = end_effect s a (innermost a)
+instruction_effect s t a (Load r c) = load_effect s a r c (slice_get s.cells a.device)
+instruction_effect s t a (Store c r) = store_effect s a c (number_in (register a r)) (slice_get s.cells a.device)
+instruction_effect s t a (LoadPaged r c) = load_paged_effect s a r c (slice_get s.cells a.device)
+instruction_effect s t a (StorePaged c r) =
+    store_paged_effect s a c (number_in (register a r)) (slice_get s.cells a.device)
+instruction_effect s t a (Get r q field) = get_effect s a r field (packet_in s (register a q))
+instruction_effect s t a (Put q r) = put_effect s a (number_in (register a r)) (packet_in s (register a q))
+instruction_effect s t a (Mark r) = mark_effect s a (packet_in s (register a r))
+instruction_effect s t a (Acquire lock) = acquire_effect s t a (spin_lock a lock) (owner_of s.locks (spin_lock a lock))
+instruction_effect s t a (Release lock) = release_effect s a (spin_lock a lock) (owner_of s.locks (spin_lock a lock))
+instruction_effect s t a AcquireCancel = acquire_effect s t a SystemCancel (owner_of s.locks SystemCancel)
+instruction_effect s t a ReleaseCancel = release_effect s a SystemCancel (owner_of s.locks SystemCancel)
+instruction_effect s t a (Complete r status) = complete_effect s a status (packet_in s (register a r))
+instruction_effect s t a (Ret form) = return_effect s form
 
-abbrev pub routine_effect : Shared → Activation → Option Instr → Outcome
-routine_effect s a None = goes_wrong s a
-routine_effect s a (Some i) = instruction_effect s a i
+abbrev pub routine_effect : Shared → ℕ → Activation → Option Instr → Outcome
+routine_effect s t a None = goes_wrong s a
+routine_effect s t a (Some i) = instruction_effect s t a i
 
 -- a step of the I/O manager, which completes a packet: its completion leaves the current location,
 -- which is the first one today, so the packet tops out
@@ -99,9 +239,9 @@ walk_packet s n (Some p) =
     }
 
 -- one step of a thread's top frame
-abbrev pub frame_effect : Set → Shared → Frame → Outcome
-frame_effect set s (Routine a) = routine_effect s a (instruction_at set a.driver a.routine a.position)
-frame_effect set s (Walk n) = walk_packet s n (packet_of s n)
+abbrev pub frame_effect : Set → Shared → ℕ → Frame → Outcome
+frame_effect set s t (Routine a) = routine_effect s t a (instruction_at set a.driver a.routine a.position)
+frame_effect set s t (Walk n) = walk_packet s n (packet_of s n)
 
 -- what an event leaves: the world, the actions in order, and the reply
 pub record Change : Type 0 where
@@ -134,7 +274,7 @@ settled w t below o =
 
 abbrev pub top_effect : Set → World → ℕ → List Frame → Option Frame → Change
 top_effect set w t below None = unchanged w Idle
-top_effect set w t below (Some f) = settled w t below (frame_effect set w.shared f)
+top_effect set w t below (Some f) = settled w t below (frame_effect set w.shared t f)
 
 -- Step: the thread's top frame, if it has one, does a step
 abbrev pub step_thread : Set → World → ℕ → Option Thread → Change
@@ -157,7 +297,7 @@ issued set w t d device major argument =
     record {
       world =
           with_frames w t
-          (record {
+          (record w.shared {
             packets = w.shared.packets ++ new_packet w.shared.issued d major argument device.stack ∷ [];
             issued = w.shared.issued + 1;
           })

@@ -1,12 +1,45 @@
 -- The bug checks, found by looking back over the whole trace. Where each is raised is this
 -- project's own choice; their names and numbers are those of the bug check reference.
-use Rattle.std.specs.Prelude.{ℕ, ◌||◌, Bool, true, false, List, [], ◌∷◌, Option, None, Some, nat_eq, if◌then◌else◌}
+use Rattle.std.specs.Prelude.{ℕ, ◌||◌, ◌&&◌, not, Bool, true, false, List, [], ◌∷◌, Option, None, Some, nat_eq, if◌then◌else◌}
+use Rattle.std.specs.List.{list_any}
 use Rattle.model.specs.declared.event.Bug.{Bug}
 use Rattle.model.specs.declared.event.BugCheck.{BugCheck}
-use Rattle.model.specs.declared.event.BugCheck.TheVariants.{IrqlNotLessOrEqual, MultipleIrpCompleteRequests}
-use Rattle.model.specs.declared.event.Subject.TheVariants.{Packet}
-use Rattle.model.specs.Action.{Action, Executes, Touches, Issues, Completes, Marks, Leaves, Returns, TopsOut, GoesWrong}
+use Rattle.model.specs.declared.event.BugCheck.TheVariants.{IrqlNotLessOrEqual, SpinLockAlreadyOwned, SpinLockNotOwned, MultipleIrpCompleteRequests}
+use Rattle.model.specs.declared.event.Lock.{Lock}
+use Rattle.model.specs.declared.event.Lock.TheVariants.{SystemCancel, Spin}
+use Rattle.model.specs.declared.event.Subject.{Subject}
+use Rattle.model.specs.declared.event.Subject.TheVariants.{Packet, Lock as LockSubject, Cell}
+use Rattle.model.specs.Action.{Action, Acquires, Releases, TouchesPaged, Touches, Completes, TopsOut}
 use Rattle.model.specs.Trace.{Entry, Tag, entry}
+
+-- the same lock
+abbrev pub is_lock : Lock → Lock → Bool
+is_lock SystemCancel SystemCancel = true
+is_lock (Spin l) (Spin m) = nat_eq l.device m.device && nat_eq l.number m.number
+is_lock _ _ = false
+
+-- a thread holds a lock: its last Acquires or Releases of it is an Acquires
+abbrev pub holds_after : Action → Bool → Lock → Bool → Bool
+holds_after (Acquires m) its_own l before = if its_own && is_lock m l then true else before
+holds_after (Releases m) its_own l before = if its_own && is_lock m l then false else before
+holds_after _ its_own l before = before
+
+abbrev pub holds : List Entry → ℕ → Lock → Bool
+holds [] t l = false
+holds (e ∷ past) t l = holds_after e.action (nat_eq e.thread t) l (holds past t l)
+
+-- the locks that were ever acquired
+abbrev pub with_acquired : Action → List Lock → List Lock
+with_acquired (Acquires l) locks = l ∷ locks
+with_acquired _ locks = locks
+
+abbrev pub acquired : List Entry → List Lock
+acquired [] = []
+acquired (e ∷ past) = with_acquired e.action (acquired past)
+
+-- a thread is at DISPATCH_LEVEL: it holds a lock. Every root's level is PASSIVE_LEVEL so far.
+abbrev pub at_dispatch : List Entry → ℕ → Bool
+at_dispatch past t = list_any (λ l. holds past t l) (acquired past)
 
 -- a packet has topped out
 abbrev pub tops : Action → ℕ → Bool → Bool
@@ -26,16 +59,21 @@ abbrev pub completing : List Entry → ℕ → Bool
 completing [] n = false
 completing (e ∷ past) n = completes e.action n (completing past n)
 
-abbrev pub bug_if : Bool → BugCheck → ℕ → Option Bug
-bug_if b check n = if b then Some (record { check = check; subject = Packet n }) else None
+abbrev pub bug_if : Bool → BugCheck → Subject → Option Bug
+bug_if b check subject = if b then Some (record { check = check; subject = subject }) else None
 
--- the bug check of one action after a past:
--- IRQL_NOT_LESS_OR_EQUAL where a packet is touched that has topped out,
--- MULTIPLE_IRP_COMPLETE_REQUESTS where one is completed that is completing or has topped out
-abbrev pub fault_of : List Entry → Action → Option Bug
-fault_of past (Touches n) = bug_if (topped past n) IrqlNotLessOrEqual n
-fault_of past (Completes n) = bug_if (topped past n || completing past n) MultipleIrpCompleteRequests n
-fault_of past _ = None
+-- the bug check of one action of a thread after a past:
+-- SPIN_LOCK_ALREADY_OWNED where it acquires a lock that it holds,
+-- SPIN_LOCK_NOT_OWNED where it releases one that it doesn't hold,
+-- IRQL_NOT_LESS_OR_EQUAL where it touches a paged cell at DISPATCH_LEVEL, or a packet that has topped out,
+-- MULTIPLE_IRP_COMPLETE_REQUESTS where it completes one that is completing or has topped out
+abbrev pub fault_of : List Entry → ℕ → Action → Option Bug
+fault_of past t (Acquires l) = bug_if (holds past t l) SpinLockAlreadyOwned (LockSubject l)
+fault_of past t (Releases l) = bug_if (not (holds past t l)) SpinLockNotOwned (LockSubject l)
+fault_of past t (TouchesPaged c) = bug_if (at_dispatch past t) IrqlNotLessOrEqual (Cell c)
+fault_of past t (Touches n) = bug_if (topped past n) IrqlNotLessOrEqual (Packet n)
+fault_of past t (Completes n) = bug_if (topped past n || completing past n) MultipleIrpCompleteRequests (Packet n)
+fault_of past t _ = None
 
 abbrev pub first_or : Option Bug → Option Bug → Option Bug
 first_or None later = later
@@ -45,4 +83,4 @@ first_or (Some bug) later = Some bug
 abbrev pub first_fault : List Entry → ℕ → Tag → List Action → Option Bug
 first_fault past t tag [] = None
 first_fault past t tag (action ∷ actions) =
-    first_or (fault_of past action) (first_fault (entry past t tag action ∷ past) t tag actions)
+    first_or (fault_of past t action) (first_fault (entry past t tag action ∷ past) t tag actions)

@@ -1,6 +1,7 @@
 pub mod Status
 pub mod Set
 pub mod Sound
+pub mod Loops
 pub mod World
 pub mod Action
 pub mod Effect

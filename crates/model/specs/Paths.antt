@@ -1,41 +1,70 @@
 -- Paths through a routine, and the states that arrive along them. A path is a list of positions, the
 -- last one first: it starts at 0, goes on by successors, and meets no fault before its last position.
-use Rattle.std.specs.Prelude.{ℕ, ◌≡◌, ◌+◌, ◌&&◌, ◌||◌, Bool, true, false, List, [], ◌∷◌, length, nat_eq, Option, None, Some, Result, Ok, Err, slice_get}
+use Rattle.std.specs.Prelude.{ℕ, ◌≡◌, ◌+◌, ◌&&◌, ◌||◌, ◌⊎◌, not, Bool, true, false, List, [], ◌∷◌, length, nat_eq, nat_lt, nat_le, Option, None, Some, Result, Ok, Err, slice_get}
 use Rattle.model.specs.declared.abs.Abs.{Abs}
 use Rattle.model.specs.declared.abs.Outs.{Outs}
 use Rattle.model.specs.declared.abs.Rule.{Rule}
 use Rattle.model.specs.declared.instr.Instr.{Instr}
-use Rattle.model.specs.declared.instr.Instr.TheVariants.{Const, Clear, Mark, Complete, Ret}
+use Rattle.model.specs.declared.instr.Instr.TheVariants.{JumpIfZero, JumpIfLess, Jump, Loop, End, Ret}
 use Rattle.model.specs.declared.set.Routine.{Routine}
+use Rattle.model.specs.declared.set.Sort.{Sort}
 use Rattle.model.specs.LocalRule.{entry_state, local_rule}
+use Rattle.model.specs.Loops.{open_at, is_closed, loops_round}
+use Rattle.model.specs.Set.{label_of}
 
--- what stands at a position is no part of a routine, whatever leads there: the routine is empty, or
--- its last instruction isn't a return
 abbrev pub isnt_return : Option Instr → Bool
 isnt_return (Some (Ret form)) = false
 isnt_return _ = true
 
+-- the same positions in the same order
+abbrev pub are_same_positions : List ℕ → List ℕ → Bool
+are_same_positions [] [] = true
+are_same_positions [] (q ∷ qs) = false
+are_same_positions (p ∷ ps) [] = false
+are_same_positions (p ∷ ps) (q ∷ qs) = nat_eq p q && are_same_positions ps qs
+
+-- a jump goes forward, to a position of the routine round which the same loops are
+abbrev pub goes_forward : List Instr → ℕ → ℕ → Bool
+goes_forward code p label =
+    nat_lt p label && (nat_lt label (length code) && are_same_positions (loops_round code p) (loops_round code label))
+
+-- an instruction that can't stand at its position: a jump that leads back, or out of a loop's body or
+-- into one; a `loop` without an `end`, or with four loops round it; an `end` without a `loop`
+abbrev pub is_misplaced : List Instr → ℕ → Option Instr → Bool
+is_misplaced code p (Some (JumpIfZero r label)) = not (goes_forward code p label)
+is_misplaced code p (Some (JumpIfLess r s label)) = not (goes_forward code p label)
+is_misplaced code p (Some (Jump label)) = not (goes_forward code p label)
+is_misplaced code p (Some (Loop turns)) = not (is_closed code p) || nat_le 4 (length (loops_round code p))
+is_misplaced code p (Some End) = nat_eq (length (open_at code p)) 0
+is_misplaced code p _ = false
+
+-- what stands at a position is no part of a routine, whatever leads there: the routine is empty, its
+-- last instruction isn't a return, or an instruction can't stand where it does
 abbrev pub is_malformed : List Instr → ℕ → Bool
-is_malformed code p = nat_eq (length code) 0 || (nat_eq (p + 1) (length code) && isnt_return (slice_get code p))
+is_malformed code p =
+    nat_eq (length code) 0
+    || ((nat_eq (p + 1) (length code) && isnt_return (slice_get code p)) || is_misplaced code p (slice_get code p))
 
--- what the local rule hands on from position q goes to position p as the state s
-abbrev pub HandsOn : Result Outs Rule → ℕ → ℕ → Abs → Type 0
-HandsOn (Err rule) q p s = ⊥
-HandsOn (Ok outs) q p s = (p ≡ q + 1) × (outs.next ≡ Some s)
+-- what the local rule hands on from position q goes to position p as the state s: to the next position,
+-- or to the label
+abbrev pub HandsOn : Result Outs Rule → Option ℕ → ℕ → ℕ → Abs → Type 0
+HandsOn (Err rule) label q p s = ⊥
+HandsOn (Ok outs) label q p s = ((p ≡ q + 1) × (outs.next ≡ Some s)) ⊎ ((label ≡ Some p) × (outs.jump ≡ Some s))
 
-abbrev pub LeadsFrom : Option Instr → ℕ → Abs → ℕ → Abs → Type 0
-LeadsFrom None q before p s = ⊥
-LeadsFrom (Some i) q before p s = HandsOn (local_rule before i) q p s
+abbrev pub LeadsFrom : Sort → Option Instr → ℕ → Abs → ℕ → Abs → Type 0
+LeadsFrom sort None q before p s = ⊥
+LeadsFrom sort (Some i) q before p s = HandsOn (local_rule before i sort) (label_of i) q p s
 
 -- the instruction at q, reached in a state, leads to p in the state s, and there is no fault at q
-abbrev pub Leads : List Instr → ℕ → Abs → ℕ → Abs → Type 0
-Leads code q before p s = (is_malformed code q ≡ false) × LeadsFrom (slice_get code q) q before p s
+abbrev pub Leads : Routine → ℕ → Abs → ℕ → Abs → Type 0
+Leads routine q before p s =
+    (is_malformed routine.code q ≡ false) × LeadsFrom routine.sort (slice_get routine.code q) q before p s
 
 -- a path leads to its last position in a state
 abbrev pub Along : Routine → List ℕ → Abs → Type 0
 Along routine [] s = ⊥
 Along routine (p ∷ []) s = (p ≡ 0) × (s ≡ entry_state routine.sort)
-Along routine (p ∷ q ∷ path) s = (before : Abs) × Along routine (q ∷ path) before × Leads routine.code q before p s
+Along routine (p ∷ q ∷ path) s = (before : Abs) × Along routine (q ∷ path) before × Leads routine q before p s
 
 -- some path leads to a position in a state
 abbrev pub Arrives : Routine → ℕ → Abs → Type 0

@@ -1,7 +1,6 @@
 -- The run of a list of events, and its trace. A bug check or a wrong operand stops the run: the
 -- world stays as it was, and every later event is refused without actions.
-use Rattle.std.specs.Prelude.{ℕ, ◌+◌, ◌-◌, ◌≤◌, Bool, true, false, List, [], ◌∷◌, ◌++◌, length, Option, None, Some, nat_eq, nat_le, slice_get, slice_set, slice_index_or, replicate, if◌then◌else◌}
-use Rattle.model.specs.declared.world.Activation.{Activation}
+use Rattle.std.specs.Prelude.{ℕ, ◌+◌, ◌-◌, Bool, true, false, List, [], ◌∷◌, length, Option, None, Some, nat_le, slice_get, slice_set, slice_index_or, replicate, if◌then◌else◌}
 use Rattle.model.specs.declared.world.Frame.{Frame}
 use Rattle.model.specs.declared.world.Frame.TheVariants.{Routine, Walk}
 use Rattle.model.specs.declared.world.Thread.{Thread}
@@ -11,8 +10,7 @@ use Rattle.model.specs.declared.event.Event.{Event}
 use Rattle.model.specs.declared.event.Event.TheVariants.{Issue, Step}
 use Rattle.model.specs.declared.event.Bug.{Bug}
 use Rattle.model.specs.declared.event.Reply.{Reply}
-use Rattle.model.specs.declared.event.Reply.TheVariants.{Started, Stepped, Finished, Topped, Idle, Refused, Bug as BugCheckReply, Wrong}
-use Rattle.model.specs.Action.{Action}
+use Rattle.model.specs.declared.event.Reply.TheVariants.{Refused, Bug as BugCheckReply, Wrong}
 use Rattle.model.specs.Effect.{Change, effect}
 use Rattle.model.specs.Fault.{first_fault}
 use Rattle.model.specs.Set.{Set}
@@ -29,9 +27,9 @@ pub record Run : Type 0 where
   pub stopped : Bool
 
 -- the run of no events
-abbrev pub begun : ℕ → Run
-begun threads =
-    record { world = opening threads; past = []; tags = replicate threads []; activations = 0; stopped = false }
+abbrev pub begun : Set → ℕ → Run
+begun set threads =
+    record { world = opening (length set.devices) threads; past = []; tags = replicate threads []; activations = 0; stopped = false }
 
 -- the thread that an event is about
 abbrev pub thread_of : Event → ℕ
@@ -152,4 +150,4 @@ run_from set r (e ∷ events) = run_from set (step set r e).run events
 
 -- the run of a list of events over a set and a number of threads
 abbrev pub run : Set → ℕ → List Event → Run
-run set threads events = run_from set (begun threads) events
+run set threads events = run_from set (begun set threads) events

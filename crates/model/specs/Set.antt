@@ -1,7 +1,7 @@
 -- Driver sets: drivers and devices, and which routine serves what.
-use Rattle.std.specs.Prelude.{ℕ, Bool, List, [], ◌∷◌, Option, None, Some, nat_eq, unwrap_or, option_and_then, slice_get, if◌then◌else◌}
+use Rattle.std.specs.Prelude.{ℕ, List, [], ◌∷◌, Option, None, Some, nat_eq, unwrap_or, option_and_then, slice_get, if◌then◌else◌}
 use Rattle.model.specs.declared.instr.Instr.{Instr}
-use Rattle.model.specs.declared.instr.Instr.TheVariants.{Complete, Ret}
+use Rattle.model.specs.declared.instr.Instr.TheVariants.{JumpIfZero, JumpIfLess, Jump, Complete, Ret}
 use Rattle.model.specs.declared.instr.Return.TheVariants.{WithStatus}
 use Rattle.model.specs.declared.set.Driver.{Driver}
 use Rattle.model.specs.declared.set.Device.{Device}
@@ -43,6 +43,13 @@ routine_of set driver number =
     if nat_eq number default_number
     then Some default_routine
     else option_and_then (λ d. slice_get d.routines number) (slice_get set.drivers driver)
+
+-- the label of a jump
+abbrev pub label_of : Instr → Option ℕ
+label_of (JumpIfZero r label) = Some label
+label_of (JumpIfLess r s label) = Some label
+label_of (Jump label) = Some label
+label_of _ = None
 
 -- the instruction at a position of a routine
 abbrev pub instruction_at : Set → ℕ → ℕ → ℕ → Option Instr

@@ -1,14 +1,20 @@
 -- What the type of a driver set keeps: counts within their limits, and numbers that name things.
 -- It doesn't keep that a routine ends in a return, nor anything that the verifier decides.
-use Rattle.std.specs.Prelude.{ℕ, ◌≡◌, ◌<◌, ◌≤◌, length, All, IfSome, Option}
+use Rattle.std.specs.Prelude.{ℕ, ◌<◌, ◌≤◌, length, All, IfSome, Option}
+use Rattle.model.specs.declared.instr.Instr.{Instr}
 use Rattle.model.specs.declared.set.Driver.{Driver}
 use Rattle.model.specs.declared.set.Device.{Device}
 use Rattle.model.specs.declared.set.Routine.{Routine}
-use Rattle.model.specs.Set.{Set}
+use Rattle.model.specs.Set.{Set, label_of}
 
--- a routine has at most 1,024 instructions
-abbrev pub RoutineFits : Routine → Type 0
-RoutineFits routine = length routine.code ≤ 1024
+-- a label is a position of its routine
+abbrev pub LabelFits : ℕ → Instr → Type 0
+LabelFits positions i = IfSome (label_of i) (λ label. label < positions)
+
+-- a routine has at most 1,024 instructions, and its labels are among its positions
+pub record RoutineFits (routine : Routine) : Type 0 where
+  pub few : length routine.code ≤ 1024
+  pub labels : All (LabelFits (length routine.code)) routine.code
 
 -- a handler is the number of a routine of the driver; every routine is a dispatch routine today
 abbrev pub HandlerFits : ℕ → Option ℕ → Type 0

@@ -1,7 +1,7 @@
 -- The trace of a run: its actions, newest first, each with the thread and the frame that did it.
 -- Activations and uses of stack locations are numbered here, and not in the machines.
-use Rattle.std.specs.Prelude.{ℕ, ◌+◌, List, [], ◌∷◌, ◌++◌, Option, None, Some, nat_eq, if◌then◌else◌}
-use Rattle.model.specs.Action.{Action, Executes, Touches, Issues, Completes, Marks, Leaves, Returns, TopsOut, GoesWrong}
+use Rattle.std.specs.Prelude.{ℕ, ◌+◌, List, [], ◌∷◌, Option, None, Some, nat_eq, if◌then◌else◌}
+use Rattle.model.specs.Action.{Action, Issues, Marks, Leaves}
 
 -- the use of a packet's location that a dispatch activation serves
 pub record Serving : Type 0 where

@@ -1,32 +1,60 @@
 -- When a driver set is accepted, over all paths, and where and why it is refused else.
-use Rattle.std.specs.Prelude.{ℕ, ◌≡◌, ◌≢◌, ◌<◌, ◌⊎◌, Bool, true, false, List, [], ◌∷◌, length, take, Option, None, Some, All, slice_get}
+use Rattle.std.specs.Prelude.{ℕ, suc, ⊤, ◌≡◌, ◌≢◌, ◌<◌, ◌≤◌, ◌⊎◌, true, false, length, take, Option, None, Some, All, slice_get}
 use Rattle.model.specs.declared.abs.Abs.{Abs}
 use Rattle.model.specs.declared.abs.Refusal.{Refusal}
 use Rattle.model.specs.declared.abs.Rule.{Rule}
-use Rattle.model.specs.declared.abs.Rule.TheVariants.{Malformed, Unreachable, Memory}
+use Rattle.model.specs.declared.abs.Rule.TheVariants.{Malformed, Unreachable, StatesDiffer, TooLong}
 use Rattle.model.specs.declared.instr.Instr.{Instr}
+use Rattle.model.specs.declared.instr.Instr.TheVariants.{End}
 use Rattle.model.specs.declared.set.Driver.{Driver}
 use Rattle.model.specs.declared.set.Routine.{Routine}
+use Rattle.model.specs.declared.set.Sort.{Sort}
+use Rattle.model.specs.Certificate.{certificate_to}
 use Rattle.model.specs.LocalRule.{refuses}
+use Rattle.model.specs.Loops.{open_at}
 use Rattle.model.specs.Paths.{Arrives, is_malformed}
 use Rattle.model.specs.Set.{Set}
 
--- what an instruction breaks in a state
-abbrev pub fault_in : Abs → Option Instr → Option Rule
-fault_in s None = None
-fault_in s (Some i) = refuses s i
+-- what an instruction of a routine of a sort breaks in a state
+abbrev pub fault_in : Sort → Abs → Option Instr → Option Rule
+fault_in sort s None = None
+fault_in sort s (Some i) = refuses s i sort
 
 -- exactly one state arrives at a position
 pub record ArrivesAlone (routine : Routine) (p : ℕ) (s : Abs) : Type 0 where
   pub arrives : Arrives routine p s
   pub alone : (other : Abs) → Arrives routine p other → other ≡ s
 
+-- the loop that an `end` at a position closes is reached in this state alone
+abbrev pub ReachesLoop : Routine → Option ℕ → Abs → Type 0
+ReachesLoop routine None s = ⊥
+ReachesLoop routine (Some q) s = ArrivesAlone routine q s
+
+abbrev pub StartsIn : Routine → ℕ → Abs → Type 0
+StartsIn routine p s = ReachesLoop routine (slice_get (open_at routine.code p) 0) s
+
+-- if there is an `end`, it is reached in the state in which its `loop` is
+abbrev pub ClosesAlike : Routine → ℕ → Abs → Option Instr → Type 0
+ClosesAlike routine p s (Some End) = StartsIn routine p s
+ClosesAlike routine p s _ = ⊤
+
+-- there is an `end`, and its `loop` is reached in another state
+abbrev pub ClosesUnlike : Routine → ℕ → Abs → Option Instr → Type 0
+ClosesUnlike routine p s (Some End) = (start : Abs) × StartsIn routine p start × (start ≢ s)
+ClosesUnlike routine p s _ = ⊥
+
+-- the longest that an activation may be: 1,000,000 instructions
+abbrev pub limit : ℕ
+limit = 1000000
+
 -- there is no fault at a position
 pub record IsFineAt (routine : Routine) (p : ℕ) : Type 0 where
   pub formed : is_malformed routine.code p ≡ false
   pub state : Abs
   pub arrival : ArrivesAlone routine p state
-  pub keeps : fault_in state (slice_get routine.code p) ≡ None
+  pub closes : ClosesAlike routine p state (slice_get routine.code p)
+  pub keeps : fault_in routine.sort state (slice_get routine.code p) ≡ None
+  pub short : certificate_to routine.code (suc p) ≤ limit
 
 -- a routine is typable if it has an instruction and there is no fault at any position
 pub record IsTypableRoutine (routine : Routine) : Type 0 where
@@ -47,18 +75,51 @@ pub record IsUnreachable (routine : Routine) (p : ℕ) : Type 0 where
   pub formed : is_malformed routine.code p ≡ false
   pub never : (s : Abs) → Arrives routine p s → ⊥
 
--- one state arrives at a position, and the instruction there breaks a rule in it
-pub record IsBroken (routine : Routine) (p : ℕ) (rule : Rule) : Type 0 where
+-- states that differ arrive at a position
+pub record HasSeveral (routine : Routine) (p : ℕ) : Type 0 where
+  pub within : p < length routine.code
+  pub formed : is_malformed routine.code p ≡ false
+  pub one : Abs
+  pub other : Abs
+  pub one_arrives : Arrives routine p one
+  pub other_arrives : Arrives routine p other
+  pub differ : one ≢ other
+
+-- one state arrives at a loop's end, and another one at its start
+pub record EndsUnlike (routine : Routine) (p : ℕ) : Type 0 where
+  pub within : p < length routine.code
   pub formed : is_malformed routine.code p ≡ false
   pub state : Abs
   pub arrival : ArrivesAlone routine p state
-  pub breaks : fault_in state (slice_get routine.code p) ≡ Some rule
+  pub closes : ClosesUnlike routine p state (slice_get routine.code p)
+
+-- one state arrives at a position, and the instruction there breaks a rule in it
+pub record IsBroken (routine : Routine) (p : ℕ) (rule : Rule) : Type 0 where
+  pub within : p < length routine.code
+  pub formed : is_malformed routine.code p ≡ false
+  pub state : Abs
+  pub arrival : ArrivesAlone routine p state
+  pub closes : ClosesAlike routine p state (slice_get routine.code p)
+  pub breaks : fault_in routine.sort state (slice_get routine.code p) ≡ Some rule
+
+-- one state arrives at a position, no rule is broken there, and the sum of the certificate passes the
+-- limit
+pub record IsTooLong (routine : Routine) (p : ℕ) : Type 0 where
+  pub within : p < length routine.code
+  pub formed : is_malformed routine.code p ≡ false
+  pub state : Abs
+  pub arrival : ArrivesAlone routine p state
+  pub closes : ClosesAlike routine p state (slice_get routine.code p)
+  pub keeps : fault_in routine.sort state (slice_get routine.code p) ≡ None
+  pub long : limit < certificate_to routine.code (suc p)
 
 -- the least rule that is broken at a position
 abbrev pub IsFaultAt : Routine → ℕ → Rule → Type 0
 IsFaultAt routine p rule =
     ((is_malformed routine.code p ≡ true) × (rule ≡ Malformed))
-    ⊎ ((IsUnreachable routine p × (rule ≡ Unreachable)) ⊎ IsBroken routine p rule)
+    ⊎ ((IsUnreachable routine p × (rule ≡ Unreachable))
+    ⊎ (((HasSeveral routine p ⊎ EndsUnlike routine p) × (rule ≡ StatesDiffer))
+    ⊎ (IsBroken routine p rule ⊎ (IsTooLong routine p × (rule ≡ TooLong)))))
 
 -- the first fault of a routine
 pub record IsFirstFaultOf (routine : Routine) (at : ℕ) (rule : Rule) : Type 0 where

@@ -1,34 +1,75 @@
 -- The world of a run: threads with their frames, and packets. A packet that topped out is no longer
 -- in the list of live packets, and its number stays used.
-use Rattle.std.specs.Prelude.{ℕ, suc, ◌+◌, ◌-◌, true, false, List, [], ◌∷◌, ◌++◌, length, Option, None, Some, nat_eq, nat_lt, take, slice_get, slice_set, slice_index_or, remove, replicate, if◌then◌else◌}
+use Rattle.std.specs.Prelude.{ℕ, suc, option_and_then, ◌+◌, ◌-◌, true, false, List, [], ◌∷◌, length, Option, None, Some, nat_eq, nat_lt, take, slice_get, slice_set, slice_index_or, remove, replicate, if◌then◌else◌}
 use Rattle.model.specs.declared.world.Value.{Value}
 use Rattle.model.specs.declared.world.Value.TheVariants.{Blank, Num, Ref}
+use Rattle.model.specs.declared.event.Lock.{Lock}
+use Rattle.model.specs.declared.event.Lock.TheVariants.{SystemCancel, Spin}
+use Rattle.model.specs.declared.instr.Field.{Field}
+use Rattle.model.specs.declared.instr.Field.TheVariants.{Major as MajorField, Argument as ArgumentField, Info as InfoField}
 use Rattle.model.specs.declared.world.Activation.{Activation}
-use Rattle.model.specs.declared.world.Frame.{Frame}
-use Rattle.model.specs.declared.world.Frame.TheVariants.{Routine, Walk}
+use Rattle.model.specs.declared.world.Cells.{Cells}
+use Rattle.model.specs.declared.world.OpenLoop.{OpenLoop}
 use Rattle.model.specs.declared.world.Thread.{Thread}
 use Rattle.model.specs.declared.world.Location.{Location}
 use Rattle.model.specs.declared.world.Packet.{Packet}
 use Rattle.model.specs.declared.status.Status.{Status}
 use Rattle.model.specs.declared.status.Major.{Major}
 use Rattle.model.specs.declared.status.Status.TheVariants.{Success}
+use Rattle.model.specs.Status.{major_code}
 
--- what the threads share: the live packets in the order of issue, and how many were issued
+-- which thread owns each lock: the system cancel spin lock, and by device its eight spin locks
+pub record Locks : Type 0 where
+  pub system_cancel : Option ℕ
+  pub spin : List (List (Option ℕ))
+
+-- what the threads share: the live packets in the order of issue, how many were issued, the locks, and
+-- by device its cells
 pub record Shared : Type 0 where
   pub packets : List Packet
   pub issued : ℕ
+  pub locks : Locks
+  pub cells : List Cells
 
 -- the world
 pub record World : Type 0 where
   pub threads : List Thread
   pub shared : Shared
 
--- before the first event: idle threads, and no packet was ever issued
+-- before the first event: idle threads, no packet was ever issued, every lock is free, and every cell
+-- is 0
 abbrev pub idle_thread : Thread
 idle_thread = record { frames = record { items = [] } }
 
-abbrev pub opening : ℕ → World
-opening threads = record { threads = replicate threads idle_thread; shared = record { packets = []; issued = 0 } }
+abbrev pub free_locks : ℕ → Locks
+free_locks devices = record { system_cancel = None; spin = replicate devices (replicate 8 None) }
+
+abbrev pub blank_cells : Cells
+blank_cells = record { plain = replicate 16 0; paged = replicate 16 0 }
+
+abbrev pub unused : ℕ → Shared
+unused devices = record { packets = []; issued = 0; locks = free_locks devices; cells = replicate devices blank_cells }
+
+abbrev pub opening : ℕ → ℕ → World
+opening devices threads = record { threads = replicate threads idle_thread; shared = unused devices }
+
+-- the owner of a lock, if there is such a lock: none where it is free
+abbrev pub owner_of : Locks → Lock → Option (Option ℕ)
+owner_of locks SystemCancel = Some locks.system_cancel
+owner_of locks (Spin l) = option_and_then (λ owners. slice_get owners l.number) (slice_get locks.spin l.device)
+
+-- the same with another owner of one lock
+abbrev pub with_owner : Locks → Lock → Option ℕ → Locks
+with_owner locks SystemCancel owner = record locks { system_cancel = owner }
+with_owner locks (Spin l) owner =
+    record locks { spin = slice_set locks.spin l.device (slice_set (slice_index_or locks.spin l.device []) l.number owner) }
+
+abbrev pub with_locks : Shared → Locks → Shared
+with_locks s locks = record s { locks = locks }
+
+-- the same with other cells of one device
+abbrev pub with_cells : Shared → ℕ → Cells → Shared
+with_cells s device cells = record s { cells = slice_set s.cells device cells }
 
 -- the place of the first packet of a number, or the number of packets
 abbrev pub place_of : List Packet → ℕ → ℕ
@@ -53,15 +94,55 @@ packet_in s Blank = None
 packet_in s (Num n) = None
 packet_in s (Ref n) = if nat_lt n s.issued then Some n else None
 
--- an activation with its next position, and with a register changed
+-- the number that a value is
+abbrev pub number_in : Value → Option ℕ
+number_in Blank = None
+number_in (Num n) = Some n
+number_in (Ref n) = None
+
+-- an activation with its next position, at a label, and with a register changed
 abbrev pub register : Activation → ℕ → Value
 register a r = slice_index_or a.registers r Blank
 
 abbrev pub next : Activation → Activation
 next a = record a { position = a.position + 1 }
 
+abbrev pub at_label : Activation → ℕ → Activation
+at_label a label = record a { position = label }
+
 abbrev pub with_register : Activation → ℕ → Value → Activation
 with_register a r v = record a { registers = slice_set a.registers r v }
+
+-- its innermost open loop, and the same without it
+abbrev pub innermost : Activation → Option OpenLoop
+innermost a = slice_get a.loops.items (length a.loops.items - 1)
+
+abbrev pub outer_loops : Activation → List OpenLoop
+outer_loops a = take (length a.loops.items - 1) a.loops.items
+
+abbrev pub with_loops : Activation → List OpenLoop → Activation
+with_loops a loops = record a { loops = record { items = loops } }
+
+-- a field of a packet: the major function and the argument are those of its current location
+abbrev pub current_location : Packet → Option Location
+current_location p = slice_get p.locations.items (p.depth - 1)
+
+abbrev pub major_number : Option Major → ℕ
+major_number None = 0
+major_number (Some major) = major_code major
+
+abbrev pub location_field : Option Location → Field → ℕ
+location_field None field = 0
+location_field (Some l) MajorField = major_number l.major
+location_field (Some l) ArgumentField = l.argument
+location_field (Some l) InfoField = 0
+
+abbrev pub field_of : Packet → Field → ℕ
+field_of p InfoField = p.info
+field_of p field = location_field (current_location p) field
+
+abbrev pub with_info : Packet → ℕ → Packet
+with_info p info = record p { info = info }
 
 -- a packet whose current location is marked: SL_PENDING_RETURNED is set in its control byte
 abbrev pub marked_location : Option Location → List Location → ℕ → List Location
@@ -99,4 +180,11 @@ new_packet number device major argument stack =
 -- the frame of a routine that begins, handed a packet
 abbrev pub entered : ℕ → ℕ → ℕ → ℕ → Activation
 entered driver routine device packet =
-    record { driver = driver; routine = routine; device = device; position = 0; registers = Ref packet ∷ replicate 15 Blank }
+    record {
+      driver = driver;
+      routine = routine;
+      device = device;
+      position = 0;
+      loops = record { items = [] };
+      registers = Ref packet ∷ replicate 15 Blank;
+    }

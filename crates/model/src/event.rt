@@ -23,8 +23,28 @@ pub enum Event {
 pub enum BugCheck {
     /// IRQL_NOT_LESS_OR_EQUAL, 0x0A.
     IrqlNotLessOrEqual,
+    /// SPIN_LOCK_ALREADY_OWNED, 0x0F.
+    SpinLockAlreadyOwned,
+    /// SPIN_LOCK_NOT_OWNED, 0x10.
+    SpinLockNotOwned,
     /// MULTIPLE_IRP_COMPLETE_REQUESTS, 0x44.
     MultipleIrpCompleteRequests,
+}
+
+/// A spin lock or a paged cell of a device, by its number.
+#[derive(Clone, Copy, Debug, PartialEq, Eq)]
+pub struct OfDevice {
+    pub device: u8,
+    pub number: u8,
+}
+
+/// A lock.
+#[derive(Clone, Copy, Debug, PartialEq, Eq)]
+pub enum Lock {
+    /// The system cancel spin lock.
+    SystemCancel,
+    /// A spin lock of a device, 0 to 7.
+    Spin(OfDevice),
 }
 
 /// What a bug check is about.
@@ -32,6 +52,10 @@ pub enum BugCheck {
 pub enum Subject {
     /// The packet of this number.
     Packet(u64),
+    /// A lock.
+    Lock(Lock),
+    /// A paged cell, 0 to 15.
+    Cell(OfDevice),
 }
 
 /// A bug check and what it is about.
@@ -64,6 +88,8 @@ pub enum Reply {
         status: Status,
         info: u64,
     },
+    /// Another thread holds the lock that the step acquires; nothing changes.
+    Waited,
     /// The thread has no frame; nothing changes.
     Idle,
     /// The event can't happen; nothing changes.

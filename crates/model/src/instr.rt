@@ -1,49 +1,22 @@
 //! The instructions of a routine.
 
-ghost use Rattle.std.specs.Prelude.{◌≡◌, ℕ, ◌<◌, ◌↔◌, SomeIff};
+ghost use Rattle.std.specs.Prelude.{◌≡◌};
 
-use crate::limits::REGISTERS;
+pub use crate::cell::Cell;
+pub use crate::register::Register;
+pub use crate::spin_lock::SpinLock;
 use crate::status::Status;
-use std::marker::Model;
+pub use crate::turns::Turns;
 
-/// The number of a register, 0 to 15. Contracts see the number.
+/// What `get` reads of a packet.
 #[derive(Clone, Copy, Debug, PartialEq, Eq)]
-pub struct Register {
-    number: u8,
-}
-
-impl Model for Register {
-    ghost Value = { ℕ };
-
-    ghost view = { λ r. r.number };
-
-    ghost invariant = { λ r. r.number < 16 };
-
-    ghost inverse = { λ n. record { number = n } };
-}
-
-impl Register {
-    /// The register in which a routine finds its packet.
-    pub const FIRST: Register = Register { number: 0 };
-
-    /// The register of this number, if there is one.
-    pub fn of(number: u8) -> Option<Register>
-        ensures { SomeIff result (number < 16) number }
-    {
-        if (number as usize) < REGISTERS {
-            Some(Register { number })
-        } else {
-            None
-        }
-    }
-
-    /// Its place among the registers of an activation.
-    pub fn index(self) -> usize
-        ensures same { result ≡ self }
-        ensures within { result < 16 }
-    {
-        self.number as usize
-    }
+pub enum Field {
+    /// The major function of the current location, by its IRP_MJ number.
+    Major,
+    /// The argument of the current location.
+    Argument,
+    /// IoStatus.Information.
+    Info,
 }
 
 /// What a routine returns.
@@ -53,17 +26,69 @@ pub enum Return {
     WithStatus(Status),
 }
 
-/// One instruction.
+/// One instruction. A label is a position of the same routine.
 #[derive(Clone, Copy, Debug, PartialEq, Eq)]
 pub enum Instr {
     /// `const r n`: the register becomes the number.
     Const(Register, u32),
+    /// `mov r s`: r becomes what s is.
+    Move(Register, Register),
     /// `clear r`: the register becomes blank.
     Clear(Register),
+    /// `add r s`: r becomes the sum, modulo 2^64.
+    Add(Register, Register),
+    /// `sub r s`: r becomes the difference, modulo 2^64.
+    Subtract(Register, Register),
+    /// `jz r L`: jumps if r is 0.
+    JumpIfZero(Register, u16),
+    /// `jlt r s L`: jumps if r is less than s.
+    JumpIfLess(Register, Register, u16),
+    /// `jmp L`: jumps.
+    Jump(u16),
+    /// `loop n`: what follows, up to the `end` that closes the loop, runs n times.
+    Loop(Turns),
+    /// `end`: goes back to the start of the innermost loop's body, or closes the loop.
+    End,
+    /// `load r c`: the register becomes the number in a cell of the device.
+    Load(Register, Cell),
+    /// `store c r`: the cell becomes the number in the register.
+    Store(Cell, Register),
+    /// `loadp r p`: as `load`, from a paged cell.
+    LoadPaged(Register, Cell),
+    /// `storep p r`: as `store`, to a paged cell.
+    StorePaged(Cell, Register),
+    /// `get r s F`: r becomes a field of the packet in s.
+    Get(Register, Register, Field),
+    /// `put s r`: IoStatus.Information of the packet in s becomes the number in r.
+    Put(Register, Register),
     /// `mark r`: IoMarkIrpPending on the packet in the register.
     Mark(Register),
+    /// `acquire l`: KeAcquireSpinLock on a lock of the device.
+    Acquire(SpinLock),
+    /// `release l`: KeReleaseSpinLock on a lock of the device.
+    Release(SpinLock),
+    /// `acqc`: IoAcquireCancelSpinLock.
+    AcquireCancel,
+    /// `relc`: IoReleaseCancelSpinLock.
+    ReleaseCancel,
     /// `complete r STATUS`: IoCompleteRequest on the packet in the register.
     Complete(Register, Status),
     /// `ret ..`: the routine returns.
     Ret(Return),
+}
+
+impl Instr {
+    ghost use Rattle.model.specs.Set.{label_of};
+
+    /// The label of a jump.
+    pub fn label(&self) -> Option<u16>
+        ensures { result ≡ label_of self.now }
+    {
+        match *self {
+            Instr::JumpIfZero(_, label) | Instr::JumpIfLess(_, _, label) | Instr::Jump(label) => {
+                Some(label)
+            }
+            _ => None,
+        }
+    }
 }

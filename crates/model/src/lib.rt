@@ -3,11 +3,15 @@
 #![tactic(auto)]
 
 pub mod abs;
+pub mod cell;
 pub mod event;
 pub mod instr;
 pub mod items;
 pub mod limits;
 pub mod memory;
+pub mod register;
 pub mod set;
+pub mod spin_lock;
 pub mod status;
+pub mod turns;
 pub mod world;

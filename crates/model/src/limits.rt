@@ -10,6 +10,16 @@ pub const MAX_ROUTINES: usize = 32;
 pub const MAX_INSTRUCTIONS: usize = 1024;
 /// Registers of an activation.
 pub const REGISTERS: usize = 16;
+/// Spin locks of a device.
+pub const SPIN_LOCKS: usize = 8;
+/// Number cells of a device, and as many paged ones.
+pub const CELLS: usize = 16;
+/// Turns of a loop, at most; it has at least one.
+pub const MAX_TURNS: u16 = 1000;
+/// Loops round a position, at most.
+pub const MAX_LOOPS: usize = 4;
+/// The certificate of a routine, at most.
+pub const MAX_CERTIFICATE: u64 = 1_000_000;
 /// Stack locations of a packet, at most: a device's stack size is 1 to this.
 pub const MAX_STACK: usize = 16;
 /// Frames on a thread, at most.

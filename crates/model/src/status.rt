@@ -50,3 +50,18 @@ pub enum Major {
     /// IRP_MJ_DEVICE_CONTROL.
     Control,
 }
+
+impl Major {
+    ghost use Rattle.model.specs.Status.{major_code};
+
+    /// Its IRP_MJ number.
+    pub fn code(self) -> u8
+        ensures { result ≡ major_code self }
+    {
+        match self {
+            Major::Read => 3,
+            Major::Write => 4,
+            Major::Control => 14,
+        }
+    }
+}

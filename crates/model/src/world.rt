@@ -14,6 +14,14 @@ pub enum Value {
     Ref(u64),
 }
 
+/// A loop that a routine has opened: where its body starts, and how many turns are left, the one
+/// that runs among them.
+#[derive(Clone, Copy, Debug, PartialEq, Eq, Default)]
+pub struct OpenLoop {
+    pub start: u16,
+    pub turns: u16,
+}
+
 /// A routine that runs: which one, for which device, and how far it is.
 #[derive(Drop)]
 pub struct Activation {
@@ -21,6 +29,8 @@ pub struct Activation {
     pub routine: u8,
     pub device: u8,
     pub position: u16,
+    /// The loops that are open, the innermost last.
+    pub loops: ArrayVec<OpenLoop, 4>,
     pub registers: [Value; 16],
 }
 
@@ -70,4 +80,12 @@ pub struct Packet {
     pub info: u64,
     /// IoCompleteRequest was called, and the I/O manager has the packet.
     pub completing: bool,
+}
+
+/// The number cells of a device, all 0 at first.
+#[derive(Clone, Copy, Debug, PartialEq, Eq)]
+pub struct Cells {
+    pub plain: [u64; 16],
+    /// Those that may be touched below DISPATCH_LEVEL alone.
+    pub paged: [u64; 16],
 }
