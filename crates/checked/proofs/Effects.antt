@@ -1,27 +1,50 @@
--- The actions of a frame's step, against the past and against the packets.
-use Rattle.std.proofs.Common.{◌≡◌, ℕ, List, [], Option, None, Some, Bool, true, false, refl, ap, sym, ◌∙◌, ◌⊎◌, inl, inr}
-use Rattle.std.specs.Prelude.{nat_lt}
+-- The actions of a frame's step, against the past and against what the threads share.
+use Rattle.std.proofs.Common.{◌≡◌, ℕ, List, [], ◌∷◌, Option, None, Some, Bool, true, false, cond, length, refl, ap, sym, ◌∙◌, ◌⊎◌, inl, inr}
+use Rattle.std.specs.Prelude.{not, nat_eq, nat_lt, slice_get}
 use Rattle.std.proofs.lemmas.Bool.{cases_Bool}
 use Rattle.model.specs.declared.world.Activation.{Activation}
+use Rattle.model.specs.declared.world.Cells.{Cells}
 use Rattle.model.specs.declared.world.Frame.{Frame}
 use Rattle.model.specs.declared.world.Frame.TheVariants.{Routine, Walk}
+use Rattle.model.specs.declared.world.OpenLoop.{OpenLoop}
 use Rattle.model.specs.declared.world.Packet.{Packet}
 use Rattle.model.specs.declared.world.Value.{Value}
 use Rattle.model.specs.declared.world.Value.TheVariants.{Blank, Num, Ref}
 use Rattle.model.specs.declared.status.Status.{Status}
+use Rattle.model.specs.declared.instr.Field.{Field}
 use Rattle.model.specs.declared.instr.Instr.{Instr}
-use Rattle.model.specs.declared.instr.Instr.TheVariants.{Const, Clear, Mark, Complete, Ret}
+use Rattle.model.specs.declared.instr.Instr.TheVariants.{Const, Move, Clear, Add, Subtract, JumpIfZero, JumpIfLess, Jump, Loop, End, Load, Store, LoadPaged, StorePaged, Get, Put, Mark, Acquire, Release, AcquireCancel, ReleaseCancel, Complete, Ret}
 use Rattle.model.specs.declared.instr.Return.{Return}
 use Rattle.model.specs.declared.instr.Return.TheVariants.{WithStatus}
-use Rattle.model.specs.declared.event.BugCheck.TheVariants.{IrqlNotLessOrEqual, MultipleIrpCompleteRequests}
-use Rattle.model.specs.Effect.{Outcome, goes_wrong, goes_on, mark_packet, mark_effect, complete_packet, complete_effect, return_effect, instruction_effect, routine_effect, walk_packet, frame_effect}
-use Rattle.model.specs.Fault.{bug_if, first_or, first_fault}
+use Rattle.model.specs.declared.event.Bug.{Bug}
+use Rattle.model.specs.declared.event.BugCheck.{BugCheck}
+use Rattle.model.specs.declared.event.BugCheck.TheVariants.{IrqlNotLessOrEqual, SpinLockAlreadyOwned, SpinLockNotOwned, MultipleIrpCompleteRequests}
+use Rattle.model.specs.declared.event.Lock.{Lock}
+use Rattle.model.specs.declared.event.Lock.TheVariants.{SystemCancel}
+use Rattle.model.specs.declared.event.OfDevice.{OfDevice}
+use Rattle.model.specs.declared.event.Subject.{Subject}
+use Rattle.model.specs.declared.event.Subject.TheVariants.{Packet as PacketSubject, Lock as LockSubject, Cell}
+use Rattle.model.specs.Action.{Executes, Acquires, Releases, TouchesPaged, Touches, Completes, Leaves, TopsOut}
+use Rattle.model.specs.Effect.{Outcome, goes_wrong, goes_on, number_effect, sum_of, difference_of, jump_effect, is_zero_at, is_less_at, loop_effect, end_effect, cell_of, load_effect, load_paged_effect, store_effect, store_paged_effect, get_packet, get_effect, put_packet, put_effect, waits, acquire_owned, acquire_effect, release_effect, spin_lock, mark_packet, mark_effect, complete_packet, complete_effect, return_effect, instruction_effect, routine_effect, walk_packet, frame_effect}
+use Rattle.model.specs.Fault.{bug_if, first_or, first_fault, holds, topped, completing}
 use Rattle.model.specs.Set.{Set, instruction_at}
 use Rattle.model.specs.Trace.{Entry, Tag, recorded}
-use Rattle.model.specs.World.{Shared, packet_of, with_packet, packet_in, register, mark_current, completed}
+use Rattle.model.specs.World.{Shared, Locks, owner_of, with_owner, with_locks, with_cells, packet_of, with_packet, packet_in, number_in, register, next, innermost, with_info, mark_current, completed}
+use Rattle.irql_locks.specs.Owns.{owns}
+use Rattle.irql_locks.proofs.Some.{owner_its}
 use Rattle.checked.specs.Step.{first_now, is_stop}
 use Rattle.checked.proofs.Live.{find_place, find_number}
-use Rattle.checked.proofs.Tells.{Tells, tells_gone, tells_taken, tells_set, tells_complete, tells_late, tells_top}
+use Rattle.checked.proofs.Owners.{owned_acquire, owned_release, owned_level}
+use Rattle.checked.proofs.Tells.{Told, Tells, tells_gone, tells_taken, tells_set, tells_complete, tells_late, tells_top}
+
+-- what the threads share tells what the past tells
+pub record Known (live : List Packet) (count : ℕ) (owners : Locks) (tops ends : ℕ → Bool) (held : ℕ → Lock → Bool) :
+    Type 0 where
+  pub packets : Told live count tops ends
+  pub locks : (t : ℕ) (l : Lock) → held t l ≡ owns owners t l
+
+abbrev pub Knows : Shared → List Entry → Type 0
+Knows s past = Known s.packets s.issued s.locks (topped past) (completing past) (holds past)
 
 -- a step that stops the run is a wrong one, and has changed nothing
 abbrev pub WrongHere : Shared → Frame → Outcome → Type 0
@@ -29,55 +52,14 @@ WrongHere s f o = (a : Activation) × (f ≡ Routine a) × (o ≡ goes_wrong s a
 
 -- what is known of a step of a frame f after a past
 pub record Fine (past : List Entry) (t : ℕ) (tag : Tag) (s : Shared) (f : Frame) (o : Outcome) : Type 0 where
-  -- the past and the packets show the same bug check
-  pub agrees : first_fault past t tag o.actions ≡ first_now s o.actions
-  -- the packets still tell what the past tells
-  pub tells : Tells o.shared (recorded past t tag o.actions)
+  -- the past and what is shared show the same bug check
+  pub agrees : first_fault past t tag o.actions ≡ first_now s t o.actions
+  -- without one, what is shared still tells what the past tells
+  pub knows : first_now s t o.actions ≡ None → Knows o.shared (recorded past t tag o.actions)
   pub replies : (is_stop o.reply ≡ false) ⊎ WrongHere s f o
 
 numbered : (s : Shared) (n : ℕ) (p : Packet) → packet_of s n ≡ Some p → p.number ≡ n
 numbered s n p h = find_number s.packets n p (sym (find_place s.packets n) ∙ h)
-
-fine_wrong : (past : List Entry) (t : ℕ) (tag : Tag) (s : Shared) (a : Activation) → Tells s past → Fine past t tag s (Routine a) (goes_wrong s a)
-fine_wrong past t tag s a tells =
-    record { agrees = refl; tells = record { rises = tells.rises; gone = tells.gone; taken = tells.taken }; replies = inr (a, refl, refl) }
-
-fine_local : (past : List Entry) (t : ℕ) (tag : Tag) (s : Shared) (f : Frame) (a : Activation) → Tells s past → Fine past t tag s f (goes_on s a [])
-fine_local past t tag s f a tells =
-    record { agrees = refl; tells = record { rises = tells.rises; gone = tells.gone; taken = tells.taken }; replies = inl refl }
-
-fine_mark_packet : (past : List Entry) (t : ℕ) (tag : Tag) (s : Shared) (f : Frame) (a : Activation) (n : ℕ) (o : Option Packet) → packet_of s n ≡ o → Tells s past → Fine past t tag s f (mark_packet s a n o)
-fine_mark_packet past t tag s f a n None h tells =
-    record {
-      agrees = ap (λ (b : Bool). first_or (bug_if b IrqlNotLessOrEqual n) None) (tells_gone s past tells n);
-      tells = record { rises = tells.rises; gone = tells.gone; taken = tells.taken };
-      replies = inl refl;
-    }
-fine_mark_packet past t tag s f a n (Some p) h tells =
-    let kept : Tells (with_packet s n (mark_current p)) past = tells_set s past n p (mark_current p) tells h (numbered s n p h) refl in
-    record {
-      agrees = ap (λ (b : Bool). first_or (bug_if b IrqlNotLessOrEqual n) None) (tells_gone s past tells n);
-      tells = record { rises = kept.rises; gone = kept.gone; taken = kept.taken };
-      replies = inl refl;
-    }
-
-fine_mark : (past : List Entry) (t : ℕ) (tag : Tag) (s : Shared) (a : Activation) (o : Option ℕ) → Tells s past → Fine past t tag s (Routine a) (mark_effect s a o)
-fine_mark past t tag s a None tells = fine_wrong past t tag s a tells
-fine_mark past t tag s a (Some n) tells = fine_mark_packet past t tag s (Routine a) a n (packet_of s n) refl tells
-
-fine_complete_packet : (past : List Entry) (t : ℕ) (tag : Tag) (s : Shared) (f : Frame) (a : Activation) (status : Status) (n : ℕ) (o : Option Packet) → packet_of s n ≡ o → nat_lt n s.issued ≡ true → Tells s past → Fine past t tag s f (complete_packet s a status n o)
-fine_complete_packet past t tag s f a status n None h l tells =
-    record {
-      agrees = ap (λ (b : Bool). first_or (bug_if b MultipleIrpCompleteRequests n) None) (tells_taken s past tells n);
-      tells = tells_late s past _ n tells l h (λ m. refl) (λ m. refl);
-      replies = inl refl;
-    }
-fine_complete_packet past t tag s f a status n (Some p) h l tells =
-    record {
-      agrees = ap (λ (b : Bool). first_or (bug_if b MultipleIrpCompleteRequests n) None) (tells_taken s past tells n);
-      tells = tells_complete s past _ n p (completed p status) tells h (numbered s n p h) refl (λ m. refl) (λ m. refl);
-      replies = inl refl;
-    }
 
 -- a packet that an operand names was issued
 named : (s : Shared) (v : Value) (n : ℕ) → packet_in s v ≡ Some n → nat_lt n s.issued ≡ true
@@ -89,40 +71,301 @@ named s (Ref k) n h =
       | inr l ↦ let no : None ≡ Some n = rw l at h in cc
     ]
 
-fine_complete : (past : List Entry) (t : ℕ) (tag : Tag) (s : Shared) (a : Activation) (status : Status) (v : Value) (o : Option ℕ) → packet_in s v ≡ o → Tells s past → Fine past t tag s (Routine a) (complete_effect s a status o)
-fine_complete past t tag s a status v None h tells = fine_wrong past t tag s a tells
-fine_complete past t tag s a status v (Some n) h tells = fine_complete_packet past t tag s (Routine a) a status n (packet_of s n) refl (named s v n h) tells
+-- a bug check is told alike where its test is
+told_as : {a b : Bool} (check : BugCheck) (subject : Subject) → a ≡ b →
+    first_or (bug_if a check subject) None ≡ first_or (bug_if b check subject) None
+told_as check subject same = ap (λ (b : Bool). first_or (bug_if b check subject) None) same
 
-fine_return : (past : List Entry) (t : ℕ) (tag : Tag) (s : Shared) (f : Frame) (form : Return) → Tells s past → Fine past t tag s f (return_effect s form)
-fine_return past t tag s f (WithStatus status) tells =
-    record { agrees = refl; tells = record { rises = tells.rises; gone = tells.gone; taken = tells.taken }; replies = inl refl }
+-- without a first bug check there is none
+none_first : (bug : Option Bug) → first_or bug None ≡ None → bug ≡ None
+none_first None h = refl
+none_first (Some bug) h = cc
 
-fine_instruction : (past : List Entry) (t : ℕ) (tag : Tag) (s : Shared) (a : Activation) (i : Instr) → Tells s past → Fine past t tag s (Routine a) (instruction_effect s a i)
-fine_instruction past t tag s a (Const r n) tells = fine_local past t tag s (Routine a) _ tells
-fine_instruction past t tag s a (Clear r) tells = fine_local past t tag s (Routine a) _ tells
-fine_instruction past t tag s a (Mark r) tells = fine_mark past t tag s a (packet_in s (register a r)) tells
-fine_instruction past t tag s a (Complete r status) tells = fine_complete past t tag s a status (register a r) (packet_in s (register a r)) refl tells
-fine_instruction past t tag s a (Ret form) tells = fine_return past t tag s (Routine a) form tells
+module _ (past : List Entry) (t : ℕ) (tag : Tag) (s : Shared) (knows : Knows s past) where
+  abbrev Good : Activation → Outcome → Type 0
+  Good a o = Fine past t tag s (Routine a) o
 
-fine_routine : (past : List Entry) (t : ℕ) (tag : Tag) (s : Shared) (a : Activation) (o : Option Instr) → Tells s past → Fine past t tag s (Routine a) (routine_effect s a o)
-fine_routine past t tag s a None tells = fine_wrong past t tag s a tells
-fine_routine past t tag s a (Some i) tells = fine_instruction past t tag s a i tells
+  -- nothing is told by these actions, and only cells change
+  fine_wrong : (a : Activation) → Good a (goes_wrong s a)
+  fine_wrong a =
+      record {
+        agrees = refl;
+        knows = λ free. knows;
+        replies = inr (a, refl, refl);
+      }
 
-fine_walk : (past : List Entry) (t : ℕ) (tag : Tag) (s : Shared) (f : Frame) (n : ℕ) (o : Option Packet) → packet_of s n ≡ o → Tells s past → Fine past t tag s f (walk_packet s n o)
-fine_walk past t tag s f n None h tells =
-    record {
-      agrees = ap (λ (b : Bool). first_or (bug_if b IrqlNotLessOrEqual n) None) (tells_gone s past tells n);
-      tells = record { rises = tells.rises; gone = tells.gone; taken = tells.taken };
-      replies = inl refl;
-    }
-fine_walk past t tag s f n (Some p) h tells =
-    record {
-      agrees = ap (λ (b : Bool). first_or (bug_if b IrqlNotLessOrEqual n) None) (tells_gone s past tells n);
-      tells = tells_top s past _ n p tells h (λ m. refl) (λ m. refl);
-      replies = inl refl;
-    }
+  fine_local : (f : Frame) (a : Activation) → Fine past t tag s f (goes_on s a [])
+  fine_local f a =
+      record {
+        agrees = refl;
+        knows = λ free. knows;
+        replies = inl refl;
+      }
 
--- every step of a frame is fine
-pub fine_frame : (set : Set) (past : List Entry) (t : ℕ) (tag : Tag) (s : Shared) (f : Frame) → Tells s past → Fine past t tag s f (frame_effect set s f)
-fine_frame set past t tag s (Routine a) tells = fine_routine past t tag s a (instruction_at set a.driver a.routine a.position) tells
-fine_frame set past t tag s (Walk n) tells = fine_walk past t tag s (Walk n) n (packet_of s n) refl tells
+  fine_stored : (f : Frame) (a : Activation) (d : ℕ) (cells : Cells) →
+      Fine past t tag s f (goes_on (with_cells s d cells) a [])
+  fine_stored f a d cells =
+      record {
+        agrees = refl;
+        knows = λ free. knows;
+        replies = inl refl;
+      }
+
+  fine_return : (f : Frame) (form : Return) → Fine past t tag s f (return_effect s form)
+  fine_return f (WithStatus status) =
+      record {
+        agrees = refl;
+        knows = λ free. knows;
+        replies = inl refl;
+      }
+
+  -- numbers, jumps and loops
+  fine_number : (a : Activation) (r : ℕ) (o : Option ℕ) → Good a (number_effect s a r o)
+  fine_number a r None = fine_wrong a
+  fine_number a r (Some n) = fine_local (Routine a) _
+
+  fine_jump : (a : Activation) (label : ℕ) (o : Option Bool) → Good a (jump_effect s a label o)
+  fine_jump a label None = fine_wrong a
+  fine_jump a label (Some jumps) = fine_local (Routine a) _
+
+  fine_if : (a b : Activation) (opens : Bool) → Good a (cond {A = Outcome} opens (goes_on s b []) (goes_wrong s a))
+  fine_if a b true = fine_local (Routine a) b
+  fine_if a b false = fine_wrong a
+
+  fine_loop : (a : Activation) (turns : ℕ) → Good a (loop_effect s a turns)
+  fine_loop a turns = fine_if a _ (nat_lt (length a.loops.items) 4)
+
+  fine_end : (a : Activation) (o : Option OpenLoop) → Good a (end_effect s a o)
+  fine_end a None = fine_wrong a
+  fine_end a (Some l) = fine_local (Routine a) _
+
+  -- cells; a paged one is touched
+  fine_paged : (f : Frame) (a : Activation) (c : OfDevice) → Fine past t tag s f (goes_on s a (TouchesPaged c ∷ []))
+  fine_paged f a c =
+      record {
+        agrees = told_as IrqlNotLessOrEqual (Cell c) (owned_level s.locks past knows.locks t);
+        knows = λ free. knows;
+        replies = inl refl;
+      }
+
+  fine_paged_stored : (f : Frame) (a : Activation) (c : OfDevice) (d : ℕ) (cells : Cells) →
+      Fine past t tag s f (goes_on (with_cells s d cells) a (TouchesPaged c ∷ []))
+  fine_paged_stored f a c d cells =
+      record {
+        agrees = told_as IrqlNotLessOrEqual (Cell c) (owned_level s.locks past knows.locks t);
+        knows = λ free. knows;
+        replies = inl refl;
+      }
+
+  fine_load : (a : Activation) (r c : ℕ) (o : Option Cells) → Good a (load_effect s a r c o)
+  fine_load a r c None = fine_wrong a
+  fine_load a r c (Some cells) = fine_local (Routine a) _
+
+  fine_load_paged : (a : Activation) (r c : ℕ) (o : Option Cells) → Good a (load_paged_effect s a r c o)
+  fine_load_paged a r c None = fine_wrong a
+  fine_load_paged a r c (Some cells) = fine_paged (Routine a) _ (cell_of a c)
+
+  fine_store : (a : Activation) (c : ℕ) (n : Option ℕ) (o : Option Cells) → Good a (store_effect s a c n o)
+  fine_store a c None o = fine_wrong a
+  fine_store a c (Some n) None = fine_wrong a
+  fine_store a c (Some n) (Some cells) = fine_stored (Routine a) _ a.device _
+
+  fine_store_paged : (a : Activation) (c : ℕ) (n : Option ℕ) (o : Option Cells) → Good a (store_paged_effect s a c n o)
+  fine_store_paged a c None o = fine_wrong a
+  fine_store_paged a c (Some n) None = fine_wrong a
+  fine_store_paged a c (Some n) (Some cells) = fine_paged_stored (Routine a) _ (cell_of a c) a.device _
+
+  -- packets are touched
+  touched : (n : ℕ) → first_fault past t tag (Executes ∷ Touches n ∷ []) ≡ first_now s t (Executes ∷ Touches n ∷ [])
+  touched n = told_as IrqlNotLessOrEqual (PacketSubject n) (tells_gone s past knows.packets n)
+
+  fine_touch : (f : Frame) (a : Activation) (n : ℕ) → Fine past t tag s f (goes_on s a (Touches n ∷ []))
+  fine_touch f a n =
+      record {
+        agrees = touched n;
+        knows = λ free. knows;
+        replies = inl refl;
+      }
+
+  fine_get_packet : (f : Frame) (a : Activation) (r : ℕ) (field : Field) (n : ℕ) (o : Option Packet) →
+      Fine past t tag s f (get_packet s a r field n o)
+  fine_get_packet f a r field n None = fine_touch f _ n
+  fine_get_packet f a r field n (Some p) = fine_touch f _ n
+
+  fine_get : (a : Activation) (r : ℕ) (field : Field) (o : Option ℕ) → Good a (get_effect s a r field o)
+  fine_get a r field None = fine_wrong a
+  fine_get a r field (Some n) = fine_get_packet (Routine a) a r field n (packet_of s n)
+
+  fine_put_packet : (f : Frame) (a : Activation) (info n : ℕ) (o : Option Packet) → packet_of s n ≡ o →
+      Fine past t tag s f (put_packet s a info n o)
+  fine_put_packet f a info n None h = fine_touch f _ n
+  fine_put_packet f a info n (Some p) h =
+      let kept : Tells (with_packet s n (with_info p info)) past =
+      tells_set s past n p (with_info p info) knows.packets h (numbered s n p h) refl in
+      record {
+        agrees = touched n;
+        knows = λ free. record { packets = kept; locks = knows.locks };
+        replies = inl refl;
+      }
+
+  fine_put : (a : Activation) (info n : Option ℕ) → Good a (put_effect s a info n)
+  fine_put a None n = fine_wrong a
+  fine_put a (Some info) None = fine_wrong a
+  fine_put a (Some info) (Some n) = fine_put_packet (Routine a) a info n (packet_of s n) refl
+
+  fine_mark_packet : (f : Frame) (a : Activation) (n : ℕ) (o : Option Packet) → packet_of s n ≡ o →
+      Fine past t tag s f (mark_packet s a n o)
+  fine_mark_packet f a n None h = fine_touch f _ n
+  fine_mark_packet f a n (Some p) h =
+      let kept : Tells (with_packet s n (mark_current p)) past =
+      tells_set s past n p (mark_current p) knows.packets h (numbered s n p h) refl in
+      record {
+        agrees = touched n;
+        knows = λ free. record { packets = kept; locks = knows.locks };
+        replies = inl refl;
+      }
+
+  fine_mark : (a : Activation) (o : Option ℕ) → Good a (mark_effect s a o)
+  fine_mark a None = fine_wrong a
+  fine_mark a (Some n) = fine_mark_packet (Routine a) a n (packet_of s n) refl
+
+  -- locks
+  fine_its_own : (a : Activation) (lock : Lock) (owner : ℕ) (its : Bool) → nat_eq owner t ≡ its →
+      owner_of s.locks lock ≡ Some (Some owner) →
+      Good a (cond {A = Outcome} its (goes_on s (next a) (Acquires lock ∷ [])) (waits s a))
+  fine_its_own a lock owner true same there =
+      record {
+        agrees = told_as SpinLockAlreadyOwned (LockSubject lock) (knows.locks t lock);
+        knows = λ free.
+            let own : owns s.locks t lock ≡ true = rw there same in
+            let no : Some (record { check = SpinLockAlreadyOwned; subject = LockSubject lock }) ≡ None = rw own at free in
+            cc;
+        replies = inl refl;
+      }
+  fine_its_own a lock owner false same there = record { agrees = refl; knows = λ free. knows; replies = inl refl }
+
+  fine_acquire_owned : (a : Activation) (lock : Lock) (owner : Option ℕ) → owner_of s.locks lock ≡ Some owner →
+      Good a (acquire_owned s t a lock owner)
+  fine_acquire_owned a lock None there =
+      record {
+        agrees = told_as SpinLockAlreadyOwned (LockSubject lock) (knows.locks t lock);
+        knows = λ free.
+            record {
+              packets = knows.packets;
+              locks =
+                  let after : List Entry = recorded past t tag (Executes ∷ Acquires lock ∷ []) in
+                  owned_acquire s.locks past after t lock knows.locks there (λ k l. refl);
+            };
+        replies = inl refl;
+      }
+  fine_acquire_owned a lock (Some owner) there = fine_its_own a lock owner (nat_eq owner t) refl there
+
+  fine_acquire : (a : Activation) (lock : Lock) (o : Option (Option ℕ)) → owner_of s.locks lock ≡ o →
+      Good a (acquire_effect s t a lock o)
+  fine_acquire a lock None there = fine_wrong a
+  fine_acquire a lock (Some owner) there = fine_acquire_owned a lock owner there
+
+  released : (a : Activation) (lock : Lock) (owner : Option ℕ) → owner_of s.locks lock ≡ Some owner → (own : Bool) →
+      owns s.locks t lock ≡ own →
+      bug_if (not own) SpinLockNotOwned (LockSubject lock) ≡ None →
+      Knows (with_locks s (with_owner s.locks lock None)) (recorded past t tag (Executes ∷ Releases lock ∷ []))
+  released a lock owner there true own free =
+      let its : owner_of s.locks lock ≡ Some (Some t) =
+      there ∙ ap (λ (o : Option ℕ). Some o) (owner_its t owner (rw there at own)) in
+      let after : List Entry = recorded past t tag (Executes ∷ Releases lock ∷ []) in
+      record {
+        packets = knows.packets;
+        locks = owned_release s.locks past after t lock knows.locks its (λ k l. refl);
+      }
+  released a lock owner there false own free = cc
+
+  fine_release : (a : Activation) (lock : Lock) (o : Option (Option ℕ)) → owner_of s.locks lock ≡ o →
+      Good a (release_effect s a lock o)
+  fine_release a lock None there = fine_wrong a
+  fine_release a lock (Some owner) there =
+      record {
+        agrees = told_as SpinLockNotOwned (LockSubject lock) (ap not (knows.locks t lock));
+        knows = λ free. released a lock owner there (owns s.locks t lock) refl (none_first _ free);
+        replies = inl refl;
+      }
+
+  -- a packet is completed
+  fine_complete_packet : (f : Frame) (a : Activation) (status : Status) (n : ℕ) (o : Option Packet) →
+      packet_of s n ≡ o → nat_lt n s.issued ≡ true →
+      Fine past t tag s f (complete_packet s a status n o)
+  fine_complete_packet f a status n None h l =
+      record {
+        agrees = told_as MultipleIrpCompleteRequests (PacketSubject n) (tells_taken s past knows.packets n);
+        knows = λ free.
+            let after : List Entry = recorded past t tag (Executes ∷ Completes n ∷ []) in
+            record { packets = tells_late s past after n knows.packets l h (λ m. refl) (λ m. refl); locks = knows.locks };
+        replies = inl refl;
+      }
+  fine_complete_packet f a status n (Some p) h l =
+      record {
+        agrees = told_as MultipleIrpCompleteRequests (PacketSubject n) (tells_taken s past knows.packets n);
+        knows = λ free.
+            let after : List Entry = recorded past t tag (Executes ∷ Completes n ∷ []) in
+            let kept : Tells (with_packet s n (completed p status)) after =
+            tells_complete s past after n p (completed p status) knows.packets h (numbered s n p h) refl
+            (λ m. refl) (λ m. refl) in
+            record { packets = kept; locks = knows.locks };
+        replies = inl refl;
+      }
+
+  fine_complete : (a : Activation) (status : Status) (v : Value) (o : Option ℕ) → packet_in s v ≡ o →
+      Good a (complete_effect s a status o)
+  fine_complete a status v None h = fine_wrong a
+  fine_complete a status v (Some n) h = fine_complete_packet (Routine a) a status n (packet_of s n) refl (named s v n h)
+
+  -- every instruction
+  fine_instruction : (a : Activation) (i : Instr) → Good a (instruction_effect s t a i)
+  fine_instruction a (Const r n) = fine_local (Routine a) _
+  fine_instruction a (Move r q) = fine_local (Routine a) _
+  fine_instruction a (Clear r) = fine_local (Routine a) _
+  fine_instruction a (Add r q) = fine_number a r (sum_of a r q)
+  fine_instruction a (Subtract r q) = fine_number a r (difference_of a r q)
+  fine_instruction a (JumpIfZero r label) = fine_jump a label (is_zero_at a r)
+  fine_instruction a (JumpIfLess r q label) = fine_jump a label (is_less_at a r q)
+  fine_instruction a (Jump label) = fine_local (Routine a) _
+  fine_instruction a (Loop turns) = fine_loop a turns
+  fine_instruction a End = fine_end a (innermost a)
+  fine_instruction a (Load r c) = fine_load a r c (slice_get s.cells a.device)
+  fine_instruction a (Store c r) = fine_store a c (number_in (register a r)) (slice_get s.cells a.device)
+  fine_instruction a (LoadPaged r c) = fine_load_paged a r c (slice_get s.cells a.device)
+  fine_instruction a (StorePaged c r) = fine_store_paged a c (number_in (register a r)) (slice_get s.cells a.device)
+  fine_instruction a (Get r q field) = fine_get a r field (packet_in s (register a q))
+  fine_instruction a (Put q r) = fine_put a (number_in (register a r)) (packet_in s (register a q))
+  fine_instruction a (Mark r) = fine_mark a (packet_in s (register a r))
+  fine_instruction a (Acquire lock) = fine_acquire a (spin_lock a lock) (owner_of s.locks (spin_lock a lock)) refl
+  fine_instruction a (Release lock) = fine_release a (spin_lock a lock) (owner_of s.locks (spin_lock a lock)) refl
+  fine_instruction a AcquireCancel = fine_acquire a SystemCancel (owner_of s.locks SystemCancel) refl
+  fine_instruction a ReleaseCancel = fine_release a SystemCancel (owner_of s.locks SystemCancel) refl
+  fine_instruction a (Complete r status) = fine_complete a status (register a r) (packet_in s (register a r)) refl
+  fine_instruction a (Ret form) = fine_return (Routine a) form
+
+  fine_routine : (a : Activation) (o : Option Instr) → Good a (routine_effect s t a o)
+  fine_routine a None = fine_wrong a
+  fine_routine a (Some i) = fine_instruction a i
+
+  -- a step of the I/O manager
+  fine_walk : (f : Frame) (n : ℕ) (o : Option Packet) → packet_of s n ≡ o → Fine past t tag s f (walk_packet s n o)
+  fine_walk f n None h =
+      record {
+        agrees = touched n;
+        knows = λ free. knows;
+        replies = inl refl;
+      }
+  fine_walk f n (Some p) h =
+      record {
+        agrees = touched n;
+        knows = λ free.
+            let after : List Entry = recorded past t tag (Touches n ∷ Leaves n ∷ TopsOut n ∷ []) in
+            record { packets = tells_top s past after n p knows.packets h (λ m. refl) (λ m. refl); locks = knows.locks };
+        replies = inl refl;
+      }
+
+  -- every step of a frame is fine
+  pub fine_frame : (set : Set) (f : Frame) → Fine past t tag s f (frame_effect set s t f)
+  fine_frame set (Routine a) = fine_routine a (instruction_at set a.driver a.routine a.position)
+  fine_frame set (Walk n) = fine_walk (Walk n) n (packet_of s n) refl

@@ -1,21 +1,23 @@
--- An event as a machine does it that keeps no trace: it reads the bug checks from the packets that it
--- holds, and tells from its reply whether it stops.
-use Rattle.std.specs.Prelude.{ℕ, ◌+◌, ◌-◌, ◌&&◌, ◌||◌, Bool, true, false, List, [], ◌∷◌, ◌++◌, length, Option, None, Some, is_none, nat_lt, nat_le, take, slice_get, slice_set, if◌then◌else◌}
+-- An event as a machine does it that keeps no trace: it reads the bug checks from the packets and the
+-- locks that it holds, and tells from its reply whether it stops.
+use Rattle.std.specs.Prelude.{ℕ, ◌+◌, ◌-◌, ◌&&◌, ◌||◌, not, Bool, true, false, List, [], ◌∷◌, ◌++◌, length, Option, None, Some, is_none, nat_lt, nat_le, take, slice_get, slice_set, if◌then◌else◌}
 use Rattle.model.specs.declared.world.Frame.{Frame}
 use Rattle.model.specs.declared.world.Thread.{Thread}
 use Rattle.model.specs.declared.world.Packet.{Packet}
 use Rattle.model.specs.declared.event.Event.{Event}
 use Rattle.model.specs.declared.event.Event.TheVariants.{Issue, Step}
 use Rattle.model.specs.declared.event.Bug.{Bug}
-use Rattle.model.specs.declared.event.BugCheck.TheVariants.{IrqlNotLessOrEqual, MultipleIrpCompleteRequests}
+use Rattle.model.specs.declared.event.BugCheck.TheVariants.{IrqlNotLessOrEqual, SpinLockAlreadyOwned, SpinLockNotOwned, MultipleIrpCompleteRequests}
+use Rattle.model.specs.declared.event.Subject.TheVariants.{Packet as PacketSubject, Lock as LockSubject, Cell}
 use Rattle.model.specs.declared.event.Reply.{Reply}
 use Rattle.model.specs.declared.event.Reply.TheVariants.{Idle, Refused, Bug as BugCheckReply, Wrong}
-use Rattle.model.specs.Action.{Action, Touches, Completes}
+use Rattle.model.specs.Action.{Action, Acquires, Releases, TouchesPaged, Touches, Completes}
 use Rattle.model.specs.Effect.{Outcome, Change, frame_effect, issue_on, finished_or}
 use Rattle.model.specs.Fault.{bug_if, first_or}
 use Rattle.model.specs.Machine.{Machine}
 use Rattle.model.specs.Set.{Set}
 use Rattle.model.specs.World.{Shared, World, packet_of}
+use Rattle.irql_locks.specs.Owns.{owns, owns_any}
 
 -- a packet was issued and isn't live: it has topped out
 abbrev pub is_gone : Shared → ℕ → Bool
@@ -26,16 +28,19 @@ abbrev pub is_held : Option Packet → Bool
 is_held None = false
 is_held (Some p) = p.completing
 
--- the bug check of an action, read from the packets
-abbrev pub fault_now : Shared → Action → Option Bug
-fault_now s (Touches n) = bug_if (is_gone s n) IrqlNotLessOrEqual n
-fault_now s (Completes n) = bug_if (is_gone s n || is_held (packet_of s n)) MultipleIrpCompleteRequests n
-fault_now s _ = None
+-- the bug check of a thread's action, read from the packets and the locks
+abbrev pub fault_now : Shared → ℕ → Action → Option Bug
+fault_now s t (Acquires l) = bug_if (owns s.locks t l) SpinLockAlreadyOwned (LockSubject l)
+fault_now s t (Releases l) = bug_if (not (owns s.locks t l)) SpinLockNotOwned (LockSubject l)
+fault_now s t (TouchesPaged c) = bug_if (owns_any s.locks t) IrqlNotLessOrEqual (Cell c)
+fault_now s t (Touches n) = bug_if (is_gone s n) IrqlNotLessOrEqual (PacketSubject n)
+fault_now s t (Completes n) = bug_if (is_gone s n || is_held (packet_of s n)) MultipleIrpCompleteRequests (PacketSubject n)
+fault_now s t _ = None
 
 -- the first bug check of a step's actions
-abbrev pub first_now : Shared → List Action → Option Bug
-first_now s [] = None
-first_now s (action ∷ actions) = first_or (fault_now s action) (first_now s actions)
+abbrev pub first_now : Shared → ℕ → List Action → Option Bug
+first_now s t [] = None
+first_now s t (action ∷ actions) = first_or (fault_now s t action) (first_now s t actions)
 
 -- what a frame's step leaves: the shared part, the frames that stand in its place, and the reply
 pub record Left : Type 0 where
@@ -52,8 +57,8 @@ abbrev pub left_by : Shared → Frame → Outcome → Option Bug → Left
 left_by s f o (Some bug) = stays s f (BugCheckReply bug)
 left_by s f o None = record { shared = o.shared; frames = o.frames; reply = o.reply }
 
-abbrev pub judged : Shared → Frame → Outcome → Left
-judged s f o = left_by s f o (first_now s o.actions)
+abbrev pub judged : Shared → ℕ → Frame → Outcome → Left
+judged s t f o = left_by s f o (first_now s t o.actions)
 
 -- a step that would leave a 33rd frame on its thread is refused
 abbrev pub fits : ℕ → Shared → Frame → Left → List Frame → Left
@@ -64,9 +69,9 @@ fits below s f left (g ∷ h ∷ frames) = if nat_le (below + length (g ∷ h �
 abbrev pub bounded : ℕ → Shared → Frame → Left → Left
 bounded below s f left = fits below s f left left.frames
 
--- a step of a frame over so many frames
-abbrev pub frame_now : Set → Shared → ℕ → Frame → Left
-frame_now set s below f = bounded below s f (judged s f (frame_effect set s f))
+-- a step of a thread's frame, over so many frames
+abbrev pub frame_now : Set → Shared → ℕ → ℕ → Frame → Left
+frame_now set s t below f = bounded below s f (judged s t f (frame_effect set s t f))
 
 -- what a thread's step leaves: the shared part, the thread, and the reply
 pub record Moved : Type 0 where
@@ -81,13 +86,13 @@ moved_to s frames reply =
 abbrev pub moved_by : List Frame → Left → Moved
 moved_by below left = moved_to left.shared (below ++ left.frames) left.reply
 
-abbrev pub top_now : Set → Shared → Thread → List Frame → Option Frame → Moved
-top_now set s thread below None = record { shared = s; thread = thread; reply = Idle }
-top_now set s thread below (Some f) = moved_by below (frame_now set s (length below) f)
+abbrev pub top_now : Set → Shared → ℕ → Thread → List Frame → Option Frame → Moved
+top_now set s t thread below None = record { shared = s; thread = thread; reply = Idle }
+top_now set s t thread below (Some f) = moved_by below (frame_now set s t (length below) f)
 
-abbrev pub thread_now : Set → Shared → Thread → Moved
-thread_now set s thread =
-    top_now set s thread
+abbrev pub thread_now : Set → Shared → ℕ → Thread → Moved
+thread_now set s t thread =
+    top_now set s t thread
     (take (length thread.frames.items - 1) thread.frames.items)
     (slice_get thread.frames.items (length thread.frames.items - 1))
 
@@ -101,7 +106,7 @@ step_ended w t m = record { world = record { threads = slice_set w.threads t m.t
 
 abbrev pub step_now : Set → World → ℕ → Option Thread → Ended
 step_now set w t None = record { world = w; reply = Refused }
-step_now set w t (Some thread) = step_ended w t (thread_now set w.shared thread)
+step_now set w t (Some thread) = step_ended w t (thread_now set w.shared t thread)
 
 abbrev pub ended : Change → Ended
 ended c = record { world = c.world; reply = c.reply }

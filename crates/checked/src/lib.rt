@@ -3,9 +3,10 @@
 #![tactic(auto)]
 
 mod frame;
+mod local;
 pub mod machine;
-mod packets;
 mod routine;
+mod shared;
 mod thread;
 mod world;
 

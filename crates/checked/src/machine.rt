@@ -41,7 +41,7 @@ impl Checked {
         ensures shows { IfOk result (λ machine. Shows machine threads []) }
         ensures back { IfErr result (λ refused. refused.0 ≡ set) }
     {
-        match World::new(alloc, threads) {
+        match World::new(alloc, set.devices().len(), threads) {
             Ok(state) => Ok(Checked {
                 driver_set: set,
                 state,

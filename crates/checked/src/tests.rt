@@ -1,7 +1,10 @@
-//! One machine from its first event on, and one whose run ends at a bug check.
+//! Machines from their first event on: one thread alone, one whose run ends at a bug check, and two
+//! threads of which one waits for the other's lock.
 
 use crate::Checked;
-use image::{Device, Driver, DriverSet, Instr, Items, Register, Return, Routine, Sort};
+use image::{
+    Device, Driver, DriverSet, Instr, Items, Register, Return, Routine, Sort, SpinLock, Turns,
+};
 use model::event::{Bug, BugCheck, Event, Reply, Subject};
 use model::status::{Major, Status};
 use std::alloc::Global;
@@ -31,9 +34,9 @@ fn set_of(alloc: Global, code: Vec<Instr>) -> Option<DriverSet> {
     DriverSet::of(drivers, devices).ok()
 }
 
-fn issue(major: Major) -> Event {
+fn issue(thread: u8, major: Major) -> Event {
     Event::Issue {
-        thread: 0,
+        thread,
         device: 0,
         major,
         argument: 0,
@@ -55,8 +58,8 @@ fn completes_requests(rt: HostRuntime) {
     let mut machine = Checked::new(alloc, set, 1).ok().expect(&rt, "memory");
     let expected = [
         (STEP, Reply::Idle),
-        (issue(Major::Read), Reply::Started(0)),
-        (issue(Major::Read), Reply::Refused),
+        (issue(0, Major::Read), Reply::Started(0)),
+        (issue(0, Major::Read), Reply::Refused),
         (STEP, Reply::Stepped),
         (
             STEP,
@@ -67,7 +70,7 @@ fn completes_requests(rt: HostRuntime) {
             },
         ),
         (STEP, Reply::Finished),
-        (issue(Major::Write), Reply::Started(1)),
+        (issue(0, Major::Write), Reply::Started(1)),
         (STEP, Reply::Stepped),
         (
             STEP,
@@ -96,7 +99,7 @@ fn stops_at_a_second_completion(rt: HostRuntime) {
     ]
     .expect(&rt, "memory");
     let set = set_of(alloc, code).expect(&rt, "a set");
-    let events = [issue(Major::Read), STEP, STEP];
+    let events = [issue(0, Major::Read), STEP, STEP];
     let mut machine = Checked::run(alloc, set, 1, &events)
         .ok()
         .expect(&rt, "memory");
@@ -108,4 +111,49 @@ fn stops_at_a_second_completion(rt: HostRuntime) {
     assert_eq!(&rt; machine.apply(&STEP), Reply::Bug(bug));
     assert!(&rt; machine.stopped());
     assert_eq!(&rt; machine.apply(&STEP), Reply::Refused);
+}
+
+/// Doubles a number twice in a loop while it owns a lock, and completes its request with it.
+fn doubling(alloc: Global) -> Option<Vec<Instr>> {
+    let packet = Register::FIRST;
+    let number = Register::of(1)?;
+    let lock = SpinLock::of(3)?;
+    let turns = Turns::of(2)?;
+    let code = vec![in alloc;
+        Instr::Acquire(lock),
+        Instr::Const(number, 5),
+        Instr::Loop(turns),
+        Instr::Add(number, number),
+        Instr::End,
+        Instr::Put(packet, number),
+        Instr::Release(lock),
+        Instr::Complete(packet, Status::Success),
+        Instr::Ret(Return::WithStatus(Status::Success)),
+    ];
+    code.ok()
+}
+
+#[test]
+fn waits_for_a_lock(rt: HostRuntime) {
+    let alloc = rt.alloc();
+    let code = doubling(alloc).expect(&rt, "a routine");
+    let set = set_of(alloc, code).expect(&rt, "a set");
+    let events = [issue(0, Major::Read), issue(1, Major::Read), STEP];
+    let mut machine = Checked::run(alloc, set, 2, &events)
+        .ok()
+        .expect(&rt, "memory");
+    let other = Event::Step { thread: 1 };
+    assert_eq!(&rt; machine.apply(&other), Reply::Waited);
+    for _step in 0..8 {
+        assert_eq!(&rt; machine.apply(&STEP), Reply::Stepped);
+    }
+    assert_eq!(&rt; machine.apply(&other), Reply::Stepped);
+    assert_eq!(&rt; machine.apply(&STEP), Reply::Stepped);
+    let topped = Reply::Topped {
+        packet: 0,
+        status: Status::Success,
+        info: 20,
+    };
+    assert_eq!(&rt; machine.apply(&STEP), topped);
+    assert_eq!(&rt; machine.apply(&STEP), Reply::Finished);
 }

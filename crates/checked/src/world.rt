@@ -4,7 +4,7 @@ ghost use Rattle.std.specs.Prelude.{◌≡◌, ◌∷◌, [], IfOk, slice_get, l
 ghost use Rattle.checked.specs.Step.{event_now, step_now};
 ghost use Rattle.model.specs.World.{opening, entered as entered_of};
 
-use crate::packets::Packets;
+use crate::shared::Shared;
 use crate::thread;
 use arrayvec::ArrayVec;
 use image::DriverSet;
@@ -14,11 +14,11 @@ use model::world::{Activation, Frame, Thread, Value};
 use std::alloc::{AllocError, Global};
 use std::marker::Model;
 
-/// The threads with their frames, and the packets.
+/// The threads with their frames, and what they share.
 #[derive(Drop)]
 pub struct World {
     thread_list: Vec<Thread>,
-    packets: Packets,
+    shared: Shared,
 }
 
 impl Model for World {
@@ -26,7 +26,7 @@ impl Model for World {
 
     ghost Value = { World };
 
-    ghost view = { λ w. record { threads = w.thread_list.items; shared = w.packets } };
+    ghost view = { λ w. record { threads = w.thread_list.items; shared = w.shared } };
 }
 
 /// A routine that begins, and is handed a packet in its first register.
@@ -40,6 +40,7 @@ fn entered(driver: u8, routine: u8, device: u8, packet: u64) -> Activation
         routine,
         device,
         position: 0,
+        loops: ArrayVec::new(),
         registers,
     }
 }
@@ -53,9 +54,9 @@ fn begin(thread: &mut Thread, root: Activation)
 }
 
 impl World {
-    /// So many idle threads, and no packet was ever issued. An error where memory is refused.
-    pub fn new(alloc: Global, threads: u8) -> Result<World, AllocError>
-        ensures { IfOk result (λ w. w ≡ opening threads) }
+    /// So many devices and idle threads, before the first event. An error where memory is refused.
+    pub fn new(alloc: Global, devices: usize, threads: u8) -> Result<World, AllocError>
+        ensures { IfOk result (λ w. w ≡ opening devices threads) }
     {
         let mut thread_list = Vec::with_capacity(alloc, threads as usize)?;
         for _thread in 0..threads {
@@ -63,10 +64,10 @@ impl World {
                 frames: ArrayVec::new(),
             })?;
         }
-        let packets = Packets::new(alloc)?;
+        let shared = Shared::new(alloc, devices)?;
         Ok(World {
             thread_list,
-            packets,
+            shared,
         })
     }
 
@@ -105,11 +106,11 @@ impl World {
             Some(target) => *target,
             None => return Reply::Refused,
         };
-        if !idle || !self.packets.can_issue() {
+        if !idle || !self.shared.can_issue() {
             return Reply::Refused;
         }
         let routine = set.handler(target.driver, major);
-        let packet = self.packets.issue(device, major, argument, target.stack);
+        let packet = self.shared.issue(device, major, argument, target.stack);
         let root = entered(target.driver, routine, device, packet);
         begin(&mut self.thread_list[thread as usize], root);
         Reply::Started(packet)
@@ -121,7 +122,7 @@ impl World {
             record { world = self.new; reply = result } ≡ step_now set.now self.old thread stepped }
     {
         match self.thread_list.get_mut(thread as usize) {
-            Some(stepped) => thread::step(set, &mut self.packets, stepped),
+            Some(stepped) => thread::step(set, &mut self.shared, thread, stepped),
             None => Reply::Refused,
         }
     }

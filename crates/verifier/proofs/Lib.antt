@@ -1,3 +1,10 @@
+pub mod Nesting
+pub mod Scans
+pub mod Places
+pub mod Lookups
 pub mod Arrivals
+pub mod Handing
+pub mod Closing
+pub mod Judging
 pub mod Steps
 pub mod Verdicts

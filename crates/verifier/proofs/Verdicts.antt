@@ -1,20 +1,27 @@
 -- What holds of each element so far, and that a set with a fault isn't typable.
-use Rattle.std.proofs.Common.{◌≡◌, ◌≢◌, ℕ, ◌+◌, ◌<◌, ◌≤◌, ◌⊎◌, inl, inr, true, false, Bool, List, length, take, None, Some, slice_index_or, nat_eq, refl, arith, sym, subst, ◌∙◌, ap}
+use Rattle.std.proofs.Common.{◌≡◌, ◌≢◌, ℕ, suc, ◌+◌, ◌<◌, ◌≤◌, ◌⊎◌, inl, inr, true, false, Bool, List, [], ◌∷◌, ◌++◌, length, take, map, Option, None, Some, slice_index_or, nat_eq, refl, arith, sym, subst, ◌∙◌, ap}
 use Rattle.std.specs.Prelude.{All, slice_get, ◌&&◌, ◌||◌}
 use Rattle.std.proofs.lemmas.Bool.{cases_lt, ne_eqb}
-use Rattle.std.proofs.lemmas.List.{take_all}
+use Rattle.std.proofs.lemmas.List.{take_all, map_more}
 use Rattle.std.proofs.lemmas.List.Elements.{All-more, All-same, All-get_or}
-use Rattle.std.proofs.lemmas.Option.{slice_get_past, get_or_from_slice_get}
+use Rattle.std.proofs.lemmas.Option.{slice_get_past, get_or_from_slice_get, slice_get-get_or}
 use Rattle.model.specs.declared.abs.Abs.{Abs}
 use Rattle.model.specs.declared.abs.Refusal.{Refusal}
 use Rattle.model.specs.declared.abs.Rule.{Rule}
 use Rattle.model.specs.declared.abs.Rule.TheVariants.{Memory}
 use Rattle.model.specs.declared.instr.Instr.{Instr}
+use Rattle.model.specs.declared.instr.Instr.TheVariants.{End}
+use Rattle.model.specs.declared.set.Driver.{Driver}
 use Rattle.model.specs.declared.set.Routine.{Routine}
-use Rattle.model.specs.Paths.{is_malformed, isnt_return}
+use Rattle.model.specs.Certificate.{certificate_to}
+use Rattle.model.specs.Loops.{open_at}
+use Rattle.model.specs.Paths.{is_malformed, is_misplaced, isnt_return}
 use Rattle.model.specs.Set.{Set}
-use Rattle.model.specs.Typable.{fault_in, IsFineAt, IsTypableRoutine, IsTypableDriver, IsTypable, IsFaultAt, IsFirstFault}
-use Rattle.verifier.specs.Verdict.{IsRefusalOf}
+use Rattle.model.specs.Typable.{fault_in, limit, ReachesLoop, ClosesAlike, ClosesUnlike, HasSeveral, EndsUnlike, IsBroken, IsFineAt, IsTypableRoutine, IsTypableDriver, IsTypable, IsFaultAt, IsFirstFault}
+use Rattle.verifier.specs.declared.routine_pass.Stop.{Stop}
+use Rattle.verifier.specs.declared.routine_pass.Stop.TheVariants.{OutOfMemory, Fault}
+use Rattle.verifier.specs.Stops.{IsStopOf}
+use Rattle.verifier.specs.Verdict.{IsRefusalOf, IsRefusalOfDriver, refusal_of}
 
 -- one element more
 pub all_more : {X : Type 0} (P : X → Type 0) (xs : List X) (i : ℕ) (x : X) → i < length xs → All P (take i xs) → x ≡ slice_index_or xs i x
@@ -35,50 +42,79 @@ holds_at P xs i x all found =
     subst P (get_or_from_slice_get xs i x x found) (All-get_or P xs i x (found_within xs i x found (cases_lt i (length xs))) all)
 
 -- past its end a routine that has an instruction isn't malformed
-past_false : (empty last goes_on : Bool) → empty ≡ false → last ≡ false → (empty || (last && goes_on)) ≡ false
-past_false true last goes_on some past = cc
-past_false false true goes_on some past = cc
-past_false false false goes_on some past = refl
+past_false : (empty last goes_on misplaced : Bool) → empty ≡ false → last ≡ false → misplaced ≡ false → (empty || ((last && goes_on) || misplaced)) ≡ false
+past_false true last goes_on misplaced some past fits = cc
+past_false false true goes_on misplaced some past fits = cc
+past_false false false goes_on true some past fits = cc
+past_false false false goes_on false some past fits = refl
 
 formed_past : (code : List Instr) (at : ℕ) → length code ≢ 0 → length code ≤ at → is_malformed code at ≡ false
 formed_past code at some past =
-    past_false (nat_eq (length code) 0) (nat_eq (at + 1) (length code)) (isnt_return (slice_get code at))
+    let none : slice_get code at ≡ None = slice_get_past code at past in
+    past_false (nat_eq (length code) 0) (nat_eq (at + 1) (length code)) (isnt_return (slice_get code at)) (is_misplaced code at (slice_get code at))
     (ne_eqb (length code) 0 some)
     (ne_eqb (at + 1) (length code) (λ same. absurd (omega arith)))
+    (ap (is_misplaced code at) none)
+
+-- an `end` isn't reached both in the state of its `loop` and in another one
+reaches_alike : (routine : Routine) (q : Option ℕ) (s start : Abs) → ReachesLoop routine q s → ReachesLoop routine q start → start ≡ s
+reaches_alike routine None s start alike unlike = absurd alike
+reaches_alike routine (Some q) s start alike unlike = alike.alone start unlike.arrives
+
+alike_unlike : (routine : Routine) (at : ℕ) (s : Abs) (i : Option Instr) → ClosesAlike routine at s i → ClosesUnlike routine at s i → ⊥
+alike_unlike routine at s (Some End) alike unlike =
+    unlike.2 (reaches_alike routine (slice_get (open_at routine.code at) 0) s unlike.0 alike unlike.1)
+alike_unlike routine at s _ alike unlike = absurd unlike
 
 -- no fault stands at a position that is fine
-faultless : (routine : Routine) (at : ℕ) (rule : Rule) → IsFineAt routine at → IsFaultAt routine at rule → ⊥
-faultless routine at rule fine (inl h) = let formed : is_malformed routine.code at ≡ false = fine.formed in cc
-faultless routine at rule fine (inr (inl h)) = h.0.never fine.state fine.arrival.arrives
-faultless routine at rule fine (inr (inr h)) =
+several_faultless : (routine : Routine) (at : ℕ) → IsFineAt routine at → HasSeveral routine at ⊎ EndsUnlike routine at → ⊥
+several_faultless routine at fine (inl h) =
+    h.differ (fine.arrival.alone h.one h.one_arrives ∙ sym (fine.arrival.alone h.other h.other_arrives))
+several_faultless routine at fine (inr h) =
     let same : h.state ≡ fine.state = fine.arrival.alone h.state h.arrival.arrives in
-    let keeps : fault_in fine.state (slice_get routine.code at) ≡ None = fine.keeps in
-    let breaks : fault_in h.state (slice_get routine.code at) ≡ Some rule = h.breaks in
-    let also : fault_in fine.state (slice_get routine.code at) ≡ Some rule =
-    ap (λ (s : Abs). fault_in s (slice_get routine.code at)) (sym same) ∙ breaks
+    alike_unlike routine at fine.state (slice_get routine.code at) fine.closes
+    (subst (λ (s : Abs). ClosesUnlike routine at s (slice_get routine.code at)) same h.closes)
+
+broken_faultless : (routine : Routine) (at : ℕ) (rule : Rule) → IsFineAt routine at → IsBroken routine at rule → ⊥
+broken_faultless routine at rule fine h =
+    let same : h.state ≡ fine.state = fine.arrival.alone h.state h.arrival.arrives in
+    let keeps : fault_in routine.sort fine.state (slice_get routine.code at) ≡ None = fine.keeps in
+    let breaks : fault_in routine.sort h.state (slice_get routine.code at) ≡ Some rule = h.breaks in
+    let also : fault_in routine.sort fine.state (slice_get routine.code at) ≡ Some rule =
+    ap (λ (s : Abs). fault_in routine.sort s (slice_get routine.code at)) (sym same) ∙ breaks
     in
     cc
 
+faultless : (routine : Routine) (at : ℕ) (rule : Rule) → IsFineAt routine at → IsFaultAt routine at rule → ⊥
+faultless routine at rule fine (inl h) = let formed : is_malformed routine.code at ≡ false = fine.formed in cc
+faultless routine at rule fine (inr (inl h)) = h.0.never fine.state fine.arrival.arrives
+faultless routine at rule fine (inr (inr (inl h))) = several_faultless routine at fine h.0
+faultless routine at rule fine (inr (inr (inr (inl h)))) = broken_faultless routine at rule fine h
+faultless routine at rule fine (inr (inr (inr (inr h)))) =
+    let short : certificate_to routine.code (suc at) ≤ limit = fine.short in
+    let long : limit < certificate_to routine.code (suc at) = h.0.long in
+    omega arith
+
 -- a fault stands within its routine
-fault_within : (routine : Routine) (at : ℕ) (rule : Rule) → length routine.code ≢ 0 → IsFaultAt routine at rule → (at < length routine.code) ⊎ (length routine.code ≤ at)
-    → at < length routine.code
-fault_within routine at rule some fault (inl within) = within
-fault_within routine at rule some (inl h) (inr past) =
-    let formed : is_malformed routine.code at ≡ false = formed_past routine.code at some past in
-    let malformed : is_malformed routine.code at ≡ true = h.0 in
-    cc
-fault_within routine at rule some (inr (inl h)) (inr past) = h.0.within
-fault_within routine at rule some (inr (inr h)) (inr past) =
-    let none : slice_get routine.code at ≡ None = slice_get_past routine.code at past in
-    let breaks : fault_in h.state (slice_get routine.code at) ≡ Some rule = h.breaks in
-    let also : fault_in h.state None ≡ Some rule = ap (fault_in h.state) (sym none) ∙ breaks in
-    cc
+malformed_within : (routine : Routine) (at : ℕ) → length routine.code ≢ 0 → is_malformed routine.code at ≡ true
+    → (at < length routine.code) ⊎ (length routine.code ≤ at) → at < length routine.code
+malformed_within routine at some malformed (inl within) = within
+malformed_within routine at some malformed (inr past) = let formed : is_malformed routine.code at ≡ false = formed_past routine.code at some past in cc
+
+several_within : (routine : Routine) (at : ℕ) → HasSeveral routine at ⊎ EndsUnlike routine at → at < length routine.code
+several_within routine at (inl h) = h.within
+several_within routine at (inr h) = h.within
+
+fault_within : (routine : Routine) (at : ℕ) (rule : Rule) → length routine.code ≢ 0 → IsFaultAt routine at rule → at < length routine.code
+fault_within routine at rule some (inl h) = malformed_within routine at some h.0 (cases_lt at (length routine.code))
+fault_within routine at rule some (inr (inl h)) = h.0.within
+fault_within routine at rule some (inr (inr (inl h))) = several_within routine at h.0
+fault_within routine at rule some (inr (inr (inr (inl h)))) = h.within
+fault_within routine at rule some (inr (inr (inr (inr h)))) = h.0.within
 
 fault_untypable : (routine : Routine) (at : ℕ) (rule : Rule) → IsTypableRoutine routine → IsFaultAt routine at rule → ⊥
 fault_untypable routine at rule typable fault =
-    faultless routine at rule
-    (typable.each at (fault_within routine at rule typable.some fault (cases_lt at (length routine.code))))
-    fault
+    faultless routine at rule (typable.each at (fault_within routine at rule typable.some fault)) fault
 
 pub first_fault_untypable : (set : Set) (refusal : Refusal) → IsFirstFault set refusal → IsTypable set → ⊥
 first_fault_untypable set refusal (inl h) typable = typable.devices h.0
@@ -91,3 +127,38 @@ first_fault_untypable set refusal (inr h) typable =
 pub refusal_untypable : (set : Set) (refusal : Refusal) → IsRefusalOf set refusal → refusal.rule ≢ Memory → IsTypable set → ⊥
 refusal_untypable set refusal (inl h) known typable = known (ap (λ (r : Refusal). r.rule) h)
 refusal_untypable set refusal (inr h) known typable = first_fault_untypable set refusal h typable
+
+-- one certificate more
+pub certificates_more : {X Y : Type 0} (f : X → Y) (xs : List X) (i : ℕ) (x : X) (ys new : List Y) (y : Y) → i < length xs → ys ≡ map f (take i xs)
+    → x ≡ slice_index_or xs i x → y ≡ f x → new ≡ ys ++ y ∷ [] → new ≡ map f (take (i + 1) xs)
+certificates_more {Y = Y} f xs i x ys new y within before read right pushed =
+    let all : map f (take (i + 1) xs) ≡ map f (take i xs) ++ f (slice_index_or xs i x) ∷ [] = map_more f xs i x within in
+    pushed ∙ ap (λ (z : Y). ys ++ z ∷ []) (right ∙ ap f read) ∙ ap (λ (zs : List Y). zs ++ f (slice_index_or xs i x) ∷ []) before ∙ sym all
+
+-- an element that the code has read
+pub found_read : {X : Type 0} (xs ys : List X) (i : ℕ) (x : X) → xs ≡ ys → i < length xs → x ≡ slice_index_or xs i x → slice_get ys i ≡ Some x
+found_read {X = X} xs ys i x same within read = ap (λ (zs : List X). slice_get zs i) (sym same) ∙ slice_get-get_or xs i x within ∙ ap Some (sym read)
+
+-- the refusal for a stop
+pub refusal_led : (driver : Driver) (number place : ℕ) (routine : Routine) (stop : Stop) (refusal : Refusal) → slice_get driver.routines place ≡ Some routine
+    → All IsTypableRoutine (take place driver.routines) → IsStopOf routine stop → refusal ≡ refusal_of number place stop
+    → IsRefusalOfDriver driver number refusal
+refusal_led driver number place routine OutOfMemory refusal found before h same = inl same
+refusal_led driver number place routine (Fault at rule) refusal found before h same =
+    subst (λ (r : Refusal). IsRefusalOfDriver driver number r) (sym same)
+    (inr (record { numbered = refl; routine = routine; routine_at = found; routines_before = before; first = h }))
+
+-- the refusal of a set for one of its drivers
+pub refusal_of_set : (set : Set) (number : ℕ) (driver : Driver) (refusal : Refusal) → length set.devices ≢ 0 → slice_get set.drivers number ≡ Some driver
+    → All IsTypableDriver (take number set.drivers) → IsRefusalOfDriver driver number refusal → IsRefusalOf set refusal
+refusal_of_set set number driver refusal devices found before (inl h) = inl h
+refusal_of_set set number driver refusal devices found before (inr h) = inr (inr (record {
+  devices = devices;
+  driver = driver;
+  driver_at = ap (slice_get set.drivers) h.numbered ∙ found;
+  drivers_before = subst (λ (n : ℕ). All IsTypableDriver (take n set.drivers)) (sym h.numbered) before;
+  routine = h.routine;
+  routine_at = h.routine_at;
+  routines_before = h.routines_before;
+  first = h.first;
+}))

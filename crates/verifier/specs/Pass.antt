@@ -1,19 +1,22 @@
 -- What one forward pass over a routine knows when it comes to a position, and what it answers.
-use Rattle.std.specs.Prelude.{ℕ, ◌≡◌, ◌<◌, ◌≤◌, ◌⊎◌, List, length, slice_index_or}
+use Rattle.std.specs.Prelude.{ℕ, false, ◌≡◌, ◌+◌, ◌<◌, ◌≤◌, ◌⊎◌, List, length, Some, Ok, slice_get, slice_index_or}
 use Rattle.model.specs.declared.abs.Abs.{Abs}
+use Rattle.model.specs.declared.abs.Outs.{Outs}
+use Rattle.model.specs.declared.instr.Instr.{Instr}
 use Rattle.model.specs.declared.set.Routine.{Routine}
-use Rattle.model.specs.LocalRule.{entry_state}
-use Rattle.model.specs.Paths.{Arrives, Leads}
-use Rattle.model.specs.Typable.{IsFineAt, IsFirstFaultOf}
-use Rattle.verifier.specs.declared.routine_pass.Seen.{Seen}
-use Rattle.verifier.specs.declared.routine_pass.Seen.TheVariants.{Nothing, One}
-use Rattle.verifier.specs.declared.routine_pass.Stop.{Stop}
-use Rattle.verifier.specs.declared.routine_pass.Stop.TheVariants.{OutOfMemory, Fault}
+use Rattle.model.specs.Certificate.{certificate_to}
+use Rattle.model.specs.LocalRule.{entry_state, local_rule}
+use Rattle.model.specs.Paths.{Arrives, Leads, is_malformed}
+use Rattle.model.specs.Typable.{ArrivesAlone, ClosesAlike, IsFineAt, limit}
+use Rattle.verifier.specs.declared.seen.Seen.{Seen}
+use Rattle.verifier.specs.declared.seen.Seen.TheVariants.{Nothing}
+use Rattle.verifier.specs.Table.{Describes}
 
--- which of the states of a family there are: none, or one alone
-abbrev pub Describes : Seen → (Abs → Type 0) → Type 0
-Describes Nothing P = (s : Abs) → P s → ⊥
-Describes (One s) P = P s × ((other : Abs) → P other → other ≡ s)
+-- the sums of the certificate up to a position are known, and none passes the limit
+pub record AreSums (code : List Instr) (at : ℕ) (sums : List ℕ) : Type 0 where
+  pub long : length sums ≡ length code + 1
+  pub each : (p : ℕ) → p ≤ at → slice_index_or sums p 0 ≡ certificate_to code p
+  pub short : (p : ℕ) → p ≤ at → certificate_to code p ≤ limit
 
 -- an instruction at a position below a bound is reached, and leads to a position in a state
 pub record IsHandedOn (routine : Routine) (bound p : ℕ) (s : Abs) : Type 0 where
@@ -21,20 +24,25 @@ pub record IsHandedOn (routine : Routine) (bound p : ℕ) (s : Abs) : Type 0 whe
   pub below : from < bound
   pub before : Abs
   pub arrives : Arrives routine from before
-  pub leads : Leads routine.code from before p s
+  pub leads : Leads routine from before p s
 
 -- the states that arrive at a position from the start, or from a position below a bound
 abbrev pub FromBelow : Routine → ℕ → ℕ → Abs → Type 0
 FromBelow routine bound p s = ((p ≡ 0) × (s ≡ entry_state routine.sort)) ⊎ IsHandedOn routine bound p s
 
 -- when the pass comes to position `at`, all positions below it are fine, and the table says of each
--- other one what arrives there from those
+-- position what arrives there from those
 pub record Knows (routine : Routine) (at : ℕ) (table : List Seen) : Type 0 where
   pub long : length table ≡ length routine.code
   pub fine : (p : ℕ) → p < at → IsFineAt routine p
-  pub seen : (p : ℕ) → at ≤ p → p < length routine.code → Describes (slice_index_or table p Nothing) (FromBelow routine at p)
+  pub seen : (p : ℕ) → p < length routine.code → Describes (slice_index_or table p Nothing) (FromBelow routine at p)
 
--- why a pass stops: it found no memory, or the routine's first fault
-abbrev pub IsStopOf : Routine → Stop → Type 0
-IsStopOf routine OutOfMemory = Unit {0}
-IsStopOf routine (Fault at rule) = IsFirstFaultOf routine at rule
+-- no fault stands at a position but one of length, and the instruction there hands these states on
+pub record IsPassed (routine : Routine) (at : ℕ) (outs : Outs) : Type 0 where
+  pub formed : is_malformed routine.code at ≡ false
+  pub instr : Instr
+  pub here : slice_get routine.code at ≡ Some instr
+  pub state : Abs
+  pub arrival : ArrivesAlone routine at state
+  pub closes : ClosesAlike routine at state (slice_get routine.code at)
+  pub hands : local_rule state instr routine.sort ≡ Ok outs

@@ -2,8 +2,11 @@
 //! exactly one abstract state, over all paths, and no instruction breaks a rule in it.
 #![tactic(auto)]
 
-mod local_rule;
+mod certificate;
+mod loops;
+mod malformed;
 mod routine_pass;
+mod seen;
 pub mod verdict;
 
 pub use model::abs::{Refusal, Rule};

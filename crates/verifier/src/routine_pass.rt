@@ -1,110 +1,153 @@
 //! One forward pass over a routine. It keeps a table of the states that arrive at each position;
 //! since nothing leads back, the table is final at a position when the pass comes there.
 
-ghost use Rattle.std.specs.Prelude.{◌≡◌, ◌+◌, ◌<◌, length, IfErr, OnOk};
-ghost use Rattle.model.specs.LocalRule.{entry_state};
+ghost use Rattle.std.specs.Prelude.{◌≡◌, ◌+◌, ◌<◌, length, false, slice_get, IfOk, IfErr, OnOk, IsTrue};
+ghost use Rattle.model.specs.Certificate.{certificate};
 ghost use Rattle.model.specs.Paths.{is_malformed};
+ghost use Rattle.model.specs.Set.{label_of};
 ghost use Rattle.model.specs.Sound.{RoutineFits};
-ghost use Rattle.model.specs.Typable.{IsTypableRoutine, IsFaultAt};
+ghost use Rattle.model.specs.Typable.{IsTypableRoutine, IsFaultAt, ClosesAlike, ClosesUnlike};
+ghost use Rattle.verifier.specs.Survey.{ArePlaced};
 
-use crate::local_rule::transfer;
-use model::abs::{Abs, Duty, Kind, Rule};
+use crate::certificate::turns_at;
+use crate::loops::{Place, survey};
+use crate::malformed::is_malformed;
+use crate::seen::{Seen, hand_on, is_only};
+use absstate::{Abs, Outs, Rule, entry_state, transfer};
 use model::instr::Instr;
-use model::limits::REGISTERS;
-use model::set::{Routine, Sort};
+use model::limits::MAX_CERTIFICATE;
+use model::set::Routine;
 use std::alloc::Global;
-
-/// The states that the pass has seen arrive at a position.
-#[derive(Clone, Copy)]
-pub enum Seen {
-    /// None so far.
-    Nothing,
-    /// This one, and no other.
-    One(Abs),
-}
 
 /// Why a routine isn't accepted.
 #[derive(Clone, Copy)]
 pub enum Stop {
-    /// There was no memory for the table.
+    /// There was no memory for the tables.
     OutOfMemory,
     /// The position of its first fault, and the least rule that is broken there.
     Fault { at: u16, rule: Rule },
 }
 
-ghost use Rattle.verifier.specs.Pass.{Knows, IsStopOf};
+ghost use Rattle.verifier.specs.Pass.{Knows, AreSums, IsPassed};
+ghost use Rattle.verifier.specs.Stops.{IsStopOf};
 
-/// Accepts a routine exactly if it is typable, memory apart; else it answers its first fault.
-pub fn check_routine(alloc: Global, routine: &Routine) -> Result<(), Stop>
+/// Accepts a routine exactly if it is typable, memory apart, and answers its certificate; else its
+/// first fault.
+pub fn check_routine(alloc: Global, routine: &Routine) -> Result<u32, Stop>
     requires { RoutineFits routine.now }
     ensures typable { OnOk result (IsTypableRoutine routine.now) }
+    ensures certificate { IfOk result (λ sum. sum ≡ certificate routine.now.code) }
     ensures fault { IfErr result (λ stop. IsStopOf routine.now stop) }
 {
-    let length = routine.code.as_slice().len();
+    let code = routine.code.as_slice();
+    let length = code.len();
     if length == 0 {
         return Err(Stop::Fault {
             at: 0,
             rule: Rule::Malformed,
         });
     }
+    let Ok(places) = survey(alloc, code) else {
+        return Err(Stop::OutOfMemory);
+    };
     let Ok(mut table) = vec![in alloc; Seen::Nothing; length] else {
+        return Err(Stop::OutOfMemory);
+    };
+    let Ok(mut sums) = vec![in alloc; 0; length + 1] else {
         return Err(Stop::OutOfMemory);
     };
     table[0] = Seen::One(entry_state(routine.sort));
     for at in 0..length {
-        if let Err(rule) = pass_over(&mut table, routine, at) {
+        if let Err(rule) = pass_over(&mut table, &mut sums, routine, &places, at) {
             return Err(Stop::Fault {
                 at: at as u16,
                 rule,
             });
         }
     }
+    Ok(sums[length])
+}
+
+/// Takes the state that arrives at a position through the instruction there, notes what it hands
+/// on, and adds to the certificate.
+fn pass_over(
+    table: &mut [Seen],
+    sums: &mut [u32],
+    routine: &Routine,
+    places: &[Place],
+    at: usize,
+) -> Result<(), Rule>
+    requires within { at < length routine.now.code }
+    requires placed { ArePlaced routine.now.code (length routine.now.code) places.now }
+    requires known { Knows routine.now at table.old }
+    requires summed { AreSums routine.now.code at sums.old }
+    ensures known { OnOk result (Knows routine.now (at + 1) table.new) }
+    ensures summed { OnOk result (AreSums routine.now.code (at + 1) sums.new) }
+    ensures fault { IfErr result (λ rule. IsFaultAt routine.now at rule) }
+{
+    let outs = match judge(table, routine, places, at) {
+        Ok(outs) => outs,
+        Err(rule) => return Err(rule),
+    };
+    let code = routine.code.as_slice();
+    let sum = sums[at] + turns_at(code, places, sums, at);
+    if sum as u64 > MAX_CERTIFICATE {
+        return Err(Rule::TooLong);
+    }
+    sums[at + 1] = sum;
+    hand_on(table, Some(at + 1), outs.next);
+    hand_on(table, label(&code[at]), outs.jump);
     Ok(())
 }
 
-/// Takes the state that arrives at a position through the instruction there, and notes what it
-/// hands on.
-fn pass_over(table: &mut [Seen], routine: &Routine, at: usize) -> Result<(), Rule>
+/// The label of a jump, as an index.
+fn label(instr: &Instr) -> Option<usize>
+    ensures { result ≡ label_of instr.now }
+{
+    match instr.label() {
+        Some(label) => Some(label as usize),
+        None => None,
+    }
+}
+
+/// The states that the instruction at a position hands on, where no fault stands there but one of
+/// length; else the first of the others.
+fn judge(table: &[Seen], routine: &Routine, places: &[Place], at: usize) -> Result<Outs, Rule>
     requires within { at < length routine.now.code }
-    requires known { Knows routine.now at table.old }
-    ensures passed { OnOk result (Knows routine.now (at + 1) table.new) }
+    requires placed { ArePlaced routine.now.code (length routine.now.code) places.now }
+    requires known { Knows routine.now at table.now }
+    ensures passed { IfOk result (λ outs. IsPassed routine.now at outs) }
     ensures fault { IfErr result (λ rule. IsFaultAt routine.now at rule) }
 {
     let code = routine.code.as_slice();
-    if ends_without_return(code, at) {
+    if is_malformed(code, places, at) {
         return Err(Rule::Malformed);
     }
     let state = match table[at] {
         Seen::One(state) => state,
         Seen::Nothing => return Err(Rule::Unreachable),
+        Seen::Several => return Err(Rule::StatesDiffer),
     };
-    let outs = transfer(&state, &code[at])?;
-    if let Some(next) = outs.next {
-        table[at + 1] = Seen::One(next);
+    if !closes_alike(table, routine, places, at, &state) {
+        return Err(Rule::StatesDiffer);
     }
-    Ok(())
+    transfer(&state, &code[at], routine.sort)
 }
 
-/// Whether the last instruction is at a position and isn't a return.
-fn ends_without_return(code: &[Instr], at: usize) -> bool
-    requires { at < length code.now }
-    ensures { result ≡ is_malformed code.now at }
+/// Whether an `end` is reached in the state in which its `loop` is. Anything else closes no loop.
+fn closes_alike(table: &[Seen], routine: &Routine, places: &[Place], at: usize, state: &Abs) -> bool
+    requires within { at < length routine.now.code }
+    requires placed { ArePlaced routine.now.code (length routine.now.code) places.now }
+    requires known { Knows routine.now at table.now }
+    requires formed { is_malformed routine.now.code at ≡ false }
+    ensures alike { IsTrue result → ClosesAlike routine.now at state.now (slice_get routine.now.code at) }
+    ensures unlike { result ≡ false → ClosesUnlike routine.now at state.now (slice_get routine.now.code at) }
 {
-    at + 1 == code.len() && !matches!(code[at], Instr::Ret(_))
-}
-
-/// The state in which a routine of a sort is entered.
-fn entry_state(sort: Sort) -> Abs
-    ensures { result ≡ entry_state sort }
-{
-    match sort {
-        Sort::Dispatch => {
-            let mut kinds = [Kind::Blank; REGISTERS];
-            kinds[0] = Kind::New;
-            Abs {
-                kinds,
-                duty: Duty::Fresh,
-            }
-        }
+    match routine.code.as_slice()[at] {
+        Instr::End => match places[at].opened {
+            Some(q) => is_only(table, q, state),
+            None => false,
+        },
+        _ => true,
     }
 }

@@ -4,7 +4,7 @@ ghost use Rattle.std.specs.Prelude.{IfOk, IsSome};
 ghost use Rattle.model.specs.Set.{routine_of};
 
 use crate::{Refusal, Rule, verify};
-use image::{Device, Driver, DriverSet, Instr, Items, Register, Return, Routine, Sort};
+use image::{Device, Driver, DriverSet, Instr, Items, Register, Return, Routine, Sort, Turns};
 use model::limits::DEFAULT_ROUTINE;
 use model::status::Status;
 use std::alloc::Global;
@@ -140,6 +140,79 @@ fn refuses_each_broken_rule(rt: HostRuntime) -> Result<(), Fail> {
     ] {
         assert_eq!(rt; verdict(rt.alloc(), code)?, Err((at, rule)));
     }
+    Ok(())
+}
+
+#[test]
+fn counts_a_loop_by_its_turns(rt: HostRuntime) -> Result<(), Fail> {
+    let second = Register::of(1).ok_or("no second register")?;
+    let turns = Turns::of(2).ok_or("no turns")?;
+    let code = [
+        Instr::Loop(turns),
+        Instr::Clear(second),
+        Instr::End,
+        complete(FIRST),
+        ret(Status::Success),
+    ];
+    assert_eq!(rt; verdict(rt.alloc(), &code)?, Ok(7));
+    Ok(())
+}
+
+#[test]
+fn compares_a_loops_end_with_its_start(rt: HostRuntime) -> Result<(), Fail> {
+    let second = Register::of(1).ok_or("no second register")?;
+    let turns = Turns::of(2).ok_or("no turns")?;
+    let code = [
+        Instr::Loop(turns),
+        Instr::Const(second, 1),
+        Instr::End,
+        complete(FIRST),
+        ret(Status::Success),
+    ];
+    assert_eq!(rt; verdict(rt.alloc(), &code)?, Err((2, Rule::StatesDiffer)));
+    Ok(())
+}
+
+#[test]
+fn compares_states_where_paths_meet(rt: HostRuntime) -> Result<(), Fail> {
+    let second = Register::of(1).ok_or("no second register")?;
+    let code = [
+        Instr::Const(second, 0),
+        Instr::JumpIfZero(second, 3),
+        Instr::Clear(second),
+        complete(FIRST),
+        ret(Status::Success),
+    ];
+    assert_eq!(rt; verdict(rt.alloc(), &code)?, Err((3, Rule::StatesDiffer)));
+    Ok(())
+}
+
+#[test]
+fn refuses_a_jump_into_a_loop(rt: HostRuntime) -> Result<(), Fail> {
+    let turns = Turns::of(2).ok_or("no turns")?;
+    let code = [
+        Instr::Jump(2),
+        Instr::Loop(turns),
+        Instr::End,
+        complete(FIRST),
+        ret(Status::Success),
+    ];
+    assert_eq!(rt; verdict(rt.alloc(), &code)?, Err((0, Rule::Malformed)));
+    Ok(())
+}
+
+#[test]
+fn refuses_a_million_turns(rt: HostRuntime) -> Result<(), Fail> {
+    let turns = Turns::of(1000).ok_or("no turns")?;
+    let code = [
+        Instr::Loop(turns),
+        Instr::Loop(turns),
+        Instr::End,
+        Instr::End,
+        complete(FIRST),
+        ret(Status::Success),
+    ];
+    assert_eq!(rt; verdict(rt.alloc(), &code)?, Err((2, Rule::TooLong)));
     Ok(())
 }
 

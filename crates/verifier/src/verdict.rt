@@ -5,10 +5,11 @@ ghost use Rattle.model.specs.Certificate.{certificate_of};
 ghost use Rattle.model.specs.Set.{routine_of};
 ghost use Rattle.model.specs.Sound.{DriverFits};
 ghost use Rattle.model.specs.Typable.{IsTypable, IsTypableDriver, IsFirstFault, at_start};
+ghost use Rattle.verifier.specs.Certificates.{driver_certificates, AreCertificates};
 ghost use Rattle.verifier.specs.Verdict.{IsRefusalOf, IsRefusalOfDriver, refusal_of};
 
 use crate::routine_pass::{Stop, check_routine};
-use image::DriverSet;
+use image::{DriverSet, Items};
 use model::abs::{Refusal, Rule};
 use model::limits::DEFAULT_ROUTINE;
 use model::set::Driver;
@@ -18,21 +19,23 @@ use std::marker::Model;
 /// The certificate of the default routine, which completes its packet and returns.
 const DEFAULT_CERTIFICATE: u32 = 2;
 
-/// A driver set that is typable. Only [`verify`] makes one.
+/// A driver set that is typable, with the certificates of its routines. Only [`verify`] makes one.
 #[derive(Drop)]
 pub struct Accepted {
     driver_set: DriverSet,
+    certificates: Vec<Items<u32>>,
 }
 
 impl Model for Accepted {
     ghost use Rattle.model.specs.Set.{Set};
     ghost use Rattle.model.specs.Typable.{IsTypable};
+    ghost use Rattle.verifier.specs.Certificates.{AreCertificates};
 
     ghost Value = { Set };
 
     ghost view = { λ a. a.driver_set };
 
-    ghost invariant = { λ a. IsTypable a.driver_set };
+    ghost invariant = { λ a. IsTypable a.driver_set × AreCertificates a.driver_set a.certificates.items };
 }
 
 impl Accepted {
@@ -60,9 +63,7 @@ impl Accepted {
         if routine == DEFAULT_ROUTINE {
             return DEFAULT_CERTIFICATE;
         }
-        let driver = &self.driver_set.drivers()[driver as usize];
-        let routine = &driver.routines.as_slice()[routine as usize];
-        routine.code.as_slice().len() as u32
+        self.certificates[driver as usize].as_slice()[routine as usize]
     }
 }
 
@@ -75,40 +76,57 @@ pub fn verify(alloc: Global, set: DriverSet) -> Result<Accepted, (DriverSet, Ref
     ensures untypable { IfErr result (λ e. e.1.rule ≢ Rule.Memory → IsTypable set → ⊥) }
 {
     match check_set(alloc, &set) {
-        Ok(()) => Ok(Accepted { driver_set: set }),
+        Ok(certificates) => Ok(Accepted {
+            driver_set: set,
+            certificates,
+        }),
         Err(refusal) => Err((set, refusal)),
     }
 }
 
-/// Accepts a set like [`verify`].
-fn check_set(alloc: Global, set: &DriverSet) -> Result<(), Refusal>
+/// Accepts a set like [`verify`], and answers the certificates of its routines, by driver.
+fn check_set(alloc: Global, set: &DriverSet) -> Result<Vec<Items<u32>>, Refusal>
     ensures typable { OnOk result (IsTypable set.now) }
+    ensures certificates { IfOk result (λ certificates. AreCertificates set.now certificates.items) }
     ensures refused { IfErr result (λ refusal. IsRefusalOf set.now refusal) }
 {
     if set.devices().is_empty() {
         return Err(at_start(Rule::Malformed));
     }
     let drivers = set.drivers();
+    let mut certificates = Vec::new(alloc);
     for (number, driver) in drivers.iter().enumerate() {
-        check_driver(alloc, number as u8, driver)?;
+        let of_driver = match check_driver(alloc, number as u8, driver) {
+            Ok(of_driver) => of_driver,
+            Err(refusal) => return Err(refusal),
+        };
+        let Ok(()) = certificates.push(of_driver) else {
+            return Err(at_start(Rule::Memory));
+        };
     }
-    Ok(())
+    Ok(certificates)
 }
 
-/// Accepts the driver of this number exactly if all its routines are typable, memory apart; else it
-/// answers the refusal of their set.
-fn check_driver(alloc: Global, driver_number: u8, driver: &Driver) -> Result<(), Refusal>
+/// Accepts the driver of this number exactly if all its routines are typable, memory apart, and
+/// answers their certificates; else the refusal of their set.
+fn check_driver(alloc: Global, driver_number: u8, driver: &Driver) -> Result<Items<u32>, Refusal>
     requires { DriverFits driver.now }
     ensures typable { OnOk result (IsTypableDriver driver.now) }
+    ensures certificates { IfOk result (λ certificates. certificates ≡ driver_certificates driver.now) }
     ensures refused { IfErr result (λ refusal. IsRefusalOfDriver driver.now driver_number refusal) }
 {
     let routines = driver.routines.as_slice();
+    let mut certificates = Vec::new(alloc);
     for (number, routine) in routines.iter().enumerate() {
-        if let Err(stop) = check_routine(alloc, routine) {
-            return Err(stop.refusal(driver_number, number as u8));
-        }
+        let certificate = match check_routine(alloc, routine) {
+            Ok(certificate) => certificate,
+            Err(stop) => return Err(stop.refusal(driver_number, number as u8)),
+        };
+        let Ok(()) = certificates.push(certificate) else {
+            return Err(at_start(Rule::Memory));
+        };
     }
-    Ok(())
+    Ok(Items::of(certificates))
 }
 
 impl Stop {

@@ -1,5 +1,5 @@
-use Rattle.verifier.specs.Pass.{Knows}
+use Rattle.verifier.specs.Pass.{Knows, AreSums}
 use Rattle.verifier.proofs.routine_pass.check_routine.Given as goal
 
 abbrev pub invariant-loop-at : goal.invariant-loop-at
-invariant-loop-at l = Knows l.routine l.at l.table.items
+invariant-loop-at l = Knows l.routine l.at l.table.items × AreSums l.routine.code l.at l.sums.items

@@ -1,13 +1,25 @@
+use Rattle.std.proofs.Common.{List, take, subst}
+use Rattle.std.specs.Prelude.{All}
+use Rattle.model.specs.declared.set.Routine.{Routine}
 use Rattle.model.specs.Typable.{IsTypableRoutine}
-use Rattle.verifier.proofs.Verdicts.{all_more, all_seen}
+use Rattle.verifier.specs.Certificates.{routine_certificate}
+use Rattle.verifier.proofs.Verdicts.{all_more, certificates_more, found_read, refusal_led}
 use Rattle.verifier.proofs.verdict.check_driver.Goals as goal
 
-pub loop-number-preserved : goal.loop-number-preserved
-loop-number-preserved c =
-    all_more IsTypableRoutine c.as_slice-routines.result.now c.loop-number.number c.index-routines-number.result c.loop-number-test.true
-    c.loop-number.invariant c.index-routines-number.is (c.in_default.ensures {u = tt}).typable
+pub returns-in-Err-clause-refused : goal.returns-in-Err-clause-refused
+returns-in-Err-clause-refused c =
+    refusal_led c.args.driver.now c.args.driver_number c.loop-number.number c.index-routines-number.result c.in-Err.stop c.refusal.result
+    (found_read c.as_slice-routines.result.now c.args.driver.now.routines c.loop-number.number c.index-routines-number.result
+    c.as_slice-routines.ensures c.loop-number-test.true c.index-routines-number.is)
+    (subst (λ (routines : List Routine). All IsTypableRoutine (take c.loop-number.number routines)) c.as_slice-routines.ensures c.loop-number.invariant.0)
+    (c.in-Err.ensures {u = tt}).fault
+    c.refusal.ensures
 
-pub returns-clause-typable : goal.returns-clause-typable
-returns-clause-typable c =
-    all_seen IsTypableRoutine c.as_slice-routines.result.now c.args.driver.now.routines c.loop-number.number c.as_slice-routines.ensures
-    c.loop-number-test.false c.loop-number.invariant
+pub loop-number-preserved : goal.loop-number-preserved
+loop-number-preserved c = (
+  all_more IsTypableRoutine c.as_slice-routines.result.now c.loop-number.number c.index-routines-number.result c.loop-number-test.true
+      c.loop-number.invariant.0 c.index-routines-number.is (c.in-Ok.ensures {u = tt}).typable,
+  certificates_more routine_certificate c.as_slice-routines.result.now c.loop-number.number c.index-routines-number.result c.loop-number.certificates.items
+      c.push.new.self.items c.in-Ok.certificate c.loop-number-test.true c.loop-number.invariant.1 c.index-routines-number.is
+      (c.in-Ok.ensures {u = tt}).certificate (c.in-Ok-push.ensures {u = tt}).items,
+)

@@ -1,0 +1,182 @@
+//! Instructions that change nothing but their activation.
+
+ghost use Rattle.std.specs.Prelude.{◌≡◌, ◌<◌, ℕ};
+ghost use Rattle.checked.specs.Rest.{left_of, leaves, executed};
+ghost use Rattle.model.specs.Effect.{number_effect, jump_effect, sum_of, difference_of, is_zero_at, is_less_at};
+ghost use Rattle.model.specs.World.{Shared, next, at_label, with_register, number_in as number_in_of};
+ghost use Rattle.model.specs.declared.instr.Instr.TheVariants.{Add, Subtract, JumpIfZero, JumpIfLess, Loop, End};
+
+use crate::frame::{Ran, Rest, wrong_at};
+use image::{Register, Turns};
+use model::event::Reply;
+use model::limits::MAX_LOOPS;
+use model::world::{Activation, Frame, OpenLoop, Value};
+
+/// The number that a value is.
+pub fn number_in(value: Value) -> Option<u64>
+    ensures { result ≡ number_in_of value }
+{
+    match value {
+        Value::Num(number) => Some(number),
+        _ => None,
+    }
+}
+
+/// The register becomes this value.
+pub fn set(r: Register, value: Value, a: &mut Activation) -> Ran
+    requires { a.old.position < 1024 }
+    ensures activation { a.new ≡ next (with_register a.old r value) }
+    ensures ran { result ≡ record { rest = Rest.Same; reply = Reply.Stepped } }
+{
+    a.registers[r.index()] = value;
+    a.position += 1;
+    Ran::stays(Reply::Stepped)
+}
+
+/// The register becomes a number that was computed, if its operands were numbers.
+fn set_number(r: Register, number: Option<u64>, a: &mut Activation) -> Ran
+    requires { a.old.position < 1024 }
+    ensures { (s : Shared) (t : ℕ) → left_of s (Frame.Routine a.new) result ≡ leaves s t a.old (number_effect s a.old r number) }
+{
+    match number {
+        Some(number) => {
+            a.registers[r.index()] = Value::Num(number);
+            a.position += 1;
+            Ran::stays(Reply::Stepped)
+        }
+        None => Ran::stays(wrong_at(a)),
+    }
+}
+
+/// The sum of two registers, modulo 2^64.
+fn sum(a: &Activation, r: Register, s: Register) -> Option<u64>
+    ensures { result ≡ sum_of a.now r s }
+{
+    let x = number_in(a.registers[r.index()])?;
+    let y = number_in(a.registers[s.index()])?;
+    Some(x.wrapping_add(y))
+}
+
+/// The difference of two registers, modulo 2^64.
+fn difference(a: &Activation, r: Register, s: Register) -> Option<u64>
+    ensures { result ≡ difference_of a.now r s }
+{
+    let x = number_in(a.registers[r.index()])?;
+    let y = number_in(a.registers[s.index()])?;
+    Some(x.wrapping_sub(y))
+}
+
+/// `add r s`: r becomes the sum.
+pub fn add(r: Register, s: Register, a: &mut Activation) -> Ran
+    requires { a.old.position < 1024 }
+    ensures { (u : Shared) (t : ℕ) → left_of u (Frame.Routine a.new) result ≡ executed u t a.old (Add r s) }
+{
+    let number = sum(a, r, s);
+    set_number(r, number, a)
+}
+
+/// `sub r s`: r becomes the difference.
+pub fn subtract(r: Register, s: Register, a: &mut Activation) -> Ran
+    requires { a.old.position < 1024 }
+    ensures { (u : Shared) (t : ℕ) → left_of u (Frame.Routine a.new) result ≡ executed u t a.old (Subtract r s) }
+{
+    let number = difference(a, r, s);
+    set_number(r, number, a)
+}
+
+/// Goes to the label.
+pub fn jump(label: u16, a: &mut Activation) -> Ran
+    ensures activation { a.new ≡ at_label a.old label }
+    ensures ran { result ≡ record { rest = Rest.Same; reply = Reply.Stepped } }
+{
+    a.position = label;
+    Ran::stays(Reply::Stepped)
+}
+
+/// Goes to the label where a test says so, if its operands were numbers.
+fn jump_if(label: u16, test: Option<bool>, a: &mut Activation) -> Ran
+    requires { a.old.position < 1024 }
+    ensures { (s : Shared) (t : ℕ) → left_of s (Frame.Routine a.new) result ≡ leaves s t a.old (jump_effect s a.old label test) }
+{
+    match test {
+        Some(true) => {
+            a.position = label;
+            Ran::stays(Reply::Stepped)
+        }
+        Some(false) => {
+            a.position += 1;
+            Ran::stays(Reply::Stepped)
+        }
+        None => Ran::stays(wrong_at(a)),
+    }
+}
+
+fn is_zero(a: &Activation, r: Register) -> Option<bool>
+    ensures { result ≡ is_zero_at a.now r }
+{
+    let x = number_in(a.registers[r.index()])?;
+    Some(x == 0)
+}
+
+fn is_less(a: &Activation, r: Register, s: Register) -> Option<bool>
+    ensures { result ≡ is_less_at a.now r s }
+{
+    let x = number_in(a.registers[r.index()])?;
+    let y = number_in(a.registers[s.index()])?;
+    Some(x < y)
+}
+
+/// `jz r L`: jumps if r is 0.
+pub fn jump_if_zero(r: Register, label: u16, a: &mut Activation) -> Ran
+    requires { a.old.position < 1024 }
+    ensures { (s : Shared) (t : ℕ) → left_of s (Frame.Routine a.new) result ≡ executed s t a.old (JumpIfZero r label) }
+{
+    let test = is_zero(a, r);
+    jump_if(label, test, a)
+}
+
+/// `jlt r s L`: jumps if r is less than s.
+pub fn jump_if_less(r: Register, s: Register, label: u16, a: &mut Activation) -> Ran
+    requires { a.old.position < 1024 }
+    ensures { (u : Shared) (t : ℕ) → left_of u (Frame.Routine a.new) result ≡ executed u t a.old (JumpIfLess r s label) }
+{
+    let test = is_less(a, r, s);
+    jump_if(label, test, a)
+}
+
+/// `loop n`: opens a loop of n turns.
+pub fn open_loop(turns: Turns, a: &mut Activation) -> Ran
+    requires { a.old.position < 1024 }
+    ensures { (s : Shared) (t : ℕ) → left_of s (Frame.Routine a.new) result ≡ executed s t a.old (Loop turns) }
+{
+    if a.loops.len() >= MAX_LOOPS {
+        return Ran::stays(wrong_at(a));
+    }
+    a.position += 1;
+    a.loops.push(OpenLoop {
+        start: a.position,
+        turns: turns.count(),
+    });
+    Ran::stays(Reply::Stepped)
+}
+
+/// `end`: goes back to the start of the innermost loop's body, or closes the loop.
+pub fn end_turn(a: &mut Activation) -> Ran
+    requires { a.old.position < 1024 }
+    ensures { (s : Shared) (t : ℕ) → left_of s (Frame.Routine a.new) result ≡ executed s t a.old End }
+{
+    let _open = a.loops.len();
+    let Some(innermost) = a.loops.pop() else {
+        return Ran::stays(wrong_at(a));
+    };
+    if innermost.turns <= 1 {
+        a.position += 1;
+        return Ran::stays(Reply::Stepped);
+    }
+    a.loops.push(OpenLoop {
+        start: innermost.start,
+        turns: innermost.turns - 1,
+    });
+    a.position = innermost.start;
+    Ran::stays(Reply::Stepped)
+}

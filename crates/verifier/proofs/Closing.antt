@@ -1,0 +1,89 @@
+-- Whether an `end` is reached in the state in which its `loop` is.
+use Rattle.std.proofs.Common.{◌≡◌, ℕ, ◌<◌, ◌≤◌, true, false, Bool, List, length, Option, None, Some, nat_eq, slice_index_or, refl, arith, sym, subst, ◌∙◌, ap}
+use Rattle.std.specs.Prelude.{slice_get, IsTrue}
+use Rattle.std.proofs.lemmas.Option.{slice_get-get_or}
+use Rattle.model.specs.declared.abs.Abs.{Abs}
+use Rattle.model.specs.declared.instr.Instr.{Instr}
+use Rattle.model.specs.declared.instr.Instr.TheVariants.{End}
+use Rattle.model.specs.declared.set.Routine.{Routine}
+use Rattle.model.specs.Loops.{open_at}
+use Rattle.model.specs.Paths.{Arrives, is_malformed, is_misplaced}
+use Rattle.model.specs.Typable.{ArrivesAlone, ReachesLoop, ClosesAlike, ClosesUnlike}
+use Rattle.verifier.specs.declared.loops.Place.{Place}
+use Rattle.verifier.specs.declared.seen.Seen.{Seen}
+use Rattle.verifier.specs.declared.seen.Seen.TheVariants.{Nothing, One, Several}
+use Rattle.verifier.specs.Pass.{Knows}
+use Rattle.verifier.specs.Survey.{first_of, ArePlaced}
+use Rattle.verifier.specs.Table.{Describes}
+use Rattle.verifier.proofs.Arrivals.{settled, formed_place}
+use Rattle.verifier.proofs.Lookups.{place_read}
+use Rattle.verifier.proofs.Nesting.{first_open, none_open}
+
+pub opened_read : (code : List Instr) (places : List Place) (at : ℕ) (d : Place) (inner : Option ℕ) → ArePlaced code (length code) places → at < length code
+    → (slice_index_or places at d).opened ≡ inner → first_of (open_at code at) ≡ inner
+opened_read code places at d inner placed within read = ap (λ (place : Place). place.opened) (sym (place_read code places at d placed within)) ∙ read
+
+pub here_read : (code read : List Instr) (at : ℕ) (d i : Instr) → read ≡ code → at < length code → slice_index_or read at d ≡ i → slice_get code at ≡ Some i
+here_read code read at d i same within is =
+    slice_get-get_or code at d within ∙ ap (λ (list : List Instr). Some (slice_index_or list at d)) (sym same) ∙ ap Some is
+
+-- the states that arrive at a position that the pass has come to
+pub entry_there : (routine : Routine) (at p : ℕ) (table : List Seen) → Knows routine at table → at < length routine.code → p ≤ at
+    → Describes (slice_index_or table p Nothing) (Arrives routine p)
+entry_there routine at p table known within low = settled routine at p (slice_index_or table p Nothing) low (known.seen p (omega arith))
+
+pub alone_there : (routine : Routine) (at p : ℕ) (table : List Seen) (s : Abs) → Knows routine at table → at < length routine.code → p ≤ at
+    → slice_index_or table p Nothing ≡ One s → ArrivesAlone routine p s
+alone_there routine at p table s known within low entry =
+    let one : Describes (One s) (Arrives routine p) =
+    subst (λ (seen : Seen). Describes seen (Arrives routine p)) entry (entry_there routine at p table known within low)
+    in
+    record { arrives = one.0; alone = one.1 }
+
+entry_of : (routine : Routine) (p : ℕ) (seen : Seen) (start : Abs) → ArrivesAlone routine p start → Describes seen (Arrives routine p) → seen ≡ One start
+entry_of routine p Nothing start arrival h = absurd (h start arrival.arrives)
+entry_of routine p (One s) start arrival h = ap One (arrival.alone s h.0)
+entry_of routine p Several start arrival h = absurd (h.4 (arrival.alone h.0 h.2 ∙ sym (arrival.alone h.1 h.3)))
+
+pub alike_there : (routine : Routine) (at q : ℕ) (table : List Seen) (s : Abs) → Knows routine at table → at < length routine.code
+    → slice_get routine.code at ≡ Some End → first_of (open_at routine.code at) ≡ Some q → slice_index_or table q Nothing ≡ One s
+    → ClosesAlike routine at s (slice_get routine.code at)
+alike_there routine at q table s known within here first entry =
+    let low : q < at = (first_open routine.code at q first).0 in
+    let alone : ReachesLoop routine (Some q) s = alone_there routine at q table s known within (omega arith) entry in
+    let closes : ClosesAlike routine at s (Some End) = subst (λ (o : Option ℕ). ReachesLoop routine o s) (sym first) alone in
+    subst (λ (i : Option Instr). ClosesAlike routine at s i) (sym here) closes
+
+pub unlike_there : (routine : Routine) (at q : ℕ) (table : List Seen) (s : Abs) → Knows routine at table → at < length routine.code
+    → slice_get routine.code at ≡ Some End → first_of (open_at routine.code at) ≡ Some q → (slice_index_or table q Nothing ≡ One s → ⊥)
+    → ClosesUnlike routine at s (slice_get routine.code at)
+unlike_there routine at q table s known within here first never =
+    let low : q < at = (first_open routine.code at q first).0 in
+    let start : Abs = (known.fine q low).state in
+    let alone : ReachesLoop routine (Some q) start = (known.fine q low).arrival in
+    let entry : slice_index_or table q Nothing ≡ One start =
+    entry_of routine q (slice_index_or table q Nothing) start alone (entry_there routine at q table known within (omega arith))
+    in
+    let closes : ClosesUnlike routine at s (Some End) =
+    (start, subst (λ (o : Option ℕ). ReachesLoop routine o start) (sym first) alone, λ same. never (entry ∙ ap One same))
+    in
+    subst (λ (i : Option Instr). ClosesUnlike routine at s i) (sym here) closes
+
+pub false_isnt_true : (b : Bool) → b ≡ false → IsTrue b → ⊥
+false_isnt_true true fails holds = cc
+false_isnt_true false fails holds = let same : false ≡ true = holds in cc
+
+-- an `end` that can stand where it does closes a loop
+pub never_unopened : (code : List Instr) (at : ℕ) → is_malformed code at ≡ false → slice_get code at ≡ Some End → first_of (open_at code at) ≡ None → ⊥
+never_unopened code at formed here first =
+    let placed : is_misplaced code at (Some End) ≡ false = ap (is_misplaced code at) (sym here) ∙ formed_place code at formed in
+    let none : nat_eq (length (open_at code at)) 0 ≡ true = ap (λ (loops : List ℕ). nat_eq (length loops) 0) (none_open code at first) in
+    cc
+
+closes_other : (routine : Routine) (at : ℕ) (s : Abs) (i : Instr) → (i ≡ End → ⊥) → ClosesAlike routine at s (Some i)
+closes_other routine at s End never = absurd (never refl)
+closes_other routine at s _ never = tt
+
+pub other_there : (routine : Routine) (at : ℕ) (s : Abs) (i : Instr) → slice_get routine.code at ≡ Some i → (i ≡ End → ⊥)
+    → ClosesAlike routine at s (slice_get routine.code at)
+other_there routine at s i here never = subst (λ (x : Option Instr). ClosesAlike routine at s x) (sym here) (closes_other routine at s i never)

@@ -1,0 +1,139 @@
+//! The loops of a routine, as the pass over it needs them at each position. Two scans, each of one
+//! step a position: since a loop is named by the position of its `loop`, the loops round it are
+//! those noted there, and only the innermost one is noted anywhere.
+
+ghost use Rattle.std.specs.Prelude.{◌≡◌, ◌<◌, ◌≤◌, ℕ, length, false, IfOk, IfSome, slice_index_or};
+
+use model::instr::Instr;
+use std::alloc::{AllocError, Global};
+
+/// The loops whose bodies hold a position.
+#[derive(Clone, Copy)]
+pub struct Round {
+    /// The innermost.
+    pub innermost: Option<usize>,
+    /// How many they are.
+    pub depth: usize,
+}
+
+/// What the pass has to know of the loops at a position.
+#[derive(Clone, Copy)]
+pub struct Place {
+    /// The innermost loop that is open before it, with an `end` or without.
+    pub opened: Option<usize>,
+    /// It is no loop without an `end`.
+    pub closed: bool,
+    /// The loops whose bodies hold it.
+    pub round: Round,
+}
+
+ghost use Rattle.verifier.specs.Survey.{open_next, flags_next, round_next, AreOpen, AreFlagged, ArePlaced, AreShallow};
+
+/// The place of each position of a routine.
+pub fn survey(alloc: Global, code: &[Instr]) -> Result<Vec<Place>, AllocError>
+    ensures { IfOk result (λ places. ArePlaced code.now (length code.now) places.items) }
+{
+    let length = code.len();
+    let mut opened = vec![in alloc; None; length]?;
+    let mut unclosed = vec![in alloc; false; length]?;
+    scan(code, &mut opened, &mut unclosed);
+    place_all(alloc, code, &opened, &unclosed)
+}
+
+/// Notes at each position the innermost loop that is open before it, and at each loop whether it is
+/// still open at the end.
+fn scan(code: &[Instr], opened: &mut [Option<usize>], unclosed: &mut [bool])
+    requires opened { length opened.old ≡ length code.now }
+    requires unclosed { length unclosed.old ≡ length code.now }
+    requires none { (q : ℕ) → q < length code.now → slice_index_or unclosed.old q false ≡ false }
+    ensures opened { AreOpen code.now (length code.now) opened.new }
+    ensures unclosed { AreFlagged code.now (length code.now) unclosed.new }
+{
+    let mut innermost = None;
+    for at in 0..code.len() {
+        let instr = &code[at];
+        opened[at] = innermost;
+        flag(instr, at, innermost, unclosed);
+        innermost = open_next(instr, at, innermost, opened);
+    }
+}
+
+/// The innermost open loop after an instruction at a position.
+fn open_next(
+    instr: &Instr,
+    at: usize,
+    innermost: Option<usize>,
+    opened: &[Option<usize>],
+) -> Option<usize>
+    requires { IfSome innermost (λ q. q < length opened.now) }
+    ensures { result ≡ open_next instr.now at innermost opened.now }
+{
+    match *instr {
+        Instr::Loop(_) => Some(at),
+        Instr::End => match innermost {
+            None => None,
+            Some(q) => opened[q],
+        },
+        _ => innermost,
+    }
+}
+
+/// Flags the loop that an instruction opens, or takes the flag from the one that it closes.
+fn flag(instr: &Instr, at: usize, innermost: Option<usize>, unclosed: &mut [bool])
+    requires here { at < length unclosed.old }
+    requires innermost { IfSome innermost (λ q. q < length unclosed.old) }
+    ensures { unclosed.new ≡ flags_next instr.now at innermost unclosed.old }
+{
+    match *instr {
+        Instr::Loop(_) => unclosed[at] = true,
+        Instr::End => {
+            if let Some(q) = innermost {
+                unclosed[q] = false;
+            }
+        }
+        _ => {}
+    }
+}
+
+/// The places of a routine, from what the scan noted.
+fn place_all(
+    alloc: Global,
+    code: &[Instr],
+    opened: &[Option<usize>],
+    unclosed: &[bool],
+) -> Result<Vec<Place>, AllocError>
+    requires opened { AreOpen code.now (length code.now) opened.now }
+    requires unclosed { AreFlagged code.now (length code.now) unclosed.now }
+    ensures { IfOk result (λ places. ArePlaced code.now (length code.now) places.items) }
+{
+    let mut places = Vec::new(alloc);
+    for at in 0..code.len() {
+        let place = Place {
+            opened: opened[at],
+            closed: !unclosed[at],
+            round: round_next(opened[at], unclosed, &places),
+        };
+        places.push(place)?;
+    }
+    Ok(places)
+}
+
+/// The loops whose bodies hold a position before which this loop is open, from the places before it.
+fn round_next(opened: Option<usize>, unclosed: &[bool], places: &[Place]) -> Round
+    requires before { IfSome opened (λ q. q < length places.now) }
+    requires flagged { length places.now ≤ length unclosed.now }
+    requires shallow { AreShallow places.now }
+    ensures { result ≡ round_next opened unclosed.now places.now }
+{
+    match opened {
+        None => Round {
+            innermost: None,
+            depth: 0,
+        },
+        Some(q) if unclosed[q] => places[q].round,
+        Some(q) => Round {
+            innermost: Some(q),
+            depth: places[q].round.depth + 1,
+        },
+    }
+}

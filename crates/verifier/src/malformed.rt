@@ -1,0 +1,61 @@
+//! Instructions that can't stand where they do, whatever leads there.
+
+ghost use Rattle.std.specs.Prelude.{◌≡◌, ◌<◌, ◌↔◌, ◌&&◌, ◌+◌, length, nat_eq, slice_get, IsTrue};
+ghost use Rattle.model.specs.Paths.{is_malformed, is_misplaced, isnt_return, goes_forward};
+ghost use Rattle.verifier.specs.Survey.{ArePlaced};
+
+use crate::loops::Place;
+use model::instr::Instr;
+use model::limits::MAX_LOOPS;
+
+/// Whether what stands at a position is no part of a routine: the last instruction isn't a return,
+/// or a jump, a `loop` or an `end` can't stand there.
+pub fn is_malformed(code: &[Instr], places: &[Place], at: usize) -> bool
+    requires within { at < length code.now }
+    requires placed { ArePlaced code.now (length code.now) places.now }
+    ensures { result ≡ is_malformed code.now at }
+{
+    ends_without_return(code, at) || is_misplaced(code, places, at)
+}
+
+/// Whether the last instruction is at a position and isn't a return.
+fn ends_without_return(code: &[Instr], at: usize) -> bool
+    requires { at < length code.now }
+    ensures { result ≡ (nat_eq (at + 1) (length code.now) && isnt_return (slice_get code.now at)) }
+{
+    at + 1 == code.len() && !matches!(code[at], Instr::Ret(_))
+}
+
+/// Whether a jump, a `loop` or an `end` can't stand at its position.
+fn is_misplaced(code: &[Instr], places: &[Place], at: usize) -> bool
+    requires within { at < length code.now }
+    requires placed { ArePlaced code.now (length code.now) places.now }
+    ensures { result ≡ is_misplaced code.now at (slice_get code.now at) }
+{
+    let place = &places[at];
+    match code[at] {
+        Instr::JumpIfZero(_, label) | Instr::JumpIfLess(_, _, label) | Instr::Jump(label) => {
+            !goes_forward(code, places, at, label as usize)
+        }
+        Instr::Loop(_) => !place.closed || place.round.depth >= MAX_LOOPS,
+        Instr::End => place.opened.is_none(),
+        _ => false,
+    }
+}
+
+/// Whether a jump goes forward, to a position of the routine round which the same loops are.
+fn goes_forward(code: &[Instr], places: &[Place], at: usize, label: usize) -> bool
+    requires within { at < length code.now }
+    requires placed { ArePlaced code.now (length code.now) places.now }
+    ensures { result ≡ goes_forward code.now at label }
+{
+    at < label && label < code.len() && are_in_same_loops(&places[at], &places[label])
+}
+
+/// Whether the same loops' bodies hold two positions. The innermost of them says which the others
+/// are, so it is enough to compare that one.
+fn are_in_same_loops(here: &Place, there: &Place) -> bool
+    ensures { IsTrue result ↔ (here.now.round.innermost ≡ there.now.round.innermost) }
+{
+    here.round.innermost == there.round.innermost
+}
