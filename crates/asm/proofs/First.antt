@@ -6,8 +6,9 @@ use Rattle.asm.specs.declared.draft.Place.TheVariants.{Outside, InDriver, InRout
 use Rattle.asm.specs.declared.fault.AsmFault.{AsmFault}
 use Rattle.asm.specs.declared.fault.AsmKind.{AsmKind}
 use Rattle.asm.specs.declared.fault.AsmKind.TheVariants.{Unclosed}
-use Rattle.asm.specs.declared.line.Line.{Line}
-use Rattle.asm.specs.Line.{read_line}
+use Rattle.asm_line.specs.declared.line.Line.{Line}
+use Rattle.asm_line.specs.declared.line.LineFault.{LineFault}
+use Rattle.asm_line.specs.Line.{read_line}
 use Rattle.asm.specs.Outline.{Outline, misfit, noted}
 use Rattle.asm.specs.Reading.{after_line, ended, fitted, placed, read_on, reading}
 use Rattle.asm.specs.Laws.{Reads, IsEndFault, IsLineFault}
@@ -24,9 +25,9 @@ fitted_read : (o next : Outline) (n : ℕ) (raw : List ℕ) (l : Line) (m : Opti
 fitted_read o next n raw l None form fits h = record { line = l; form = form; fits = fits; outline = cc }
 fitted_read o next n raw l (Some kind) form fits h = cc
 
-placed_read : (o next : Outline) (n : ℕ) (raw : List ℕ) (r : Result Line AsmKind) → read_line raw ≡ r → placed o n r ≡ Ok next → Read o next n raw
+placed_read : (o next : Outline) (n : ℕ) (raw : List ℕ) (r : Result Line LineFault) → read_line raw ≡ r → placed o n r ≡ Ok next → Read o next n raw
 placed_read o next n raw (Ok l) form h = fitted_read o next n raw l (misfit o l) form refl h
-placed_read o next n raw (Err kind) form h = cc
+placed_read o next n raw (Err fault) form h = cc
 
 pub line_is_read : (o next : Outline) (n : ℕ) (raw : List ℕ) → read_on o n raw ≡ Ok next → Read o next n raw
 line_is_read o next n raw h = placed_read o next n raw (read_line raw) refl h

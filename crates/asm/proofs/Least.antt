@@ -7,8 +7,9 @@ use Rattle.text.specs.Class.{is_token}
 use Rattle.text.specs.Cut.{is_clean, tokens_of}
 use Rattle.asm.specs.declared.fault.AsmKind.{AsmKind}
 use Rattle.asm.specs.declared.fault.AsmKind.TheVariants.{Lex, UnknownWord, DuplicateName, UnknownName, OutOfRange, Unclosed, OverLimit, Memory}
-use Rattle.asm.specs.declared.line.Line.{Line}
-use Rattle.asm.specs.Line.{line_of}
+use Rattle.asm_line.specs.declared.line.Line.{Line}
+use Rattle.asm_line.specs.declared.line.LineFault.TheVariants as unread
+use Rattle.asm_line.specs.Line.{line_of}
 use Rattle.asm.specs.Outline.{Outline, has_room, is_again, is_out_of_range, stands}
 use Rattle.asm.specs.Reading.{fitted, placed, read_on}
 use Rattle.asm.specs.Laws.{is_line, is_unknown, kind_number, shows, IsLeastKind}
@@ -99,10 +100,10 @@ fitted_choice o next true false true d k n l h = cc
 fitted_choice o next true false false false k n l h = cc
 fitted_choice o next true false false true k n l h = cc
 
-line_choice : (o : Outline) (n : ℕ) (clean : Bool) (line : Option Line) (k : AsmKind)
-    → placed o n (if clean then ok_or line UnknownWord else Err Lex) ≡ Err k
-    → chosen (not clean) (is_unknown o line) (is_line (λ l. is_again o l.label l.body) line) (is_line (λ l. is_out_of_range l.body) line) (is_line (λ l. not (has_room o l.body)) line) ≡ Some k
-line_choice o n false line k h = cc
+line_choice : (o : Outline) (n : ℕ) (clean : Bool) (read : Option Line) (k : AsmKind)
+    → placed o n (if clean then ok_or read unread.UnknownWord else Err unread.Lex) ≡ Err k
+    → chosen (not clean) (is_unknown o read) (is_line (λ l. is_again o l.label l.body) read) (is_line (λ l. is_out_of_range l.body) read) (is_line (λ l. not (has_room o l.body)) read) ≡ Some k
+line_choice o n false read k h = cc
 line_choice o n true None k h = cc
 line_choice o n true (Some l) k h = fitted_choice o o (stands o.place l.body) (is_again o l.label l.body) (is_out_of_range l.body) (has_room o l.body) k n l h
 

@@ -4,3 +4,4 @@ pub mod Least
 pub mod First
 pub mod Unknown
 pub mod Named
+pub mod Written

@@ -13,7 +13,7 @@ use Rattle.asm.proofs.First.{reading_closed, reading_ends, reading_fault}
 use Rattle.asm.proofs.Unknown.{unknown_is}
 
 -- a text that is read to its end
-all_read : (text : List ℕ) (end : Outline) → reading nothing_read 1 (lines_of text) ≡ Ok end → (all : IsRead text) × (unknown_from [] [] 1 all.lines ≡ end.unknown)
+all_read : (text : List ℕ) (end : Outline) → reading nothing_read 1 (lines_of text) ≡ Ok end → (all : IsRead text) × (unknown_from [] [] [] 1 all.lines ≡ end.unknown)
 all_read text end is =
     let to = reading_ends nothing_read 1 (lines_of text) end is in
     let closed = reading_closed nothing_read 1 (lines_of text) end is in

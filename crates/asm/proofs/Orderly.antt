@@ -1,24 +1,29 @@
 -- A line without a fault keeps what was read within the limits.
-use Rattle.std.proofs.Common.{◌≡◌, ℕ, ◌+◌, ◌<◌, ◌≤◌, Bool, true, false, not, ◌&&◌, List, [], ◌∷◌, ◌++◌, length, Option, Some, None, IfSome, refl, ap, subst, arith, length-append}
-use Rattle.std.specs.Prelude.{All, bytes_eq, nat_le, position, option_to_list, option_map, option_and_then, if◌then◌else◌}
-use Rattle.std.proofs.lemmas.List.Elements.{All-push, All-append, All-nil}
+use Rattle.std.proofs.Common.{◌≡◌, ℕ, ◌+◌, ◌<◌, ◌≤◌, Bool, true, false, not, ◌&&◌, List, [], ◌∷◌, ◌++◌, length, Option, Some, None, IfSome, get_or, refl, sym, ◌∙◌, ap, subst, arith, length-append}
+use Rattle.std.specs.Prelude.{All, map, slice_get, unwrap_or, bytes_eq, nat_le, position, option_to_list, option_map, option_and_then, if◌then◌else◌}
+use Rattle.std.proofs.lemmas.List.Elements.{All-push, All-append, All-map, All-nil}
+use Rattle.std.proofs.lemmas.List.{length-map}
+use Rattle.std.proofs.lemmas.Option.{slice_get-get_or, slice_get_within}
 use Rattle.std.proofs.lemmas.List.Quantifiers.{position-Some}
 use Rattle.std.proofs.lemmas.Bool.{ltb-true}
 use Rattle.std.proofs.lemmas.Bool.Decides.{nat_tests}
 use Rattle.model.specs.declared.set.Device.{Device}
-use Rattle.model.specs.Sound.{DriverFits, DeviceFits, RoutineFits, HandlerFits, IsSound}
+use Rattle.model.specs.Sound.{DriverFits, DeviceFits, RoutineFits, HandlerFits, LabelFits, IsSound}
 use Rattle.model.specs.declared.status.Major.{Major}
 use Rattle.model.specs.declared.status.Major.TheVariants.{Read, Write, Control}
 use Rattle.model.specs.declared.set.Sort.{Sort}
 use Rattle.model.specs.declared.instr.Instr.{Instr}
+use Rattle.model.specs.declared.instr.Instr.TheVariants.{JumpIfZero, JumpIfLess, Jump}
+use Rattle.model.specs.declared.set.Routine.{Routine}
 use Rattle.asm.specs.declared.draft.Place.{Place}
 use Rattle.asm.specs.declared.draft.Place.TheVariants.{Outside, InDriver, InRoutine}
+use Rattle.asm.specs.declared.draft.Step.{Step}
 use Rattle.asm.specs.declared.draft.Use.{Use}
 use Rattle.asm.specs.declared.fault.AsmKind.TheVariants.{UnknownWord, DuplicateName, OutOfRange, OverLimit}
-use Rattle.asm.specs.declared.line.Body.{Body}
-use Rattle.asm.specs.declared.line.Body.TheVariants.{Blank, OpenDriver, CloseDriver, Handle, OpenRoutine, CloseRoutine, AddDevice, Step}
-use Rattle.asm.specs.declared.line.Line.{Line}
-use Rattle.asm.specs.Outline.{Outline, nothing_read, misfit, stands, is_again, is_out_of_range, is_stack_size, has_room, noted, handler_in, number_of, open_driver, driver_opened, driver_closed, handled, routine_opened, routine_closed, open_drivers, open_routines, device_of, device_added, stepped, IsFitting, IsOrderly}
+use Rattle.asm_line.specs.declared.line.Body.{Body}
+use Rattle.asm_line.specs.declared.line.Body.TheVariants.{Blank, OpenDriver, CloseDriver, Handle, OpenRoutine, CloseRoutine, AddDevice, Step as TakeStep}
+use Rattle.asm_line.specs.declared.line.Line.{Line}
+use Rattle.asm.specs.Outline.{Outline, with_label, label_added, resolved, target_position, used_at, nothing_read, misfit, stands, is_again, is_out_of_range, is_stack_size, has_room, noted, handler_in, number_of, open_driver, driver_opened, driver_closed, handled, routine_opened, routine_closed, open_drivers, open_routines, device_of, device_added, stepped, IsFitting, IsOrderly}
 
 -- no kind is chosen only where each test passes
 none_chosen : (a b c d : Bool)
@@ -91,6 +96,7 @@ driver_opened_orderly o name place room h =
       few_devices = h.few_devices;
       few_routines = h.few_routines;
       few_steps = h.few_steps;
+      positions_fit = h.positions_fit;
       driver_count = omega (arith, more, h.driver_count, p.0);
       device_count = h.device_count;
       routine_count = omega (arith, h.routine_count, p.1);
@@ -120,6 +126,7 @@ driver_closed_orderly o place h =
       few_devices = h.few_devices;
       few_routines = omega arith;
       few_steps = h.few_steps;
+      positions_fit = h.positions_fit;
       driver_count = omega (arith, more, h.driver_count, p.0);
       device_count = h.device_count;
       routine_count = refl;
@@ -129,9 +136,9 @@ driver_closed_orderly o place h =
     }
 
 handled_orderly : (o : Outline) (u : Use) (major : Major) → IsOrderly o → IsOrderly (handled o u major)
-handled_orderly o u Read h = record { few_drivers = h.few_drivers; few_devices = h.few_devices; few_routines = h.few_routines; few_steps = h.few_steps; driver_count = h.driver_count; device_count = h.device_count; routine_count = h.routine_count; drivers_fit = h.drivers_fit; devices_fit = h.devices_fit; routines_fit = h.routines_fit }
-handled_orderly o u Write h = record { few_drivers = h.few_drivers; few_devices = h.few_devices; few_routines = h.few_routines; few_steps = h.few_steps; driver_count = h.driver_count; device_count = h.device_count; routine_count = h.routine_count; drivers_fit = h.drivers_fit; devices_fit = h.devices_fit; routines_fit = h.routines_fit }
-handled_orderly o u Control h = record { few_drivers = h.few_drivers; few_devices = h.few_devices; few_routines = h.few_routines; few_steps = h.few_steps; driver_count = h.driver_count; device_count = h.device_count; routine_count = h.routine_count; drivers_fit = h.drivers_fit; devices_fit = h.devices_fit; routines_fit = h.routines_fit }
+handled_orderly o u Read h = record { few_drivers = h.few_drivers; few_devices = h.few_devices; few_routines = h.few_routines; few_steps = h.few_steps; positions_fit = h.positions_fit; driver_count = h.driver_count; device_count = h.device_count; routine_count = h.routine_count; drivers_fit = h.drivers_fit; devices_fit = h.devices_fit; routines_fit = h.routines_fit }
+handled_orderly o u Write h = record { few_drivers = h.few_drivers; few_devices = h.few_devices; few_routines = h.few_routines; few_steps = h.few_steps; positions_fit = h.positions_fit; driver_count = h.driver_count; device_count = h.device_count; routine_count = h.routine_count; drivers_fit = h.drivers_fit; devices_fit = h.devices_fit; routines_fit = h.routines_fit }
+handled_orderly o u Control h = record { few_drivers = h.few_drivers; few_devices = h.few_devices; few_routines = h.few_routines; few_steps = h.few_steps; positions_fit = h.positions_fit; driver_count = h.driver_count; device_count = h.device_count; routine_count = h.routine_count; drivers_fit = h.drivers_fit; devices_fit = h.devices_fit; routines_fit = h.routines_fit }
 
 routine_opened_orderly : (o : Outline) (name : List ℕ) (sort : Sort) → stands o.place (OpenRoutine name sort) ≡ true → length o.routine_names < 32 → IsOrderly o → IsOrderly (routine_opened o name sort)
 routine_opened_orderly o name sort place room h =
@@ -142,6 +149,7 @@ routine_opened_orderly o name sort place room h =
       few_devices = h.few_devices;
       few_routines = omega (arith, more);
       few_steps = h.few_steps;
+      positions_fit = h.positions_fit;
       driver_count = omega (arith, h.driver_count, p.0);
       device_count = h.device_count;
       routine_count = omega (arith, more, h.routine_count, p.1);
@@ -150,21 +158,60 @@ routine_opened_orderly o name sort place room h =
       routines_fit = h.routines_fit;
     }
 
+-- a label's position, or 0, is below a count that is above the positions of all labels
+number_fits : (count : ℕ) (positions : List ℕ) → 0 < count → All (λ p. p < count) positions → (o : Option ℕ) → unwrap_or (option_and_then (λ k. slice_get positions k) o) 0 < count
+number_fits count positions some fit None = some
+number_fits count positions some fit (Some k) = or_zero (slice_get positions k) refl
+  where
+    or_zero : (found : Option ℕ) → slice_get positions k ≡ found → unwrap_or found 0 < count
+    or_zero None is = some
+    or_zero (Some p) is =
+        let inside = slice_get_within positions k p is in
+        let same : Some p ≡ Some (get_or positions k p) = sym is ∙ slice_get-get_or positions k p inside in
+        let here : p ≡ get_or positions k p = cc in
+        omega (arith, here, fit k p inside)
+
+target_fits : (count : ℕ) (labels : List (List ℕ)) (positions : List ℕ) → 0 < count → All (λ p. p < count) positions → (target : Option Use) → target_position labels positions target < count
+target_fits count labels positions some fit None = some
+target_fits count labels positions some fit (Some u) = number_fits count positions some fit (number_of labels u.name)
+
+label_fits : (count label : ℕ) (i : Instr) → label < count → LabelFits count (with_label i label)
+label_fits count label (JumpIfZero r old) h = h
+label_fits count label (JumpIfLess r s old) h = h
+label_fits count label (Jump old) h = h
+label_fits count label _ h = tt
+
+-- so a routine that is closed fits
+closed_fits : (o : Outline) → IsOrderly o → RoutineFits (record { sort = o.sort; code = map (resolved o.labels o.positions) o.steps })
+closed_fits o h =
+    let same = length-map o.steps (resolved o.labels o.positions) in
+    let count = length (map (resolved o.labels o.positions) o.steps) in
+    record {
+      few = omega (arith, same, h.few_steps);
+      labels = All-map (LabelFits count) (resolved o.labels o.positions) o.steps (λ i d inside.
+          let step = get_or o.steps i d in
+          let some : 0 < length o.steps = omega (arith, inside) in
+          let below = target_fits (length o.steps) o.labels o.positions some h.positions_fit step.target in
+          label_fits count (target_position o.labels o.positions step.target) step.instr (omega (arith, same, below)));
+    }
+
 routine_closed_orderly : (o : Outline) → stands o.place CloseRoutine ≡ true → IsOrderly o → IsOrderly (routine_closed o)
 routine_closed_orderly o place h =
     let p = closing_routine o.place place in
-    let more = length_one_more o.routines (record { sort = o.sort; code = o.code }) in
+    let closed : Routine = record { sort = o.sort; code = map (resolved o.labels o.positions) o.steps } in
+    let more = length_one_more o.routines closed in
     record {
       few_drivers = h.few_drivers;
       few_devices = h.few_devices;
       few_routines = h.few_routines;
       few_steps = omega arith;
+      positions_fit = All-nil (λ p. p < 0);
       driver_count = omega (arith, h.driver_count, p.0);
       device_count = h.device_count;
       routine_count = omega (arith, more, h.routine_count, p.1);
       drivers_fit = h.drivers_fit;
       devices_fit = h.devices_fit;
-      routines_fit = All-push RoutineFits o.routines (record { sort = o.sort; code = o.code }) h.routines_fit h.few_steps;
+      routines_fit = All-push RoutineFits o.routines closed h.routines_fit (closed_fits o h);
     }
 
 size_within : (n : ℕ) → (nat_le 1 n && nat_le n 16) ≡ true → (1 ≤ n) × (n ≤ 16)
@@ -191,6 +238,7 @@ device_added_orderly o name u stack size room h =
       few_devices = omega (arith, more);
       few_routines = h.few_routines;
       few_steps = h.few_steps;
+      positions_fit = h.positions_fit;
       driver_count = h.driver_count;
       device_count = omega (arith, more, both, one, h.device_count);
       routine_count = h.routine_count;
@@ -199,15 +247,30 @@ device_added_orderly o name u stack size room h =
       routines_fit = h.routines_fit;
     }
 
-stepped_orderly : (o : Outline) (label : Option (List ℕ)) (instr : Option Instr) → length o.code < 1024 → IsOrderly o → IsOrderly (stepped o label instr)
-stepped_orderly o label instr room h =
-    let both = length-append o.code (option_to_list instr) in
-    let one = option_length instr in
+-- positions are below a greater count too
+positions_stay : (m n : ℕ) (positions : List ℕ) → m ≤ n → All (λ p. p < m) positions → All (λ p. p < n) positions
+positions_stay m n positions more fit = λ i p inside. let one = fit i p inside in omega (arith, one, more)
+
+-- so is that of the label that is added
+added_fits : (o : Outline) (label : Option (List ℕ)) (n : ℕ) → length o.steps < n → All (λ p. p < length o.steps) o.positions → All (λ p. p < n) (label_added o label).positions
+added_fits o label n more h =
+    let old = positions_stay (length o.steps) n o.positions (omega (arith, more)) h in
+    All-append (λ p. p < n) o.positions (option_to_list (option_map (λ label. length o.steps) label)) old (one label)
+  where
+    one : (label : Option (List ℕ)) → All (λ p. p < n) (option_to_list (option_map (λ label. length o.steps) label))
+    one None = All-nil (λ p. p < n)
+    one (Some label) = All-push (λ p. p < n) [] (length o.steps) (All-nil (λ p. p < n)) more
+
+stepped_orderly : (o : Outline) (n : ℕ) (label : Option (List ℕ)) (instr : Instr) (target : Option (List ℕ)) → length o.steps < 1024 → IsOrderly o → IsOrderly (stepped o n label instr target)
+stepped_orderly o n label instr target room h =
+    let step : Step = record { instr = instr; target = used_at n target } in
+    let more = length_one_more o.steps step in
     record {
       few_drivers = h.few_drivers;
       few_devices = h.few_devices;
       few_routines = h.few_routines;
-      few_steps = omega (arith, both, one);
+      few_steps = omega (arith, more);
+      positions_fit = added_fits o label (length (o.steps ++ step ∷ [])) (omega (arith, more)) h.positions_fit;
       driver_count = h.driver_count;
       device_count = h.device_count;
       routine_count = h.routine_count;
@@ -230,7 +293,8 @@ orderly_with o n label (Handle major routine) place size room h = handled_orderl
 orderly_with o n label (OpenRoutine name sort) place size room h = routine_opened_orderly o name sort place (ltb-true (length o.routine_names) 32 room) h
 orderly_with o n label CloseRoutine place size room h = routine_closed_orderly o place h
 orderly_with o n label (AddDevice name driver stack) place size room h = device_added_orderly o name (record { line = n; name = driver }) stack (not_false (is_stack_size stack) size) (ltb-true (length o.device_names) 16 room) h
-orderly_with o n label (Step instr) place size room h = stepped_orderly o label instr (ltb-true (length o.code) 1024 room) h
+orderly_with o n label (TakeStep (Some instr) target) place size room h = stepped_orderly o n label instr target (ltb-true (length o.steps) 1024 room) h
+orderly_with o n label (TakeStep None target) place size room h = h
 
 pub orderly_on : (o : Outline) (n : ℕ) (l : Line) → IsFitting o l → IsOrderly o → IsOrderly (noted o n l.label l.body)
 orderly_on o n l fits h = orderly_with o n l.label l.body fits.standing fits.in_range fits.room h
@@ -253,6 +317,7 @@ nothing_orderly = record {
   few_devices = omega arith;
   few_routines = omega arith;
   few_steps = omega arith;
+  positions_fit = All-nil (λ p. p < 0);
   driver_count = refl;
   device_count = omega arith;
   routine_count = refl;

@@ -1,18 +1,20 @@
--- The unknown name that is found when drivers are closed is that of the first line that uses one.
+-- The unknown name that is found when routines and drivers are closed is that of the first line that
+-- uses one.
 use Rattle.std.proofs.Common.{◌≡◌, ℕ, ◌+◌, ◌<◌, ◌≤◌, Bool, true, false, List, [], ◌∷◌, ◌++◌, Option, Some, None, IfSome, refl, ap, sym, ◌∙◌, subst, arith, append_assoc, append-nil}
-use Rattle.std.specs.Prelude.{min, is_some, if◌then◌else◌}
+use Rattle.std.specs.Prelude.{min, is_some, option_to_list, if◌then◌else◌}
 use Rattle.model.specs.declared.status.Major.{Major}
 use Rattle.model.specs.declared.status.Major.TheVariants.{Read, Write, Control}
 use Rattle.model.specs.declared.set.Sort.{Sort}
 use Rattle.asm.specs.declared.draft.Place.{Place}
 use Rattle.asm.specs.declared.draft.Place.TheVariants.{Outside, InDriver, InRoutine}
+use Rattle.asm.specs.declared.draft.Step.{Step}
 use Rattle.asm.specs.declared.draft.Use.{Use}
-use Rattle.asm.specs.declared.line.Body.{Body}
-use Rattle.asm.specs.declared.line.Body.TheVariants.{Blank, OpenDriver, CloseDriver, Handle, OpenRoutine, CloseRoutine, AddDevice, Step}
-use Rattle.asm.specs.declared.line.Line.{Line}
+use Rattle.asm_line.specs.declared.line.Body.{Body}
+use Rattle.asm_line.specs.declared.line.Body.TheVariants.{Blank, OpenDriver, CloseDriver, Handle, OpenRoutine, CloseRoutine, AddDevice, Step as TakeStep}
+use Rattle.asm_line.specs.declared.line.Line.{Line}
 use Rattle.model.specs.declared.instr.Instr.{Instr}
-use Rattle.asm.specs.Outline.{Outline, nothing_read, device_added, driver_closed, driver_opened, earliest, handled, handler_of, is_again, is_among, missed, noted, routine_closed, routine_opened, stands, stepped}
-use Rattle.asm.specs.Laws.{drivers_after, named_ahead, routines_ahead, routines_around, unknown_at, unknown_from, Reads}
+use Rattle.asm.specs.Outline.{Outline, nothing_read, device_added, driver_closed, driver_opened, earliest, handled, handler_of, is_again, is_among, is_out_of_range, missed, missed_from, noted, routine_closed, routine_opened, stands, stepped, used_at}
+use Rattle.asm.specs.Laws.{drivers_after, labelled_ahead, labels_ahead, labels_around, named_ahead, routines_ahead, routines_around, unknown_at, unknown_from, Reads}
 use Rattle.asm.proofs.Orderly.{fitting}
 
 earliest_none : (a : Option ℕ) → earliest a None ≡ a
@@ -52,51 +54,99 @@ chosen_line : (b : Bool) (n : ℕ) (after : Option ℕ) → IfSome after (λ m. 
 chosen_line true n after h = weaken n after h
 chosen_line false n after h = omega arith
 
-line_or_later : (drivers routines : List (List ℕ)) (n : ℕ) (body : Body) (after : Option ℕ) → IfSome after (λ m. n < m) → IfSome (unknown_at drivers routines n body after) (λ m. n ≤ m)
-line_or_later drivers routines n (Handle major routine) after h = chosen_line (is_among routines routine) n after h
-line_or_later drivers routines n (AddDevice name driver stack) after h = chosen_line (is_among drivers driver) n after h
-line_or_later drivers routines n _ after h = weaken n after h
+line_or_later : (drivers routines labels : List (List ℕ)) (n : ℕ) (body : Body) (after : Option ℕ) → IfSome after (λ m. n < m) → IfSome (unknown_at drivers routines labels n body after) (λ m. n ≤ m)
+line_or_later drivers routines labels n (Handle major routine) after h = chosen_line (is_among routines routine) n after h
+line_or_later drivers routines labels n (AddDevice name driver stack) after h = chosen_line (is_among drivers driver) n after h
+line_or_later drivers routines labels n (TakeStep instr (Some target)) after h = chosen_line (is_among labels target) n after h
+line_or_later drivers routines labels n (TakeStep instr None) after h = weaken n after h
+line_or_later drivers routines labels n _ after h = weaken n after h
 
 -- the line that is found is one of those that are left
-not_before : (drivers routines : List (List ℕ)) (n : ℕ) (ls : List Line) → IfSome (unknown_from drivers routines n ls) (λ m. n ≤ m)
-not_before drivers routines n [] = tt
-not_before drivers routines n (l ∷ ls) =
-    let after = unknown_from (drivers_after drivers l.body) (routines_around routines l.body ls) (n + 1) ls in
-    let rest = not_before (drivers_after drivers l.body) (routines_around routines l.body ls) (n + 1) ls in
-    line_or_later drivers routines n l.body after (next_later n after rest)
+not_before : (drivers routines labels : List (List ℕ)) (n : ℕ) (ls : List Line) → IfSome (unknown_from drivers routines labels n ls) (λ m. n ≤ m)
+not_before drivers routines labels n [] = tt
+not_before drivers routines labels n (l ∷ ls) =
+    let after = unknown_from (drivers_after drivers l.body) (routines_around routines l.body ls) (labels_around labels l.body ls) (n + 1) ls in
+    let rest = not_before (drivers_after drivers l.body) (routines_around routines l.body ls) (labels_around labels l.body ls) (n + 1) ls in
+    line_or_later drivers routines labels n l.body after (next_later n after rest)
+
+rest_later : (drivers routines labels : List (List ℕ)) (n : ℕ) (ls : List Line) → IfSome (unknown_from drivers routines labels (n + 1) ls) (λ m. n < m)
+rest_later drivers routines labels n ls = next_later n (unknown_from drivers routines labels (n + 1) ls) (not_before drivers routines labels (n + 1) ls)
 
 -- the first line of the open driver that uses a routine which isn't among these
 abbrev pending : List (List ℕ) → Outline → Option ℕ
 pending names o = earliest (missed names o.read) (earliest (missed names o.write) (missed names o.control))
 
--- nothing is open
+-- the first line of the open routine that uses a label which isn't among these
+abbrev jumping : List (List ℕ) → List Step → Option ℕ
+jumping labels steps = missed_from labels None steps
+
+-- what is found in a routine is weighed against what was found before it
+missed_split : (labels : List (List ℕ)) (found : Option ℕ) (steps : List Step) → missed_from labels found steps ≡ earliest found (jumping labels steps)
+missed_split labels found [] = sym (earliest_none found)
+missed_split labels found (s ∷ ss) =
+    let one = missed labels s.target in
+    missed_split labels (earliest found one) ss ∙ earliest_assoc found one (jumping labels ss) ∙ ap (λ (x : Option ℕ). earliest found x) (sym (missed_split labels one ss))
+
+missed_push : (labels : List (List ℕ)) (found : Option ℕ) (steps : List Step) (s : Step) → missed_from labels found (steps ++ s ∷ []) ≡ earliest (missed_from labels found steps) (missed labels s.target)
+missed_push labels found [] s = refl
+missed_push labels found (t ∷ ts) s = missed_push labels (earliest found (missed labels t.target)) ts s
+
+-- no driver is open
 record IsEmpty (o : Outline) : Type 0 where
   names : o.routine_names ≡ []
   read : o.read ≡ None
   write : o.write ≡ None
   control : o.control ≡ None
 
--- these are the routines in the driver around, of which those ahead are to come
-record Around (o : Outline) (routines ahead : List (List ℕ)) : Type 0 where
-  inside : (o.place ≡ Outside → ⊥) → routines ≡ o.routine_names ++ ahead
-  outside : o.place ≡ Outside → IsEmpty o
+-- no routine is open
+record IsIdle (o : Outline) : Type 0 where
+  labels : o.labels ≡ []
+  steps : o.steps ≡ []
 
-pending_none : (names : List (List ℕ)) (o : Outline) → IsEmpty o → pending names o ≡ None
-pending_none names o e = rw (e.read, e.write, e.control) refl
+-- these are the names that hold here
+record Names : Type 0 where
+  routines : List (List ℕ)
+  labels : List (List ℕ)
+
+-- these are the routines in the driver around and the labels in the routine around. Of them those
+-- ahead are to come.
+record Around (o : Outline) (here ahead : Names) : Type 0 where
+  inside : (o.place ≡ Outside → ⊥) → here.routines ≡ o.routine_names ++ ahead.routines
+  outside : o.place ≡ Outside → IsEmpty o
+  busy : o.place ≡ InRoutine → here.labels ≡ o.labels ++ ahead.labels
+  idle : (o.place ≡ InRoutine → ⊥) → IsIdle o
+
+-- the names ahead of these lines, and round the next one
+abbrev ahead_of : List Line → Names
+ahead_of ls = record { routines = routines_ahead ls; labels = labels_ahead ls }
+
+abbrev ahead_with : Option (List ℕ) → Body → Names → Names
+ahead_with label body ahead = record { routines = named_ahead body ahead.routines; labels = labelled_ahead label body ahead.labels }
+
+abbrev around_next : Names → Body → List Line → Names
+around_next here body ls = record { routines = routines_around here.routines body ls; labels = labels_around here.labels body ls }
 
 never_outside : (p : Place) (body : Body) → stands Outside body ≡ false → stands p body ≡ true → p ≡ Outside → ⊥
 never_outside p body refused stood is = let here : stands Outside body ≡ true = subst (λ (q : Place). stands q body ≡ true) is stood in cc
+
+never_inside : (p : Place) (body : Body) → stands InRoutine body ≡ false → stands p body ≡ true → p ≡ InRoutine → ⊥
+never_inside p body refused stood is = let here : stands InRoutine body ≡ true = subst (λ (q : Place). stands q body ≡ true) is stood in cc
 
 only_outside : (p : Place) (body : Body) → stands InDriver body ≡ false → stands InRoutine body ≡ false → stands p body ≡ true → p ≡ Outside
 only_outside Outside body a b stood = refl
 only_outside InDriver body a b stood = cc
 only_outside InRoutine body a b stood = cc
 
--- what is left from a line on: the lines after it, from what is noted with it
-abbrev left : Outline → List (List ℕ) → ℕ → List Line → Option ℕ
-left o routines n ls = earliest o.unknown (earliest (pending routines o) (unknown_from o.driver_names routines n ls))
+only_inside : (p : Place) (body : Body) → stands Outside body ≡ false → stands InDriver body ≡ false → stands p body ≡ true → p ≡ InRoutine
+only_inside Outside body a b stood = cc
+only_inside InDriver body a b stood = cc
+only_inside InRoutine body a b stood = refl
 
--- a use is weighed now or when its driver is closed
+-- what is left from a line on: the lines after it, from what is noted with it
+abbrev left : Outline → Names → ℕ → List Line → Option ℕ
+left o here n ls = earliest o.unknown (earliest (pending here.routines o) (earliest (jumping here.labels o.steps) (unknown_from o.driver_names here.routines here.labels n ls)))
+
+-- a use is weighed now or when its driver or routine is closed
 use_counts : (b : Bool) (n : ℕ) (x after : Option ℕ) → IfSome after (λ m. n < m) → earliest (earliest (if b then None else Some n) x) after ≡ earliest x (if b then after else Some n)
 use_counts true n x after later = refl
 use_counts false n x after later =
@@ -106,76 +156,130 @@ used_now : (b : Bool) (n : ℕ) (after : Option ℕ) → IfSome after (λ m. n <
 used_now true n after later = refl
 used_now false n after later = earliest_first n after later
 
--- the next outline has the routines around it, and says the same of what is left
-record Turn (o next : Outline) (routines after ahead : List (List ℕ)) (n : ℕ) (body : Body) (ls : List Line) : Type 0 where
+-- the next outline has the names around it, and says the same of what is left
+record Turn (o next : Outline) (here after ahead : Names) (n : ℕ) (body : Body) (ls : List Line) : Type 0 where
   around : Around next after ahead
-  same : left next after (n + 1) ls ≡ earliest o.unknown (earliest (pending routines o) (unknown_at o.driver_names routines n body (unknown_from (drivers_after o.driver_names body) after (n + 1) ls)))
+  same : left next after (n + 1) ls ≡ earliest o.unknown (earliest (pending here.routines o) (earliest (jumping here.labels o.steps)
+      (unknown_at o.driver_names here.routines here.labels n body (unknown_from (drivers_after o.driver_names body) after.routines after.labels (n + 1) ls))))
 
--- a line that neither names nor uses a name, and leaves the place open or closed as it is
-blank_turn : (o : Outline) (routines ahead : List (List ℕ)) (n : ℕ) (ls : List Line) → Around o routines ahead → Turn o o routines routines ahead n Blank ls
-blank_turn o routines ahead n ls h = record { around = h; same = refl }
+blank_turn : (o : Outline) (here ahead : Names) (n : ℕ) (ls : List Line) → Around o here ahead → Turn o o here here ahead n Blank ls
+blank_turn o here ahead n ls h = record { around = h; same = refl }
 
-step_turn : (o : Outline) (label : Option (List ℕ)) (instr : Option Instr) (routines ahead : List (List ℕ)) (n : ℕ) (ls : List Line) → stands o.place (Step instr) ≡ true
-    → Around o routines ahead → Turn o (stepped o label instr) routines routines ahead n (Step instr) ls
-step_turn o label instr routines ahead n ls stood h = record {
-  around = record { inside = h.inside; outside = λ is. absurd (never_outside o.place (Step instr) refl stood is) };
-  same = refl;
-}
+-- the label that an instruction jumps to
+target_counts : (drivers routines labels : List (List ℕ)) (n : ℕ) (instr : Option Instr) (target : Option (List ℕ)) (before after : Option ℕ) → IfSome after (λ m. n < m)
+    → earliest (earliest before (missed labels (used_at n target))) after ≡ earliest before (unknown_at drivers routines labels n (TakeStep instr target) after)
+target_counts drivers routines labels n instr None before after later = ap (λ (x : Option ℕ). earliest x after) (earliest_none before)
+target_counts drivers routines labels n instr (Some name) before after later =
+    let known = is_among labels name in
+    earliest_assoc before (if known then None else Some n) after ∙ ap (λ (x : Option ℕ). earliest before x) (used_now known n after later)
 
-routine_closed_turn : (o : Outline) (routines ahead : List (List ℕ)) (n : ℕ) (ls : List Line) → stands o.place CloseRoutine ≡ true
-    → Around o routines ahead → Turn o (routine_closed o) routines routines ahead n CloseRoutine ls
-routine_closed_turn o routines ahead n ls stood h = record {
-  around = record { inside = λ opened. h.inside (never_outside o.place CloseRoutine refl stood); outside = λ is. cc };
-  same = refl;
-}
+step_turn : (o : Outline) (label : Option (List ℕ)) (instr : Instr) (target : Option (List ℕ)) (here ahead : Names) (n : ℕ) (ls : List Line)
+    → stands o.place (TakeStep (Some instr) target) ≡ true → Around o here (ahead_with label (TakeStep (Some instr) target) ahead)
+    → Turn o (stepped o n label instr target) here here ahead n (TakeStep (Some instr) target) ls
+step_turn o label instr target here ahead n ls stood h =
+    let body = TakeStep (Some instr) target in
+    let step : Step = record { instr = instr; target = used_at n target } in
+    let at = only_inside o.place body refl refl stood in
+    let rest = unknown_from o.driver_names here.routines here.labels (n + 1) ls in
+    let before = jumping here.labels o.steps in
+    let pushed : jumping here.labels (o.steps ++ step ∷ []) ≡ earliest before (missed here.labels step.target) = missed_push here.labels None o.steps step in
+    let counted = target_counts o.driver_names here.routines here.labels n (Some instr) target before rest (rest_later o.driver_names here.routines here.labels n ls) in
+    record {
+      around = record {
+        inside = h.inside;
+        outside = λ is. absurd (never_outside o.place body refl stood is);
+        busy = λ is. h.busy at ∙ sym (append_assoc o.labels (option_to_list label) ahead.labels);
+        idle = λ opened. absurd (opened at);
+      };
+      same = ap (λ (x : Option ℕ). earliest o.unknown (earliest (pending here.routines o) x)) (ap (λ (x : Option ℕ). earliest x rest) pushed ∙ counted);
+    }
 
-routine_opened_turn : (o : Outline) (name : List ℕ) (sort : Sort) (routines ahead : List (List ℕ)) (n : ℕ) (ls : List Line) → stands o.place (OpenRoutine name sort) ≡ true
-    → Around o routines (name ∷ ahead) → Turn o (routine_opened o name sort) routines routines ahead n (OpenRoutine name sort) ls
-routine_opened_turn o name sort routines ahead n ls stood h = record {
-  around = record {
-    inside = λ opened. h.inside (never_outside o.place (OpenRoutine name sort) refl stood) ∙ sym (append_assoc o.routine_names (name ∷ []) ahead);
-    outside = λ is. cc;
-  };
-  same = refl;
-}
+routine_closed_turn : (o : Outline) (label : Option (List ℕ)) (here ahead : Names) (n : ℕ) (ls : List Line) → stands o.place CloseRoutine ≡ true
+    → Around o here (ahead_with label CloseRoutine ahead) → Turn o (routine_closed o) here here ahead n CloseRoutine ls
+routine_closed_turn o label here ahead n ls stood h =
+    let labels : here.labels ≡ o.labels = h.busy (only_inside o.place CloseRoutine refl refl stood) ∙ append-nil o.labels in
+    let rest = unknown_from o.driver_names here.routines here.labels (n + 1) ls in
+    let uses = pending here.routines o in
+    let jumps = jumping o.labels o.steps in
+    record {
+      around = record {
+        inside = λ opened. h.inside (never_outside o.place CloseRoutine refl stood);
+        outside = λ is. cc;
+        busy = λ is. cc;
+        idle = λ closed. record { labels = refl; steps = refl };
+      };
+      same =
+          ap (λ (x : Option ℕ). earliest x (earliest uses rest)) (missed_split o.labels o.unknown o.steps)
+          ∙ earliest_assoc o.unknown jumps (earliest uses rest)
+          ∙ ap (λ (x : Option ℕ). earliest o.unknown x) (earliest_swap jumps uses rest)
+          ∙ ap (λ (names : List (List ℕ)). earliest o.unknown (earliest uses (earliest (jumping names o.steps) rest))) (sym labels);
+    }
 
-driver_opened_turn : (o : Outline) (name : List ℕ) (routines ahead old : List (List ℕ)) (n : ℕ) (ls : List Line) → stands o.place (OpenDriver name) ≡ true
-    → Around o routines old → Turn o (driver_opened o name) routines ahead ahead n (OpenDriver name) ls
-driver_opened_turn o name routines ahead old n ls stood h =
+routine_opened_turn : (o : Outline) (name : List ℕ) (sort : Sort) (here ahead : Names) (labels : List (List ℕ)) (n : ℕ) (ls : List Line) → stands o.place (OpenRoutine name sort) ≡ true
+    → Around o here (record { routines = name ∷ ahead.routines; labels = labels })
+    → Turn o (routine_opened o name sort) here (record { routines = here.routines; labels = ahead.labels }) ahead n (OpenRoutine name sort) ls
+routine_opened_turn o name sort here ahead labels n ls stood h =
+    let idle = h.idle (never_inside o.place (OpenRoutine name sort) refl stood) in
+    record {
+      around = record {
+        inside = λ opened. h.inside (never_outside o.place (OpenRoutine name sort) refl stood) ∙ sym (append_assoc o.routine_names (name ∷ []) ahead.routines);
+        outside = λ is. cc;
+        busy = λ is. rw idle.labels refl;
+        idle = λ opened. absurd (opened refl);
+      };
+      same = rw idle.steps refl;
+    }
+
+driver_opened_turn : (o : Outline) (name : List ℕ) (here ahead old : Names) (n : ℕ) (ls : List Line) → stands o.place (OpenDriver name) ≡ true
+    → Around o here old → Turn o (driver_opened o name) here (record { routines = ahead.routines; labels = here.labels }) ahead n (OpenDriver name) ls
+driver_opened_turn o name here ahead old n ls stood h =
     let empty = h.outside (only_outside o.place (OpenDriver name) refl refl stood) in
+    let idle = h.idle (never_inside o.place (OpenDriver name) refl stood) in
     record {
-      around = record { inside = λ opened. rw empty.names refl; outside = λ is. cc };
-      same = rw (empty.read, empty.write, empty.control) refl;
+      around = record { inside = λ opened. rw empty.names refl; outside = λ is. cc; busy = λ is. cc; idle = λ closed. record { labels = idle.labels; steps = idle.steps } };
+      same = rw (empty.read, empty.write, empty.control, idle.steps) refl;
     }
 
-driver_closed_turn : (o : Outline) (routines ahead : List (List ℕ)) (n : ℕ) (ls : List Line) → stands o.place CloseDriver ≡ true
-    → Around o routines [] → Turn o (driver_closed o) routines routines ahead n CloseDriver ls
-driver_closed_turn o routines ahead n ls stood h =
-    let names : routines ≡ o.routine_names = h.inside (never_outside o.place CloseDriver refl stood) ∙ append-nil o.routine_names in
-    let rest = unknown_from o.driver_names routines (n + 1) ls in
+driver_closed_turn : (o : Outline) (label : Option (List ℕ)) (here ahead : Names) (n : ℕ) (ls : List Line) → stands o.place CloseDriver ≡ true
+    → Around o here (ahead_with label CloseDriver ahead) → Turn o (driver_closed o) here here ahead n CloseDriver ls
+driver_closed_turn o label here ahead n ls stood h =
+    let names : here.routines ≡ o.routine_names = h.inside (never_outside o.place CloseDriver refl stood) ∙ append-nil o.routine_names in
+    let idle = h.idle (never_inside o.place CloseDriver refl stood) in
+    let rest = unknown_from o.driver_names here.routines here.labels (n + 1) ls in
     record {
-      around = record { inside = λ opened. absurd (opened refl); outside = λ is. record { names = refl; read = refl; write = refl; control = refl } };
-      same = earliest_assoc o.unknown (pending o.routine_names o) rest ∙ ap (λ (names : List (List ℕ)). earliest o.unknown (earliest (pending names o) rest)) (sym names);
+      around = record {
+        inside = λ opened. absurd (opened refl);
+        outside = λ is. record { names = refl; read = refl; write = refl; control = refl };
+        busy = λ is. cc;
+        idle = λ closed. record { labels = idle.labels; steps = idle.steps };
+      };
+      same = rw idle.steps (earliest_assoc o.unknown (pending o.routine_names o) rest ∙ ap (λ (names : List (List ℕ)). earliest o.unknown (earliest (pending names o) rest)) (sym names));
     }
 
-device_added_turn : (o : Outline) (name driver : List ℕ) (stack : Option ℕ) (routines ahead : List (List ℕ)) (n : ℕ) (ls : List Line) → stands o.place (AddDevice name driver stack) ≡ true
-    → Around o routines ahead → Turn o (device_added o name (record { line = n; name = driver }) stack) routines routines ahead n (AddDevice name driver stack) ls
-device_added_turn o name driver stack routines ahead n ls stood h =
+device_added_turn : (o : Outline) (name driver : List ℕ) (stack : Option ℕ) (here ahead : Names) (n : ℕ) (ls : List Line) → stands o.place (AddDevice name driver stack) ≡ true
+    → Around o here ahead → Turn o (device_added o name (record { line = n; name = driver }) stack) here here ahead n (AddDevice name driver stack) ls
+device_added_turn o name driver stack here ahead n ls stood h =
     let at = only_outside o.place (AddDevice name driver stack) refl refl stood in
     let empty = h.outside at in
-    let rest = unknown_from o.driver_names routines (n + 1) ls in
-    let later = next_later n rest (not_before o.driver_names routines (n + 1) ls) in
+    let idle = h.idle (never_inside o.place (AddDevice name driver stack) refl stood) in
+    let rest = unknown_from o.driver_names here.routines here.labels (n + 1) ls in
+    let later = rest_later o.driver_names here.routines here.labels n ls in
     let known = is_among o.driver_names driver in
     record {
-      around = record { inside = λ opened. absurd (opened at); outside = λ is. record { names = empty.names; read = empty.read; write = empty.write; control = empty.control } };
-      same = rw (empty.read, empty.write, empty.control)
+      around = record {
+        inside = λ opened. absurd (opened at);
+        outside = λ is. record { names = empty.names; read = empty.read; write = empty.write; control = empty.control };
+        busy = h.busy;
+        idle = λ closed. record { labels = idle.labels; steps = idle.steps };
+      };
+      same = rw (empty.read, empty.write, empty.control, idle.steps)
           (earliest_assoc o.unknown (if known then None else Some n) rest ∙ ap (λ (x : Option ℕ). earliest o.unknown x) (used_now known n rest later));
     }
 
-handled_around : (o : Outline) (u : Use) (major : Major) (routines ahead : List (List ℕ)) → (o.place ≡ Outside → ⊥) → Around o routines ahead → Around (handled o u major) routines ahead
-handled_around o u Read routines ahead inside h = record { inside = h.inside; outside = λ is. absurd (inside is) }
-handled_around o u Write routines ahead inside h = record { inside = h.inside; outside = λ is. absurd (inside is) }
-handled_around o u Control routines ahead inside h = record { inside = h.inside; outside = λ is. absurd (inside is) }
+handled_around : (o : Outline) (u : Use) (major : Major) (here ahead : Names) → (o.place ≡ Outside → ⊥) → IsIdle o → Around o here ahead → Around (handled o u major) here ahead
+handled_around o u Read here ahead inside idle h = record { inside = h.inside; outside = λ is. absurd (inside is); busy = h.busy; idle = λ closed. record { labels = idle.labels; steps = idle.steps } }
+handled_around o u Write here ahead inside idle h = record { inside = h.inside; outside = λ is. absurd (inside is); busy = h.busy; idle = λ closed. record { labels = idle.labels; steps = idle.steps } }
+handled_around o u Control here ahead inside idle h = record { inside = h.inside; outside = λ is. absurd (inside is); busy = h.busy; idle = λ closed. record { labels = idle.labels; steps = idle.steps } }
 
 was_none : (u : Option Use) → is_some u ≡ false → u ≡ None
 was_none None h = refl
@@ -198,48 +302,64 @@ handled_same o name Control routines n rest later h =
     let line : Option ℕ = if is_among routines name then None else Some n in
     rw (h, earliest_none write) (ap (λ (x : Option ℕ). earliest (earliest read x) rest) (earliest_comm write line) ∙ ap (λ (x : Option ℕ). earliest x rest) (earliest_swap read line write) ∙ use_counts (is_among routines name) n (earliest read write) rest later)
 
-handled_names : (o : Outline) (u : Use) (major : Major) → ((handled o u major).driver_names ≡ o.driver_names) × ((handled o u major).unknown ≡ o.unknown)
-handled_names o u Read = (refl, refl)
-handled_names o u Write = (refl, refl)
-handled_names o u Control = (refl, refl)
+-- a table entry changes none of these
+record Unhandled (o next : Outline) : Type 0 where
+  driver_names : next.driver_names ≡ o.driver_names
+  unknown : next.unknown ≡ o.unknown
+  steps : next.steps ≡ o.steps
 
-handled_turn : (o : Outline) (major : Major) (name : List ℕ) (routines ahead : List (List ℕ)) (n : ℕ) (ls : List Line) → stands o.place (Handle major name) ≡ true → is_some (handler_of o major) ≡ false
-    → Around o routines ahead → Turn o (handled o (record { line = n; name = name }) major) routines routines ahead n (Handle major name) ls
-handled_turn o major name routines ahead n ls stood fresh h =
+handled_rest : (o : Outline) (u : Use) (major : Major) → Unhandled o (handled o u major)
+handled_rest o u Read = record { driver_names = refl; unknown = refl; steps = refl }
+handled_rest o u Write = record { driver_names = refl; unknown = refl; steps = refl }
+handled_rest o u Control = record { driver_names = refl; unknown = refl; steps = refl }
+
+handled_turn : (o : Outline) (major : Major) (name : List ℕ) (here ahead : Names) (n : ℕ) (ls : List Line) → stands o.place (Handle major name) ≡ true → is_some (handler_of o major) ≡ false
+    → Around o here ahead → Turn o (handled o (record { line = n; name = name }) major) here here ahead n (Handle major name) ls
+handled_turn o major name here ahead n ls stood fresh h =
     let u : Use = record { line = n; name = name } in
-    let names = handled_names o u major in
-    let rest = unknown_from o.driver_names routines (n + 1) ls in
-    let later = next_later n rest (not_before o.driver_names routines (n + 1) ls) in
+    let idle = h.idle (never_inside o.place (Handle major name) refl stood) in
+    let unchanged = handled_rest o u major in
+    let quiet : missed_from here.labels None o.steps ≡ None = rw idle.steps refl in
+    let rest = unknown_from o.driver_names here.routines here.labels (n + 1) ls in
+    let later = rest_later o.driver_names here.routines here.labels n ls in
     record {
-      around = handled_around o u major routines ahead (never_outside o.place (Handle major name) refl stood) h;
-      same = rw (names.0, names.1) (ap (λ (x : Option ℕ). earliest o.unknown x) (handled_same o name major routines n rest later (was_none (handler_of o major) fresh)));
+      around = handled_around o u major here ahead (never_outside o.place (Handle major name) refl stood) idle h;
+      same = rw (unchanged.driver_names, unchanged.unknown, unchanged.steps, quiet)
+          (ap (λ (x : Option ℕ). earliest o.unknown x) (handled_same o name major here.routines n rest later (was_none (handler_of o major) fresh)));
     }
 
-turn : (o : Outline) (n : ℕ) (label : Option (List ℕ)) (body : Body) (ls : List Line) (routines : List (List ℕ))
-    → stands o.place body ≡ true → is_again o label body ≡ false → Around o routines (named_ahead body (routines_ahead ls))
-    → Turn o (noted o n label body) routines (routines_around routines body ls) (routines_ahead ls) n body ls
-turn o n label Blank ls routines stood fresh h = blank_turn o routines (routines_ahead ls) n ls h
-turn o n label (OpenDriver name) ls routines stood fresh h = driver_opened_turn o name routines (routines_ahead ls) (routines_ahead ls) n ls stood h
-turn o n label CloseDriver ls routines stood fresh h = driver_closed_turn o routines (routines_ahead ls) n ls stood h
-turn o n label (Handle major name) ls routines stood fresh h = handled_turn o major name routines (routines_ahead ls) n ls stood fresh h
-turn o n label (OpenRoutine name sort) ls routines stood fresh h = routine_opened_turn o name sort routines (routines_ahead ls) n ls stood h
-turn o n label CloseRoutine ls routines stood fresh h = routine_closed_turn o routines (routines_ahead ls) n ls stood h
-turn o n label (AddDevice name driver stack) ls routines stood fresh h = device_added_turn o name driver stack routines (routines_ahead ls) n ls stood h
-turn o n label (Step instr) ls routines stood fresh h = step_turn o label instr routines (routines_ahead ls) n ls stood h
+turn : (o : Outline) (n : ℕ) (label : Option (List ℕ)) (body : Body) (ls : List Line) (here : Names)
+    → stands o.place body ≡ true → is_again o label body ≡ false → is_out_of_range body ≡ false → Around o here (ahead_with label body (ahead_of ls))
+    → Turn o (noted o n label body) here (around_next here body ls) (ahead_of ls) n body ls
+turn o n label Blank ls here stood fresh range h = blank_turn o here (ahead_of ls) n ls h
+turn o n label (OpenDriver name) ls here stood fresh range h = driver_opened_turn o name here (ahead_of ls) (ahead_of ls) n ls stood h
+turn o n label CloseDriver ls here stood fresh range h = driver_closed_turn o label here (ahead_of ls) n ls stood h
+turn o n label (Handle major name) ls here stood fresh range h = handled_turn o major name here (ahead_of ls) n ls stood fresh h
+turn o n label (OpenRoutine name sort) ls here stood fresh range h = routine_opened_turn o name sort here (ahead_of ls) (labels_ahead ls) n ls stood h
+turn o n label CloseRoutine ls here stood fresh range h = routine_closed_turn o label here (ahead_of ls) n ls stood h
+turn o n label (AddDevice name driver stack) ls here stood fresh range h = device_added_turn o name driver stack here (ahead_of ls) n ls stood h
+turn o n label (TakeStep (Some instr) target) ls here stood fresh range h = step_turn o label instr target here (ahead_of ls) n ls stood h
+turn o n label (TakeStep None target) ls here stood fresh range h = cc
 
-unknown_in : (o : Outline) (n : ℕ) (raws : List (List ℕ)) (ls : List Line) (end : Outline) (routines : List (List ℕ))
-    → Reads o n raws ls end → end.place ≡ Outside → Around o routines (routines_ahead ls) → end.unknown ≡ left o routines n ls
-unknown_in o n [] [] end routines read closed h =
+unknown_in : (o : Outline) (n : ℕ) (raws : List (List ℕ)) (ls : List Line) (end : Outline) (here : Names)
+    → Reads o n raws ls end → end.place ≡ Outside → Around o here (ahead_of ls) → end.unknown ≡ left o here n ls
+unknown_in o n [] [] end here read closed h =
     let at : o.place ≡ Outside = ap (λ (x : Outline). x.place) read ∙ closed in
     let empty = h.outside at in
-    rw (empty.read, empty.write, empty.control) (ap (λ (x : Outline). x.unknown) (sym read) ∙ sym (earliest_none o.unknown))
-unknown_in o n [] (l ∷ ls) end routines read closed h = absurd read
-unknown_in o n (raw ∷ raws) [] end routines read closed h = absurd read
-unknown_in o n (raw ∷ raws) (l ∷ ls) end routines read closed h =
+    let idle = h.idle (λ inside. let same : Outside ≡ InRoutine = sym at ∙ inside in cc) in
+    rw (empty.read, empty.write, empty.control, idle.steps) (ap (λ (x : Outline). x.unknown) (sym read) ∙ sym (earliest_none o.unknown))
+unknown_in o n [] (l ∷ ls) end here read closed h = absurd read
+unknown_in o n (raw ∷ raws) [] end here read closed h = absurd read
+unknown_in o n (raw ∷ raws) (l ∷ ls) end here read closed h =
     let fits = fitting o l read.1.0 in
-    let next = turn o n l.label l.body ls routines fits.standing fits.fresh h in
-    unknown_in (noted o n l.label l.body) (n + 1) raws ls end (routines_around routines l.body ls) read.1.1 closed next.around ∙ next.same
+    let next = turn o n l.label l.body ls here fits.standing fits.fresh fits.in_range h in
+    unknown_in (noted o n l.label l.body) (n + 1) raws ls end (around_next here l.body ls) read.1.1 closed next.around ∙ next.same
 
-pub unknown_is : (raws : List (List ℕ)) (ls : List Line) (end : Outline) → Reads nothing_read 1 raws ls end → end.place ≡ Outside → end.unknown ≡ unknown_from [] [] 1 ls
+pub unknown_is : (raws : List (List ℕ)) (ls : List Line) (end : Outline) → Reads nothing_read 1 raws ls end → end.place ≡ Outside → end.unknown ≡ unknown_from [] [] [] 1 ls
 unknown_is raws ls end read closed =
-    unknown_in nothing_read 1 raws ls end [] read closed (record { inside = λ opened. absurd (opened refl); outside = λ is. record { names = refl; read = refl; write = refl; control = refl } })
+    unknown_in nothing_read 1 raws ls end (record { routines = []; labels = [] }) read closed (record {
+      inside = λ opened. absurd (opened refl);
+      outside = λ is. record { names = refl; read = refl; write = refl; control = refl };
+      busy = λ is. cc;
+      idle = λ closed. record { labels = refl; steps = refl };
+    })

@@ -1,5 +1,5 @@
 -- The faults of a text in other words: which line is at fault, of which kind, and why.
-use Rattle.std.specs.Prelude.{ℕ, ◌≡◌, ◌<◌, ◌+◌, ◌⊎◌, Bool, true, false, not, ◌&&◌, List, [], ◌∷◌, ◌++◌, length, Option, Some, None, Ok, if◌then◌else◌}
+use Rattle.std.specs.Prelude.{ℕ, ◌≡◌, ◌<◌, ◌+◌, ◌⊎◌, Bool, true, false, not, ◌&&◌, List, [], ◌∷◌, ◌++◌, length, Option, Some, None, option_to_list, Ok, if◌then◌else◌}
 use Rattle.std.specs.List.{list_all}
 use Rattle.text.specs.Class.{is_token}
 use Rattle.text.specs.Cut.{is_clean, lines_of, tokens_of}
@@ -8,10 +8,10 @@ use Rattle.asm.specs.declared.draft.Place.TheVariants.{Outside}
 use Rattle.asm.specs.declared.fault.AsmFault.{AsmFault}
 use Rattle.asm.specs.declared.fault.AsmKind.{AsmKind}
 use Rattle.asm.specs.declared.fault.AsmKind.TheVariants.{Lex, UnknownWord, DuplicateName, UnknownName, OutOfRange, Unclosed, OverLimit, Memory}
-use Rattle.asm.specs.declared.line.Body.{Body}
-use Rattle.asm.specs.declared.line.Body.TheVariants.{OpenDriver, CloseDriver, Handle, OpenRoutine, AddDevice}
-use Rattle.asm.specs.declared.line.Line.{Line}
-use Rattle.asm.specs.Line.{line_of, read_line}
+use Rattle.asm_line.specs.declared.line.Body.{Body}
+use Rattle.asm_line.specs.declared.line.Body.TheVariants.{OpenDriver, CloseDriver, Handle, OpenRoutine, CloseRoutine, AddDevice, Step}
+use Rattle.asm_line.specs.declared.line.Line.{Line}
+use Rattle.asm_line.specs.Line.{line_of, read_line}
 use Rattle.asm.specs.Outline.{Outline, nothing_read, has_room, is_again, is_among, is_out_of_range, misfit, noted, stands}
 use Rattle.asm.specs.Reading.{IsFaultOf, IsNamed}
 
@@ -89,6 +89,17 @@ abbrev pub routines_ahead : List Line → List (List ℕ)
 routines_ahead [] = []
 routines_ahead (l ∷ ls) = named_ahead l.body (routines_ahead ls)
 
+-- the labels from a line to the end of the routine, after which there are these
+abbrev pub labelled_ahead : Option (List ℕ) → Body → List (List ℕ) → List (List ℕ)
+labelled_ahead label CloseRoutine after = []
+labelled_ahead label (Step instr target) after = option_to_list label ++ after
+labelled_ahead label _ after = after
+
+-- the labels from here to the end of the routine
+abbrev pub labels_ahead : List Line → List (List ℕ)
+labels_ahead [] = []
+labels_ahead (l ∷ ls) = labelled_ahead l.label l.body (labels_ahead ls)
+
 -- the names of the drivers before the next line
 abbrev pub drivers_after : List (List ℕ) → Body → List (List ℕ)
 drivers_after drivers (OpenDriver name) = drivers ++ name ∷ []
@@ -99,20 +110,28 @@ abbrev pub routines_around : List (List ℕ) → Body → List Line → List (Li
 routines_around routines (OpenDriver name) next = routines_ahead next
 routines_around routines _ next = routines
 
+-- the labels in the routine around the next line
+abbrev pub labels_around : List (List ℕ) → Body → List Line → List (List ℕ)
+labels_around labels (OpenRoutine name sort) next = labels_ahead next
+labels_around labels _ next = labels
+
 -- the line's own number where it uses a name that nothing has: a routine that isn't in the driver
--- around it, or a driver that isn't before it; else what comes of the lines after it
-abbrev pub unknown_at : List (List ℕ) → List (List ℕ) → ℕ → Body → Option ℕ → Option ℕ
-unknown_at drivers routines n (Handle major routine) after = if is_among routines routine then after else Some n
-unknown_at drivers routines n (AddDevice name driver stack) after = if is_among drivers driver then after else Some n
-unknown_at drivers routines n _ after = after
+-- around it, a driver that isn't before it, or a label that isn't in the routine around it; else what
+-- comes of the lines after it
+abbrev pub unknown_at : List (List ℕ) → List (List ℕ) → List (List ℕ) → ℕ → Body → Option ℕ → Option ℕ
+unknown_at drivers routines labels n (Handle major routine) after = if is_among routines routine then after else Some n
+unknown_at drivers routines labels n (AddDevice name driver stack) after = if is_among drivers driver then after else Some n
+unknown_at drivers routines labels n (Step instr (Some target)) after = if is_among labels target then after else Some n
+unknown_at drivers routines labels n _ after = after
 
 -- the first line from number n on that uses a name which nothing has. Given are the names of the
--- drivers before the lines and of the routines in the driver around the first of them.
-abbrev pub unknown_from : List (List ℕ) → List (List ℕ) → ℕ → List Line → Option ℕ
-unknown_from drivers routines n [] = None
-unknown_from drivers routines n (l ∷ ls) =
-    unknown_at drivers routines n l.body
-    (unknown_from (drivers_after drivers l.body) (routines_around routines l.body ls) (n + 1) ls)
+-- drivers before the lines, of the routines in the driver around the first of them, and of the labels
+-- in the routine around it.
+abbrev pub unknown_from : List (List ℕ) → List (List ℕ) → List (List ℕ) → ℕ → List Line → Option ℕ
+unknown_from drivers routines labels n [] = None
+unknown_from drivers routines labels n (l ∷ ls) =
+    unknown_at drivers routines labels n l.body
+    (unknown_from (drivers_after drivers l.body) (routines_around routines l.body ls) (labels_around labels l.body ls) (n + 1) ls)
 
 -- all lines of a text are without a fault, and it ends outside of drivers
 pub record IsRead (text : List ℕ) : Type 0 where
@@ -125,11 +144,11 @@ pub record IsRead (text : List ℕ) : Type 0 where
 -- the text ends too early; and only where there is none of these, the first use of an unknown name
 pub record IsFirst (text : List ℕ) (fault : AsmFault) : Type 0 where
   pub other : (fault.kind ≡ UnknownName → ⊥) → IsLineFault nothing_read 1 (lines_of text) fault ⊎ IsEndFault nothing_read 1 (lines_of text) fault
-  pub unknown : fault.kind ≡ UnknownName → (all : IsRead text) × (unknown_from [] [] 1 all.lines ≡ Some fault.line)
+  pub unknown : fault.kind ≡ UnknownName → (all : IsRead text) × (unknown_from [] [] [] 1 all.lines ≡ Some fault.line)
 
 -- a text that names a set has no fault
 abbrev pub IsFaultless : List ℕ → Type 0
-IsFaultless text = (all : IsRead text) × (unknown_from [] [] 1 all.lines ≡ None)
+IsFaultless text = (all : IsRead text) × (unknown_from [] [] [] 1 all.lines ≡ None)
 
 -- the fault that is given is the first
 abbrev pub FaultIsFirst : Type 0

@@ -1,5 +1,4 @@
-pub mod Words
-pub mod Line
 pub mod Outline
 pub mod Reading
 pub mod Laws
+pub mod Code

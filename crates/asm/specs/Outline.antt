@@ -1,7 +1,8 @@
 -- What the lines of a driver text say so far, and what the next line adds to it.
-use Rattle.std.specs.Prelude.{ℕ, ◌≡◌, ◌≤◌, All, ◌+◌, min, Bool, true, false, not, ◌&&◌, nat_lt, nat_le, bytes_eq, List, [], ◌∷◌, ◌++◌, length, Option, Some, None, is_some, is_none, option_map, option_and_then, option_to_list, position, if◌then◌else◌}
+use Rattle.std.specs.Prelude.{ℕ, ◌≡◌, ◌<◌, ◌≤◌, All, map, slice_get, unwrap_or, ◌+◌, min, Bool, true, false, not, ◌&&◌, nat_lt, nat_le, bytes_eq, List, [], ◌∷◌, ◌++◌, length, Option, Some, None, is_some, is_none, option_map, option_and_then, option_to_list, position, if◌then◌else◌}
 use Rattle.std.specs.List.{list_any}
 use Rattle.model.specs.declared.instr.Instr.{Instr}
+use Rattle.model.specs.declared.instr.Instr.TheVariants.{JumpIfZero, JumpIfLess, Jump}
 use Rattle.model.specs.declared.set.Device.{Device}
 use Rattle.model.specs.declared.set.Driver.{Driver}
 use Rattle.model.specs.declared.set.Routine.{Routine}
@@ -12,17 +13,19 @@ use Rattle.model.specs.declared.status.Major.{Major}
 use Rattle.model.specs.declared.status.Major.TheVariants.{Read, Write, Control}
 use Rattle.asm.specs.declared.draft.Place.{Place}
 use Rattle.asm.specs.declared.draft.Place.TheVariants.{Outside, InDriver, InRoutine}
+use Rattle.asm.specs.declared.draft.Step.{Step as StepOf}
 use Rattle.asm.specs.declared.draft.Use.{Use}
 use Rattle.asm.specs.declared.fault.AsmKind.{AsmKind}
 use Rattle.asm.specs.declared.fault.AsmKind.TheVariants.{UnknownWord, DuplicateName, OutOfRange, OverLimit}
-use Rattle.asm.specs.declared.line.Body.{Body}
-use Rattle.asm.specs.declared.line.Body.TheVariants.{Blank, OpenDriver, CloseDriver, Handle, OpenRoutine, CloseRoutine, AddDevice, Step}
-use Rattle.asm.specs.declared.line.Line.{Line}
+use Rattle.asm_line.specs.declared.line.Body.{Body}
+use Rattle.asm_line.specs.declared.line.Body.TheVariants.{Blank, OpenDriver, CloseDriver, Handle, OpenRoutine, CloseRoutine, AddDevice, Step}
+use Rattle.asm_line.specs.declared.line.Line.{Line}
 
 -- What was read: the drivers that are closed and the devices, with the names of all of them; of the
 -- open driver its routines that are closed, the names of all of its routines, and what serves each
--- major function; of the open routine its sort, labels and instructions; and the first line that
--- uses a name which nothing has. What is open is empty where nothing is open.
+-- major function; of the open routine its sort, its labels, the position that each of them names, and
+-- its instructions; and the first line that uses a name which nothing has, of those that are weighed
+-- already. What is open is empty where nothing is open.
 pub record Outline : Type 0 where
   pub place : Place
   pub driver_names : List (List ℕ)
@@ -36,7 +39,8 @@ pub record Outline : Type 0 where
   pub control : Option Use
   pub sort : Sort
   pub labels : List (List ℕ)
-  pub code : List Instr
+  pub positions : List ℕ
+  pub steps : List StepOf
   pub unknown : Option ℕ
 
 -- before the first line
@@ -54,7 +58,8 @@ nothing_read = record {
   control = None;
   sort = Dispatch;
   labels = [];
-  code = [];
+  positions = [];
+  steps = [];
   unknown = None;
 }
 
@@ -75,7 +80,7 @@ stands InDriver CloseDriver = true
 stands InDriver (Handle major routine) = true
 stands InDriver (OpenRoutine name sort) = true
 stands InRoutine CloseRoutine = true
-stands InRoutine (Step instr) = true
+stands InRoutine (Step instr target) = true
 stands _ _ = false
 
 -- the routine that serves a major function in the open driver, as its line names it
@@ -95,7 +100,7 @@ is_again o label (OpenDriver name) = is_among o.driver_names name
 is_again o label (Handle major routine) = is_some (handler_of o major)
 is_again o label (OpenRoutine name sort) = is_among o.routine_names name
 is_again o label (AddDevice name driver stack) = is_among o.device_names name
-is_again o label (Step instr) = is_known_label o.labels label
+is_again o label (Step instr target) = is_known_label o.labels label
 is_again o label _ = false
 
 -- a stack size is 1 to 16
@@ -106,7 +111,7 @@ is_stack_size (Some n) = nat_le 1 n && nat_le n 16
 -- an operand of the line is out of range
 abbrev pub is_out_of_range : Body → Bool
 is_out_of_range (AddDevice name driver stack) = not (is_stack_size stack)
-is_out_of_range (Step instr) = is_none instr
+is_out_of_range (Step instr target) = is_none instr
 is_out_of_range _ = false
 
 -- there is room for what the line adds
@@ -114,7 +119,7 @@ abbrev pub has_room : Outline → Body → Bool
 has_room o (OpenDriver name) = nat_lt (length o.driver_names) 8
 has_room o (AddDevice name driver stack) = nat_lt (length o.device_names) 16
 has_room o (OpenRoutine name sort) = nat_lt (length o.routine_names) 32
-has_room o (Step instr) = nat_lt (length o.code) 1024
+has_room o (Step instr target) = nat_lt (length o.steps) 1024
 has_room o _ = true
 
 -- the line's fault in its context: the least kind of those that it has
@@ -193,13 +198,41 @@ routine_opened o name sort = record o {
   sort = sort;
 }
 
--- `endr`
+-- the position that a label names
+abbrev pub position_of : List (List ℕ) → List ℕ → List ℕ → Option ℕ
+position_of labels positions name = option_and_then (λ k. slice_get positions k) (number_of labels name)
+
+-- where an instruction jumps to: 0 where nothing has the name, or where it doesn't jump
+abbrev pub target_position : List (List ℕ) → List ℕ → Option Use → ℕ
+target_position labels positions None = 0
+target_position labels positions (Some u) = unwrap_or (position_of labels positions u.name) 0
+
+-- the instruction with this label in place of its own, if it has one
+abbrev pub with_label : Instr → ℕ → Instr
+with_label (JumpIfZero r old) label = JumpIfZero r label
+with_label (JumpIfLess r s old) label = JumpIfLess r s label
+with_label (Jump old) label = Jump label
+with_label i label = i
+
+-- an instruction with the position of its label
+abbrev pub resolved : List (List ℕ) → List ℕ → StepOf → Instr
+resolved labels positions s = with_label s.instr (target_position labels positions s.target)
+
+-- the earliest line of these steps that uses a label which isn't there, or the one found already if
+-- that is earlier
+abbrev pub missed_from : List (List ℕ) → Option ℕ → List StepOf → Option ℕ
+missed_from labels found [] = found
+missed_from labels found (s ∷ ss) = missed_from labels (earliest found (missed labels s.target)) ss
+
+-- `endr`: now the routine's labels are known
 abbrev pub routine_closed : Outline → Outline
 routine_closed o = record o {
   place = InDriver;
-  routines = o.routines ++ record { sort = o.sort; code = o.code } ∷ [];
+  routines = o.routines ++ record { sort = o.sort; code = map (resolved o.labels o.positions) o.steps } ∷ [];
   labels = [];
-  code = [];
+  positions = [];
+  steps = [];
+  unknown = missed_from o.labels o.unknown o.steps;
 }
 
 -- a device of the driver with this name, if there is one before it
@@ -216,11 +249,21 @@ device_added o name driver stack = record o {
   unknown = earliest o.unknown (missed o.driver_names (Some driver));
 }
 
--- an instruction
-abbrev pub stepped : Outline → Option (List ℕ) → Option Instr → Outline
-stepped o label instr = record o {
+-- a label, if there is one: it names the position of the next instruction
+abbrev pub label_added : Outline → Option (List ℕ) → Outline
+label_added o label = record o {
   labels = o.labels ++ option_to_list label;
-  code = o.code ++ option_to_list instr;
+  positions = o.positions ++ option_to_list (option_map (λ label. length o.steps) label);
+}
+
+-- the use of a name in a line, if there is one
+abbrev pub used_at : ℕ → Option (List ℕ) → Option Use
+used_at n name = option_map (λ name. record { line = n; name = name }) name
+
+-- an instruction with its label, and the name of the label that it jumps to
+abbrev pub stepped : Outline → ℕ → Option (List ℕ) → Instr → Option (List ℕ) → Outline
+stepped o n label instr target = record (label_added o label) {
+  steps = o.steps ++ (record { instr = instr; target = used_at n target }) ∷ [];
 }
 
 -- what is read with a line more, whose number is n
@@ -232,7 +275,8 @@ noted o n label (Handle major routine) = handled o (record { line = n; name = ro
 noted o n label (OpenRoutine name sort) = routine_opened o name sort
 noted o n label CloseRoutine = routine_closed o
 noted o n label (AddDevice name driver stack) = device_added o name (record { line = n; name = driver }) stack
-noted o n label (Step instr) = stepped o label instr
+noted o n label (Step (Some instr) target) = stepped o n label instr target
+noted o n label (Step None target) = o
 
 -- how many drivers are open in a place
 abbrev pub open_drivers : Place → ℕ
@@ -251,7 +295,8 @@ pub record IsOrderly (o : Outline) : Type 0 where
   pub few_drivers : length o.driver_names ≤ 8
   pub few_devices : length o.device_names ≤ 16
   pub few_routines : length o.routine_names ≤ 32
-  pub few_steps : length o.code ≤ 1024
+  pub few_steps : length o.steps ≤ 1024
+  pub positions_fit : All (λ position. position < length o.steps) o.positions
   pub driver_count : length o.drivers + open_drivers o.place ≡ length o.driver_names
   pub device_count : length o.devices ≤ length o.device_names
   pub routine_count : length o.routines + open_routines o.place ≡ length o.routine_names

@@ -6,9 +6,11 @@ use Rattle.asm.specs.declared.draft.Place.{Place}
 use Rattle.asm.specs.declared.draft.Place.TheVariants.{Outside}
 use Rattle.asm.specs.declared.fault.AsmFault.{AsmFault}
 use Rattle.asm.specs.declared.fault.AsmKind.{AsmKind}
-use Rattle.asm.specs.declared.fault.AsmKind.TheVariants.{UnknownName, Unclosed, Memory}
-use Rattle.asm.specs.declared.line.Line.{Line}
-use Rattle.asm.specs.Line.{read_line}
+use Rattle.asm.specs.declared.fault.AsmKind.TheVariants.{Lex, UnknownWord, UnknownName, Unclosed, Memory}
+use Rattle.asm_line.specs.declared.line.Line.{Line}
+use Rattle.asm_line.specs.declared.line.LineFault.{LineFault}
+use Rattle.asm_line.specs.declared.line.LineFault.TheVariants as unread
+use Rattle.asm_line.specs.Line.{read_line}
 use Rattle.asm.specs.Outline.{Outline, nothing_read, misfit, noted}
 
 -- a line that has a form, in its context: its fault, or what is read with it
@@ -16,10 +18,15 @@ abbrev pub fitted : Outline → ℕ → Line → Option AsmKind → Result Outli
 fitted o n l None = Ok (noted o n l.label l.body)
 fitted o n l (Some kind) = Err kind
 
+-- the kind of fault of bytes that are no line
+abbrev pub kind_of : LineFault → AsmKind
+kind_of unread.Lex = Lex
+kind_of unread.UnknownWord = UnknownWord
+
 -- a line that was read by its form, in its context
-abbrev pub placed : Outline → ℕ → Result Line AsmKind → Result Outline AsmKind
+abbrev pub placed : Outline → ℕ → Result Line LineFault → Result Outline AsmKind
 placed o n (Ok l) = fitted o n l (misfit o l)
-placed o n (Err kind) = Err kind
+placed o n (Err fault) = Err (kind_of fault)
 
 -- one line, whose number is n: its least kind of fault, or what is read with it
 abbrev pub read_on : Outline → ℕ → List ℕ → Result Outline AsmKind

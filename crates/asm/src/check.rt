@@ -5,8 +5,8 @@ ghost use Rattle.asm.specs.Outline.{handler_of, has_room, is_again, is_out_of_ra
 
 use crate::draft::{Draft, Place, Use};
 use crate::fault::AsmKind;
-use crate::line::{Body, Line};
 use crate::names::{is_among, is_known};
+use asm_line::{Body, Line};
 use model::limits::{MAX_DEVICES, MAX_DRIVERS, MAX_INSTRUCTIONS, MAX_ROUTINES};
 use model::status::Major;
 
@@ -39,7 +39,7 @@ impl<'a> Draft<'a> {
             Body::Handle(major, _) => self.handler_of(*major).is_some(),
             Body::OpenRoutine(name, _) => is_among(&self.routine_names, name),
             Body::AddDevice(name, _, _) => is_among(&self.device_names, name),
-            Body::Step(_) => is_known(&self.labels, &line.label),
+            Body::Step(_, _) => is_known(&self.labels, &line.label),
             Body::Blank | Body::CloseDriver | Body::CloseRoutine => false,
         }
     }
@@ -63,7 +63,7 @@ impl<'a> Draft<'a> {
             Body::OpenDriver(_) => self.driver_names.len() < MAX_DRIVERS,
             Body::AddDevice(_, _, _) => self.device_names.len() < MAX_DEVICES,
             Body::OpenRoutine(_, _) => self.routine_names.len() < MAX_ROUTINES,
-            Body::Step(_) => self.code.len() < MAX_INSTRUCTIONS,
+            Body::Step(_, _) => self.steps.len() < MAX_INSTRUCTIONS,
             _ => true,
         }
     }
@@ -79,7 +79,7 @@ fn stands(place: Place, body: &Body<'_>) -> bool
         Body::CloseDriver | Body::Handle(_, _) | Body::OpenRoutine(_, _) => {
             matches!(place, Place::InDriver)
         }
-        Body::CloseRoutine | Body::Step(_) => matches!(place, Place::InRoutine),
+        Body::CloseRoutine | Body::Step(_, _) => matches!(place, Place::InRoutine),
     }
 }
 
@@ -89,7 +89,7 @@ fn is_out_of_range(body: &Body<'_>) -> bool
 {
     match body {
         Body::AddDevice(_, _, stack) => !is_stack_size(*stack),
-        Body::Step(instr) => instr.is_none(),
+        Body::Step(instr, _) => instr.is_none(),
         _ => false,
     }
 }

@@ -25,6 +25,13 @@ pub struct Use<'a> {
     pub name: Piece<'a>,
 }
 
+/// An instruction of the open routine. Where it jumps, the target is the use of its label's name.
+#[derive(Drop)]
+pub struct Step<'a> {
+    pub instr: Instr,
+    pub target: Option<Use<'a>>,
+}
+
 /// What was read. Contracts see an `Outline`.
 #[derive(Drop)]
 pub struct Draft<'a> {
@@ -40,7 +47,8 @@ pub struct Draft<'a> {
     pub(crate) control: Option<Use<'a>>,
     pub(crate) sort: Sort,
     pub(crate) labels: IndexSet<Piece<'a>>,
-    pub(crate) code: Vec<Instr>,
+    pub(crate) positions: Vec<u16>,
+    pub(crate) steps: Vec<Step<'a>>,
     pub(crate) unknown: Option<u64>,
 }
 
@@ -62,7 +70,8 @@ impl<'a> Model for Draft<'a> {
       control = d.control;
       sort = d.sort;
       labels = d.labels.keys;
-      code = d.code.items;
+      positions = d.positions.items;
+      steps = d.steps.items;
       unknown = d.unknown;
     } };
 }
@@ -85,7 +94,8 @@ impl<'a> Draft<'a> {
             control: None,
             sort: Sort::Dispatch,
             labels: IndexSet::new(alloc),
-            code: Vec::new(alloc),
+            positions: Vec::new(alloc),
+            steps: Vec::new(alloc),
             unknown: None,
         }
     }

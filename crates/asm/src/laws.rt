@@ -1,6 +1,7 @@
 //! Laws of what a text names, in the words of a text's reader. Nothing runs here: each law is the
 //! contract of a function that does nothing.
 
+ghost use Rattle.asm.specs.Code.{CodeIsOfItsLines};
 ghost use Rattle.asm.specs.Laws.{FaultIsFirst, NamedIsFaultless};
 
 /// The fault that is given is that of the first line that has one, with the least kind that it has,
@@ -14,4 +15,11 @@ pub fn fault_is_first()
 /// A text that names a set has no fault of any kind.
 pub fn named_is_faultless()
     ensures { NamedIsFaultless }
+{}
+
+/// A routine of a set that a text names has the instructions on its lines, in order, and each of them
+/// that jumps has the position of the instruction on the line of its label.
+#[tactic(auto, using(crate::proofs::Written::code_is_of_its_lines))]
+pub fn code_is_of_its_lines()
+    ensures { CodeIsOfItsLines }
 {}

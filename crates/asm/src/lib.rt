@@ -7,13 +7,11 @@
 mod check;
 mod draft;
 mod fault;
-mod form;
 pub mod laws;
-mod line;
+mod link;
 mod names;
 mod note;
 mod reading;
-mod words;
 
 pub use fault::{AsmFault, AsmKind};
 pub use reading::assemble;

@@ -1,7 +1,7 @@
 //! Names and what they number.
 
 ghost use Rattle.std.specs.Prelude.{◌≡◌, ◌≤◌, ◌++◌, [], ◌∷◌, false, length, OnOk, option_to_list};
-ghost use Rattle.asm.specs.Outline.{earliest, handler_in, is_among, is_known_label, missed, number_of};
+ghost use Rattle.asm.specs.Outline.{earliest, handler_in, is_among, is_known_label, missed, number_of, used_at};
 
 use crate::draft::Use;
 use indexmap::IndexSet;
@@ -45,6 +45,16 @@ pub fn handler_in(names: &IndexSet<Piece<'_>>, handler: &Option<Use<'_>>) -> Opt
     }
 }
 
+/// The use of a name in a line, if there is one.
+pub fn used_at<'a>(line: u64, name: Option<Piece<'a>>) -> Option<Use<'a>>
+    ensures { result ≡ used_at line name.entry }
+{
+    match name {
+        Some(name) => Some(Use { line, name }),
+        None => None,
+    }
+}
+
 /// The line of a use of a name that isn't among these.
 pub fn missed(names: &IndexSet<Piece<'_>>, used: &Option<Use<'_>>) -> Option<u64>
     ensures { result ≡ missed names.now.keys used.now }
@@ -79,20 +89,6 @@ pub fn add<'a>(names: &mut IndexSet<Piece<'a>>, name: Piece<'a>) -> Result<(), A
 {
     names.insert(name)?;
     Ok(())
-}
-
-/// Adds a label, if there is one; it is new.
-pub fn add_label<'a>(
-    labels: &mut IndexSet<Piece<'a>>,
-    label: Option<Piece<'a>>,
-) -> Result<(), AllocError>
-    requires { is_known_label labels.old.keys label ≡ false }
-    ensures { OnOk result (labels.new.keys ≡ labels.old.keys ++ option_to_list label.entry) }
-{
-    match label {
-        Some(label) => add(labels, label),
-        None => Ok(()),
-    }
 }
 
 /// Adds what there is.

@@ -1,11 +1,12 @@
 //! What a line adds to what was read.
 
-ghost use Rattle.std.specs.Prelude.{◌≡◌, ◌≤◌, false, true, [], length, OnOk};
-ghost use Rattle.asm.specs.Outline.{device_added, device_of, driver_closed, driver_opened, handled, is_among, is_known_label, is_stack_size, missed_handler, noted, open_driver, routine_closed, routine_opened, stepped, IsFitting, IsOrderly};
+ghost use Rattle.std.specs.Prelude.{◌≡◌, ◌≤◌, ◌<◌, false, true, [], length, OnOk};
+ghost use Rattle.asm.specs.Outline.{device_added, device_of, driver_closed, driver_opened, handled, is_among, is_known_label, is_stack_size, label_added, missed_handler, noted, open_driver, routine_closed, routine_opened, stepped, IsFitting, IsOrderly};
 
-use crate::draft::{Draft, Place, Use};
-use crate::line::{Body, Line};
-use crate::names::{add, add_label, earliest, handler_in, missed, number_of, push_some};
+use crate::draft::{Draft, Place, Step, Use};
+use crate::link::{linked, missed_from};
+use crate::names::{add, earliest, handler_in, missed, number_of, push_some, used_at};
+use asm_line::{Body, Line};
 use model::instr::Instr;
 use model::items::Items;
 use model::set::{Device, Driver, Routine, Sort};
@@ -40,7 +41,10 @@ impl<'a> Draft<'a> {
                 };
                 self.add_device(name, used, stack)
             }
-            Body::Step(instr) => self.step(label, instr),
+            Body::Step(instr, target) => match instr {
+                Some(instr) => self.step(number, label, instr, target),
+                None => Ok(()),
+            },
         }
     }
 
@@ -121,12 +125,15 @@ impl<'a> Draft<'a> {
     fn close_routine(&mut self, alloc: Global) -> Result<(), AllocError>
         ensures { OnOk result (self.new ≡ routine_closed self.old) }
     {
-        let code = mem::replace(&mut self.code, Vec::new(alloc));
+        let code = linked(alloc, &self.labels, &self.positions, &self.steps)?;
+        self.unknown = missed_from(&self.labels, self.unknown, &self.steps);
         self.routines.push(Routine {
             sort: self.sort,
             code: Items::of(code),
         })?;
         self.labels.clear();
+        self.positions.clear();
+        self.steps.clear();
         self.place = Place::InDriver;
         Ok(())
     }
@@ -162,12 +169,39 @@ impl<'a> Draft<'a> {
         })
     }
 
-    /// An instruction with its label.
-    fn step(&mut self, label: Option<Piece<'a>>, instr: Option<Instr>) -> Result<(), AllocError>
-        requires { is_known_label self.old.labels label ≡ false }
-        ensures { OnOk result (self.new ≡ stepped self.old label.entry instr) }
+    /// An instruction with its label, and the name of the label that it jumps to.
+    fn step(
+        &mut self,
+        number: u64,
+        label: Option<Piece<'a>>,
+        instr: Instr,
+        target: Option<Piece<'a>>,
+    ) -> Result<(), AllocError>
+        requires fresh { is_known_label self.old.labels label ≡ false }
+        requires room { length self.old.steps < 1024 }
+        ensures { OnOk result (self.new ≡ stepped self.old number label.entry instr target.entry) }
     {
-        push_some(&mut self.code, instr)?;
-        add_label(&mut self.labels, label)
+        self.add_label(label)?;
+        self.steps.push(Step {
+            instr,
+            target: used_at(number, target),
+        })?;
+        Ok(())
+    }
+
+    /// A label, if there is one, which is new: it stands for the position of the next instruction.
+    fn add_label(&mut self, label: Option<Piece<'a>>) -> Result<(), AllocError>
+        requires fresh { is_known_label self.old.labels label ≡ false }
+        requires room { length self.old.steps < 1024 }
+        ensures { OnOk result (self.new ≡ label_added self.old label.entry) }
+    {
+        match label {
+            Some(label) => {
+                add(&mut self.labels, label)?;
+                self.positions.push(self.steps.len() as u16)?;
+                Ok(())
+            }
+            None => Ok(()),
+        }
     }
 }

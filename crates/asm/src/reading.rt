@@ -3,11 +3,11 @@
 ghost use Rattle.std.specs.Prelude.{◌≡◌, ◌⊎◌, ℕ, IfOk, MatchResult, OnOk, Ok, Err};
 ghost use Rattle.asm.specs.Outline.{nothing_read, IsOrderly};
 ghost use Rattle.asm.specs.declared.draft.Place.{Place};
-ghost use Rattle.asm.specs.Reading.{memory, read_on, reading, resolved, set_in, IsFaultOf, IsNamed};
+ghost use Rattle.asm.specs.Reading.{kind_of, memory, read_on, reading, resolved, set_in, IsFaultOf, IsNamed};
 
 use crate::draft::{Draft, Place};
 use crate::fault::{AsmFault, AsmKind};
-use crate::form::read_line;
+use asm_line::{LineFault, read_line};
 use image::DriverSet;
 use std::alloc::{AllocError, Global};
 use text::cut::lines;
@@ -84,7 +84,7 @@ impl<'a> Draft<'a> {
     {
         let line = match read_line(alloc, raw)? {
             Ok(line) => line,
-            Err(kind) => return Ok(Err(kind)),
+            Err(fault) => return Ok(Err(kind_of(fault))),
         };
         if let Some(kind) = self.misfit(&line) {
             return Ok(Err(kind));
@@ -116,5 +116,15 @@ impl<'a> Draft<'a> {
             Ok(set) => Ok(set),
             Err(_) => unreachable!(),
         }
+    }
+}
+
+/// The kind of fault of bytes that are no line.
+fn kind_of(fault: LineFault) -> AsmKind
+    ensures { result ≡ kind_of fault }
+{
+    match fault {
+        LineFault::Lex => AsmKind::Lex,
+        LineFault::UnknownWord => AsmKind::UnknownWord,
     }
 }

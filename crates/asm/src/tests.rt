@@ -1,7 +1,7 @@
 //! Texts and what they name: the set, or the fault that the rules of the text give.
 
 use crate::{AsmFault, AsmKind, assemble};
-use model::instr::{Instr, Register, Return};
+use model::instr::{Cell, Field, Instr, Register, Return, SpinLock, Turns};
 use model::status::Status;
 use std::alloc::{AllocError, Global};
 use std::process::Abort;
@@ -54,6 +54,60 @@ fn names_a_set(rt: HostRuntime) -> Result<(), Fail> {
     assert_eq!(rt; devices.len(), 2);
     assert_eq!(rt; (devices[0].driver, devices[0].stack), (1, 16));
     assert_eq!(rt; (devices[1].driver, devices[1].stack), (0, 1));
+    Ok(())
+}
+
+/// A routine with each instruction, and a second one that has a label of the same name.
+const ALL_INSTRUCTIONS: &str = "driver d\nroutine f dispatch\nloop 1000\nconst r1 7\nmov r2 r1\n\
+    jz r2 last\nadd r2 r1\nsub r1 r2\nx: jlt r1 r2 last\njmp x\nend\nload r3 c15\nstore c0 r3\n\
+    loadp r4 p15\nstorep p0 r4\nget r5 r0 MAJOR\nget r5 r0 ARG\nget r5 r0 INFO\nput r0 r5\n\
+    mark r0\nacquire l7\nrelease l0\nacqc\nrelc\nclear r1\ncomplete r0 SUCCESS\n\
+    last: ret SUCCESS\nendr\nroutine g dispatch\nclear r1\nx: jmp x\nendr\nendd\n";
+
+/// The register of a number.
+fn register(number: u8) -> Result<Register, Fail> {
+    Ok(Register::of(number).ok_or("register")?)
+}
+
+#[test]
+fn names_each_instruction(rt: HostRuntime) -> Result<(), Fail> {
+    let set = assemble(rt.alloc(), ALL_INSTRUCTIONS.as_bytes())?;
+    let drivers = set.drivers();
+    let routines = drivers[0].routines.as_slice();
+    let (zero, one, two) = (register(0)?, register(1)?, register(2)?);
+    let (three, four, five) = (register(3)?, register(4)?, register(5)?);
+    let first_cell = Cell::of(0).ok_or("c0")?;
+    let last_cell = Cell::of(15).ok_or("c15")?;
+    let code = [
+        Instr::Loop(Turns::of(1000).ok_or("turns")?),
+        Instr::Const(one, 7),
+        Instr::Move(two, one),
+        Instr::JumpIfZero(two, 24),
+        Instr::Add(two, one),
+        Instr::Subtract(one, two),
+        Instr::JumpIfLess(one, two, 24),
+        Instr::Jump(6),
+        Instr::End,
+        Instr::Load(three, last_cell),
+        Instr::Store(first_cell, three),
+        Instr::LoadPaged(four, last_cell),
+        Instr::StorePaged(first_cell, four),
+        Instr::Get(five, zero, Field::Major),
+        Instr::Get(five, zero, Field::Argument),
+        Instr::Get(five, zero, Field::Info),
+        Instr::Put(zero, five),
+        Instr::Mark(zero),
+        Instr::Acquire(SpinLock::of(7).ok_or("l7")?),
+        Instr::Release(SpinLock::of(0).ok_or("l0")?),
+        Instr::AcquireCancel,
+        Instr::ReleaseCancel,
+        Instr::Clear(one),
+        Instr::Complete(zero, Status::Success),
+        Instr::Ret(Return::WithStatus(Status::Success)),
+    ];
+    assert_eq!(rt; routines[0].code.as_slice(), code.as_slice());
+    let code = [Instr::Clear(one), Instr::Jump(1)];
+    assert_eq!(rt; routines[1].code.as_slice(), code.as_slice());
     Ok(())
 }
 
@@ -124,6 +178,16 @@ fn gives_the_first_fault(rt: HostRuntime) -> Result<(), Fail> {
         ("device v d 1\ndriver d\nendd", 1, UnknownName),
         ("device v d 1\ndriver d\n", 3, Unclosed),
         (
+            "driver d\nroutine f dispatch\njmp x\nendr\ndispatch READ g\nendd",
+            3,
+            UnknownName,
+        ),
+        (
+            "driver d\ndispatch READ g\nroutine f dispatch\njmp x\nendr\nendd",
+            2,
+            UnknownName,
+        ),
+        (
             "driver d\ndispatch CONTROL f\ndispatch READ f\nendd\ndevice v e 1",
             2,
             UnknownName,
@@ -136,7 +200,7 @@ fn gives_the_first_fault(rt: HostRuntime) -> Result<(), Fail> {
 
 #[test]
 fn gives_the_first_fault_of_a_routine(rt: HostRuntime) -> Result<(), Fail> {
-    use AsmKind::{DuplicateName, OutOfRange, UnknownWord};
+    use AsmKind::{DuplicateName, OutOfRange, UnknownName, UnknownWord};
     for (lines, line, kind) in [
         ("clear r16\n", 4, OutOfRange),
         ("clear r016\n", 4, OutOfRange),
@@ -149,9 +213,25 @@ fn gives_the_first_fault_of_a_routine(rt: HostRuntime) -> Result<(), Fail> {
         ("x:\n", 4, UnknownWord),
         ("x: y: clear r1\n", 4, UnknownWord),
         ("x: endr\n", 4, UnknownWord),
-        ("jmp x\n", 4, UnknownWord),
-        ("x: clear r1\nx: jmp x\n", 5, UnknownWord),
+        ("insert r0 q\n", 4, UnknownWord),
+        ("x: clear r1\nx: insert r0 q\n", 5, UnknownWord),
         ("x: clear r1\nx: clear r16\n", 5, DuplicateName),
+        ("acquire l8\n", 4, OutOfRange),
+        ("load r0 c16\n", 4, OutOfRange),
+        ("load r0 p3\n", 4, UnknownWord),
+        ("storep p16 r0\n", 4, OutOfRange),
+        ("loop 0\n", 4, OutOfRange),
+        ("loop 1001\n", 4, OutOfRange),
+        ("get r0 r1 LENGTH\n", 4, UnknownWord),
+        ("jmp 1\n", 4, UnknownWord),
+        ("jz r16 x:\n", 4, UnknownWord),
+        ("jz r0 y\njmp x\nx: clear r1\n", 4, UnknownName),
+        ("jmp x\nclear r16\n", 5, OutOfRange),
+        (
+            "x: clear r1\nendr\nroutine g dispatch\njmp x\n",
+            7,
+            UnknownName,
+        ),
     ] {
         expect_fault(&rt, &routine(rt.alloc(), lines)?, line, kind)?;
     }

@@ -1,17 +1,31 @@
 -- The line of a trace for an event: its number, and what the run answered to it.
 use Rattle.std.specs.Prelude.{ℕ, List, [], ◌∷◌, ◌++◌, codes}
 use Rattle.std.specs.Fmt.{decimal}
+use Rattle.model.specs.declared.event.Lock.{Lock}
+use Rattle.model.specs.declared.event.Lock.TheVariants.{SystemCancel, Spin}
+use Rattle.model.specs.declared.event.OfDevice.{OfDevice}
 use Rattle.model.specs.declared.event.Place.{Place}
 use Rattle.model.specs.declared.event.Reply.{Reply}
-use Rattle.model.specs.declared.event.Reply.TheVariants.{Started, Stepped, Finished, Topped, Idle, Refused, Bug as BugCheckReply, Wrong}
+use Rattle.model.specs.declared.event.Reply.TheVariants.{Started, Stepped, Finished, Topped, Waited, Idle, Refused, Bug as BugCheckReply, Wrong}
 use Rattle.model.specs.declared.event.Subject.{Subject}
-use Rattle.model.specs.declared.event.Subject.TheVariants.{Packet}
+use Rattle.model.specs.declared.event.Subject.TheVariants.{Packet, Lock as LockSubject, Cell}
 use Rattle.report.specs.Line.{line_of}
 use Rattle.report.specs.Number.{status_text, bug_check_text}
+
+-- a spin lock or a cell of a device: the device and the number
+abbrev pub of_device_text : OfDevice → List ℕ
+of_device_text thing = decimal thing.device ++ 46 ∷ decimal thing.number
+
+-- a lock
+abbrev pub lock_text : Lock → List ℕ
+lock_text SystemCancel = codes "cancel"
+lock_text (Spin lock) = of_device_text lock
 
 -- what a bug check is about
 abbrev pub subject_words : Subject → List (List ℕ)
 subject_words (Packet n) = codes "packet" ∷ decimal n ∷ []
+subject_words (LockSubject lock) = codes "lock" ∷ lock_text lock ∷ []
+subject_words (Cell cell) = codes "cell" ∷ of_device_text cell ∷ []
 
 -- a place: driver, routine and position
 abbrev pub place_text : Place → List ℕ
@@ -23,6 +37,7 @@ reply_words (Started n) = codes "started" ∷ decimal n ∷ []
 reply_words Stepped = codes "stepped" ∷ []
 reply_words Finished = codes "finished" ∷ []
 reply_words (Topped n status info) = codes "topped" ∷ decimal n ∷ status_text status ∷ decimal info ∷ []
+reply_words Waited = codes "waited" ∷ []
 reply_words Idle = codes "idle" ∷ []
 reply_words Refused = codes "refused" ∷ []
 reply_words (BugCheckReply bug) = codes "bug" ∷ bug_check_text bug.check ∷ subject_words bug.subject

@@ -3,7 +3,7 @@ use Rattle.std.specs.Prelude.{ℕ, List, [], ◌∷◌, codes}
 use Rattle.std.specs.Fmt.{decimal}
 use Rattle.model.specs.declared.abs.Refusal.{Refusal}
 use Rattle.model.specs.declared.abs.Rule.{Rule}
-use Rattle.model.specs.declared.abs.Rule.TheVariants.{Malformed, Unreachable, WrongKind, DoubleCompletion, MarkIrpPending, Dropped, Memory}
+use Rattle.model.specs.declared.abs.Rule.TheVariants.{Malformed, Unreachable, StatesDiffer, WrongKind, DoubleCompletion, MarkIrpPending, CancelSpinLock, SpinLock, LockHeld, Level, Dropped, TooLong, Memory}
 use Rattle.model.specs.declared.set.Sort.{Sort}
 use Rattle.model.specs.declared.set.Sort.TheVariants.{Dispatch}
 use Rattle.report.specs.Line.{line_of}
@@ -16,10 +16,16 @@ sort_text Dispatch = codes "dispatch"
 abbrev pub rule_text : Rule → List ℕ
 rule_text Malformed = codes "V1 Malformed"
 rule_text Unreachable = codes "V2 Unreachable"
+rule_text StatesDiffer = codes "V3 StatesDiffer"
 rule_text WrongKind = codes "V4 WrongKind"
 rule_text DoubleCompletion = codes "V5 DoubleCompletion"
 rule_text MarkIrpPending = codes "V6 MarkIrpPending"
+rule_text CancelSpinLock = codes "V7 CancelSpinLock"
+rule_text SpinLock = codes "V8 SpinLock"
+rule_text LockHeld = codes "V9 LockHeld"
+rule_text Level = codes "V10 Level"
 rule_text Dropped = codes "V13 Dropped"
+rule_text TooLong = codes "V19 TooLong"
 rule_text Memory = codes "V20 Memory"
 
 -- the line of a routine of an accepted set

@@ -1,10 +1,10 @@
-//! Status values, bug checks and places as they are shown.
+//! Status values, bug checks, places and things of devices as they are shown.
 
 ghost use Rattle.std.specs.Prelude.{◌≡◌, Some};
 ghost use Rattle.report.specs.Number.{bug_check_code, bug_check_text, status_text};
-ghost use Rattle.report.specs.Reply.{place_text};
+ghost use Rattle.report.specs.Reply.{of_device_text, place_text};
 
-use model::event::{BugCheck, Place};
+use model::event::{BugCheck, OfDevice, Place};
 use model::status::Status;
 use std::fmt;
 
@@ -40,6 +40,8 @@ fn bug_check_code(check: BugCheck) -> u8
 {
     match check {
         BugCheck::IrqlNotLessOrEqual => 0x0A,
+        BugCheck::SpinLockAlreadyOwned => 0x0F,
+        BugCheck::SpinLockNotOwned => 0x10,
         BugCheck::MultipleIrpCompleteRequests => 0x44,
     }
 }
@@ -58,5 +60,18 @@ impl fmt::Display for PlaceText {
             position,
         } = self.0;
         write!(f, "{driver}.{routine}.{position}")
+    }
+}
+
+/// A spin lock or a cell of a device: device and number, parted by a dot.
+#[derive(Drop)]
+pub(crate) struct OfDeviceText(pub OfDevice);
+
+impl fmt::Display for OfDeviceText {
+    ghost output = { λ t. Some (of_device_text t.0) };
+
+    fn fmt<W: fmt::Write>(&self, f: &mut fmt::Formatter<W>) -> fmt::Result {
+        let OfDevice { device, number } = self.0;
+        write!(f, "{device}.{number}")
     }
 }

@@ -63,10 +63,16 @@ fn rule_name(rule: Rule) -> &'static str
     match rule {
         Rule::Malformed => "V1 Malformed",
         Rule::Unreachable => "V2 Unreachable",
+        Rule::StatesDiffer => "V3 StatesDiffer",
         Rule::WrongKind => "V4 WrongKind",
         Rule::DoubleCompletion => "V5 DoubleCompletion",
         Rule::MarkIrpPending => "V6 MarkIrpPending",
+        Rule::CancelSpinLock => "V7 CancelSpinLock",
+        Rule::SpinLock => "V8 SpinLock",
+        Rule::LockHeld => "V9 LockHeld",
+        Rule::Level => "V10 Level",
         Rule::Dropped => "V13 Dropped",
+        Rule::TooLong => "V19 TooLong",
         Rule::Memory => "V20 Memory",
     }
 }

@@ -1,9 +1,10 @@
 //! The words of a driver text.
 
 ghost use Rattle.std.specs.Prelude.{◌≡◌};
-ghost use Rattle.asm.specs.Words.{keyword_of, major_of, sort_of, status_of};
+ghost use Rattle.asm_line.specs.Words.{field_of, instruction_of, keyword_of, major_of, sort_of, status_of};
 
 use crate::line::Keyword;
+use model::instr::Field;
 use model::set::Sort;
 use model::status::{Major, Status};
 use text::class::is;
@@ -24,12 +25,57 @@ pub fn keyword_of(token: &[u8]) -> Option<Keyword>
         Some(Keyword::Endr)
     } else if is(token, b"device") {
         Some(Keyword::Device)
-    } else if is(token, b"const") {
+    } else {
+        instruction_of(token)
+    }
+}
+
+/// The keyword of an instruction that the token is.
+fn instruction_of(token: &[u8]) -> Option<Keyword>
+    ensures { result ≡ instruction_of token.now }
+{
+    if is(token, b"const") {
         Some(Keyword::Const)
+    } else if is(token, b"mov") {
+        Some(Keyword::Move)
     } else if is(token, b"clear") {
         Some(Keyword::Clear)
+    } else if is(token, b"add") {
+        Some(Keyword::Add)
+    } else if is(token, b"sub") {
+        Some(Keyword::Subtract)
+    } else if is(token, b"jz") {
+        Some(Keyword::JumpIfZero)
+    } else if is(token, b"jlt") {
+        Some(Keyword::JumpIfLess)
+    } else if is(token, b"jmp") {
+        Some(Keyword::Jump)
+    } else if is(token, b"loop") {
+        Some(Keyword::Loop)
+    } else if is(token, b"end") {
+        Some(Keyword::End)
+    } else if is(token, b"load") {
+        Some(Keyword::Load)
+    } else if is(token, b"store") {
+        Some(Keyword::Store)
+    } else if is(token, b"loadp") {
+        Some(Keyword::LoadPaged)
+    } else if is(token, b"storep") {
+        Some(Keyword::StorePaged)
+    } else if is(token, b"get") {
+        Some(Keyword::Get)
+    } else if is(token, b"put") {
+        Some(Keyword::Put)
     } else if is(token, b"mark") {
         Some(Keyword::Mark)
+    } else if is(token, b"acquire") {
+        Some(Keyword::Acquire)
+    } else if is(token, b"release") {
+        Some(Keyword::Release)
+    } else if is(token, b"acqc") {
+        Some(Keyword::AcquireCancel)
+    } else if is(token, b"relc") {
+        Some(Keyword::ReleaseCancel)
     } else if is(token, b"complete") {
         Some(Keyword::Complete)
     } else if is(token, b"ret") {
@@ -72,6 +118,21 @@ pub fn major_of(token: &[u8]) -> Option<Major>
         Some(Major::Write)
     } else if is(token, b"CONTROL") {
         Some(Major::Control)
+    } else {
+        None
+    }
+}
+
+/// The field of a packet that the token names.
+pub fn field_of(token: &[u8]) -> Option<Field>
+    ensures { result ≡ field_of token.now }
+{
+    if is(token, b"MAJOR") {
+        Some(Field::Major)
+    } else if is(token, b"ARG") {
+        Some(Field::Argument)
+    } else if is(token, b"INFO") {
+        Some(Field::Info)
     } else {
         None
     }

@@ -1,6 +1,6 @@
 //! A line of a driver text, by its form.
 
-use model::instr::{Instr, Register};
+use model::instr::{Cell, Field, Instr, Register, SpinLock, Turns};
 use model::set::Sort;
 use model::status::{Major, Status};
 use text::piece::Piece;
@@ -15,8 +15,26 @@ pub enum Keyword {
     Endr,
     Device,
     Const,
+    Move,
     Clear,
+    Add,
+    Subtract,
+    JumpIfZero,
+    JumpIfLess,
+    Jump,
+    Loop,
+    End,
+    Load,
+    Store,
+    LoadPaged,
+    StorePaged,
+    Get,
+    Put,
     Mark,
+    Acquire,
+    Release,
+    AcquireCancel,
+    ReleaseCancel,
     Complete,
     Ret,
 }
@@ -27,23 +45,33 @@ pub enum Operand {
     Nothing,
     Name,
     Register,
+    SpinLock,
+    Cell,
+    PagedCell,
     Number,
+    Turns,
     Stack,
     Major,
+    Field,
     Sort,
     Status,
 }
 
-/// An operand as it was read. A register or constant out of range is `None`, and so is a stack size
-/// of more than 64 bits.
+/// An operand as it was read. What is out of range is `None`: a register, lock or cell that isn't
+/// there, a constant or a count of turns that is too large or too small, and a stack size of more
+/// than 64 bits.
 #[derive(Drop)]
 pub enum Arg<'a> {
     Absent,
     Named(Piece<'a>),
     InRegister(Option<Register>),
+    OnLock(Option<SpinLock>),
+    InCell(Option<Cell>),
     Constant(Option<u32>),
+    SoManyTurns(Option<Turns>),
     StackSize(Option<u64>),
     OfMajor(Major),
+    OfField(Field),
     OfSort(Sort),
     WithStatus(Status),
 }
@@ -65,8 +93,9 @@ pub enum Body<'a> {
     CloseRoutine,
     /// `device NAME DRIVER STACK`: its name, its driver's name and its stack size.
     AddDevice(Piece<'a>, Piece<'a>, Option<u64>),
-    /// An instruction, if all its operands are in range.
-    Step(Option<Instr>),
+    /// An instruction, if all its operands are in range, and the name of the label that it jumps
+    /// to. The instruction itself has label 0 until the labels of its routine are known.
+    Step(Option<Instr>, Option<Piece<'a>>),
 }
 
 /// A line: what it says, and its label if it has one.
@@ -74,4 +103,13 @@ pub enum Body<'a> {
 pub struct Line<'a> {
     pub label: Option<Piece<'a>>,
     pub body: Body<'a>,
+}
+
+/// Why the bytes are no line.
+#[derive(Clone, Copy)]
+pub enum LineFault {
+    /// A byte that no text has, or a token of no form.
+    Lex,
+    /// A line of no form: an unknown first word, or wrong operands.
+    UnknownWord,
 }

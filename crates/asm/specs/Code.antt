@@ -1,0 +1,91 @@
+-- The instructions of a text in other words: those of a routine are on its lines, in order, and a
+-- label names the position of the instruction on its line.
+use Rattle.std.specs.Prelude.{ℕ, ◌≡◌, ◌+◌, Bool, false, bytes_eq, List, [], ◌∷◌, ◌++◌, map, Option, Some, None, option_and_then, option_to_list, unwrap_or, if◌then◌else◌}
+use Rattle.model.specs.declared.instr.Instr.{Instr}
+use Rattle.model.specs.declared.set.Driver.{Driver}
+use Rattle.model.specs.declared.set.Routine.{Routine}
+use Rattle.model.specs.Set.{Set}
+use Rattle.asm_line.specs.declared.line.Body.{Body}
+use Rattle.asm_line.specs.declared.line.Body.TheVariants.{OpenDriver, CloseDriver, OpenRoutine, CloseRoutine, Step}
+use Rattle.asm_line.specs.declared.line.Line.{Line}
+use Rattle.asm.specs.Outline.{with_label}
+use Rattle.asm.specs.Reading.{IsNamed}
+use Rattle.asm.specs.Laws.{IsRead}
+
+-- the label is this name
+abbrev pub is_labelled : Option (List ℕ) → List ℕ → Bool
+is_labelled None name = false
+is_labelled (Some label) name = bytes_eq name label
+
+-- the position that a label names from a line on, where the next instruction has position p
+abbrev pub place_at : List ℕ → ℕ → Option (List ℕ) → Body → (ℕ → Option ℕ) → Option ℕ
+place_at name p label (Step instr target) later = if is_labelled label name then Some p else later (p + 1)
+place_at name p label _ later = later p
+
+-- the position that a label names: that of the instruction on its line
+abbrev pub label_place : List ℕ → ℕ → List Line → Option ℕ
+label_place name p [] = None
+label_place name p (l ∷ ls) = place_at name p l.label l.body (λ next. label_place name next ls)
+
+-- the instruction on one of the lines of a routine; where it jumps, to the position that its label
+-- names among them
+abbrev pub instruction_on : List Line → Body → Option Instr
+instruction_on routine (Step (Some i) target) = Some (with_label i (unwrap_or (option_and_then (λ name. label_place name 0 routine) target) 0))
+instruction_on routine _ = None
+
+-- the instructions on some of the lines of a routine
+abbrev pub instructions_on : List Line → List Line → List Instr
+instructions_on routine [] = []
+instructions_on routine (l ∷ ls) = option_to_list (instruction_on routine l.body) ++ instructions_on routine ls
+
+-- a line and those after it, unless it ends the routine
+abbrev pub unless_end : Line → Body → List Line → List Line
+unless_end l CloseRoutine after = []
+unless_end l _ after = l ∷ after
+
+-- the lines from here to the end of the routine
+abbrev pub routine_lines : List Line → List Line
+routine_lines [] = []
+routine_lines (l ∷ ls) = unless_end l l.body (routine_lines ls)
+
+-- the instructions of the routine whose lines begin here
+abbrev pub routine_code : List Line → List Instr
+routine_code ls = instructions_on (routine_lines ls) (routine_lines ls)
+
+-- the codes of the routines from a line on: that of the routine which it opens, and those after it,
+-- unless it ends the driver
+abbrev pub codes_from : Body → List Instr → List (List Instr) → List (List Instr)
+codes_from CloseDriver code after = []
+codes_from (OpenRoutine name sort) code after = code ∷ after
+codes_from _ code after = after
+
+-- the codes of the routines from here to the end of the driver
+abbrev pub routine_codes : List Line → List (List Instr)
+routine_codes [] = []
+routine_codes (l ∷ ls) = codes_from l.body (routine_code ls) (routine_codes ls)
+
+-- the codes of the drivers from a line on: that of the driver which it opens, and those after it
+abbrev pub drivers_from : Body → List (List Instr) → List (List (List Instr)) → List (List (List Instr))
+drivers_from (OpenDriver name) codes after = codes ∷ after
+drivers_from _ codes after = after
+
+-- the codes of the drivers that the lines open
+abbrev pub driver_codes : List Line → List (List (List Instr))
+driver_codes [] = []
+driver_codes (l ∷ ls) = drivers_from l.body (routine_codes ls) (driver_codes ls)
+
+-- the codes of routines
+abbrev pub codes_of : List Routine → List (List Instr)
+codes_of routines = map (λ r. r.code) routines
+
+-- the codes of the routines of drivers
+abbrev pub all_codes : List Driver → List (List (List Instr))
+all_codes drivers = map (λ d. codes_of d.routines) drivers
+
+-- each routine of the set has the instructions of its lines in the text
+abbrev pub IsOfItsLines : List ℕ → Set → Type 0
+IsOfItsLines text set = (all : IsRead text) × (all_codes set.drivers ≡ driver_codes all.lines)
+
+-- a set that a text names is of its lines
+abbrev pub CodeIsOfItsLines : Type 0
+CodeIsOfItsLines = (text : List ℕ) (set : Set) → IsNamed text set → IsOfItsLines text set

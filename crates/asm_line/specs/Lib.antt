@@ -1,0 +1,4 @@
+pub mod Words
+pub mod Operand
+pub mod Instruction
+pub mod Line

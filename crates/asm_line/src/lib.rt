@@ -1,0 +1,12 @@
+//! One line of a driver text, read by its form alone: its words, its operands and the instruction
+//! that they make. Whether it may stand where it does, and what its names are, is not asked here.
+#![tactic(auto)]
+
+pub mod form;
+mod instruction;
+pub mod line;
+mod operand;
+mod words;
+
+pub use form::read_line;
+pub use line::{Body, Line, LineFault};
