@@ -19,6 +19,28 @@ def largest_set():
     lines += ['device v%d d%d 16' % (i, i % 8) for i in range(16)]
     return lines
 
+def branching(name, instructions):
+    """A routine of loops, nested twice, tests and jumps over them, cells and locks."""
+    body = ['const r1 0', 'const r2 1']
+    block = ['loop 1', 'loop 1', 'add r1 r2', 'jz r1 %s', 'store c1 r1', '%s: end', 'end', 'jlt r1 r2 %s',
+             'acquire l0', 'load r3 c1', 'release l0', 'clear r3', '%s: clear r4']
+    for i in range((instructions - 4) // len(block)):
+        a, b = 'a%d' % i, 'b%d' % i
+        labels = iter([a, a, b, b])
+        body += [line % next(labels) if '%s' in line else line for line in block]
+    body += ['clear r5'] * (instructions - 2 - len(body))
+    return ['routine %s dispatch' % name] + body + ['complete r0 SUCCESS', 'ret SUCCESS', 'endr']
+
+def largest_branching_set():
+    lines = []
+    for d in range(8):
+        lines += ['driver d%d' % d, 'dispatch READ f0']
+        for r in range(32):
+            lines += branching('f%d' % r, 1024)
+        lines.append('endd')
+    lines += ['device v%d d%d 16' % (i, i % 8) for i in range(16)]
+    return lines
+
 def one_routine(body):
     return ['driver d', 'dispatch READ f', 'routine f dispatch'] + body + ['endr', 'endd', 'device v d 1']
 
@@ -28,11 +50,19 @@ def cases():
     for i in range(970):
         requests += ['issue %d 0 READ %d' % (i % 32, i), 'step %d 1025' % (i % 32)]
     yield 'check of the largest set', 'check', largest_set(), None
+    yield 'check of the largest set, with loops and jumps', 'check', largest_branching_set(), None
     yield 'check of a text of 4 MB, most of it comments', 'check', ['; ' + 'x' * 78] * 50000 + largest_set()[:1], None
     yield 'trace of 1,000,000 steps of an idle thread', 'trace', one_routine(['complete r0 SUCCESS', 'ret SUCCESS']), ['threads 1', 'step 0 1000000']
     yield 'trace of 970 requests, 1,025 steps each', 'trace', long_routine, requests
     yield 'trace of 300,000 steps on 32 threads', 'trace', one_routine(['mark r0', 'clear r1', 'complete r0 SUCCESS', 'ret PENDING']), \
         ['threads 32'] + ['issue %d 0 READ 0' % t for t in range(32)] + ['step %d' % (i % 32) for i in range(300000)]
+
+    yield 'trace of 999,999 steps of loops', 'trace', \
+        one_routine(['const r1 0', 'const r2 1', 'loop 1000', 'loop 498', 'add r1 r2', 'end', 'end', 'complete r0 SUCCESS', 'ret SUCCESS']), \
+        ['threads 1', 'issue 0 0 READ 0', 'step 0 999999']
+    yield 'trace of 300,000 steps round a lock', 'trace', \
+        one_routine(['loop 100', 'loop 150', 'acquire l0', 'load r1 c0', 'store c0 r1', 'release l0', 'clear r1', 'end', 'end', 'complete r0 SUCCESS', 'ret SUCCESS']), \
+        ['threads 4'] + ['issue %d 0 READ 0' % t for t in range(4)] + ['step %d' % (i % 4) for i in range(300000)]
 
 def least(program, words, runs):
     best, out = None, None

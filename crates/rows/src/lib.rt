@@ -2,10 +2,14 @@
 #![tactic(auto)]
 
 #[cfg(test)]
+mod case;
+#[cfg(test)]
 mod command_lines;
 #[cfg(test)]
 mod devices;
 #[cfg(test)]
 mod failures;
+#[cfg(test)]
+mod routines;
 #[cfg(test)]
 mod worked;

@@ -1,21 +1,7 @@
 //! Worked sets: what `check` and `trace` write, and their exit statuses.
 
-use drvhost_parts::check::check;
-use drvhost_parts::device::{Reader, Sink, Source, Writer};
+use crate::case::{Case, is_met};
 use drvhost_parts::job::Verification;
-use drvhost_parts::trace::trace;
-use std::alloc::Global;
-
-/// One run of the library.
-struct Case {
-    name: &'static str,
-    set: &'static str,
-    /// None for a verdict.
-    trace: Option<(&'static str, Verification)>,
-    status: u8,
-    out: &'static str,
-    err: &'static str,
-}
 
 const COMPLETES: &str =
     "driver d\ndispatch READ f\nroutine f dispatch\ncomplete r0 SUCCESS\nret SUCCESS\nendr\nendd\ndevice v d 1\n";
@@ -37,7 +23,7 @@ const DROPS: &str =
 
 const ONE_REQUEST: &str = "threads 1\nissue 0 0 READ 7\nstep 0 4\n";
 
-static VERDICTS: [Case; 8] = [
+static VERDICTS: [Case<'static>; 8] = [
     Case {
         name: "a completed packet",
         set: COMPLETES,
@@ -104,7 +90,7 @@ static VERDICTS: [Case; 8] = [
     },
 ];
 
-static TRACES: [Case; 7] = [
+static TRACES: [Case<'static>; 7] = [
     Case {
         name: "one request",
         set: COMPLETES,
@@ -165,33 +151,6 @@ static TRACES: [Case; 7] = [
         err: "text fault 6 Unclosed line 2\n",
     },
 ];
-
-/// Whether the library does in the case what it should.
-fn is_met(alloc: Global, case: &Case) -> bool {
-    let mut set = Reader::new(Some(case.set.as_bytes()));
-    let mut out = Writer::new(Vec::<u8>::new(alloc));
-    let mut err = Writer::new(Vec::<u8>::new(alloc));
-    let status = match case.trace {
-        None => check(alloc, &mut set, &mut out, &mut err),
-        Some((text, verification)) => {
-            let mut schedule = Reader::new(Some(text.as_bytes()));
-            trace(
-                alloc,
-                &mut set,
-                &mut schedule,
-                verification,
-                &mut out,
-                &mut err,
-            )
-        }
-    };
-    status == case.status
-        && set.failures() == 0
-        && out.failures() == 0
-        && err.failures() == 0
-        && out.into_inner().as_slice() == case.out.as_bytes()
-        && err.into_inner().as_slice() == case.err.as_bytes()
-}
 
 #[test]
 fn verdicts(rt: HostRuntime) {
