@@ -1,0 +1,56 @@
+-- Small facts on lists: from a place on, and at the end.
+use Rattle.std.proofs.Common.{◌≡◌, ◌≢◌, ◌<◌, ◌+◌, ◌-◌, ℕ, zero, suc, List, [], ◌∷◌, ◌++◌, Some, length, take, drop, get_or, refl, ap, sym, ◌∙◌, arith, subst}
+use Rattle.std.specs.Prelude.{slice_get, slice_set, All}
+use Rattle.std.proofs.lemmas.List.{take_all, take_more, take_at, length-append}
+use Rattle.std.proofs.lemmas.Option.{slice_get_within, get_or_from_slice_get}
+
+-- what stands at a place is the first from there on
+pub from_here : {A : Type 0} (xs : List A) (p : ℕ) (x : A) → slice_get xs p ≡ Some x → drop p xs ≡ x ∷ drop (suc p) xs
+from_here [] p x h = cc
+from_here {A = A} (y ∷ xs) zero x h = let same : y ≡ x = cc in rw same refl
+from_here (y ∷ xs) (suc p) x h = from_here xs p x h
+
+-- a list is what stands before its last element, and that
+pub last_split : {A : Type 0} (xs : List A) (x : A) → slice_get xs (length xs - 1) ≡ Some x
+    → xs ≡ take (length xs - 1) xs ++ x ∷ []
+last_split {A = A} xs x h =
+    let i : ℕ = length xs - 1 in
+    let within : i < length xs = slice_get_within xs i x h in
+    let more : take (i + 1) xs ≡ take i xs ++ get_or xs i x ∷ [] = take_more xs i x within in
+    let all : take (i + 1) xs ≡ xs = take_all (i + 1) xs (omega arith) in
+    let same : get_or xs i x ≡ x = get_or_from_slice_get xs i x x h in
+    sym all ∙ more ∙ ap (λ (y : A). take i xs ++ y ∷ []) same
+
+get_at_length : {A : Type 0} (xs : List A) (x : A) → slice_get (xs ++ x ∷ []) (length xs) ≡ Some x
+get_at_length [] x = refl
+get_at_length (y ∷ xs) x = get_at_length xs x
+
+length_more : {A : Type 0} (xs : List A) (x : A) → length (xs ++ x ∷ []) - 1 ≡ length xs
+length_more xs x = let long : length (xs ++ x ∷ []) ≡ length xs + length (x ∷ []) =
+    length-append xs (x ∷ []) in let one : length (x ∷ []) ≡ 1 = refl in omega arith
+
+-- the last element of a list, and what stands before it
+pub last_of : {A : Type 0} (xs : List A) (x : A) → slice_get (xs ++ x ∷ []) (length (xs ++ x ∷ []) - 1) ≡ Some x
+last_of xs x = rw (length_more xs x) (get_at_length xs x)
+
+pub before_last : {A : Type 0} (xs : List A) (x : A) → take (length (xs ++ x ∷ []) - 1) (xs ++ x ∷ []) ≡ xs
+before_last xs x = rw (length_more xs x) (take_at xs (x ∷ []) (length xs) refl)
+
+-- what holds of all elements holds of the one at a place
+pub all_at : {A : Type 0} (P : A → Type 0) (xs : List A) (i : ℕ) (x : A) → All P xs → slice_get xs i ≡ Some x → P x
+all_at {A = A} P xs i x all h =
+    subst P (get_or_from_slice_get xs i x x h) (all i x (slice_get_within xs i x h))
+
+-- after a write: at its place, and at another
+pub set_same : {A : Type 0} (xs : List A) (i : ℕ) (x y : A) → slice_get xs i ≡ Some x → slice_get (slice_set xs i y) i
+    ≡ Some y
+set_same [] i x y h = cc
+set_same (z ∷ xs) zero x y h = refl
+set_same (z ∷ xs) (suc i) x y h = set_same xs i x y h
+
+pub set_other : {A : Type 0} (xs : List A) (i j : ℕ) (y : A) → i ≢ j → slice_get (slice_set xs i y) j ≡ slice_get xs j
+set_other [] i j y h = refl
+set_other (z ∷ xs) zero zero y h = absurd (h refl)
+set_other (z ∷ xs) zero (suc j) y h = refl
+set_other (z ∷ xs) (suc i) zero y h = refl
+set_other (z ∷ xs) (suc i) (suc j) y h = set_other xs i j y (λ e. h (ap suc e))
