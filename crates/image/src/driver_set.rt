@@ -1,12 +1,12 @@
 //! The type of a driver set.
 
-ghost use Rattle.std.specs.Prelude.{◌≡◌, ◌<◌, ◌↔◌, ℕ, IsOk, IfOk, IfErr, IfSome, slice_get};
+ghost use Rattle.std.specs.Prelude.{◌≡◌, ◌<◌, ◌↔◌, ℕ, IsOk, IfOk, IfErr, IfSome, option_and_then, option_map, slice_get};
 ghost use Rattle.model.specs.Set.{default_code};
 
 use crate::sound::is_sound;
 use model::instr::{Instr, Register, Return};
 use model::limits::DEFAULT_ROUTINE;
-use model::set::{Device, Driver};
+use model::set::{Device, Driver, Routine, Sort};
 use model::status::{Major, Status};
 use std::marker::Model;
 
@@ -30,7 +30,7 @@ impl Model for DriverSet {
 }
 
 impl DriverSet {
-    ghost use Rattle.model.specs.Set.{Set, serving, instruction_at};
+    ghost use Rattle.model.specs.Set.{Set, serving, instruction_at, sort_of, lower_of};
     ghost use Rattle.model.specs.Sound.{IsSound};
 
     /// The set of these drivers and devices. They are handed back exactly where they break a limit
@@ -78,6 +78,37 @@ impl DriverSet {
             .get(driver as usize)
             .and_then(|driver| driver.handler(major))
             .unwrap_or(DEFAULT_ROUTINE)
+    }
+
+    /// The sort of a routine of a driver, the default routine's among them.
+    pub fn sort(&self, driver: u8, routine: u8) -> Sort
+        ensures { result ≡ sort_of self.now driver routine }
+    {
+        if routine == DEFAULT_ROUTINE {
+            return Sort::Dispatch;
+        }
+        match self.routine(driver, routine) {
+            Some(routine) => routine.sort,
+            None => Sort::Dispatch,
+        }
+    }
+
+    /// A routine of a driver of the set.
+    fn routine(&self, driver: u8, routine: u8) -> Option<&Routine>
+        ensures { option_map (λ r. r.now) result ≡ option_and_then (λ d. slice_get d.routines routine) (slice_get self.now.drivers driver) }
+    {
+        self.drivers()
+            .get(driver as usize)?
+            .routines
+            .as_slice()
+            .get(routine as usize)
+    }
+
+    /// The number of the device under a device.
+    pub fn lower(&self, device: u8) -> Option<u8>
+        ensures { result ≡ lower_of self.now device }
+    {
+        self.devices().get(device as usize)?.lower
     }
 
     /// The instruction at a position of a routine of a driver, the default routine's among them.

@@ -1,11 +1,11 @@
 //! The tests that a driver set has to pass to be one.
 
-ghost use Rattle.std.specs.Prelude.{◌≡◌, ◌≤◌, ◌<◌, ◌↔◌, length, IsTrue, All, ℕ};
-ghost use Rattle.model.specs.Sound.{IsSound, DriverFits, DeviceFits, RoutineFits, HandlerFits, LabelFits};
+ghost use Rattle.std.specs.Prelude.{◌≡◌, ◌≤◌, ◌<◌, ◌↔◌, length, IsTrue, IfSome, All, ℕ, slice_get};
+ghost use Rattle.model.specs.Sound.{IsSound, DriverFits, DeviceFits, DevicesFit, RoutineFits, HandlerFits, LabelFits, HasSort, IsDispatch, IsCompletion, CallFits, CallsFit};
 
 use model::instr::Instr;
 use model::limits::{MAX_DEVICES, MAX_DRIVERS, MAX_INSTRUCTIONS, MAX_ROUTINES, MAX_STACK};
-use model::set::{Device, Driver, Routine};
+use model::set::{Device, Driver, Routine, Sort};
 
 fn label_fits(positions: usize, instr: &Instr) -> bool
     ensures { IsTrue result ↔ LabelFits positions instr.now }
@@ -24,31 +24,91 @@ fn routine_fits(routine: &Routine) -> bool
     positions <= MAX_INSTRUCTIONS && code.iter().all(|instr| label_fits(positions, instr))
 }
 
-fn handler_fits(routines: usize, handler: Option<u8>) -> bool
-    ensures { IsTrue result ↔ HandlerFits routines handler }
+/// Whether the routine of a number is a dispatch routine.
+fn is_dispatch(routines: &[Routine], number: u8) -> bool
+    ensures { IsTrue result ↔ HasSort IsDispatch (slice_get routines.now number) }
+{
+    match routines.get(number as usize) {
+        Some(routine) => matches!(routine.sort, Sort::Dispatch),
+        None => false,
+    }
+}
+
+/// Whether the routine of a number is a completion routine.
+fn is_completion(routines: &[Routine], number: u8) -> bool
+    ensures { IsTrue result ↔ HasSort IsCompletion (slice_get routines.now number) }
+{
+    match routines.get(number as usize) {
+        Some(routine) => matches!(routine.sort, Sort::Propagate),
+        None => false,
+    }
+}
+
+fn handler_fits(routines: &[Routine], handler: Option<u8>) -> bool
+    ensures { IsTrue result ↔ HandlerFits routines.now handler }
 {
     match handler {
-        Some(number) => (number as usize) < routines,
+        Some(number) => is_dispatch(routines, number),
         None => true,
     }
+}
+
+fn call_fits(routines: &[Routine], instr: &Instr) -> bool
+    ensures { IsTrue result ↔ CallFits routines.now instr.now }
+{
+    match *instr {
+        Instr::Call(_, Some(number)) => is_completion(routines, number),
+        _ => true,
+    }
+}
+
+fn calls_fit(routines: &[Routine], routine: &Routine) -> bool
+    ensures { IsTrue result ↔ CallsFit routines.now routine.now }
+{
+    let code = routine.code.as_slice();
+    code.iter().all(|instr| call_fits(routines, instr))
+}
+
+fn routines_fit(routines: &[Routine]) -> bool
+    ensures { IsTrue result ↔ All RoutineFits routines.now }
+{
+    routines.iter().all(|routine| routine_fits(routine))
+}
+
+fn all_calls_fit(routines: &[Routine]) -> bool
+    ensures { IsTrue result ↔ All (CallsFit routines.now) routines.now }
+{
+    routines.iter().all(|routine| calls_fit(routines, routine))
 }
 
 fn driver_fits(driver: &Driver) -> bool
     ensures { IsTrue result ↔ DriverFits driver.now }
 {
     let routines = driver.routines.as_slice();
-    let count = routines.len();
-    count <= MAX_ROUTINES
-        && routines.iter().all(|routine| routine_fits(routine))
-        && handler_fits(count, driver.read)
-        && handler_fits(count, driver.write)
-        && handler_fits(count, driver.control)
+    routines.len() <= MAX_ROUTINES
+        && routines_fit(routines)
+        && handler_fits(routines, driver.read)
+        && handler_fits(routines, driver.write)
+        && handler_fits(routines, driver.control)
+        && all_calls_fit(routines)
 }
 
-fn device_fits(drivers: usize, device: &Device) -> bool
-    ensures { IsTrue result ↔ DeviceFits drivers device.now }
+fn lower_fits(number: usize, lower: Option<u8>) -> bool
+    ensures { IsTrue result ↔ IfSome lower (λ lower. lower < number) }
 {
-    (device.driver as usize) < drivers && 1 <= device.stack && device.stack as usize <= MAX_STACK
+    match lower {
+        Some(lower) => (lower as usize) < number,
+        None => true,
+    }
+}
+
+fn device_fits(drivers: usize, number: usize, device: &Device) -> bool
+    ensures { IsTrue result ↔ DeviceFits drivers number device.now }
+{
+    (device.driver as usize) < drivers
+        && 1 <= device.stack
+        && device.stack as usize <= MAX_STACK
+        && lower_fits(number, device.lower)
 }
 
 fn drivers_fit(drivers: &[Driver]) -> bool
@@ -58,9 +118,14 @@ fn drivers_fit(drivers: &[Driver]) -> bool
 }
 
 fn devices_fit(drivers: usize, devices: &[Device]) -> bool
-    ensures { IsTrue result ↔ All (DeviceFits drivers) devices.now }
+    ensures { IsTrue result ↔ DevicesFit drivers 0 devices.now }
 {
-    devices.iter().all(|device| device_fits(drivers, device))
+    for (number, device) in devices.iter().enumerate() {
+        if !device_fits(drivers, number, device) {
+            return false;
+        }
+    }
+    true
 }
 
 /// Whether drivers and devices make a set.

@@ -14,8 +14,12 @@ pub data Action : Type 0 where
   TouchesPaged : (cell : OfDevice) → Action
   -- a packet is looked at or written to
   Touches : (packet : ℕ) → Action
-  -- a packet is issued, which opens a use of its first location
-  Issues : (packet : ℕ) → Action
+  -- a packet with so many locations is issued, which opens a use of its first location
+  Issues : (packet : ℕ) (stack : ℕ) → Action
+  -- a packet is sent down in a new location, which opens a use of it
+  Calls : (packet : ℕ) → Action
+  -- the location above the current one becomes current
+  Ups : (packet : ℕ) → Action
   -- IoCompleteRequest is called for a packet
   Completes : (packet : ℕ) → Action
   -- the current location of a packet is marked pending

@@ -9,15 +9,18 @@ use Rattle.model.specs.declared.world.Thread.{Thread}
 use Rattle.model.specs.declared.world.Packet.{Packet}
 use Rattle.model.specs.declared.world.Cells.{Cells}
 use Rattle.model.specs.declared.world.OpenLoop.{OpenLoop}
-use Rattle.model.specs.declared.world.Value.TheVariants.{Blank, Num}
+use Rattle.model.specs.declared.world.Value.TheVariants.{Blank, Num, Status as StatusValue}
 use Rattle.model.specs.declared.status.Status.{Status}
 use Rattle.model.specs.declared.status.Major.{Major}
 use Rattle.model.specs.declared.instr.Instr.{Instr}
 use Rattle.model.specs.declared.instr.Field.{Field}
-use Rattle.model.specs.declared.instr.Instr.TheVariants.{Const, Move, Clear, Add, Subtract, JumpIfZero, JumpIfLess, Jump, Loop, End, Load, Store, LoadPaged, StorePaged, Get, Put, Mark, Acquire, Release, AcquireCancel, ReleaseCancel, Complete, Ret}
+use Rattle.model.specs.declared.instr.Instr.TheVariants.{Const, Move, Clear, Add, Subtract, JumpIfZero, JumpIfLess, Jump, Loop, End, Load, Store, LoadPaged, StorePaged, Get, Put, Mark, Acquire, Release, AcquireCancel, ReleaseCancel, Pass, Call, Complete, IfPending, Ret}
 use Rattle.model.specs.declared.instr.Return.{Return}
-use Rattle.model.specs.declared.instr.Return.TheVariants.{WithStatus}
+use Rattle.model.specs.declared.instr.Return.TheVariants.{WithStatus, Lower, Continue}
 use Rattle.model.specs.declared.set.Device.{Device}
+use Rattle.model.specs.declared.set.Sort.{Sort}
+use Rattle.model.specs.declared.set.Sort.TheVariants.{Dispatch, Propagate}
+use Rattle.model.specs.declared.world.Completion.{Completion}
 use Rattle.model.specs.declared.event.Lock.{Lock}
 use Rattle.model.specs.declared.event.Lock.TheVariants.{SystemCancel, Spin}
 use Rattle.model.specs.declared.event.OfDevice.{OfDevice}
@@ -25,17 +28,19 @@ use Rattle.model.specs.declared.event.Event.{Event}
 use Rattle.model.specs.declared.event.Event.TheVariants.{Issue, Step}
 use Rattle.model.specs.declared.event.Reply.{Reply}
 use Rattle.model.specs.declared.event.Reply.TheVariants.{Started, Stepped, Finished, Topped, Waited, Idle, Refused, Wrong}
-use Rattle.model.specs.Action.{Action, Executes, Acquires, Releases, TouchesPaged, Touches, Issues, Completes, Marks, Leaves, Returns, TopsOut, GoesWrong}
-use Rattle.model.specs.Set.{Set, serving, instruction_at}
-use Rattle.model.specs.World.{Shared, World, owner_of, with_owner, with_locks, with_cells, packet_of, with_packet, without_packet, packet_in, number_in, register, next, at_label, with_register, innermost, outer_loops, with_loops, field_of, with_info, mark_current, completed, new_packet, entered}
+use Rattle.model.specs.Action.{Action, Executes, Acquires, Releases, TouchesPaged, Touches, Issues, Calls, Ups, Completes, Marks, Leaves, Returns, TopsOut, GoesWrong}
+use Rattle.model.specs.Set.{Set, serving, instruction_at, sort_of, lower_of, default_number}
+use Rattle.model.specs.World.{Shared, World, owner_of, with_owner, with_locks, with_cells, packet_of, with_packet, without_packet, packet_in, number_in, status_in, register, next, at_label, with_register, innermost, outer_loops, with_loops, field_of, with_info, mark_current, current_location, sent_down, shared_with, left_location, moved_up, carried_up, completion_of, asked_of, completed, new_packet, entered}
 
 -- what a frame's step leaves: the shared part of the world, the frames that stand in place of the
--- one that ran (the lowest first), the actions in order, and the reply
+-- one that ran (the lowest first), the actions in order, the reply, and the status that the frame below is
+-- told
 pub record Outcome : Type 0 where
   pub shared : Shared
   pub frames : List Frame
   pub actions : List Action
   pub reply : Reply
+  pub told : Option Status
 
 -- the frame's step is wrong: nothing but that happens
 abbrev pub goes_wrong : Shared → Activation → Outcome
@@ -45,11 +50,13 @@ goes_wrong s a =
       frames = Routine a ∷ [];
       actions = GoesWrong ∷ [];
       reply = Wrong (record { driver = a.driver; routine = a.routine; position = a.position });
+      told = None;
     }
 
 -- an instruction is executed, and the routine goes on
 abbrev pub goes_on : Shared → Activation → List Action → Outcome
-goes_on s a actions = record { shared = s; frames = Routine a ∷ []; actions = Executes ∷ actions; reply = Stepped }
+goes_on s a actions =
+    record { shared = s; frames = Routine a ∷ []; actions = Executes ∷ actions; reply = Stepped; told = None }
 
 -- a register becomes a number that is computed, if the operands were numbers
 abbrev pub number_effect : Shared → Activation → ℕ → Option ℕ → Outcome
@@ -148,7 +155,7 @@ put_effect s a (Some info) (Some n) = put_packet s a info n (packet_of s n)
 
 -- `acquire l`, `acqc`: a free lock becomes the thread's; it waits while another thread owns it
 abbrev pub waits : Shared → Activation → Outcome
-waits s a = record { shared = s; frames = Routine a ∷ []; actions = []; reply = Waited }
+waits s a = record { shared = s; frames = Routine a ∷ []; actions = []; reply = Waited; told = None }
 
 abbrev pub acquire_owned : Shared → ℕ → Activation → Lock → Option ℕ → Outcome
 acquire_owned s t a lock None = goes_on (with_locks s (with_owner s.locks lock (Some t))) (next a) (Acquires lock ∷ [])
@@ -184,64 +191,217 @@ complete_packet s a status n (Some p) =
       frames = Routine (next a) ∷ Walk n ∷ [];
       actions = Executes ∷ Completes n ∷ [];
       reply = Stepped;
+      told = None;
     }
 
 abbrev pub complete_effect : Shared → Activation → Status → Option ℕ → Outcome
 complete_effect s a status None = goes_wrong s a
 complete_effect s a status (Some n) = complete_packet s a status n (packet_of s n)
 
--- `ret ..`: the frame is gone
-abbrev pub return_effect : Shared → Return → Outcome
-return_effect s (WithStatus status) =
-    record { shared = s; frames = []; actions = Executes ∷ Returns status ∷ []; reply = Stepped }
+-- the dispatch routine that serves what a packet asks of a device, begins
+abbrev pub serving_for : Set → ℕ → Option Major → ℕ
+serving_for set driver None = default_number
+serving_for set driver (Some major) = serving (slice_get set.drivers driver) major
 
--- the instruction at the activation's position, on a thread
-abbrev pub instruction_effect : Shared → ℕ → Activation → Instr → Outcome
-instruction_effect s t a (Const r n) = goes_on s (next (with_register a r (Num n))) []
-instruction_effect s t a (Move r q) = goes_on s (next (with_register a r (register a q))) []
-instruction_effect s t a (Clear r) = goes_on s (next (with_register a r Blank)) []
-instruction_effect s t a (Add r q) = number_effect s a r (sum_of a r q)
-instruction_effect s t a (Subtract r q) = number_effect s a r (difference_of a r q)
-instruction_effect s t a (JumpIfZero r label) = jump_effect s a label (is_zero_at a r)
-instruction_effect s t a (JumpIfLess r q label) = jump_effect s a label (is_less_at a r q)
-instruction_effect s t a (Jump label) = goes_on s (at_label a label) []
-instruction_effect s t a (Loop turns) = loop_effect s a turns
-instruction_effect s t a End = end_effect s a (innermost a)
-instruction_effect s t a (Load r c) = load_effect s a r c (slice_get s.cells a.device)
-instruction_effect s t a (Store c r) = store_effect s a c (number_in (register a r)) (slice_get s.cells a.device)
-instruction_effect s t a (LoadPaged r c) = load_paged_effect s a r c (slice_get s.cells a.device)
-instruction_effect s t a (StorePaged c r) =
+abbrev pub dispatched : Set → ℕ → Option Device → Option Major → ℕ → Activation
+dispatched set device None major n = entered 0 default_number device n
+dispatched set device (Some d) major n = entered d.driver (serving_for set d.driver major) device n
+
+-- `pass r`: the lower driver is asked in the caller's location
+abbrev pub pass_packet : Set → Shared → Activation → ℕ → ℕ → Option Packet → Outcome
+pass_packet set s a lower n None = goes_on s (next a) (Touches n ∷ [])
+pass_packet set s a lower n (Some p) =
+    record {
+      shared = with_packet s n (shared_with p lower);
+      frames =
+          Routine (next a)
+          ∷ Routine (dispatched set lower (slice_get set.devices lower) (asked_of (current_location p)) n)
+          ∷ [];
+      actions = Executes ∷ Touches n ∷ [];
+      reply = Stepped;
+      told = None;
+    }
+
+abbrev pub pass_effect : Set → Shared → Activation → Option ℕ → Option ℕ → Outcome
+pass_effect set s a None lower = goes_wrong s a
+pass_effect set s a (Some n) None = goes_wrong s a
+pass_effect set s a (Some n) (Some lower) = pass_packet set s a lower n (packet_of s n)
+
+-- `call r`, `call r f`: it is asked in a location of its own
+abbrev pub set_by : Activation → Option ℕ → Option Completion
+set_by a f = option_map (λ routine. record { routine = routine; device = a.device }) f
+
+abbrev pub call_packet : Set → Shared → Activation → Option ℕ → ℕ → ℕ → Option Packet → Outcome
+call_packet set s a f lower n None = goes_on s (next a) (Touches n ∷ [])
+call_packet set s a f lower n (Some p) =
+    record {
+      shared = with_packet s n (sent_down p lower (set_by a f));
+      frames =
+          Routine (next a)
+          ∷ Routine (dispatched set lower (slice_get set.devices lower) (asked_of (current_location p)) n)
+          ∷ [];
+      actions = Executes ∷ Touches n ∷ Calls n ∷ [];
+      reply = Stepped;
+      told = None;
+    }
+
+abbrev pub call_effect : Set → Shared → Activation → Option ℕ → Option ℕ → Option ℕ → Outcome
+call_effect set s a f None lower = goes_wrong s a
+call_effect set s a f (Some n) None = goes_wrong s a
+call_effect set s a f (Some n) (Some lower) = call_packet set s a f lower n (packet_of s n)
+
+-- `ifpending r L`: jumps if Irp->PendingReturned is set
+abbrev pub look_packet : Shared → Activation → ℕ → ℕ → Option Packet → Outcome
+look_packet s a label n None = goes_on s (next a) (Touches n ∷ [])
+look_packet s a label n (Some p) = goes_on s (if p.pending_returned then at_label a label else next a) (Touches n ∷ [])
+
+abbrev pub look_effect : Shared → Activation → ℕ → Option ℕ → Outcome
+look_effect s a label None = goes_wrong s a
+look_effect s a label (Some n) = look_packet s a label n (packet_of s n)
+
+-- `ret ..`: the frame is gone. A dispatch routine returns a status, of its own or a lower driver's, which the
+-- frame below is told
+abbrev pub returned : Shared → Status → Outcome
+returned s status =
+    record { shared = s; frames = []; actions = Executes ∷ Returns status ∷ []; reply = Stepped; told = Some status }
+
+abbrev pub return_lower : Shared → Activation → Option Status → Outcome
+return_lower s a None = goes_wrong s a
+return_lower s a (Some status) = returned s status
+
+-- a completion routine lets the completion of the frame below go on, whose packet is looked at
+abbrev pub touched_under : Option Frame → List Action
+touched_under (Some (Walk n)) = Touches n ∷ []
+touched_under _ = []
+
+abbrev pub continued : Shared → Option Frame → Outcome
+continued s under =
+    record { shared = s; frames = []; actions = Executes ∷ touched_under under; reply = Stepped; told = None }
+
+-- each sort has its forms
+abbrev pub return_effect : Shared → Activation → Option Frame → Sort → Return → Outcome
+return_effect s a under Dispatch (WithStatus status) = returned s status
+return_effect s a under Dispatch (Lower r) = return_lower s a (status_in (register a r))
+return_effect s a under Propagate Continue = continued s under
+return_effect s a under _ _ = goes_wrong s a
+
+-- the instruction at the activation's position, on a thread, over a frame or none
+abbrev pub instruction_effect : Set → Shared → ℕ → Option Frame → Activation → Instr → Outcome
+instruction_effect set s t under a (Const r n) = goes_on s (next (with_register a r (Num n))) []
+instruction_effect set s t under a (Move r q) = goes_on s (next (with_register a r (register a q))) []
+instruction_effect set s t under a (Clear r) = goes_on s (next (with_register a r Blank)) []
+instruction_effect set s t under a (Add r q) = number_effect s a r (sum_of a r q)
+instruction_effect set s t under a (Subtract r q) = number_effect s a r (difference_of a r q)
+instruction_effect set s t under a (JumpIfZero r label) = jump_effect s a label (is_zero_at a r)
+instruction_effect set s t under a (JumpIfLess r q label) = jump_effect s a label (is_less_at a r q)
+instruction_effect set s t under a (Jump label) = goes_on s (at_label a label) []
+instruction_effect set s t under a (Loop turns) = loop_effect s a turns
+instruction_effect set s t under a End = end_effect s a (innermost a)
+instruction_effect set s t under a (Load r c) = load_effect s a r c (slice_get s.cells a.device)
+instruction_effect set s t under a (Store c r) = store_effect s a c (number_in (register a r)) (slice_get s.cells a.device)
+instruction_effect set s t under a (LoadPaged r c) = load_paged_effect s a r c (slice_get s.cells a.device)
+instruction_effect set s t under a (StorePaged c r) =
     store_paged_effect s a c (number_in (register a r)) (slice_get s.cells a.device)
-instruction_effect s t a (Get r q field) = get_effect s a r field (packet_in s (register a q))
-instruction_effect s t a (Put q r) = put_effect s a (number_in (register a r)) (packet_in s (register a q))
-instruction_effect s t a (Mark r) = mark_effect s a (packet_in s (register a r))
-instruction_effect s t a (Acquire lock) = acquire_effect s t a (spin_lock a lock) (owner_of s.locks (spin_lock a lock))
-instruction_effect s t a (Release lock) = release_effect s a (spin_lock a lock) (owner_of s.locks (spin_lock a lock))
-instruction_effect s t a AcquireCancel = acquire_effect s t a SystemCancel (owner_of s.locks SystemCancel)
-instruction_effect s t a ReleaseCancel = release_effect s a SystemCancel (owner_of s.locks SystemCancel)
-instruction_effect s t a (Complete r status) = complete_effect s a status (packet_in s (register a r))
-instruction_effect s t a (Ret form) = return_effect s form
+instruction_effect set s t under a (Get r q field) = get_effect s a r field (packet_in s (register a q))
+instruction_effect set s t under a (Put q r) = put_effect s a (number_in (register a r)) (packet_in s (register a q))
+instruction_effect set s t under a (Mark r) = mark_effect s a (packet_in s (register a r))
+instruction_effect set s t under a (Acquire lock) = acquire_effect s t a (spin_lock a lock) (owner_of s.locks (spin_lock a lock))
+instruction_effect set s t under a (Release lock) = release_effect s a (spin_lock a lock) (owner_of s.locks (spin_lock a lock))
+instruction_effect set s t under a AcquireCancel = acquire_effect s t a SystemCancel (owner_of s.locks SystemCancel)
+instruction_effect set s t under a ReleaseCancel = release_effect s a SystemCancel (owner_of s.locks SystemCancel)
+instruction_effect set s t under a (Pass r) =
+    pass_effect set s a (packet_in s (register a r)) (lower_of set a.device)
+instruction_effect set s t under a (Call r f) =
+    call_effect set s a f (packet_in s (register a r)) (lower_of set a.device)
+instruction_effect set s t under a (IfPending r label) = look_effect s a label (packet_in s (register a r))
+instruction_effect set s t under a (Complete r status) = complete_effect s a status (packet_in s (register a r))
+instruction_effect set s t under a (Ret form) = return_effect s a under (sort_of set a.driver a.routine) form
 
-abbrev pub routine_effect : Shared → ℕ → Activation → Option Instr → Outcome
-routine_effect s t a None = goes_wrong s a
-routine_effect s t a (Some i) = instruction_effect s t a i
+abbrev pub routine_effect : Set → Shared → ℕ → Option Frame → Activation → Option Instr → Outcome
+routine_effect set s t under a None = goes_wrong s a
+routine_effect set s t under a (Some i) = instruction_effect set s t under a i
 
--- a step of the I/O manager, which completes a packet: its completion leaves the current location,
--- which is the first one today, so the packet tops out
-abbrev pub walk_packet : Shared → ℕ → Option Packet → Outcome
-walk_packet s n None = record { shared = s; frames = []; actions = Touches n ∷ []; reply = Stepped }
-walk_packet s n (Some p) =
+-- a step of the I/O manager, which completes a packet: completion leaves the current location (Driver Kit,
+-- IoCompleteRequest, IoCompletion routines). If a routine is set there it runs for the device that set it,
+-- over the I/O manager's frame
+abbrev pub routine_of_device : Option Device → ℕ
+routine_of_device None = 0
+routine_of_device (Some d) = d.driver
+
+abbrev pub completes_with : Set → Completion → ℕ → Activation
+completes_with set c n = entered (routine_of_device (slice_get set.devices c.device)) c.routine c.device n
+
+abbrev pub walk_to_routine : Set → Shared → ℕ → Packet → Completion → Outcome
+walk_to_routine set s n p c =
+    record {
+      shared = with_packet s n (moved_up p);
+      frames = Walk n ∷ Routine (completes_with set c n) ∷ [];
+      actions = Touches n ∷ Leaves n ∷ Ups n ∷ [];
+      reply = Stepped;
+      told = None;
+    }
+
+-- without one the I/O manager carries the mark up to the next location
+abbrev pub marked_above : Packet → ℕ → List Action
+marked_above p n = if p.pending_returned then Marks n ∷ [] else []
+
+abbrev pub walk_up : Shared → ℕ → Packet → Outcome
+walk_up s n p =
+    record {
+      shared = with_packet s n (carried_up p);
+      frames = Walk n ∷ [];
+      actions = Touches n ∷ Leaves n ∷ Ups n ∷ marked_above p n;
+      reply = Stepped;
+      told = None;
+    }
+
+-- at the first location the packet tops out
+abbrev pub walk_out : Shared → ℕ → Packet → Outcome
+walk_out s n p =
     record {
       shared = without_packet s n;
       frames = [];
       actions = Touches n ∷ Leaves n ∷ TopsOut n ∷ [];
       reply = Topped n p.status p.info;
+      told = None;
     }
 
--- one step of a thread's top frame
-abbrev pub frame_effect : Set → Shared → ℕ → Frame → Outcome
-frame_effect set s t (Routine a) = routine_effect s t a (instruction_at set a.driver a.routine a.position)
-frame_effect set s t (Walk n) = walk_packet s n (packet_of s n)
+abbrev pub walk_from : Set → Shared → ℕ → Packet → Option Completion → Outcome
+walk_from set s n p (Some c) = walk_to_routine set s n p c
+walk_from set s n p None = if nat_lt 1 p.depth then walk_up s n p else walk_out s n p
+
+abbrev pub walk_packet : Set → Shared → ℕ → Option Packet → Outcome
+walk_packet set s n None = record { shared = s; frames = []; actions = Touches n ∷ []; reply = Stepped; told = None }
+walk_packet set s n (Some p) = walk_from set s n (left_location p) (completion_of (current_location p))
+
+-- one step of a thread's top frame, over another frame or none
+abbrev pub frame_effect : Set → Shared → ℕ → Option Frame → Frame → Outcome
+frame_effect set s t under (Routine a) = routine_effect set s t under a (instruction_at set a.driver a.routine a.position)
+frame_effect set s t under (Walk n) = walk_packet set s n (packet_of s n)
+
+-- a routine that waits for a lower driver is told what that returned, in the register of its `pass` or `call`
+abbrev pub operand_of : Option Instr → Option ℕ
+operand_of (Some (Pass r)) = Some r
+operand_of (Some (Call r f)) = Some r
+operand_of _ = None
+
+abbrev pub answered_in : Activation → Status → Option ℕ → Activation
+answered_in a status None = a
+answered_in a status (Some r) = with_register a r (StatusValue status)
+
+abbrev pub answered : Set → Activation → Status → Activation
+answered set a status = answered_in a status (operand_of (instruction_at set a.driver a.routine (a.position - 1)))
+
+abbrev pub top_of : List Frame → Option Frame
+top_of frames = slice_get frames (length frames - 1)
+
+abbrev pub told_top : Set → List Frame → Status → Option Frame → List Frame
+told_top set below status (Some (Routine a)) = take (length below - 1) below ++ Routine (answered set a status) ∷ []
+told_top set below status _ = below
+
+abbrev pub told_to : Set → List Frame → Option Status → List Frame
+told_to set below None = below
+told_to set below (Some status) = told_top set below status (top_of below)
 
 -- what an event leaves: the world, the actions in order, and the reply
 pub record Change : Type 0 where
@@ -264,17 +424,17 @@ abbrev pub with_frames : World → ℕ → Shared → List Frame → World
 with_frames w t s frames = record { threads = slice_set w.threads t (record { frames = record { items = frames } }); shared = s }
 
 -- the top frame's outcome, over the frames below it
-abbrev pub settled : World → ℕ → List Frame → Outcome → Change
-settled w t below o =
+abbrev pub settled : Set → World → ℕ → List Frame → Outcome → Change
+settled set w t below o =
     record {
-      world = with_frames w t o.shared (below ++ o.frames);
+      world = with_frames w t o.shared (told_to set below o.told ++ o.frames);
       actions = o.actions;
-      reply = finished_or (below ++ o.frames) o.reply;
+      reply = finished_or (told_to set below o.told ++ o.frames) o.reply;
     }
 
 abbrev pub top_effect : Set → World → ℕ → List Frame → Option Frame → Change
 top_effect set w t below None = unchanged w Idle
-top_effect set w t below (Some f) = settled w t below (frame_effect set w.shared t f)
+top_effect set w t below (Some f) = settled set w t below (frame_effect set w.shared t (top_of below) f)
 
 -- Step: the thread's top frame, if it has one, does a step
 abbrev pub step_thread : Set → World → ℕ → Option Thread → Change
@@ -302,7 +462,7 @@ issued set w t d device major argument =
             issued = w.shared.issued + 1;
           })
           (Routine (entered device.driver (serving (slice_get set.drivers device.driver) major) d w.shared.issued) ∷ []);
-      actions = Issues w.shared.issued ∷ [];
+      actions = Issues w.shared.issued device.stack ∷ [];
       reply = Started w.shared.issued;
     }
 

@@ -1,15 +1,15 @@
 -- The bug checks, found by looking back over the whole trace. Where each is raised is this
 -- project's own choice; their names and numbers are those of the bug check reference.
-use Rattle.std.specs.Prelude.{ℕ, ◌||◌, ◌&&◌, not, Bool, true, false, List, [], ◌∷◌, Option, None, Some, nat_eq, if◌then◌else◌}
+use Rattle.std.specs.Prelude.{ℕ, ◌+◌, ◌-◌, nat_le, ◌||◌, ◌&&◌, not, Bool, true, false, List, [], ◌∷◌, Option, None, Some, nat_eq, if◌then◌else◌}
 use Rattle.std.specs.List.{list_any}
 use Rattle.model.specs.declared.event.Bug.{Bug}
 use Rattle.model.specs.declared.event.BugCheck.{BugCheck}
-use Rattle.model.specs.declared.event.BugCheck.TheVariants.{IrqlNotLessOrEqual, SpinLockAlreadyOwned, SpinLockNotOwned, MultipleIrpCompleteRequests}
+use Rattle.model.specs.declared.event.BugCheck.TheVariants.{IrqlNotLessOrEqual, SpinLockAlreadyOwned, SpinLockNotOwned, NoMoreIrpStackLocations, MultipleIrpCompleteRequests}
 use Rattle.model.specs.declared.event.Lock.{Lock}
 use Rattle.model.specs.declared.event.Lock.TheVariants.{SystemCancel, Spin}
 use Rattle.model.specs.declared.event.Subject.{Subject}
 use Rattle.model.specs.declared.event.Subject.TheVariants.{Packet, Lock as LockSubject, Cell}
-use Rattle.model.specs.Action.{Action, Acquires, Releases, TouchesPaged, Touches, Completes, TopsOut}
+use Rattle.model.specs.Action.{Action, Acquires, Releases, TouchesPaged, Touches, Issues, Calls, Ups, Completes, TopsOut}
 use Rattle.model.specs.Trace.{Entry, Tag, entry}
 
 -- the same lock
@@ -59,6 +59,25 @@ abbrev pub completing : List Entry → ℕ → Bool
 completing [] n = false
 completing (e ∷ past) n = completes e.action n (completing past n)
 
+-- how many locations a packet has, and how far down it was sent: its issue and calls less its ups
+abbrev pub stack_after : Action → ℕ → ℕ → ℕ
+stack_after (Issues m stack) n before = if nat_eq m n then stack else before
+stack_after _ n before = before
+
+abbrev pub stack_size : List Entry → ℕ → ℕ
+stack_size [] n = 0
+stack_size (e ∷ past) n = stack_after e.action n (stack_size past n)
+
+abbrev pub depth_after : Action → ℕ → ℕ → ℕ
+depth_after (Issues m stack) n before = if nat_eq m n then 1 else before
+depth_after (Calls m) n before = if nat_eq m n then before + 1 else before
+depth_after (Ups m) n before = if nat_eq m n then before - 1 else before
+depth_after _ n before = before
+
+abbrev pub depth : List Entry → ℕ → ℕ
+depth [] n = 0
+depth (e ∷ past) n = depth_after e.action n (depth past n)
+
 abbrev pub bug_if : Bool → BugCheck → Subject → Option Bug
 bug_if b check subject = if b then Some (record { check = check; subject = subject }) else None
 
@@ -66,12 +85,14 @@ bug_if b check subject = if b then Some (record { check = check; subject = subje
 -- SPIN_LOCK_ALREADY_OWNED where it acquires a lock that it holds,
 -- SPIN_LOCK_NOT_OWNED where it releases one that it doesn't hold,
 -- IRQL_NOT_LESS_OR_EQUAL where it touches a paged cell at DISPATCH_LEVEL, or a packet that has topped out,
+-- NO_MORE_IRP_STACK_LOCATIONS where it sends a packet down past its last location,
 -- MULTIPLE_IRP_COMPLETE_REQUESTS where it completes one that is completing or has topped out
 abbrev pub fault_of : List Entry → ℕ → Action → Option Bug
 fault_of past t (Acquires l) = bug_if (holds past t l) SpinLockAlreadyOwned (LockSubject l)
 fault_of past t (Releases l) = bug_if (not (holds past t l)) SpinLockNotOwned (LockSubject l)
 fault_of past t (TouchesPaged c) = bug_if (at_dispatch past t) IrqlNotLessOrEqual (Cell c)
 fault_of past t (Touches n) = bug_if (topped past n) IrqlNotLessOrEqual (Packet n)
+fault_of past t (Calls n) = bug_if (nat_le (stack_size past n) (depth past n)) NoMoreIrpStackLocations (Packet n)
 fault_of past t (Completes n) = bug_if (topped past n || completing past n) MultipleIrpCompleteRequests (Packet n)
 fault_of past t _ = None
 

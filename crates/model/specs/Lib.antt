@@ -2,6 +2,7 @@ pub mod Status
 pub mod Set
 pub mod Sound
 pub mod Loops
+pub mod Forwarding
 pub mod World
 pub mod Action
 pub mod Effect

@@ -5,12 +5,10 @@ use Rattle.model.specs.declared.abs.Abs.{Abs}
 use Rattle.model.specs.declared.abs.Outs.{Outs}
 use Rattle.model.specs.declared.abs.Rule.{Rule}
 use Rattle.model.specs.declared.instr.Instr.{Instr}
-use Rattle.model.specs.declared.instr.Instr.TheVariants.{JumpIfZero, JumpIfLess, Jump, Loop, End, Ret}
-use Rattle.model.specs.declared.set.Routine.{Routine}
-use Rattle.model.specs.declared.set.Sort.{Sort}
+use Rattle.model.specs.declared.instr.Instr.TheVariants.{JumpIfZero, JumpIfLess, Jump, Loop, End, IfPending, Ret}
 use Rattle.model.specs.LocalRule.{entry_state, local_rule}
 use Rattle.model.specs.Loops.{open_at, is_closed, loops_round}
-use Rattle.model.specs.Set.{label_of}
+use Rattle.model.specs.Set.{Member, label_of}
 
 abbrev pub isnt_return : Option Instr → Bool
 isnt_return (Some (Ret form)) = false
@@ -34,6 +32,7 @@ abbrev pub is_misplaced : List Instr → ℕ → Option Instr → Bool
 is_misplaced code p (Some (JumpIfZero r label)) = not (goes_forward code p label)
 is_misplaced code p (Some (JumpIfLess r s label)) = not (goes_forward code p label)
 is_misplaced code p (Some (Jump label)) = not (goes_forward code p label)
+is_misplaced code p (Some (IfPending r label)) = not (goes_forward code p label)
 is_misplaced code p (Some (Loop turns)) = not (is_closed code p) || nat_le 4 (length (loops_round code p))
 is_misplaced code p (Some End) = nat_eq (length (open_at code p)) 0
 is_misplaced code p _ = false
@@ -51,21 +50,21 @@ abbrev pub HandsOn : Result Outs Rule → Option ℕ → ℕ → ℕ → Abs →
 HandsOn (Err rule) label q p s = ⊥
 HandsOn (Ok outs) label q p s = ((p ≡ q + 1) × (outs.next ≡ Some s)) ⊎ ((label ≡ Some p) × (outs.jump ≡ Some s))
 
-abbrev pub LeadsFrom : Sort → Option Instr → ℕ → Abs → ℕ → Abs → Type 0
-LeadsFrom sort None q before p s = ⊥
-LeadsFrom sort (Some i) q before p s = HandsOn (local_rule before i sort) (label_of i) q p s
+abbrev pub LeadsFrom : Member → Option Instr → ℕ → Abs → ℕ → Abs → Type 0
+LeadsFrom m None q before p s = ⊥
+LeadsFrom m (Some i) q before p s = HandsOn (local_rule before i m.routine.sort m.set m.driver) (label_of i) q p s
 
 -- the instruction at q, reached in a state, leads to p in the state s, and there is no fault at q
-abbrev pub Leads : Routine → ℕ → Abs → ℕ → Abs → Type 0
-Leads routine q before p s =
-    (is_malformed routine.code q ≡ false) × LeadsFrom routine.sort (slice_get routine.code q) q before p s
+abbrev pub Leads : Member → ℕ → Abs → ℕ → Abs → Type 0
+Leads m q before p s =
+    (is_malformed m.routine.code q ≡ false) × LeadsFrom m (slice_get m.routine.code q) q before p s
 
 -- a path leads to its last position in a state
-abbrev pub Along : Routine → List ℕ → Abs → Type 0
-Along routine [] s = ⊥
-Along routine (p ∷ []) s = (p ≡ 0) × (s ≡ entry_state routine.sort)
-Along routine (p ∷ q ∷ path) s = (before : Abs) × Along routine (q ∷ path) before × Leads routine q before p s
+abbrev pub Along : Member → List ℕ → Abs → Type 0
+Along m [] s = ⊥
+Along m (p ∷ []) s = (p ≡ 0) × (s ≡ entry_state m.routine.sort)
+Along m (p ∷ q ∷ path) s = (before : Abs) × Along m (q ∷ path) before × Leads m q before p s
 
 -- some path leads to a position in a state
-abbrev pub Arrives : Routine → ℕ → Abs → Type 0
-Arrives routine p s = (path : List ℕ) × Along routine (p ∷ path) s
+abbrev pub Arrives : Member → ℕ → Abs → Type 0
+Arrives m p s = (path : List ℕ) × Along m (p ∷ path) s

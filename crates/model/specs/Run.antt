@@ -5,7 +5,7 @@ use Rattle.model.specs.declared.world.Frame.{Frame}
 use Rattle.model.specs.declared.world.Frame.TheVariants.{Routine, Walk}
 use Rattle.model.specs.declared.world.Thread.{Thread}
 use Rattle.model.specs.declared.world.Value.{Value}
-use Rattle.model.specs.declared.world.Value.TheVariants.{Blank, Num, Ref}
+use Rattle.model.specs.declared.world.Value.TheVariants.{Ref}
 use Rattle.model.specs.declared.event.Event.{Event}
 use Rattle.model.specs.declared.event.Event.TheVariants.{Issue, Step}
 use Rattle.model.specs.declared.event.Bug.{Bug}
@@ -57,9 +57,8 @@ serving_with None n = None
 serving_with (Some u) n = Some (record { packet = n; «use» = u })
 
 abbrev pub serving_in : List Entry → Value → Option Serving
-serving_in past Blank = None
-serving_in past (Num n) = None
 serving_in past (Ref n) = serving_with (current_use past n) n
+serving_in past _ = None
 
 -- the tags of an event's frames: a frame keeps its tag where one of its kind stood before, and a
 -- new routine frame is the next activation

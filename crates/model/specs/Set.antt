@@ -1,11 +1,12 @@
 -- Driver sets: drivers and devices, and which routine serves what.
 use Rattle.std.specs.Prelude.{ℕ, List, [], ◌∷◌, Option, None, Some, nat_eq, unwrap_or, option_and_then, slice_get, if◌then◌else◌}
 use Rattle.model.specs.declared.instr.Instr.{Instr}
-use Rattle.model.specs.declared.instr.Instr.TheVariants.{JumpIfZero, JumpIfLess, Jump, Complete, Ret}
+use Rattle.model.specs.declared.instr.Instr.TheVariants.{JumpIfZero, JumpIfLess, Jump, IfPending, Complete, Ret}
 use Rattle.model.specs.declared.instr.Return.TheVariants.{WithStatus}
 use Rattle.model.specs.declared.set.Driver.{Driver}
 use Rattle.model.specs.declared.set.Device.{Device}
 use Rattle.model.specs.declared.set.Routine.{Routine}
+use Rattle.model.specs.declared.set.Sort.{Sort}
 use Rattle.model.specs.declared.set.Sort.TheVariants.{Dispatch}
 use Rattle.model.specs.declared.status.Major.{Major}
 use Rattle.model.specs.declared.status.Major.TheVariants.{Read, Write, Control}
@@ -44,11 +45,33 @@ routine_of set driver number =
     then Some default_routine
     else option_and_then (λ d. slice_get d.routines number) (slice_get set.drivers driver)
 
+-- the sort of the routine of a number; nothing looks at that of a routine which isn't there
+abbrev pub sort_in : Option Routine → Sort
+sort_in None = Dispatch
+sort_in (Some routine) = routine.sort
+
+abbrev pub sort_of : Set → ℕ → ℕ → Sort
+sort_of set driver number = sort_in (routine_of set driver number)
+
+-- the device under a device
+abbrev pub lower_of : Set → ℕ → Option ℕ
+lower_of set device = option_and_then (λ d. d.lower) (slice_get set.devices device)
+
+-- a routine of the driver of a number, of a set
+pub record Member : Type 0 where
+  pub set : Set
+  pub driver : ℕ
+  pub routine : Routine
+
+abbrev pub member : Set → ℕ → Routine → Member
+member set driver routine = record { set = set; driver = driver; routine = routine }
+
 -- the label of a jump
 abbrev pub label_of : Instr → Option ℕ
 label_of (JumpIfZero r label) = Some label
 label_of (JumpIfLess r s label) = Some label
 label_of (Jump label) = Some label
+label_of (IfPending r label) = Some label
 label_of _ = None
 
 -- the instruction at a position of a routine

@@ -1,7 +1,7 @@
 -- The trace of a run: its actions, newest first, each with the thread and the frame that did it.
 -- Activations and uses of stack locations are numbered here, and not in the machines.
-use Rattle.std.specs.Prelude.{ℕ, ◌+◌, List, [], ◌∷◌, Option, None, Some, nat_eq, if◌then◌else◌}
-use Rattle.model.specs.Action.{Action, Issues, Marks, Leaves}
+use Rattle.std.specs.Prelude.{ℕ, ◌++◌, ◌+◌, List, [], ◌∷◌, Option, None, Some, nat_eq, drop, option_to_list, slice_get, if◌then◌else◌}
+use Rattle.model.specs.Action.{Action, Issues, Calls, Ups, Marks, Leaves}
 
 -- the use of a packet's location that a dispatch activation serves
 pub record Serving : Type 0 where
@@ -14,7 +14,7 @@ pub data Tag : Type 0 where
   Managing : Tag
   Activated : (activation : ℕ) (serving : Option Serving) → Tag
 
--- one action of the trace: a new use for an issue, the location's use for a mark and a leave
+-- one action of the trace: a new use for an issue and a call, the location's use for a mark and a leave
 pub record Entry : Type 0 where
   pub thread : ℕ
   pub tag : Tag
@@ -23,25 +23,32 @@ pub record Entry : Type 0 where
 
 -- how many uses were opened
 abbrev pub opens : Action → ℕ → ℕ
-opens (Issues n) count = count + 1
+opens (Issues n stack) count = count + 1
+opens (Calls n) count = count + 1
 opens _ count = count
 
 abbrev pub uses_opened : List Entry → ℕ
 uses_opened [] = 0
 uses_opened (e ∷ past) = opens e.action (uses_opened past)
 
--- the use of a packet's current location
-abbrev pub use_after : Action → ℕ → Option ℕ → Option ℕ → Option ℕ
-use_after (Issues m) n opened before = if nat_eq m n then opened else before
-use_after _ n opened before = before
+-- the uses of a packet's locations down to the current one, the current one first
+abbrev pub uses_after : Action → ℕ → Option ℕ → List ℕ → List ℕ
+uses_after (Issues m stack) n opened before = if nat_eq m n then option_to_list opened else before
+uses_after (Calls m) n opened before = if nat_eq m n then option_to_list opened ++ before else before
+uses_after (Ups m) n opened before = if nat_eq m n then drop 1 before else before
+uses_after _ n opened before = before
+
+abbrev pub uses : List Entry → ℕ → List ℕ
+uses [] n = []
+uses (e ∷ past) n = uses_after e.action n e.location (uses past n)
 
 abbrev pub current_use : List Entry → ℕ → Option ℕ
-current_use [] n = None
-current_use (e ∷ past) n = use_after e.action n e.location (current_use past n)
+current_use past n = slice_get (uses past n) 0
 
 -- the use that an action is about, after a past
 abbrev pub use_of : List Entry → Action → Option ℕ
-use_of past (Issues n) = Some (uses_opened past)
+use_of past (Issues n stack) = Some (uses_opened past)
+use_of past (Calls n) = Some (uses_opened past)
 use_of past (Marks n) = current_use past n
 use_of past (Leaves n) = current_use past n
 use_of past _ = None

@@ -13,129 +13,135 @@ use Rattle.model.specs.Certificate.{certificate_to}
 use Rattle.model.specs.LocalRule.{refuses}
 use Rattle.model.specs.Loops.{open_at}
 use Rattle.model.specs.Paths.{Arrives, is_malformed}
-use Rattle.model.specs.Set.{Set}
+use Rattle.model.specs.Set.{Set, Member, member}
 
--- what an instruction of a routine of a sort breaks in a state
-abbrev pub fault_in : Sort → Abs → Option Instr → Option Rule
-fault_in sort s None = None
-fault_in sort s (Some i) = refuses s i sort
+-- what an instruction of a routine breaks in a state
+abbrev pub fault_in : Member → Abs → Option Instr → Option Rule
+fault_in m s None = None
+fault_in m s (Some i) = refuses s i m.routine.sort m.set m.driver
 
 -- exactly one state arrives at a position
-pub record ArrivesAlone (routine : Routine) (p : ℕ) (s : Abs) : Type 0 where
-  pub arrives : Arrives routine p s
-  pub alone : (other : Abs) → Arrives routine p other → other ≡ s
+pub record ArrivesAlone (m : Member) (p : ℕ) (s : Abs) : Type 0 where
+  pub arrives : Arrives m p s
+  pub alone : (other : Abs) → Arrives m p other → other ≡ s
 
 -- the loop that an `end` at a position closes is reached in this state alone
-abbrev pub ReachesLoop : Routine → Option ℕ → Abs → Type 0
-ReachesLoop routine None s = ⊥
-ReachesLoop routine (Some q) s = ArrivesAlone routine q s
+abbrev pub ReachesLoop : Member → Option ℕ → Abs → Type 0
+ReachesLoop m None s = ⊥
+ReachesLoop m (Some q) s = ArrivesAlone m q s
 
-abbrev pub StartsIn : Routine → ℕ → Abs → Type 0
-StartsIn routine p s = ReachesLoop routine (slice_get (open_at routine.code p) 0) s
+abbrev pub StartsIn : Member → ℕ → Abs → Type 0
+StartsIn m p s = ReachesLoop m (slice_get (open_at m.routine.code p) 0) s
 
 -- if there is an `end`, it is reached in the state in which its `loop` is
-abbrev pub ClosesAlike : Routine → ℕ → Abs → Option Instr → Type 0
-ClosesAlike routine p s (Some End) = StartsIn routine p s
-ClosesAlike routine p s _ = ⊤
+abbrev pub ClosesAlike : Member → ℕ → Abs → Option Instr → Type 0
+ClosesAlike m p s (Some End) = StartsIn m p s
+ClosesAlike m p s _ = ⊤
 
 -- there is an `end`, and its `loop` is reached in another state
-abbrev pub ClosesUnlike : Routine → ℕ → Abs → Option Instr → Type 0
-ClosesUnlike routine p s (Some End) = (start : Abs) × StartsIn routine p start × (start ≢ s)
-ClosesUnlike routine p s _ = ⊥
+abbrev pub ClosesUnlike : Member → ℕ → Abs → Option Instr → Type 0
+ClosesUnlike m p s (Some End) = (start : Abs) × StartsIn m p start × (start ≢ s)
+ClosesUnlike m p s _ = ⊥
 
 -- the longest that an activation may be: 1,000,000 instructions
 abbrev pub limit : ℕ
 limit = 1000000
 
 -- there is no fault at a position
-pub record IsFineAt (routine : Routine) (p : ℕ) : Type 0 where
-  pub formed : is_malformed routine.code p ≡ false
+pub record IsFineAt (m : Member) (p : ℕ) : Type 0 where
+  pub formed : is_malformed m.routine.code p ≡ false
   pub state : Abs
-  pub arrival : ArrivesAlone routine p state
-  pub closes : ClosesAlike routine p state (slice_get routine.code p)
-  pub keeps : fault_in routine.sort state (slice_get routine.code p) ≡ None
-  pub short : certificate_to routine.code (suc p) ≤ limit
+  pub arrival : ArrivesAlone m p state
+  pub closes : ClosesAlike m p state (slice_get m.routine.code p)
+  pub keeps : fault_in m state (slice_get m.routine.code p) ≡ None
+  pub short : certificate_to m.routine.code (suc p) ≤ limit
 
 -- a routine is typable if it has an instruction and there is no fault at any position
-pub record IsTypableRoutine (routine : Routine) : Type 0 where
-  pub some : length routine.code ≢ 0
-  pub each : (p : ℕ) → p < length routine.code → IsFineAt routine p
+pub record IsTypableRoutine (m : Member) : Type 0 where
+  pub some : length m.routine.code ≢ 0
+  pub each : (p : ℕ) → p < length m.routine.code → IsFineAt m p
 
-abbrev pub IsTypableDriver : Driver → Type 0
-IsTypableDriver driver = All IsTypableRoutine driver.routines
+abbrev pub IsTypableDriver : Set → ℕ → Driver → Type 0
+IsTypableDriver set number driver = All (λ routine. IsTypableRoutine (member set number routine)) driver.routines
+
+-- the drivers before a number are typable
+abbrev pub AreTypable : Set → ℕ → Type 0
+AreTypable set count =
+    (number : ℕ) (driver : Driver) → number < count → slice_get set.drivers number ≡ Some driver → IsTypableDriver set number driver
 
 -- a set is typable if it has a device and all its routines are typable
 pub record IsTypable (set : Set) : Type 0 where
   pub devices : length set.devices ≢ 0
-  pub drivers : All IsTypableDriver set.drivers
+  pub drivers : AreTypable set (length set.drivers)
 
 -- no path leads to a position
-pub record IsUnreachable (routine : Routine) (p : ℕ) : Type 0 where
-  pub within : p < length routine.code
-  pub formed : is_malformed routine.code p ≡ false
-  pub never : (s : Abs) → Arrives routine p s → ⊥
+pub record IsUnreachable (m : Member) (p : ℕ) : Type 0 where
+  pub within : p < length m.routine.code
+  pub formed : is_malformed m.routine.code p ≡ false
+  pub never : (s : Abs) → Arrives m p s → ⊥
 
 -- states that differ arrive at a position
-pub record HasSeveral (routine : Routine) (p : ℕ) : Type 0 where
-  pub within : p < length routine.code
-  pub formed : is_malformed routine.code p ≡ false
+pub record HasSeveral (m : Member) (p : ℕ) : Type 0 where
+  pub within : p < length m.routine.code
+  pub formed : is_malformed m.routine.code p ≡ false
   pub one : Abs
   pub other : Abs
-  pub one_arrives : Arrives routine p one
-  pub other_arrives : Arrives routine p other
+  pub one_arrives : Arrives m p one
+  pub other_arrives : Arrives m p other
   pub differ : one ≢ other
 
 -- one state arrives at a loop's end, and another one at its start
-pub record EndsUnlike (routine : Routine) (p : ℕ) : Type 0 where
-  pub within : p < length routine.code
-  pub formed : is_malformed routine.code p ≡ false
+pub record EndsUnlike (m : Member) (p : ℕ) : Type 0 where
+  pub within : p < length m.routine.code
+  pub formed : is_malformed m.routine.code p ≡ false
   pub state : Abs
-  pub arrival : ArrivesAlone routine p state
-  pub closes : ClosesUnlike routine p state (slice_get routine.code p)
+  pub arrival : ArrivesAlone m p state
+  pub closes : ClosesUnlike m p state (slice_get m.routine.code p)
 
 -- one state arrives at a position, and the instruction there breaks a rule in it
-pub record IsBroken (routine : Routine) (p : ℕ) (rule : Rule) : Type 0 where
-  pub within : p < length routine.code
-  pub formed : is_malformed routine.code p ≡ false
+pub record IsBroken (m : Member) (p : ℕ) (rule : Rule) : Type 0 where
+  pub within : p < length m.routine.code
+  pub formed : is_malformed m.routine.code p ≡ false
   pub state : Abs
-  pub arrival : ArrivesAlone routine p state
-  pub closes : ClosesAlike routine p state (slice_get routine.code p)
-  pub breaks : fault_in routine.sort state (slice_get routine.code p) ≡ Some rule
+  pub arrival : ArrivesAlone m p state
+  pub closes : ClosesAlike m p state (slice_get m.routine.code p)
+  pub breaks : fault_in m state (slice_get m.routine.code p) ≡ Some rule
 
 -- one state arrives at a position, no rule is broken there, and the sum of the certificate passes the
 -- limit
-pub record IsTooLong (routine : Routine) (p : ℕ) : Type 0 where
-  pub within : p < length routine.code
-  pub formed : is_malformed routine.code p ≡ false
+pub record IsTooLong (m : Member) (p : ℕ) : Type 0 where
+  pub within : p < length m.routine.code
+  pub formed : is_malformed m.routine.code p ≡ false
   pub state : Abs
-  pub arrival : ArrivesAlone routine p state
-  pub closes : ClosesAlike routine p state (slice_get routine.code p)
-  pub keeps : fault_in routine.sort state (slice_get routine.code p) ≡ None
-  pub long : limit < certificate_to routine.code (suc p)
+  pub arrival : ArrivesAlone m p state
+  pub closes : ClosesAlike m p state (slice_get m.routine.code p)
+  pub keeps : fault_in m state (slice_get m.routine.code p) ≡ None
+  pub long : limit < certificate_to m.routine.code (suc p)
 
 -- the least rule that is broken at a position
-abbrev pub IsFaultAt : Routine → ℕ → Rule → Type 0
-IsFaultAt routine p rule =
-    ((is_malformed routine.code p ≡ true) × (rule ≡ Malformed))
-    ⊎ ((IsUnreachable routine p × (rule ≡ Unreachable))
-    ⊎ (((HasSeveral routine p ⊎ EndsUnlike routine p) × (rule ≡ StatesDiffer))
-    ⊎ (IsBroken routine p rule ⊎ (IsTooLong routine p × (rule ≡ TooLong)))))
+abbrev pub IsFaultAt : Member → ℕ → Rule → Type 0
+IsFaultAt m p rule =
+    ((is_malformed m.routine.code p ≡ true) × (rule ≡ Malformed))
+    ⊎ ((IsUnreachable m p × (rule ≡ Unreachable))
+    ⊎ (((HasSeveral m p ⊎ EndsUnlike m p) × (rule ≡ StatesDiffer))
+    ⊎ (IsBroken m p rule ⊎ (IsTooLong m p × (rule ≡ TooLong)))))
 
 -- the first fault of a routine
-pub record IsFirstFaultOf (routine : Routine) (at : ℕ) (rule : Rule) : Type 0 where
-  pub before : (p : ℕ) → p < at → IsFineAt routine p
-  pub fault : IsFaultAt routine at rule
+pub record IsFirstFaultOf (m : Member) (at : ℕ) (rule : Rule) : Type 0 where
+  pub before : (p : ℕ) → p < at → IsFineAt m p
+  pub fault : IsFaultAt m at rule
 
 -- the first fault of a set that has a device: of the least driver, of its least routine
 pub record IsFirstFaultWithin (set : Set) (refusal : Refusal) : Type 0 where
   pub devices : length set.devices ≢ 0
   pub driver : Driver
   pub driver_at : slice_get set.drivers refusal.driver ≡ Some driver
-  pub drivers_before : All IsTypableDriver (take refusal.driver set.drivers)
+  pub drivers_before : AreTypable set refusal.driver
   pub routine : Routine
   pub routine_at : slice_get driver.routines refusal.routine ≡ Some routine
-  pub routines_before : All IsTypableRoutine (take refusal.routine driver.routines)
-  pub first : IsFirstFaultOf routine refusal.at refusal.rule
+  pub routines_before :
+      All (λ routine. IsTypableRoutine (member set refusal.driver routine)) (take refusal.routine driver.routines)
+  pub first : IsFirstFaultOf (member set refusal.driver routine) refusal.at refusal.rule
 
 abbrev pub at_start : Rule → Refusal
 at_start rule = record { driver = 0; routine = 0; at = 0; rule = rule }

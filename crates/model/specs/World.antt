@@ -1,8 +1,8 @@
 -- The world of a run: threads with their frames, and packets. A packet that topped out is no longer
 -- in the list of live packets, and its number stays used.
-use Rattle.std.specs.Prelude.{ℕ, suc, option_and_then, ◌+◌, ◌-◌, true, false, List, [], ◌∷◌, length, Option, None, Some, nat_eq, nat_lt, take, slice_get, slice_set, slice_index_or, remove, replicate, if◌then◌else◌}
+use Rattle.std.specs.Prelude.{ℕ, Bool, ◌++◌, suc, option_and_then, ◌+◌, ◌-◌, true, false, List, [], ◌∷◌, length, Option, None, Some, nat_eq, nat_lt, take, slice_get, slice_set, slice_index_or, remove, replicate, if◌then◌else◌}
 use Rattle.model.specs.declared.world.Value.{Value}
-use Rattle.model.specs.declared.world.Value.TheVariants.{Blank, Num, Ref}
+use Rattle.model.specs.declared.world.Value.TheVariants.{Blank, Num, Ref, Status as StatusValue}
 use Rattle.model.specs.declared.event.Lock.{Lock}
 use Rattle.model.specs.declared.event.Lock.TheVariants.{SystemCancel, Spin}
 use Rattle.model.specs.declared.instr.Field.{Field}
@@ -11,6 +11,7 @@ use Rattle.model.specs.declared.world.Activation.{Activation}
 use Rattle.model.specs.declared.world.Cells.{Cells}
 use Rattle.model.specs.declared.world.OpenLoop.{OpenLoop}
 use Rattle.model.specs.declared.world.Thread.{Thread}
+use Rattle.model.specs.declared.world.Completion.{Completion}
 use Rattle.model.specs.declared.world.Location.{Location}
 use Rattle.model.specs.declared.world.Packet.{Packet}
 use Rattle.model.specs.declared.status.Status.{Status}
@@ -92,6 +93,7 @@ without_packet s n = record s { packets = remove s.packets (place_of s.packets n
 abbrev pub packet_in : Shared → Value → Option ℕ
 packet_in s Blank = None
 packet_in s (Num n) = None
+packet_in s (StatusValue status) = None
 packet_in s (Ref n) = if nat_lt n s.issued then Some n else None
 
 -- the number that a value is
@@ -99,6 +101,12 @@ abbrev pub number_in : Value → Option ℕ
 number_in Blank = None
 number_in (Num n) = Some n
 number_in (Ref n) = None
+number_in (StatusValue status) = None
+
+-- the status that a value is
+abbrev pub status_in : Value → Option Status
+status_in (StatusValue status) = Some status
+status_in _ = None
 
 -- an activation with its next position, at a label, and with a register changed
 abbrev pub register : Activation → ℕ → Value
@@ -158,12 +166,64 @@ mark_current p =
 abbrev pub completed : Packet → Status → Packet
 completed p status = record p { status = status; completing = true }
 
+-- IoCallDriver with a location of its own (Driver Kit, IoCopyCurrentIrpStackLocationToNext and
+-- IoSetCompletionRoutine): the next location asks the lower device the same, with no control bit set
+abbrev pub copied_location : Option Location → ℕ → Option Completion → Location
+copied_location None device completion =
+    record { major = None; argument = 0; device = device; marked = false; completion = completion }
+copied_location (Some l) device completion =
+    record { major = l.major; argument = l.argument; device = device; marked = false; completion = completion }
+
+abbrev pub sent_down : Packet → ℕ → Option Completion → Packet
+sent_down p device completion =
+    record p {
+      depth = p.depth + 1;
+      locations = record { items = slice_set p.locations.items p.depth (copied_location (current_location p) device completion) };
+    }
+
+-- IoSkipCurrentIrpStackLocation: the lower device is asked in the current location
+abbrev pub shared_location : Option Location → List Location → ℕ → ℕ → List Location
+shared_location None locations place device = locations
+shared_location (Some l) locations place device = slice_set locations place (record l { device = device })
+
+abbrev pub shared_with : Packet → ℕ → Packet
+shared_with p device =
+    let place : ℕ = p.depth - 1 in
+    record p { locations = record { items = shared_location (slice_get p.locations.items place) p.locations.items place device } }
+
+-- completion leaves the current location: Irp->PendingReturned becomes its mark, and then the location above
+-- it is current
+abbrev pub is_marked : Option Location → Bool
+is_marked None = false
+is_marked (Some l) = l.marked
+
+abbrev pub left_location : Packet → Packet
+left_location p = record p { pending_returned = is_marked (current_location p) }
+
+abbrev pub moved_up : Packet → Packet
+moved_up p = record p { depth = p.depth - 1 }
+
+-- where no routine is set there, the mark is carried up
+abbrev pub carried_up : Packet → Packet
+carried_up p = if p.pending_returned then mark_current (moved_up p) else moved_up p
+
+-- the completion routine of the current location
+abbrev pub completion_of : Option Location → Option Completion
+completion_of None = None
+completion_of (Some l) = l.completion
+
+-- the major function that the current location asks for
+abbrev pub asked_of : Option Location → Option Major
+asked_of None = None
+asked_of (Some l) = l.major
+
 -- a location at which a device is asked something, and one at which nothing was asked yet
 abbrev pub asked_location : Major → ℕ → ℕ → Location
-asked_location major argument device = record { major = Some major; argument = argument; device = device; marked = false }
+asked_location major argument device =
+    record { major = Some major; argument = argument; device = device; marked = false; completion = None }
 
 abbrev pub unused_location : Location
-unused_location = record { major = None; argument = 0; device = 0; marked = false }
+unused_location = record { major = None; argument = 0; device = 0; marked = false; completion = None }
 
 -- a new packet for a device: as many locations as the device's stack size, the first one asked and current
 abbrev pub new_packet : ℕ → ℕ → Major → ℕ → ℕ → Packet
@@ -175,6 +235,7 @@ new_packet number device major argument stack =
       status = Success;
       info = 0;
       completing = false;
+      pending_returned = false;
     }
 
 -- the frame of a routine that begins, handed a packet

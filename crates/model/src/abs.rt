@@ -7,10 +7,14 @@ pub enum Kind {
     Blank,
     /// It holds a number.
     Num,
+    /// It holds the status that a lower driver returned.
+    Lower,
     /// It holds a packet that the routine was handed and has done nothing with.
     New,
     /// It holds a packet that the routine has marked pending and owns.
     Own,
+    /// It holds a packet that is on its way up, which a completion routine may look at.
+    View,
 }
 
 /// What a dispatch routine still owes for the packet that it was handed.
@@ -22,6 +26,21 @@ pub enum Duty {
     Pending,
     /// It completed it without a mark, so it has to return another status.
     Finished,
+    /// It gave it to the lower driver without a mark, so it has to return what that driver returned.
+    GivenDown,
+    /// It has none: no dispatch routine.
+    NoDuty,
+}
+
+/// Whether a completion routine has carried the pending mark up.
+#[derive(Clone, Copy, Debug, PartialEq, Eq)]
+pub enum Settled {
+    /// It hasn't looked.
+    Open,
+    /// Irp->PendingReturned was set, and its location isn't marked yet.
+    NeedMark,
+    /// It has, or there is nothing to carry.
+    Settled,
 }
 
 /// An abstract state: what holds each time a position is reached.
@@ -33,6 +52,7 @@ pub struct Abs {
     /// Whether the thread holds the system cancel spin lock.
     pub cancel: bool,
     pub duty: Duty,
+    pub settled: Settled,
 }
 
 /// The states after an instruction, where it goes on: neither where the routine has returned.
@@ -70,6 +90,14 @@ pub enum Rule {
     Level = 10,
     /// V13: a packet is lost, or its register is written over.
     Dropped = 13,
+    /// V15: a form of return that isn't the sort's.
+    Sort = 15,
+    /// V16: a completion routine completes, forwards, or returns without carrying the mark up.
+    Completion = 16,
+    /// V17: a device has too few stack locations for what is under it.
+    StackTooSmall = 17,
+    /// V18: a device has no lower one.
+    NoLower = 18,
     /// V19: an activation may execute more than 1,000,000 instructions.
     TooLong = 19,
     /// V20: a growth was refused.

@@ -27,6 +27,8 @@ pub enum BugCheck {
     SpinLockAlreadyOwned,
     /// SPIN_LOCK_NOT_OWNED, 0x10.
     SpinLockNotOwned,
+    /// NO_MORE_IRP_STACK_LOCATIONS, 0x35.
+    NoMoreIrpStackLocations,
     /// MULTIPLE_IRP_COMPLETE_REQUESTS, 0x44.
     MultipleIrpCompleteRequests,
 }

@@ -24,6 +24,10 @@ pub enum Field {
 pub enum Return {
     /// A status of its own: `ret STATUS`.
     WithStatus(Status),
+    /// The status in the register, which a lower driver returned: `ret lower r`.
+    Lower(Register),
+    /// STATUS_CONTINUE_COMPLETION: `ret continue`.
+    Continue,
 }
 
 /// One instruction. A label is a position of the same routine.
@@ -71,8 +75,16 @@ pub enum Instr {
     AcquireCancel,
     /// `relc`: IoReleaseCancelSpinLock.
     ReleaseCancel,
+    /// `pass r`: IoSkipCurrentIrpStackLocation and IoCallDriver for the lower device, which is asked
+    /// in the caller's own location.
+    Pass(Register),
+    /// `call r` and `call r f`: IoCopyCurrentIrpStackLocationToNext, IoSetCompletionRoutine with the
+    /// routine of this number where there is one, and IoCallDriver for the lower device.
+    Call(Register, Option<u8>),
     /// `complete r STATUS`: IoCompleteRequest on the packet in the register.
     Complete(Register, Status),
+    /// `ifpending r L`: jumps if Irp->PendingReturned is set.
+    IfPending(Register, u16),
     /// `ret ..`: the routine returns.
     Ret(Return),
 }
@@ -85,9 +97,10 @@ impl Instr {
         ensures { result ≡ label_of self.now }
     {
         match *self {
-            Instr::JumpIfZero(_, label) | Instr::JumpIfLess(_, _, label) | Instr::Jump(label) => {
-                Some(label)
-            }
+            Instr::JumpIfZero(_, label)
+            | Instr::JumpIfLess(_, _, label)
+            | Instr::Jump(label)
+            | Instr::IfPending(_, label) => Some(label),
             _ => None,
         }
     }

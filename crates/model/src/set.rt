@@ -11,6 +11,8 @@ use crate::status::Major;
 pub enum Sort {
     /// A dispatch routine: it is handed a packet at PASSIVE_LEVEL and returns a status.
     Dispatch,
+    /// A completion routine that lets the completion go on: it carries the pending mark up.
+    Propagate,
 }
 
 /// A routine: its sort and its instructions.
@@ -29,12 +31,13 @@ pub struct Driver {
     pub control: Option<u8>,
 }
 
-/// A device: the number of its driver, and how many stack locations a packet needs that is sent to
-/// it, 1 to 16.
+/// A device: the number of its driver, how many stack locations a packet needs that is sent to it, 1 to
+/// 16, and the number of the device under it, an earlier one.
 #[derive(Clone, Copy, Debug, PartialEq, Eq)]
 pub struct Device {
     pub driver: u8,
     pub stack: u8,
+    pub lower: Option<u8>,
 }
 
 impl Driver {

@@ -12,6 +12,8 @@ pub enum Value {
     Num(u64),
     /// The packet of this number.
     Ref(u64),
+    /// A status that a lower driver returned.
+    Status(Status),
 }
 
 /// A loop that a routine has opened: where its body starts, and how many turns are left, the one
@@ -55,6 +57,13 @@ pub struct Thread {
     pub frames: ArrayVec<Frame, 32>,
 }
 
+/// A completion routine (IoSetCompletionRoutine): its number, and the device whose driver set it.
+#[derive(Clone, Copy, Debug, PartialEq, Eq)]
+pub struct Completion {
+    pub routine: u8,
+    pub device: u8,
+}
+
 /// An I/O stack location (IO_STACK_LOCATION): what the driver of its device is asked to do.
 #[derive(Clone, Copy, Debug, PartialEq, Eq, Default)]
 pub struct Location {
@@ -64,6 +73,8 @@ pub struct Location {
     pub device: u8,
     /// SL_PENDING_RETURNED of the control byte: IoMarkIrpPending was called here.
     pub marked: bool,
+    /// What runs when completion leaves this location; the driver above set it.
+    pub completion: Option<Completion>,
 }
 
 /// A live packet (IRP): one that was issued and has not topped out.
@@ -80,6 +91,8 @@ pub struct Packet {
     pub info: u64,
     /// IoCompleteRequest was called, and the I/O manager has the packet.
     pub completing: bool,
+    /// Irp->PendingReturned: the location that completion left last was marked.
+    pub pending_returned: bool,
 }
 
 /// The number cells of a device, all 0 at first.
