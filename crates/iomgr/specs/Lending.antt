@@ -1,0 +1,11 @@
+-- A packet of the table that is lent, to be changed.
+use Rattle.std.specs.Prelude.{ℕ, Option}
+use Rattle.std.specs.Borrow.{LendsIf, MutBor, Fml}
+use Rattle.model.specs.declared.world.Packet.{Packet}
+use Rattle.irp.specs.contracts.packet.Packet.{the_row as packet_row}
+use Rattle.iomgr.specs.contracts.packet_table.PacketTable.{the_row as table_row}
+use Rattle.iomgr.specs.Table.{Table, with_live}
+
+-- the table ends with the last value behind r as the packet of number n
+abbrev pub LendsPacket : MutBor Table → ℕ → Option (MutBor Packet) → Fml
+LendsPacket table n r = LendsIf table_row packet_row table r (with_live table.now n) table.now

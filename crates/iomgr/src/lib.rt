@@ -1,0 +1,11 @@
+//! The I/O manager: the table of live packets, and the walk by which it completes one.
+#![tactic(auto)]
+
+pub mod packet_table;
+pub mod walk;
+
+pub use packet_table::PacketTable;
+pub use walk::WalkStep;
+
+#[cfg(test)]
+mod tests;

@@ -1,0 +1,149 @@
+//! The table of live packets.
+
+ghost use Rattle.std.specs.Prelude.{◌≡◌, ◌≤◌, ◌<◌, ◌++◌, ◌∷◌, [], IfOk, IsTrue, option_map, length};
+
+use crate::walk::WalkStep;
+use irp::Packet;
+use model::limits::{MAX_ISSUED, MAX_LIVE_PACKETS};
+use model::status::Major;
+use model::world::Value;
+use std::alloc::{AllocError, Global};
+use std::marker::Model;
+
+/// The live packets in the order of their issue, with room for all that may live at once, and how many
+/// were ever issued. They are searched by number.
+#[derive(Drop)]
+pub struct PacketTable {
+    live: Vec<Packet>,
+    issued_count: u64,
+}
+
+impl Model for PacketTable {
+    ghost use Rattle.std.specs.Prelude.{◌≤◌, vec_capacity};
+    ghost use Rattle.iomgr.specs.Table.{Table};
+
+    ghost Value = { Table };
+
+    ghost view = { λ t. record { packets = t.live.items; issued = t.issued_count } };
+
+    ghost invariant = { λ t. 1024 ≤ vec_capacity t.live };
+}
+
+impl PacketTable {
+    ghost use Rattle.std.specs.Borrow.{sem};
+    ghost use Rattle.model.specs.Effect.{can_issue, walk_packet};
+    ghost use Rattle.model.specs.Set.{Set};
+    ghost use Rattle.model.specs.World.{Shared, new_packet, packet_in, packet_of, place_of};
+    ghost use Rattle.iomgr.specs.Table.{no_packets, shared_of, with_table, live_packet, with_issued};
+    ghost use Rattle.iomgr.specs.Walk.{walked, walk_outcome};
+    ghost use Rattle.iomgr.specs.Lending.{LendsPacket};
+
+    /// No packets. An error where memory for all that may live at once is refused; no other call needs
+    /// any.
+    pub fn new(alloc: Global) -> Result<PacketTable, AllocError>
+        ensures { IfOk result (λ table. table ≡ no_packets) }
+    {
+        Ok(PacketTable {
+            live: Vec::with_capacity(alloc, MAX_LIVE_PACKETS)?,
+            issued_count: 0,
+        })
+    }
+
+    /// How many packets were ever issued.
+    pub fn issued(&self) -> u64
+        ensures { result ≡ self.now.issued }
+    {
+        self.issued_count
+    }
+
+    /// Whether one more packet may be issued.
+    pub fn can_issue(&self) -> bool
+        ensures { result ≡ can_issue (shared_of self.now) }
+    {
+        self.live.len() < MAX_LIVE_PACKETS && self.issued_count < MAX_ISSUED
+    }
+
+    /// Issues a packet to a device of this stack size, 1 to 16, and answers its number.
+    pub fn issue(&mut self, device: u8, major: Major, argument: u64, stack: u8) -> u64
+        requires room { IsTrue (can_issue (shared_of self.old)) }
+        requires stack { stack ≤ 16 }
+        ensures number { result ≡ self.old.issued }
+        ensures added { self.new ≡ with_issued self.old (new_packet self.old.issued device major argument stack) }
+    {
+        let number = self.issued_count;
+        let pushed = self
+            .live
+            .push(Packet::new(number, device, major, argument, stack));
+        prove!(pushed.is_ok());
+        let _ = pushed;
+        self.issued_count += 1;
+        number
+    }
+
+    /// The packet that a value refers to: one that was issued, live or not.
+    pub fn packet_in(&self, value: Value) -> Option<u64>
+        ensures { result ≡ packet_in (shared_of self.now) value }
+    {
+        match value {
+            Value::Ref(n) if n < self.issued_count => Some(n),
+            _ => None,
+        }
+    }
+
+    /// The place of a packet among the live ones, or their number where it isn't live.
+    fn place(&self, n: u64) -> usize
+        ensures { result ≡ place_of self.now.packets n }
+    {
+        for (place, packet) in self.live.iter().enumerate() {
+            if packet.number() == n {
+                return place;
+            }
+        }
+        self.live.len()
+    }
+
+    /// The live packet of a number.
+    pub fn find(&self, n: u64) -> Option<&Packet>
+        ensures { option_map (λ p. p.now) result ≡ live_packet self.now n }
+    {
+        self.live.get(self.place(n))
+    }
+
+    /// The same, to be changed.
+    pub fn find_mut(&mut self, n: u64) -> Option<&mut Packet>
+        ensures* writes_back { sem 𝓛 (LendsPacket self.entry n result) }
+        ensures packet { option_map (λ p. p.now) result ≡ live_packet self.old n }
+    {
+        let place = self.place(n);
+        self.live.get_mut(place)
+    }
+
+    /// One step of the walk that completes the packet of a number.
+    pub fn walk(&mut self, n: u64) -> WalkStep
+        ensures walked { record { table = self.new; step = result } ≡ walked self.old n }
+        ensures outcome { (set : Set) (s : Shared) → walk_outcome set (with_table s self.new) n result ≡ walk_packet set (with_table s self.old) n (packet_of (with_table s self.old) n) }
+    {
+        let place = self.place(n);
+        let Some(packet) = self.live.get(place) else {
+            return WalkStep::Missing;
+        };
+        let completion = packet.completion();
+        if completion.is_none() && packet.depth() <= 1 {
+            let packet = self.live.remove(place);
+            return WalkStep::TopsOut {
+                status: packet.status(),
+                info: packet.info(),
+            };
+        }
+        let packet = &mut self.live[place];
+        packet.leave();
+        if let Some(completion) = completion {
+            packet.up();
+            return WalkStep::Runs(completion);
+        }
+        packet.carry_up();
+        WalkStep::Ascends {
+            marked: packet.pending_returned(),
+        }
+    }
+}
