@@ -3,15 +3,15 @@
 
 ghost use Rattle.std.specs.Prelude.{◌≡◌, not};
 ghost use Rattle.std.specs.List.{list_any};
-ghost use Rattle.model.specs.LocalRule.{kind_of, is_packet, is_pending, is_held, holds_spin_lock, holds_lock, free_kind, number_kind, packet_kind, level_fault, mark_kind, complete_kind, duty_fault, left_packet, kept_fault, return_fault, completion_fault, first_of_two, broken_if};
+ghost use Rattle.model.specs.LocalRule.{kind_of, is_packet, is_view, is_completion, is_pending, is_held, holds_spin_lock, holds_lock, free_kind, number_kind, packet_kind, level_fault, mark_kind, view_mark_fault, look_kind, view_look_fault, complete_kind, completion_fault, completion_sort_fault, first_of_two, broken_if};
 
 use crate::state::{is_held, kind};
-use model::abs::{Abs, Duty, Kind, Rule};
-use model::instr::{Register, Return, SpinLock};
+use model::abs::{Abs, Kind, Rule, Settled};
+use model::instr::{Register, SpinLock};
 use model::set::Sort;
 use model::status::Status;
 
-fn broken_if(broken: bool, rule: Rule) -> Option<Rule>
+pub fn broken_if(broken: bool, rule: Rule) -> Option<Rule>
     ensures { result ≡ broken_if broken rule }
 {
     if broken { Some(rule) } else { None }
@@ -20,16 +20,31 @@ fn broken_if(broken: bool, rule: Rule) -> Option<Rule>
 fn is_packet(kind: Kind) -> bool
     ensures { result ≡ is_packet kind }
 {
-    matches!(kind, Kind::New | Kind::Own)
+    matches!(kind, Kind::New | Kind::Own | Kind::View)
 }
 
-fn is_pending(status: Status) -> bool
+fn is_view(kind: Kind) -> bool
+    ensures { result ≡ is_view kind }
+{
+    matches!(kind, Kind::View)
+}
+
+fn is_completion(sort: Sort) -> bool
+    ensures { result ≡ is_completion sort }
+{
+    match sort {
+        Sort::Dispatch => false,
+        Sort::Propagate => true,
+    }
+}
+
+pub fn is_pending(status: Status) -> bool
     ensures { result ≡ is_pending status }
 {
     status == Status::Pending
 }
 
-fn holds_spin_lock(state: &Abs) -> bool
+pub fn holds_spin_lock(state: &Abs) -> bool
     ensures { result ≡ holds_spin_lock state.now }
 {
     is_any(&state.locks)
@@ -41,7 +56,7 @@ fn is_any(flags: &[bool]) -> bool
     flags.iter().any(|flag| *flag)
 }
 
-fn holds_lock(state: &Abs) -> bool
+pub fn holds_lock(state: &Abs) -> bool
     ensures { result ≡ holds_lock state.now }
 {
     state.cancel || holds_spin_lock(state)
@@ -60,7 +75,7 @@ pub fn number_fault(kind: Kind) -> Option<Rule>
 {
     match kind {
         Kind::Num => None,
-        Kind::Blank | Kind::New | Kind::Own => Some(Rule::WrongKind),
+        _ => Some(Rule::WrongKind),
     }
 }
 
@@ -84,17 +99,69 @@ pub fn level_fault(state: &Abs, sort: Sort) -> Option<Rule>
 {
     match sort {
         Sort::Dispatch => broken_if(holds_lock(state), Rule::Level),
+        Sort::Propagate => Some(Rule::Level),
     }
 }
 
-/// A mark wants a packet that the routine was handed and has done nothing with.
-pub fn mark_fault(kind: Kind) -> Option<Rule>
-    ensures { result ≡ mark_kind kind }
+/// A field is read of a packet, into a register that may be written over.
+pub fn get_fault(state: &Abs, to: Register, packet: Register) -> Option<Rule>
+    ensures { result ≡ first_of_two (packet_kind (kind_of state.now packet)) (free_kind (kind_of state.now to)) }
+{
+    match packet_fault(kind(state, packet)) {
+        Some(rule) => Some(rule),
+        None => free_fault(kind(state, to)),
+    }
+}
+
+/// A paged cell is read into a register that may be written over.
+pub fn load_paged_fault(state: &Abs, to: Register, sort: Sort) -> Option<Rule>
+    ensures { result ≡ first_of_two (level_fault state.now sort) (free_kind (kind_of state.now to)) }
+{
+    match level_fault(state, sort) {
+        Some(rule) => Some(rule),
+        None => free_fault(kind(state, to)),
+    }
+}
+
+/// A mark wants a packet that the routine was handed and has done nothing with, or in a completion
+/// routine one whose mark has to be carried up.
+pub fn mark_fault(settled: Settled, kind: Kind) -> Option<Rule>
+    ensures { result ≡ mark_kind settled kind }
 {
     match kind {
         Kind::New => None,
         Kind::Own => Some(Rule::MarkIrpPending),
-        Kind::Blank | Kind::Num => Some(Rule::WrongKind),
+        Kind::View => view_mark_fault(settled),
+        Kind::Blank | Kind::Num | Kind::Lower => Some(Rule::WrongKind),
+    }
+}
+
+fn view_mark_fault(settled: Settled) -> Option<Rule>
+    ensures { result ≡ view_mark_fault settled }
+{
+    match settled {
+        Settled::NeedMark => None,
+        Settled::Open | Settled::Settled => Some(Rule::Completion),
+    }
+}
+
+/// `ifpending` wants a packet on its way up at which the routine hasn't looked.
+pub fn look_fault(settled: Settled, kind: Kind) -> Option<Rule>
+    ensures { result ≡ look_kind settled kind }
+{
+    match kind {
+        Kind::View => view_look_fault(settled),
+        Kind::New | Kind::Own => Some(Rule::Completion),
+        Kind::Blank | Kind::Num | Kind::Lower => Some(Rule::WrongKind),
+    }
+}
+
+fn view_look_fault(settled: Settled) -> Option<Rule>
+    ensures { result ≡ view_look_fault settled }
+{
+    match settled {
+        Settled::Open => None,
+        Settled::NeedMark | Settled::Settled => Some(Rule::Completion),
     }
 }
 
@@ -126,11 +193,13 @@ pub fn release_cancel_fault(state: &Abs) -> Option<Rule>
     broken_if(!state.cancel, Rule::CancelSpinLock)
 }
 
-/// A completion wants a packet that the routine was handed or owns, a final status, and no lock.
-pub fn complete_fault(state: &Abs, register: Register, status: Status) -> Option<Rule>
-    ensures { result ≡ first_of_two (complete_kind (kind_of state.now register)) (completion_fault state.now status) }
+/// A completion wants a packet that the routine was handed or owns, a final status, no lock, and no
+/// completion routine.
+pub fn complete_fault(state: &Abs, register: Register, status: Status, sort: Sort) -> Option<Rule>
+    ensures { result ≡ first_of_two (complete_kind (kind_of state.now register)) (completion_fault state.now (kind_of state.now register) status sort) }
 {
-    completed_kind_fault(kind(state, register)).or(completion_fault(state, status))
+    let kind = kind(state, register);
+    completed_kind_fault(kind).or(completion_fault(state, kind, status, sort))
 }
 
 fn completed_kind_fault(kind: Kind) -> Option<Rule>
@@ -138,59 +207,28 @@ fn completed_kind_fault(kind: Kind) -> Option<Rule>
 {
     match kind {
         Kind::Blank => Some(Rule::DoubleCompletion),
-        Kind::Num => Some(Rule::WrongKind),
-        Kind::New | Kind::Own => None,
+        Kind::Num | Kind::Lower => Some(Rule::WrongKind),
+        Kind::New | Kind::Own | Kind::View => None,
     }
 }
 
-fn completion_fault(state: &Abs, status: Status) -> Option<Rule>
-    ensures { result ≡ completion_fault state.now status }
+fn completion_fault(state: &Abs, kind: Kind, status: Status, sort: Sort) -> Option<Rule>
+    ensures { result ≡ completion_fault state.now kind status sort }
 {
-    broken_if(is_pending(status), Rule::MarkIrpPending).or(broken_if(
-        holds_lock(state),
-        Rule::LockHeld,
+    broken_if(is_pending(status), Rule::MarkIrpPending).or(held_or_completion_fault(
+        state, kind, sort,
     ))
 }
 
-/// A return keeps the duty to the packet, and leaves no lock and no packet behind.
-pub fn return_fault(state: &Abs, form: Return) -> Option<Rule>
-    ensures { result ≡ return_fault state.now form }
+fn held_or_completion_fault(state: &Abs, kind: Kind, sort: Sort) -> Option<Rule>
+    ensures { result ≡ first_of_two (broken_if (holds_lock state.now) Rule.LockHeld) (completion_sort_fault kind sort) }
 {
-    let Return::WithStatus(status) = form;
-    duty_fault(state.duty, status).or(kept_fault(state))
+    broken_if(holds_lock(state), Rule::LockHeld).or(completion_sort_fault(kind, sort))
 }
 
-/// STATUS_PENDING is returned exactly where the packet was marked.
-fn duty_fault(duty: Duty, status: Status) -> Option<Rule>
-    ensures { result ≡ duty_fault duty status }
+/// A completion routine neither completes nor forwards.
+pub fn completion_sort_fault(kind: Kind, sort: Sort) -> Option<Rule>
+    ensures { result ≡ completion_sort_fault kind sort }
 {
-    broken_if(
-        is_pending(status) != (duty == Duty::Pending),
-        Rule::MarkIrpPending,
-    )
-}
-
-/// A routine that returns keeps no lock, and no packet in a register.
-fn kept_fault(state: &Abs) -> Option<Rule>
-    ensures { result ≡ kept_fault state.now }
-{
-    broken_if(state.cancel, Rule::CancelSpinLock).or(spin_or_left_fault(state))
-}
-
-fn spin_or_left_fault(state: &Abs) -> Option<Rule>
-    ensures { result ≡ first_of_two (broken_if (holds_spin_lock state.now) Rule.SpinLock) (left_packet state.now) }
-{
-    broken_if(holds_spin_lock(state), Rule::SpinLock).or(left_fault(state))
-}
-
-fn left_fault(state: &Abs) -> Option<Rule>
-    ensures { result ≡ left_packet state.now }
-{
-    broken_if(holds_packet(&state.kinds), Rule::Dropped)
-}
-
-fn holds_packet(kinds: &[Kind]) -> bool
-    ensures { result ≡ list_any is_packet kinds.now }
-{
-    kinds.iter().any(|kind| is_packet(*kind))
+    broken_if(is_view(kind) || is_completion(sort), Rule::Completion)
 }

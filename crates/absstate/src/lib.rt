@@ -3,11 +3,13 @@
 #![tactic(auto)]
 
 mod fault;
+mod forwarding;
 mod local_rule;
+mod returns;
 mod state;
 
 pub use local_rule::transfer;
-pub use model::abs::{Abs, Kind, Outs, Rule};
+pub use model::abs::{Abs, Duty, Kind, Outs, Rule, Settled};
 pub use state::{are_same, entry_state};
 
 #[cfg(test)]

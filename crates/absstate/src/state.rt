@@ -1,9 +1,9 @@
 //! Abstract states: the one at a routine's entry, their parts and changes, and their equality.
 
-ghost use Rattle.std.specs.Prelude.{◌≡◌, ◌↔◌, IsTrue};
-ghost use Rattle.model.specs.LocalRule.{entry_state, kind_of, with_kind, is_held, with_lock, with_cancel, left_behind, moved, duty_completed};
+ghost use Rattle.std.specs.Prelude.{◌≡◌, ◌↔◌, ◌∷◌, IsTrue, false, replicate};
+ghost use Rattle.model.specs.LocalRule.{entry_state, kind_of, with_kind, is_held, with_lock, with_cancel, left_behind, moved, marked, given_down, duty_completed};
 
-use model::abs::{Abs, Duty, Kind};
+use model::abs::{Abs, Duty, Kind, Settled};
 use model::instr::{Register, SpinLock};
 use model::limits::{REGISTERS, SPIN_LOCKS};
 use model::set::Sort;
@@ -13,16 +13,22 @@ pub fn entry_state(sort: Sort) -> Abs
     ensures { result ≡ entry_state sort }
 {
     match sort {
-        Sort::Dispatch => {
-            let mut kinds = [Kind::Blank; REGISTERS];
-            kinds[0] = Kind::New;
-            Abs {
-                kinds,
-                locks: [false; SPIN_LOCKS],
-                cancel: false,
-                duty: Duty::Fresh,
-            }
-        }
+        Sort::Dispatch => entered_with(Kind::New, Duty::Fresh, Settled::Settled),
+        Sort::Propagate => entered_with(Kind::View, Duty::NoDuty, Settled::Open),
+    }
+}
+
+fn entered_with(first: Kind, duty: Duty, settled: Settled) -> Abs
+    ensures { result ≡ record { kinds = first ∷ replicate 15 Kind.Blank; locks = replicate 8 false; cancel = false; duty = duty; settled = settled } }
+{
+    let mut kinds = [Kind::Blank; REGISTERS];
+    kinds[0] = first;
+    Abs {
+        kinds,
+        locks: [false; SPIN_LOCKS],
+        cancel: false,
+        duty,
+        settled,
     }
 }
 
@@ -34,6 +40,7 @@ pub fn are_same(a: &Abs, b: &Abs) -> bool
         && same_locks(&a.locks, &b.locks)
         && a.cancel == b.cancel
         && a.duty == b.duty
+        && a.settled == b.settled
 }
 
 fn same_kinds(a: &[Kind], b: &[Kind]) -> bool
@@ -104,17 +111,42 @@ fn left_behind(kind: Kind) -> Kind
 {
     match kind {
         Kind::Num => Kind::Num,
-        Kind::Blank | Kind::New | Kind::Own => Kind::Blank,
+        _ => Kind::Blank,
     }
 }
 
-/// The state after a mark: the routine owns the packet, and has to return STATUS_PENDING.
+/// The state after a mark: the routine owns the packet, and has to return STATUS_PENDING; a completion
+/// routine has carried the mark up.
 pub fn marked(state: &Abs, register: Register) -> Abs
-    ensures { result ≡ record (with_kind state.now register Kind.Own) { duty = Duty.Pending } }
+    ensures { result ≡ marked state.now register (kind_of state.now register) }
 {
-    Abs {
-        duty: Duty::Pending,
-        ..with_kind(state, register, Kind::Own)
+    match kind(state, register) {
+        Kind::View => settled_as(state, Settled::Settled),
+        _ => Abs {
+            duty: Duty::Pending,
+            ..with_kind(state, register, Kind::Own)
+        },
+    }
+}
+
+/// The state in which a completion routine has looked for a mark to be carried up.
+pub fn settled_as(state: &Abs, settled: Settled) -> Abs
+    ensures { result ≡ record state.now { settled = settled } }
+{
+    Abs { settled, ..*state }
+}
+
+/// The state after a packet was given to the lower driver: one that wasn't marked leaves the status
+/// that this returned.
+pub fn given_down(state: &Abs, register: Register) -> Abs
+    ensures { result ≡ given_down state.now register (kind_of state.now register) }
+{
+    match kind(state, register) {
+        Kind::New => Abs {
+            duty: Duty::GivenDown,
+            ..with_kind(state, register, Kind::Lower)
+        },
+        _ => with_kind(state, register, Kind::Blank),
     }
 }
 
@@ -125,7 +157,7 @@ pub fn completed(state: &Abs, register: Register) -> Abs
 {
     let duty = match kind(state, register) {
         Kind::New => Duty::Finished,
-        Kind::Blank | Kind::Num | Kind::Own => state.duty,
+        _ => state.duty,
     };
     Abs {
         duty,

@@ -1,50 +1,45 @@
 -- The actions of a frame's step, against the past and against what the threads share.
-use Rattle.std.proofs.Common.{◌≡◌, ℕ, List, [], ◌∷◌, Option, None, Some, Bool, true, false, cond, length, refl, ap, sym, ◌∙◌, ◌⊎◌, inl, inr}
-use Rattle.std.specs.Prelude.{not, nat_eq, nat_lt, slice_get}
+use Rattle.std.proofs.Common.{◌≡◌, ◌+◌, ◌-◌, ℕ, List, [], ◌∷◌, Option, None, Some, Bool, true, false, cond, length, refl, ap, ◌∙◌, ◌⊎◌, inl, inr}
+use Rattle.std.specs.Prelude.{not, nat_eq, nat_lt, nat_le, slice_get}
 use Rattle.std.proofs.lemmas.Bool.{cases_Bool}
 use Rattle.model.specs.declared.world.Activation.{Activation}
 use Rattle.model.specs.declared.world.Cells.{Cells}
+use Rattle.model.specs.declared.world.Completion.{Completion}
 use Rattle.model.specs.declared.world.Frame.{Frame}
 use Rattle.model.specs.declared.world.Frame.TheVariants.{Routine, Walk}
 use Rattle.model.specs.declared.world.OpenLoop.{OpenLoop}
 use Rattle.model.specs.declared.world.Packet.{Packet}
 use Rattle.model.specs.declared.world.Value.{Value}
-use Rattle.model.specs.declared.world.Value.TheVariants.{Blank, Num, Ref}
+use Rattle.model.specs.declared.world.Value.TheVariants.{Blank, Num, Ref, Status as StatusValue}
 use Rattle.model.specs.declared.status.Status.{Status}
+use Rattle.model.specs.declared.set.Sort.{Sort}
+use Rattle.model.specs.declared.set.Sort.TheVariants.{Dispatch, Propagate}
 use Rattle.model.specs.declared.instr.Field.{Field}
 use Rattle.model.specs.declared.instr.Instr.{Instr}
-use Rattle.model.specs.declared.instr.Instr.TheVariants.{Const, Move, Clear, Add, Subtract, JumpIfZero, JumpIfLess, Jump, Loop, End, Load, Store, LoadPaged, StorePaged, Get, Put, Mark, Acquire, Release, AcquireCancel, ReleaseCancel, Complete, Ret}
+use Rattle.model.specs.declared.instr.Instr.TheVariants.{Const, Move, Clear, Add, Subtract, JumpIfZero, JumpIfLess, Jump, Loop, End, Load, Store, LoadPaged, StorePaged, Get, Put, Mark, Acquire, Release, AcquireCancel, ReleaseCancel, Pass, Call, Complete, IfPending, Ret}
 use Rattle.model.specs.declared.instr.Return.{Return}
-use Rattle.model.specs.declared.instr.Return.TheVariants.{WithStatus}
+use Rattle.model.specs.declared.instr.Return.TheVariants.{WithStatus, Lower, Continue}
 use Rattle.model.specs.declared.event.Bug.{Bug}
 use Rattle.model.specs.declared.event.BugCheck.{BugCheck}
-use Rattle.model.specs.declared.event.BugCheck.TheVariants.{IrqlNotLessOrEqual, SpinLockAlreadyOwned, SpinLockNotOwned, MultipleIrpCompleteRequests}
+use Rattle.model.specs.declared.event.BugCheck.TheVariants.{IrqlNotLessOrEqual, SpinLockAlreadyOwned, SpinLockNotOwned, NoMoreIrpStackLocations, MultipleIrpCompleteRequests}
 use Rattle.model.specs.declared.event.Lock.{Lock}
 use Rattle.model.specs.declared.event.Lock.TheVariants.{SystemCancel}
 use Rattle.model.specs.declared.event.OfDevice.{OfDevice}
+use Rattle.model.specs.declared.event.Reply.TheVariants.{Stepped}
 use Rattle.model.specs.declared.event.Subject.{Subject}
 use Rattle.model.specs.declared.event.Subject.TheVariants.{Packet as PacketSubject, Lock as LockSubject, Cell}
-use Rattle.model.specs.Action.{Executes, Acquires, Releases, TouchesPaged, Touches, Completes, Leaves, TopsOut}
-use Rattle.model.specs.Effect.{Outcome, goes_wrong, goes_on, number_effect, sum_of, difference_of, jump_effect, is_zero_at, is_less_at, loop_effect, end_effect, cell_of, load_effect, load_paged_effect, store_effect, store_paged_effect, get_packet, get_effect, put_packet, put_effect, waits, acquire_owned, acquire_effect, release_effect, spin_lock, mark_packet, mark_effect, complete_packet, complete_effect, return_effect, instruction_effect, routine_effect, walk_packet, frame_effect}
-use Rattle.model.specs.Fault.{bug_if, first_or, first_fault, holds, topped, completing}
-use Rattle.model.specs.Set.{Set, instruction_at}
+use Rattle.model.specs.Action.{Action, Executes, Acquires, Releases, TouchesPaged, Touches, Calls, Completes, Leaves, Ups, Marks, TopsOut}
+use Rattle.model.specs.Effect.{Outcome, goes_wrong, goes_on, number_effect, sum_of, difference_of, jump_effect, is_zero_at, is_less_at, loop_effect, end_effect, cell_of, load_effect, load_paged_effect, store_effect, store_paged_effect, get_packet, get_effect, put_packet, put_effect, waits, acquire_owned, acquire_effect, release_effect, spin_lock, mark_packet, mark_effect, complete_packet, complete_effect, set_by, pass_packet, pass_effect, call_packet, call_effect, look_packet, look_effect, returned, return_lower, continued, return_effect, instruction_effect, routine_effect, completes_with, walk_up, walk_out, walk_from, walk_packet, frame_effect}
+use Rattle.model.specs.Fault.{bug_if, first_or, first_fault, stack_size, depth}
+use Rattle.model.specs.Set.{Set, instruction_at, sort_of, lower_of}
 use Rattle.model.specs.Trace.{Entry, Tag, recorded}
-use Rattle.model.specs.World.{Shared, Locks, owner_of, with_owner, with_locks, with_cells, packet_of, with_packet, packet_in, number_in, register, next, innermost, with_info, mark_current, completed}
+use Rattle.model.specs.World.{Shared, owner_of, with_owner, with_locks, with_cells, packet_of, with_packet, packet_in, number_in, status_in, register, next, innermost, current_location, completion_of, with_info, mark_current, sent_down, shared_with, left_location, moved_up, carried_up, completed}
 use Rattle.irql_locks.specs.Owns.{owns}
-use Rattle.irql_locks.proofs.Some.{owner_its}
-use Rattle.checked.specs.Step.{first_now, is_stop}
-use Rattle.checked.proofs.Live.{find_place, find_number}
-use Rattle.checked.proofs.Owners.{owned_acquire, owned_release, owned_level}
-use Rattle.checked.proofs.Tells.{Told, Tells, tells_gone, tells_taken, tells_set, tells_complete, tells_late, tells_top}
-
--- what the threads share tells what the past tells
-pub record Known (live : List Packet) (count : ℕ) (owners : Locks) (tops ends : ℕ → Bool) (held : ℕ → Lock → Bool) :
-    Type 0 where
-  pub packets : Told live count tops ends
-  pub locks : (t : ℕ) (l : Lock) → held t l ≡ owns owners t l
-
-abbrev pub Knows : Shared → List Entry → Type 0
-Knows s past = Known s.packets s.issued s.locks (topped past) (completing past) (holds past)
+use Rattle.checked.specs.Step.{first_now, is_stop, is_full}
+use Rattle.checked.proofs.Known.{Knows, numbered, stack_of, knows_kept, knows_moved, stacks_completed}
+use Rattle.checked.proofs.Owners.{owned_acquire, owned_release, owned_level, owner_its}
+use Rattle.checked.proofs.Stacks.{Changed, changed_info, changed_mark, changed_share, changed_down, changed_up, changed_carried, stacks_remove, stacked_full}
+use Rattle.checked.proofs.Tells.{Tells, tells_gone, tells_taken, tells_complete, tells_late, tells_top}
 
 -- a step that stops the run is a wrong one, and has changed nothing
 abbrev pub WrongHere : Shared → Frame → Outcome → Type 0
@@ -58,13 +53,11 @@ pub record Fine (past : List Entry) (t : ℕ) (tag : Tag) (s : Shared) (f : Fram
   pub knows : first_now s t o.actions ≡ None → Knows o.shared (recorded past t tag o.actions)
   pub replies : (is_stop o.reply ≡ false) ⊎ WrongHere s f o
 
-numbered : (s : Shared) (n : ℕ) (p : Packet) → packet_of s n ≡ Some p → p.number ≡ n
-numbered s n p h = find_number s.packets n p (sym (find_place s.packets n) ∙ h)
-
 -- a packet that an operand names was issued
 named : (s : Shared) (v : Value) (n : ℕ) → packet_in s v ≡ Some n → nat_lt n s.issued ≡ true
 named s Blank n h = cc
 named s (Num k) n h = cc
+named s (StatusValue status) n h = cc
 named s (Ref k) n h =
     elim (cases_Bool (nat_lt k s.issued)) [
       | inl l ↦ let same : Some k ≡ Some n = rw l at h in let one : k ≡ n = cc in rw (← one) l
@@ -75,6 +68,11 @@ named s (Ref k) n h =
 told_as : {a b : Bool} (check : BugCheck) (subject : Subject) → a ≡ b →
     first_or (bug_if a check subject) None ≡ first_or (bug_if b check subject) None
 told_as check subject same = ap (λ (b : Bool). first_or (bug_if b check subject) None) same
+
+told_twice : {a b c d : Bool} (first second : BugCheck) (subject : Subject) → a ≡ b → c ≡ d →
+    first_or (bug_if a first subject) (first_or (bug_if c second subject) None)
+    ≡ first_or (bug_if b first subject) (first_or (bug_if d second subject) None)
+told_twice first second subject one two = rw (one, two) refl
 
 -- without a first bug check there is none
 none_first : (bug : Option Bug) → first_or bug None ≡ None → bug ≡ None
@@ -105,14 +103,6 @@ module _ (past : List Entry) (t : ℕ) (tag : Tag) (s : Shared) (knows : Knows s
   fine_stored : (f : Frame) (a : Activation) (d : ℕ) (cells : Cells) →
       Fine past t tag s f (goes_on (with_cells s d cells) a [])
   fine_stored f a d cells =
-      record {
-        agrees = refl;
-        knows = λ free. knows;
-        replies = inl refl;
-      }
-
-  fine_return : (f : Frame) (form : Return) → Fine past t tag s f (return_effect s form)
-  fine_return f (WithStatus status) =
       record {
         agrees = refl;
         knows = λ free. knows;
@@ -200,11 +190,9 @@ module _ (past : List Entry) (t : ℕ) (tag : Tag) (s : Shared) (knows : Knows s
       Fine past t tag s f (put_packet s a info n o)
   fine_put_packet f a info n None h = fine_touch f _ n
   fine_put_packet f a info n (Some p) h =
-      let kept : Tells (with_packet s n (with_info p info)) past =
-      tells_set s past n p (with_info p info) knows.packets h (numbered s n p h) refl in
       record {
         agrees = touched n;
-        knows = λ free. record { packets = kept; locks = knows.locks };
+        knows = λ free. knows_kept s past knows n p h (with_info p info) (changed_info p info);
         replies = inl refl;
       }
 
@@ -217,11 +205,9 @@ module _ (past : List Entry) (t : ℕ) (tag : Tag) (s : Shared) (knows : Knows s
       Fine past t tag s f (mark_packet s a n o)
   fine_mark_packet f a n None h = fine_touch f _ n
   fine_mark_packet f a n (Some p) h =
-      let kept : Tells (with_packet s n (mark_current p)) past =
-      tells_set s past n p (mark_current p) knows.packets h (numbered s n p h) refl in
       record {
         agrees = touched n;
-        knows = λ free. record { packets = kept; locks = knows.locks };
+        knows = λ free. knows_kept s past knows n p h (mark_current p) (changed_mark p);
         replies = inl refl;
       }
 
@@ -255,6 +241,7 @@ module _ (past : List Entry) (t : ℕ) (tag : Tag) (s : Shared) (knows : Knows s
               locks =
                   let after : List Entry = recorded past t tag (Executes ∷ Acquires lock ∷ []) in
                   owned_acquire s.locks past after t lock knows.locks there (λ k l. refl);
+              stacks = knows.stacks;
             };
         replies = inl refl;
       }
@@ -276,6 +263,7 @@ module _ (past : List Entry) (t : ℕ) (tag : Tag) (s : Shared) (knows : Knows s
       record {
         packets = knows.packets;
         locks = owned_release s.locks past after t lock knows.locks its (λ k l. refl);
+        stacks = knows.stacks;
       }
   released a lock owner there false own free = cc
 
@@ -298,7 +286,11 @@ module _ (past : List Entry) (t : ℕ) (tag : Tag) (s : Shared) (knows : Knows s
         agrees = told_as MultipleIrpCompleteRequests (PacketSubject n) (tells_taken s past knows.packets n);
         knows = λ free.
             let after : List Entry = recorded past t tag (Executes ∷ Completes n ∷ []) in
-            record { packets = tells_late s past after n knows.packets l h (λ m. refl) (λ m. refl); locks = knows.locks };
+            record {
+              packets = tells_late s past after n knows.packets l h (λ m. refl) (λ m. refl);
+              locks = knows.locks;
+              stacks = knows.stacks;
+            };
         replies = inl refl;
       }
   fine_complete_packet f a status n (Some p) h l =
@@ -309,7 +301,7 @@ module _ (past : List Entry) (t : ℕ) (tag : Tag) (s : Shared) (knows : Knows s
             let kept : Tells (with_packet s n (completed p status)) after =
             tells_complete s past after n p (completed p status) knows.packets h (numbered s n p h) refl
             (λ m. refl) (λ m. refl) in
-            record { packets = kept; locks = knows.locks };
+            record { packets = kept; locks = knows.locks; stacks = stacks_completed s past knows n p h status };
         replies = inl refl;
       }
 
@@ -318,54 +310,187 @@ module _ (past : List Entry) (t : ℕ) (tag : Tag) (s : Shared) (knows : Knows s
   fine_complete a status v None h = fine_wrong a
   fine_complete a status v (Some n) h = fine_complete_packet (Routine a) a status n (packet_of s n) refl (named s v n h)
 
-  -- every instruction
-  fine_instruction : (a : Activation) (i : Instr) → Good a (instruction_effect s t a i)
-  fine_instruction a (Const r n) = fine_local (Routine a) _
-  fine_instruction a (Move r q) = fine_local (Routine a) _
-  fine_instruction a (Clear r) = fine_local (Routine a) _
-  fine_instruction a (Add r q) = fine_number a r (sum_of a r q)
-  fine_instruction a (Subtract r q) = fine_number a r (difference_of a r q)
-  fine_instruction a (JumpIfZero r label) = fine_jump a label (is_zero_at a r)
-  fine_instruction a (JumpIfLess r q label) = fine_jump a label (is_less_at a r q)
-  fine_instruction a (Jump label) = fine_local (Routine a) _
-  fine_instruction a (Loop turns) = fine_loop a turns
-  fine_instruction a End = fine_end a (innermost a)
-  fine_instruction a (Load r c) = fine_load a r c (slice_get s.cells a.device)
-  fine_instruction a (Store c r) = fine_store a c (number_in (register a r)) (slice_get s.cells a.device)
-  fine_instruction a (LoadPaged r c) = fine_load_paged a r c (slice_get s.cells a.device)
-  fine_instruction a (StorePaged c r) = fine_store_paged a c (number_in (register a r)) (slice_get s.cells a.device)
-  fine_instruction a (Get r q field) = fine_get a r field (packet_in s (register a q))
-  fine_instruction a (Put q r) = fine_put a (number_in (register a r)) (packet_in s (register a q))
-  fine_instruction a (Mark r) = fine_mark a (packet_in s (register a r))
-  fine_instruction a (Acquire lock) = fine_acquire a (spin_lock a lock) (owner_of s.locks (spin_lock a lock)) refl
-  fine_instruction a (Release lock) = fine_release a (spin_lock a lock) (owner_of s.locks (spin_lock a lock)) refl
-  fine_instruction a AcquireCancel = fine_acquire a SystemCancel (owner_of s.locks SystemCancel) refl
-  fine_instruction a ReleaseCancel = fine_release a SystemCancel (owner_of s.locks SystemCancel) refl
-  fine_instruction a (Complete r status) = fine_complete a status (register a r) (packet_in s (register a r)) refl
-  fine_instruction a (Ret form) = fine_return (Routine a) form
+  -- a packet is sent down
+  fine_pass_packet : (f : Frame) (set : Set) (a : Activation) (lower n : ℕ) (o : Option Packet) → packet_of s n ≡ o →
+      Fine past t tag s f (pass_packet set s a lower n o)
+  fine_pass_packet f set a lower n None h = fine_touch f _ n
+  fine_pass_packet f set a lower n (Some p) h =
+      record {
+        agrees = touched n;
+        knows = λ free. knows_kept s past knows n p h (shared_with p lower) (changed_share p lower);
+        replies = inl refl;
+      }
 
-  fine_routine : (a : Activation) (o : Option Instr) → Good a (routine_effect s t a o)
-  fine_routine a None = fine_wrong a
-  fine_routine a (Some i) = fine_instruction a i
+  fine_pass : (set : Set) (a : Activation) (o lower : Option ℕ) → Good a (pass_effect set s a o lower)
+  fine_pass set a None lower = fine_wrong a
+  fine_pass set a (Some n) None = fine_wrong a
+  fine_pass set a (Some n) (Some lower) = fine_pass_packet (Routine a) set a lower n (packet_of s n) refl
 
-  -- a step of the I/O manager
-  fine_walk : (f : Frame) (n : ℕ) (o : Option Packet) → packet_of s n ≡ o → Fine past t tag s f (walk_packet s n o)
-  fine_walk f n None h =
+  full : (n : ℕ) (p : Packet) → packet_of s n ≡ Some p → nat_le (stack_size past n) (depth past n) ≡ is_full (packet_of s n)
+  full n p h = rw h (stacked_full p (stack_size past n) (depth past n) (stack_of s past knows n p h))
+
+  fine_call_packet : (f : Frame) (set : Set) (a : Activation) (g : Option ℕ) (lower n : ℕ) (o : Option Packet) →
+      packet_of s n ≡ o → Fine past t tag s f (call_packet set s a g lower n o)
+  fine_call_packet f set a g lower n None h = fine_touch f _ n
+  fine_call_packet f set a g lower n (Some p) h =
+      record {
+        agrees =
+            told_twice IrqlNotLessOrEqual NoMoreIrpStackLocations (PacketSubject n) (tells_gone s past knows.packets n)
+            (full n p h);
+        knows = λ free.
+            let deeps : ℕ → ℕ = depth (recorded past t tag (Executes ∷ Touches n ∷ Calls n ∷ [])) in
+            knows_moved s past knows n p h (sent_down p lower (set_by a g)) (λ d. d + 1) deeps
+            (changed_down p lower (set_by a g)) (λ m. refl);
+        replies = inl refl;
+      }
+
+  fine_call : (set : Set) (a : Activation) (g o lower : Option ℕ) → Good a (call_effect set s a g o lower)
+  fine_call set a g None lower = fine_wrong a
+  fine_call set a g (Some n) None = fine_wrong a
+  fine_call set a g (Some n) (Some lower) = fine_call_packet (Routine a) set a g lower n (packet_of s n) refl
+
+  fine_look_packet : (f : Frame) (a : Activation) (label n : ℕ) (o : Option Packet) → Fine past t tag s f (look_packet s a label n o)
+  fine_look_packet f a label n None = fine_touch f _ n
+  fine_look_packet f a label n (Some p) = fine_touch f _ n
+
+  fine_look : (a : Activation) (label : ℕ) (o : Option ℕ) → Good a (look_effect s a label o)
+  fine_look a label None = fine_wrong a
+  fine_look a label (Some n) = fine_look_packet (Routine a) a label n (packet_of s n)
+
+  -- a routine returns
+  fine_returned : (f : Frame) (status : Status) → Fine past t tag s f (returned s status)
+  fine_returned f status =
+      record {
+        agrees = refl;
+        knows = λ free. knows;
+        replies = inl refl;
+      }
+
+  fine_return_lower : (a : Activation) (o : Option Status) → Good a (return_lower s a o)
+  fine_return_lower a None = fine_wrong a
+  fine_return_lower a (Some status) = fine_returned (Routine a) status
+
+  fine_silent : (f : Frame) → Fine past t tag s f (continued s None)
+  fine_silent f =
+      record {
+        agrees = refl;
+        knows = λ free. knows;
+        replies = inl refl;
+      }
+
+  fine_continued : (f : Frame) (under : Option Frame) → Fine past t tag s f (continued s under)
+  fine_continued f None = fine_silent f
+  fine_continued f (Some (Routine b)) = fine_silent f
+  fine_continued f (Some (Walk n)) =
       record {
         agrees = touched n;
         knows = λ free. knows;
         replies = inl refl;
       }
-  fine_walk f n (Some p) h =
+
+  fine_return : (a : Activation) (under : Option Frame) (sort : Sort) (form : Return) → Good a (return_effect s a under sort form)
+  fine_return a under Dispatch (WithStatus status) = fine_returned (Routine a) status
+  fine_return a under Dispatch (Lower r) = fine_return_lower a (status_in (register a r))
+  fine_return a under Propagate Continue = fine_continued (Routine a) under
+  fine_return a under _ _ = fine_wrong a
+
+  -- every instruction
+  fine_instruction : (set : Set) (under : Option Frame) (a : Activation) (i : Instr) → Good a (instruction_effect set s t under a i)
+  fine_instruction set under a (Const r n) = fine_local (Routine a) _
+  fine_instruction set under a (Move r q) = fine_local (Routine a) _
+  fine_instruction set under a (Clear r) = fine_local (Routine a) _
+  fine_instruction set under a (Add r q) = fine_number a r (sum_of a r q)
+  fine_instruction set under a (Subtract r q) = fine_number a r (difference_of a r q)
+  fine_instruction set under a (JumpIfZero r label) = fine_jump a label (is_zero_at a r)
+  fine_instruction set under a (JumpIfLess r q label) = fine_jump a label (is_less_at a r q)
+  fine_instruction set under a (Jump label) = fine_local (Routine a) _
+  fine_instruction set under a (Loop turns) = fine_loop a turns
+  fine_instruction set under a End = fine_end a (innermost a)
+  fine_instruction set under a (Load r c) = fine_load a r c (slice_get s.cells a.device)
+  fine_instruction set under a (Store c r) = fine_store a c (number_in (register a r)) (slice_get s.cells a.device)
+  fine_instruction set under a (LoadPaged r c) = fine_load_paged a r c (slice_get s.cells a.device)
+  fine_instruction set under a (StorePaged c r) = fine_store_paged a c (number_in (register a r)) (slice_get s.cells a.device)
+  fine_instruction set under a (Get r q field) = fine_get a r field (packet_in s (register a q))
+  fine_instruction set under a (Put q r) = fine_put a (number_in (register a r)) (packet_in s (register a q))
+  fine_instruction set under a (Mark r) = fine_mark a (packet_in s (register a r))
+  fine_instruction set under a (Acquire lock) = fine_acquire a (spin_lock a lock) (owner_of s.locks (spin_lock a lock)) refl
+  fine_instruction set under a (Release lock) = fine_release a (spin_lock a lock) (owner_of s.locks (spin_lock a lock)) refl
+  fine_instruction set under a AcquireCancel = fine_acquire a SystemCancel (owner_of s.locks SystemCancel) refl
+  fine_instruction set under a ReleaseCancel = fine_release a SystemCancel (owner_of s.locks SystemCancel) refl
+  fine_instruction set under a (Complete r status) = fine_complete a status (register a r) (packet_in s (register a r)) refl
+  fine_instruction set under a (Pass r) = fine_pass set a (packet_in s (register a r)) (lower_of set a.device)
+  fine_instruction set under a (Call r g) = fine_call set a g (packet_in s (register a r)) (lower_of set a.device)
+  fine_instruction set under a (IfPending r label) = fine_look a label (packet_in s (register a r))
+  fine_instruction set under a (Ret form) = fine_return a under (sort_of set a.driver a.routine) form
+
+  fine_routine : (set : Set) (under : Option Frame) (a : Activation) (o : Option Instr) → Good a (routine_effect set s t under a o)
+  fine_routine set under a None = fine_wrong a
+  fine_routine set under a (Some i) = fine_instruction set under a i
+
+  -- a step of the I/O manager
+  fine_up : (f : Frame) (n : ℕ) (p q : Packet) (frames : List Frame) → packet_of s n ≡ Some p → Changed p q (p.depth - 1) →
+      (marked : Bool) →
+      Fine past t tag s f (record {
+        shared = with_packet s n q;
+        frames = frames;
+        actions = Touches n ∷ Leaves n ∷ Ups n ∷ cond {A = List Action} marked (Marks n ∷ []) [];
+        reply = Stepped;
+        told = None;
+      })
+  fine_up f n p q frames h changed true =
+      record {
+        agrees = touched n;
+        knows = λ free.
+            let deeps : ℕ → ℕ = depth (recorded past t tag (Touches n ∷ Leaves n ∷ Ups n ∷ Marks n ∷ [])) in
+            knows_moved s past knows n p h q (λ d. d - 1) deeps changed (λ m. refl);
+        replies = inl refl;
+      }
+  fine_up f n p q frames h changed false =
+      record {
+        agrees = touched n;
+        knows = λ free.
+            let deeps : ℕ → ℕ = depth (recorded past t tag (Touches n ∷ Leaves n ∷ Ups n ∷ [])) in
+            knows_moved s past knows n p h q (λ d. d - 1) deeps changed (λ m. refl);
+        replies = inl refl;
+      }
+
+  fine_out : (f : Frame) (n : ℕ) (p q : Packet) → packet_of s n ≡ Some p → Fine past t tag s f (walk_out s n q)
+  fine_out f n p q h =
       record {
         agrees = touched n;
         knows = λ free.
             let after : List Entry = recorded past t tag (Touches n ∷ Leaves n ∷ TopsOut n ∷ []) in
-            record { packets = tells_top s past after n p knows.packets h (λ m. refl) (λ m. refl); locks = knows.locks };
+            record {
+              packets = tells_top s past after n p knows.packets h (λ m. refl) (λ m. refl);
+              locks = knows.locks;
+              stacks = stacks_remove s.packets s.issued (stack_size past) (depth past) n knows.packets.rises knows.stacks;
+            };
         replies = inl refl;
       }
 
+  fine_ascent : (f : Frame) (n : ℕ) (p : Packet) → packet_of s n ≡ Some p → (above : Bool) →
+      Fine past t tag s f (cond {A = Outcome} above (walk_up s n (left_location p)) (walk_out s n (left_location p)))
+  fine_ascent f n p h true =
+      let marked : Bool = (left_location p).pending_returned in
+      fine_up f n p (carried_up (left_location p)) (Walk n ∷ []) h (changed_carried p marked) marked
+  fine_ascent f n p h false = fine_out f n p (left_location p) h
+
+  fine_from : (f : Frame) (set : Set) (n : ℕ) (p : Packet) → packet_of s n ≡ Some p → (o : Option Completion) →
+      Fine past t tag s f (walk_from set s n (left_location p) o)
+  fine_from f set n p h (Some c) =
+      fine_up f n p (moved_up (left_location p)) (Walk n ∷ Routine (completes_with set c n) ∷ []) h (changed_up p) false
+  fine_from f set n p h None = fine_ascent f n p h (nat_lt 1 p.depth)
+
+  fine_walk : (f : Frame) (set : Set) (n : ℕ) (o : Option Packet) → packet_of s n ≡ o → Fine past t tag s f (walk_packet set s n o)
+  fine_walk f set n None h =
+      record {
+        agrees = touched n;
+        knows = λ free. knows;
+        replies = inl refl;
+      }
+  fine_walk f set n (Some p) h = fine_from f set n p h (completion_of (current_location p))
+
   -- every step of a frame is fine
-  pub fine_frame : (set : Set) (f : Frame) → Fine past t tag s f (frame_effect set s t f)
-  fine_frame set (Routine a) = fine_routine a (instruction_at set a.driver a.routine a.position)
-  fine_frame set (Walk n) = fine_walk (Walk n) n (packet_of s n) refl
+  pub fine_frame : (set : Set) (under : Option Frame) (f : Frame) → Fine past t tag s f (frame_effect set s t under f)
+  fine_frame set under (Routine a) = fine_routine set under a (instruction_at set a.driver a.routine a.position)
+  fine_frame set under (Walk n) = fine_walk (Walk n) set n (packet_of s n) refl

@@ -5,8 +5,7 @@ use Rattle.std.proofs.lemmas.List.{take_all, take_more}
 use Rattle.std.proofs.lemmas.Option.{slice_get_within, get_or_from_slice_get}
 
 -- at the place of the write
-pub set_same : {A : Type 0} (xs : List A) (i : ℕ) (x y : A) → slice_get xs i ≡ Some x →
-    slice_get (slice_set xs i y) i ≡ Some y
+pub set_same : {A : Type 0} (xs : List A) (i : ℕ) (x y : A) → slice_get xs i ≡ Some x → slice_get (slice_set xs i y) i ≡ Some y
 set_same [] i x y h = cc
 set_same (z ∷ xs) zero x y h = refl
 set_same (z ∷ xs) (suc i) x y h = set_same xs i x y h
@@ -26,8 +25,7 @@ set_back {A = A} (z ∷ xs) zero x h = let same : z ≡ x = cc in rw same refl
 set_back {A = A} (z ∷ xs) (suc i) x h = ap (λ (ys : List A). z ∷ ys) (set_back xs i x h)
 
 -- a list is what stands before its last element, and that
-pub last_split : {A : Type 0} (xs : List A) (x : A) → slice_get xs (length xs - 1) ≡ Some x →
-    xs ≡ take (length xs - 1) xs ++ x ∷ []
+pub last_split : {A : Type 0} (xs : List A) (x : A) → slice_get xs (length xs - 1) ≡ Some x → xs ≡ take (length xs - 1) xs ++ x ∷ []
 last_split {A = A} xs x h =
     let i : ℕ = length xs - 1 in
     let within : i < length xs = slice_get_within xs i x h in

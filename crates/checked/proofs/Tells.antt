@@ -28,8 +28,7 @@ Tells s past = Told s.packets s.issued (topped past) (completing past)
 pub tells_gone : (s : Shared) (past : List Entry) → Tells s past → (n : ℕ) → topped past n ≡ is_gone s n
 tells_gone s past tells n = rw (find_place s.packets n) (tells.gone n)
 
-pub tells_taken : (s : Shared) (past : List Entry) → Tells s past → (n : ℕ) →
-    (topped past n || completing past n) ≡ (is_gone s n || is_held (packet_of s n))
+pub tells_taken : (s : Shared) (past : List Entry) → Tells s past → (n : ℕ) → (topped past n || completing past n) ≡ (is_gone s n || is_held (packet_of s n))
 tells_taken s past tells n = rw (find_place s.packets n) (tells.taken n)
 
 found : (s : Shared) (n : ℕ) (o : Option Packet) → packet_of s n ≡ o → find s.packets n ≡ o
@@ -44,30 +43,26 @@ and_false true = refl
 and_false false = refl
 
 -- a packet is written back, with its number
-none_set : (ps : List Packet) (n : ℕ) (p q : Packet) → find ps n ≡ Some p → q.number ≡ n → (m : ℕ) →
-    is_none (find (slice_set ps (place_of ps n) q) m) ≡ is_none (find ps m)
+none_set : (ps : List Packet) (n : ℕ) (p q : Packet) → find ps n ≡ Some p → q.number ≡ n → (m : ℕ) → is_none (find (slice_set ps (place_of ps n) q) m) ≡ is_none (find ps m)
 none_set ps n p q h s m =
     rw (find_set ps n p q h s m) (elim (eqb_tells n m) [
       | inl g ↦ let there : find ps m ≡ Some p = rw (← g.1) h in rw (g.0, there) refl
       | inr g ↦ rw g.0 refl
     ])
 
-held_set : (ps : List Packet) (n : ℕ) (p q : Packet) → find ps n ≡ Some p → q.number ≡ n →
-    q.completing ≡ p.completing → (m : ℕ) → is_held (find (slice_set ps (place_of ps n) q) m) ≡ is_held (find ps m)
+held_set : (ps : List Packet) (n : ℕ) (p q : Packet) → find ps n ≡ Some p → q.number ≡ n → q.completing ≡ p.completing → (m : ℕ) → is_held (find (slice_set ps (place_of ps n) q) m) ≡ is_held (find ps m)
 held_set ps n p q h s c m =
     rw (find_set ps n p q h s m) (elim (eqb_tells n m) [
       | inl g ↦ let there : find ps m ≡ Some p = rw (← g.1) h in rw (g.0, there) c
       | inr g ↦ rw g.0 refl
     ])
 
-held_completed : (ps : List Packet) (n : ℕ) (p q : Packet) → find ps n ≡ Some p → q.number ≡ n → q.completing ≡ true →
-    (m : ℕ) → is_held (find (slice_set ps (place_of ps n) q) m) ≡ (nat_eq n m || is_held (find ps m))
+held_completed : (ps : List Packet) (n : ℕ) (p q : Packet) → find ps n ≡ Some p → q.number ≡ n → q.completing ≡ true → (m : ℕ) → is_held (find (slice_set ps (place_of ps n) q) m) ≡ (nat_eq n m || is_held (find ps m))
 held_completed ps n p q h s c m =
     rw (find_set ps n p q h s m) (elim (eqb_tells n m) [ inl g ↦ rw g.0 c | inr g ↦ rw g.0 refl ])
 
 -- a packet changes that stays with the one who has it
-pub tells_set : (s : Shared) (past : List Entry) (n : ℕ) (p q : Packet) → Tells s past → packet_of s n ≡ Some p →
-    q.number ≡ n → q.completing ≡ p.completing → Tells (with_packet s n q) past
+pub tells_set : (s : Shared) (past : List Entry) (n : ℕ) (p q : Packet) → Tells s past → packet_of s n ≡ Some p → q.number ≡ n → q.completing ≡ p.completing → Tells (with_packet s n q) past
 tells_set s past n p q tells h same kept =
     let at : find s.packets n ≡ Some p = found s n (Some p) h in
     record {
@@ -81,10 +76,8 @@ joined : (a b t c : Bool) (e : Bool) → t ≡ a → (t || c) ≡ (a || b) → (
 joined a b t c true g h = or_true t ∙ sym (or_true a)
 joined a b t c false g h = h
 
-pub tells_complete : (s : Shared) (past after : List Entry) (n : ℕ) (p q : Packet) → Tells s past →
-    packet_of s n ≡ Some p → q.number ≡ n → q.completing ≡ true →
-    ((m : ℕ) → topped after m ≡ topped past m) → ((m : ℕ) → completing after m ≡ (nat_eq n m || completing past m)) →
-    Tells (with_packet s n q) after
+pub tells_complete : (s : Shared) (past after : List Entry) (n : ℕ) (p q : Packet) → Tells s past → packet_of s n ≡ Some p → q.number ≡ n → q.completing ≡ true →
+    ((m : ℕ) → topped after m ≡ topped past m) → ((m : ℕ) → completing after m ≡ (nat_eq n m || completing past m)) → Tells (with_packet s n q) after
 tells_complete s past after n p q tells h same noted tops ends =
     let at : find s.packets n ≡ Some p = found s n (Some p) h in
     record {
@@ -92,15 +85,12 @@ tells_complete s past after n p q tells h same noted tops ends =
       gone = λ m. rw (tops m, none_set s.packets n p q at same m) (tells.gone m);
       taken =
           λ m. rw (tops m, ends m, none_set s.packets n p q at same m, held_completed s.packets n p q at same noted m)
-          (joined (absent s.packets s.issued m) (is_held (find s.packets m)) (topped past m) (completing past m)
-          (nat_eq n m) (tells.gone m) (tells.taken m));
+          (joined (absent s.packets s.issued m) (is_held (find s.packets m)) (topped past m) (completing past m) (nat_eq n m) (tells.gone m) (tells.taken m));
     }
 
 -- a completion of a packet that has topped out
-pub tells_late : (s : Shared) (past after : List Entry) (n : ℕ) → Tells s past → nat_lt n s.issued ≡ true →
-    packet_of s n ≡ None →
-    ((m : ℕ) → topped after m ≡ topped past m) → ((m : ℕ) → completing after m ≡ (nat_eq n m || completing past m)) →
-    Tells s after
+pub tells_late : (s : Shared) (past after : List Entry) (n : ℕ) → Tells s past → nat_lt n s.issued ≡ true → packet_of s n ≡ None →
+    ((m : ℕ) → topped after m ≡ topped past m) → ((m : ℕ) → completing after m ≡ (nat_eq n m || completing past m)) → Tells s after
 tells_late s past after n tells l h tops ends =
     let at : find s.packets n ≡ None = found s n None h in
     record {
@@ -120,9 +110,7 @@ found_lt : (s : Shared) (n : ℕ) (p : Packet) → Rises 0 s.packets s.issued �
 found_lt s n p o h =
     elim (cases_lt n s.issued) [
       | inl l ↦ l
-      | inr l ↦
-          let none : find s.packets n ≡ None = find_above 0 s.packets s.issued n o l in
-          let no : None ≡ Some p = sym none ∙ h in cc
+      | inr l ↦ let none : find s.packets n ≡ None = find_above 0 s.packets s.issued n o l in let no : None ≡ Some p = sym none ∙ h in cc
     ]
 
 lt_true : (a b : ℕ) → a < b → nat_lt a b ≡ true
@@ -133,8 +121,7 @@ lt_false a b l = elim (leb_tells (suc a) b) [ inl h ↦ let k : suc a ≤ b = h.
 
 -- a packet tops out
 pub tells_top : (s : Shared) (past after : List Entry) (n : ℕ) (p : Packet) → Tells s past → packet_of s n ≡ Some p →
-    ((m : ℕ) → topped after m ≡ (nat_eq n m || topped past m)) → ((m : ℕ) → completing after m ≡ completing past m) →
-    Tells (without_packet s n) after
+    ((m : ℕ) → topped after m ≡ (nat_eq n m || topped past m)) → ((m : ℕ) → completing after m ≡ completing past m) → Tells (without_packet s n) after
 tells_top s past after n p tells h tops ends =
     let at : find s.packets n ≡ Some p = found s n (Some p) h in
     let below : nat_lt n s.issued ≡ true = lt_true n s.issued (found_lt s n p tells.rises at) in
@@ -158,8 +145,7 @@ lt_more m n h =
       | inr l ↦ lt_false m (n + 1) (omega arith) ∙ sym (lt_false m n l)
     ]
 
-pub tells_issue : (s : Shared) (past : List Entry) (p : Packet) → Tells s past → p.number ≡ s.issued →
-    p.completing ≡ false →
+pub tells_issue : (s : Shared) (past : List Entry) (p : Packet) → Tells s past → p.number ≡ s.issued → p.completing ≡ false →
     Tells (record s { packets = s.packets ++ p ∷ []; issued = s.issued + 1 }) past
 tells_issue s past p tells same free =
     record {
@@ -174,8 +160,7 @@ tells_issue s past p tells same free =
       taken = λ m. rw (find_push 0 s.packets s.issued p tells.rises same m) (elim (eqb_tells s.issued m) [
         | inl g ↦
             let past_end : nat_lt m s.issued ≡ false = rw g.1 (lt_false m m (omega arith)) in
-            let none : find s.packets m ≡ None =
-            let k : s.issued ≡ m = g.1 in find_above 0 s.packets s.issued m tells.rises (omega arith) in
+            let none : find s.packets m ≡ None = let k : s.issued ≡ m = g.1 in find_above 0 s.packets s.issued m tells.rises (omega arith) in
             let before : (topped past m || completing past m) ≡ false = rw (past_end, none) at (tells.taken m) in
             rw (g.0, and_false (nat_lt m (s.issued + 1)), free) before
         | inr g ↦ rw (g.0, lt_more m s.issued g.1) (tells.taken m)

@@ -1,41 +1,48 @@
 -- What the machine's own account of a frame's step says.
-use Rattle.std.specs.Prelude.{ℕ, ◌+◌, List, [], ◌∷◌, ◌++◌}
+use Rattle.std.specs.Prelude.{ℕ, ◌≡◌, ◌+◌, List, [], ◌∷◌, ◌++◌, Option, length}
 use Rattle.model.specs.declared.world.Activation.{Activation}
 use Rattle.model.specs.declared.world.Frame.{Frame}
-use Rattle.model.specs.declared.world.Frame.TheVariants.{Routine, Walk}
+use Rattle.model.specs.declared.world.Frame.TheVariants.{Routine}
 use Rattle.model.specs.declared.world.Packet.{Packet}
 use Rattle.model.specs.declared.instr.Instr.{Instr}
-use Rattle.model.specs.Effect.{Outcome, instruction_effect, walk_packet}
-use Rattle.model.specs.World.{Shared, packet_of}
+use Rattle.model.specs.Effect.{Outcome, instruction_effect, top_of}
+use Rattle.model.specs.Set.{Set}
+use Rattle.model.specs.World.{Shared}
 use Rattle.checked.specs.declared.frame.Ran.{Ran}
 use Rattle.checked.specs.declared.frame.Rest.{Rest}
-use Rattle.checked.specs.declared.frame.Rest.TheVariants.{Same, Managed, Gone}
+use Rattle.checked.specs.declared.frame.Rest.TheVariants.{Same, Under, Gone}
 use Rattle.checked.specs.Step.{Left, judged, bounded}
 
 -- the frames that stand in the place of the one that ran, the lowest first
 abbrev pub frames_left : Frame → Rest → List Frame
 frames_left f Same = f ∷ []
-frames_left f (Managed n) = f ∷ Walk n ∷ []
+frames_left f (Under g) = f ∷ g ∷ []
 frames_left f Gone = []
 
 -- what a step has left, of a frame that is now f
 abbrev pub left_of : Shared → Frame → Ran → Left
-left_of s f ran = record { shared = s; frames = frames_left f ran.rest; reply = ran.reply }
+left_of s f ran = record { shared = s; frames = frames_left f ran.rest; reply = ran.reply; told = ran.told }
 
--- what an outcome has to leave of a thread's activation
-abbrev pub leaves : Shared → ℕ → Activation → Outcome → Left
-leaves s t a o = judged s t (Routine a) o
+-- what an instruction of a thread's activation has to leave, over a frame or none, and what it has to over
+-- these frames
+abbrev pub executed : Set → Shared → ℕ → Option Frame → Activation → Instr → Left
+executed set s t under a i = judged s t (Routine a) (instruction_effect set s t under a i)
 
--- what an instruction has to leave, and what it has to over so many frames
-abbrev pub executed : Shared → ℕ → Activation → Instr → Left
-executed s t a i = leaves s t a (instruction_effect s t a i)
+abbrev pub instruction_now : Set → Shared → ℕ → List Frame → Activation → Instr → Left
+instruction_now set s t below a i = bounded (length below) s (Routine a) (executed set s t (top_of below) a i)
 
-abbrev pub instruction_now : Shared → ℕ → ℕ → Activation → Instr → Left
-instruction_now s t below a i = bounded below s (Routine a) (executed s t a i)
+-- an instruction with this outcome has left that on a thread
+abbrev pub LeavesOn : ℕ → Shared → Activation → Outcome → Shared → Activation → Ran → Type 0
+LeavesOn t s a o after b ran = left_of after (Routine b) ran ≡ judged s t (Routine a) o
 
--- what a step of the I/O manager has to leave, over so many frames
-abbrev pub walk_now : Shared → ℕ → ℕ → ℕ → Left
-walk_now s t below n = bounded below s (Walk n) (judged s t (Walk n) (walk_packet s n (packet_of s n)))
+-- on any thread
+abbrev pub Leaves : Shared → Activation → Outcome → Shared → Activation → Ran → Type 0
+Leaves s a o after b ran = (t : ℕ) → LeavesOn t s a o after b ran
+
+-- and over these frames
+abbrev pub LeavesOver : List Frame → Shared → Activation → Outcome → Shared → Activation → Ran → Type 0
+LeavesOver below s a o after b ran =
+    (t : ℕ) → left_of after (Routine b) ran ≡ bounded (length below) s (Routine a) (judged s t (Routine a) o)
 
 -- the same with a packet issued
 abbrev pub with_issued : Shared → Packet → Shared

@@ -4,15 +4,16 @@ use Rattle.std.specs.Prelude.{ℕ, ◌+◌, ◌-◌, ◌&&◌, ◌||◌, not, Bo
 use Rattle.model.specs.declared.world.Frame.{Frame}
 use Rattle.model.specs.declared.world.Thread.{Thread}
 use Rattle.model.specs.declared.world.Packet.{Packet}
+use Rattle.model.specs.declared.status.Status.{Status}
 use Rattle.model.specs.declared.event.Event.{Event}
 use Rattle.model.specs.declared.event.Event.TheVariants.{Issue, Step}
 use Rattle.model.specs.declared.event.Bug.{Bug}
-use Rattle.model.specs.declared.event.BugCheck.TheVariants.{IrqlNotLessOrEqual, SpinLockAlreadyOwned, SpinLockNotOwned, MultipleIrpCompleteRequests}
+use Rattle.model.specs.declared.event.BugCheck.TheVariants.{IrqlNotLessOrEqual, SpinLockAlreadyOwned, SpinLockNotOwned, NoMoreIrpStackLocations, MultipleIrpCompleteRequests}
 use Rattle.model.specs.declared.event.Subject.TheVariants.{Packet as PacketSubject, Lock as LockSubject, Cell}
 use Rattle.model.specs.declared.event.Reply.{Reply}
 use Rattle.model.specs.declared.event.Reply.TheVariants.{Idle, Refused, Bug as BugCheckReply, Wrong}
-use Rattle.model.specs.Action.{Action, Acquires, Releases, TouchesPaged, Touches, Completes}
-use Rattle.model.specs.Effect.{Outcome, Change, frame_effect, issue_on, finished_or}
+use Rattle.model.specs.Action.{Action, Acquires, Releases, TouchesPaged, Touches, Calls, Completes}
+use Rattle.model.specs.Effect.{Outcome, Change, frame_effect, top_of, told_to, issue_on, finished_or}
 use Rattle.model.specs.Fault.{bug_if, first_or}
 use Rattle.model.specs.Machine.{Machine}
 use Rattle.model.specs.Set.{Set}
@@ -28,12 +29,18 @@ abbrev pub is_held : Option Packet → Bool
 is_held None = false
 is_held (Some p) = p.completing
 
+-- a live packet is at its last location
+abbrev pub is_full : Option Packet → Bool
+is_full None = false
+is_full (Some p) = not (nat_lt p.depth (length p.locations.items))
+
 -- the bug check of a thread's action, read from the packets and the locks
 abbrev pub fault_now : Shared → ℕ → Action → Option Bug
 fault_now s t (Acquires l) = bug_if (owns s.locks t l) SpinLockAlreadyOwned (LockSubject l)
 fault_now s t (Releases l) = bug_if (not (owns s.locks t l)) SpinLockNotOwned (LockSubject l)
 fault_now s t (TouchesPaged c) = bug_if (owns_any s.locks t) IrqlNotLessOrEqual (Cell c)
 fault_now s t (Touches n) = bug_if (is_gone s n) IrqlNotLessOrEqual (PacketSubject n)
+fault_now s t (Calls n) = bug_if (is_full (packet_of s n)) NoMoreIrpStackLocations (PacketSubject n)
 fault_now s t (Completes n) = bug_if (is_gone s n || is_held (packet_of s n)) MultipleIrpCompleteRequests (PacketSubject n)
 fault_now s t _ = None
 
@@ -42,20 +49,22 @@ abbrev pub first_now : Shared → ℕ → List Action → Option Bug
 first_now s t [] = None
 first_now s t (action ∷ actions) = first_or (fault_now s t action) (first_now s t actions)
 
--- what a frame's step leaves: the shared part, the frames that stand in its place, and the reply
+-- what a frame's step leaves: the shared part, the frames that stand in its place, the reply, and the
+-- status that the frame below is told
 pub record Left : Type 0 where
   pub shared : Shared
   pub frames : List Frame
   pub reply : Reply
+  pub told : Option Status
 
 -- nothing changes
 abbrev pub stays : Shared → Frame → Reply → Left
-stays s f reply = record { shared = s; frames = f ∷ []; reply = reply }
+stays s f reply = record { shared = s; frames = f ∷ []; reply = reply; told = None }
 
 -- a step with a bug check changes nothing
 abbrev pub left_by : Shared → Frame → Outcome → Option Bug → Left
 left_by s f o (Some bug) = stays s f (BugCheckReply bug)
-left_by s f o None = record { shared = o.shared; frames = o.frames; reply = o.reply }
+left_by s f o None = record { shared = o.shared; frames = o.frames; reply = o.reply; told = o.told }
 
 abbrev pub judged : Shared → ℕ → Frame → Outcome → Left
 judged s t f o = left_by s f o (first_now s t o.actions)
@@ -69,9 +78,9 @@ fits below s f left (g ∷ h ∷ frames) = if nat_le (below + length (g ∷ h �
 abbrev pub bounded : ℕ → Shared → Frame → Left → Left
 bounded below s f left = fits below s f left left.frames
 
--- a step of a thread's frame, over so many frames
-abbrev pub frame_now : Set → Shared → ℕ → ℕ → Frame → Left
-frame_now set s t below f = bounded below s f (judged s t f (frame_effect set s t f))
+-- a step of a thread's frame, over these frames
+abbrev pub frame_now : Set → Shared → ℕ → List Frame → Frame → Left
+frame_now set s t below f = bounded (length below) s f (judged s t f (frame_effect set s t (top_of below) f))
 
 -- what a thread's step leaves: the shared part, the thread, and the reply
 pub record Moved : Type 0 where
@@ -83,12 +92,12 @@ abbrev pub moved_to : Shared → List Frame → Reply → Moved
 moved_to s frames reply =
     record { shared = s; thread = record { frames = record { items = frames } }; reply = finished_or frames reply }
 
-abbrev pub moved_by : List Frame → Left → Moved
-moved_by below left = moved_to left.shared (below ++ left.frames) left.reply
+abbrev pub moved_by : Set → List Frame → Left → Moved
+moved_by set below left = moved_to left.shared (told_to set below left.told ++ left.frames) left.reply
 
 abbrev pub top_now : Set → Shared → ℕ → Thread → List Frame → Option Frame → Moved
 top_now set s t thread below None = record { shared = s; thread = thread; reply = Idle }
-top_now set s t thread below (Some f) = moved_by below (frame_now set s t (length below) f)
+top_now set s t thread below (Some f) = moved_by set below (frame_now set s t below f)
 
 abbrev pub thread_now : Set → Shared → ℕ → Thread → Moved
 thread_now set s t thread =

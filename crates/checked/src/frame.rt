@@ -1,48 +1,82 @@
 //! What a step leaves of the frame that ran.
 
-ghost use Rattle.std.specs.Prelude.{◌≡◌};
+ghost use Rattle.std.specs.Prelude.{◌≡◌, ◌≤◌, ◌+◌, nat_le, Some, None};
 
-use model::event::{Place, Reply};
-use model::world::Activation;
+use model::event::{Bug, BugCheck, Place, Reply, Subject};
+use model::limits::MAX_FRAMES;
+use model::status::Status;
+use model::world::{Activation, Frame};
 
 /// What stands in the place of a frame after its step.
-#[derive(Clone, Copy)]
+#[derive(Drop)]
 pub enum Rest {
     /// The frame.
     Same,
-    /// The frame, and over it the I/O manager's, which completes the packet of this number.
-    Managed(u64),
+    /// The frame, and this one over it.
+    Under(Frame),
     /// Nothing.
     Gone,
 }
 
-/// A frame that ran: what stands in its place, and the reply.
-#[derive(Clone, Copy)]
+/// A frame that ran: what stands in its place, the reply, and the status that the frame below is told.
+#[derive(Drop)]
 pub struct Ran {
     pub rest: Rest,
     pub reply: Reply,
+    pub told: Option<Status>,
 }
 
 impl Ran {
     /// The frame stands.
     pub fn stays(reply: Reply) -> Ran
-        ensures { result ≡ record { rest = Rest.Same; reply = reply } }
+        ensures { result ≡ record { rest = Rest.Same; reply = reply; told = None } }
     {
         Ran {
             rest: Rest::Same,
             reply,
+            told: None,
+        }
+    }
+
+    /// The frame stands, and another one over it.
+    pub fn under(frame: Frame) -> Ran
+        ensures { result ≡ record { rest = Rest.Under frame; reply = Reply.Stepped; told = None } }
+    {
+        Ran {
+            rest: Rest::Under(frame),
+            reply: Reply::Stepped,
+            told: None,
         }
     }
 
     /// The frame is gone.
     pub fn gone(reply: Reply) -> Ran
-        ensures { result ≡ record { rest = Rest.Gone; reply = reply } }
+        ensures { result ≡ record { rest = Rest.Gone; reply = reply; told = None } }
     {
         Ran {
             rest: Rest::Gone,
             reply,
+            told: None,
         }
     }
+
+    /// The frame is gone, and has returned a status to the one below.
+    pub fn returned(status: Status) -> Ran
+        ensures { result ≡ record { rest = Rest.Gone; reply = Reply.Stepped; told = Some status } }
+    {
+        Ran {
+            rest: Rest::Gone,
+            reply: Reply::Stepped,
+            told: Some(status),
+        }
+    }
+}
+
+/// Whether another frame may stand over one that stands over so many.
+pub fn has_room(below: usize) -> bool
+    ensures { result ≡ nat_le (below + 2) 32 }
+{
+    below <= MAX_FRAMES - 2
 }
 
 /// The routine goes wrong at its position.
@@ -53,5 +87,15 @@ pub fn wrong_at(a: &Activation) -> Reply
         driver: a.driver,
         routine: a.routine,
         position: a.position,
+    })
+}
+
+/// A bug check about a packet.
+pub fn packet_bug(check: BugCheck, packet: u64) -> Reply
+    ensures { result ≡ Reply.Bug (record { check = check; subject = Subject.Packet packet }) }
+{
+    Reply::Bug(Bug {
+        check,
+        subject: Subject::Packet(packet),
     })
 }

@@ -2,6 +2,7 @@
 //! first bug check or wrong operand.
 #![tactic(auto)]
 
+mod activation;
 mod frame;
 mod local;
 pub mod machine;

@@ -1,16 +1,16 @@
 //! Instructions that change nothing but their activation.
 
-ghost use Rattle.std.specs.Prelude.{◌≡◌, ◌<◌, ℕ};
-ghost use Rattle.checked.specs.Rest.{left_of, leaves, executed};
-ghost use Rattle.model.specs.Effect.{number_effect, jump_effect, sum_of, difference_of, is_zero_at, is_less_at};
-ghost use Rattle.model.specs.World.{Shared, next, at_label, with_register, number_in as number_in_of};
-ghost use Rattle.model.specs.declared.instr.Instr.TheVariants.{Add, Subtract, JumpIfZero, JumpIfLess, Loop, End};
+ghost use Rattle.std.specs.Prelude.{◌≡◌, ◌<◌, None};
+ghost use Rattle.checked.specs.Rest.{Leaves};
+ghost use Rattle.model.specs.Effect.{number_effect, jump_effect, loop_effect, end_effect, sum_of, difference_of, is_zero_at, is_less_at};
+ghost use Rattle.model.specs.World.{Shared, next, at_label, with_register, innermost, number_in as number_in_of, status_in as status_in_of};
 
 use crate::frame::{Ran, Rest, wrong_at};
 use image::{Register, Turns};
 use model::event::Reply;
 use model::limits::MAX_LOOPS;
-use model::world::{Activation, Frame, OpenLoop, Value};
+use model::status::Status;
+use model::world::{Activation, OpenLoop, Value};
 
 /// The number that a value is.
 pub fn number_in(value: Value) -> Option<u64>
@@ -22,11 +22,21 @@ pub fn number_in(value: Value) -> Option<u64>
     }
 }
 
+/// The status that a value is.
+pub fn status_in(value: Value) -> Option<Status>
+    ensures { result ≡ status_in_of value }
+{
+    match value {
+        Value::Status(status) => Some(status),
+        _ => None,
+    }
+}
+
 /// The register becomes this value.
 pub fn set(r: Register, value: Value, a: &mut Activation) -> Ran
     requires { a.old.position < 1024 }
     ensures activation { a.new ≡ next (with_register a.old r value) }
-    ensures ran { result ≡ record { rest = Rest.Same; reply = Reply.Stepped } }
+    ensures ran { result ≡ record { rest = Rest.Same; reply = Reply.Stepped; told = None } }
 {
     a.registers[r.index()] = value;
     a.position += 1;
@@ -36,7 +46,7 @@ pub fn set(r: Register, value: Value, a: &mut Activation) -> Ran
 /// The register becomes a number that was computed, if its operands were numbers.
 fn set_number(r: Register, number: Option<u64>, a: &mut Activation) -> Ran
     requires { a.old.position < 1024 }
-    ensures { (s : Shared) (t : ℕ) → left_of s (Frame.Routine a.new) result ≡ leaves s t a.old (number_effect s a.old r number) }
+    ensures { (u : Shared) → Leaves u a.old (number_effect u a.old r number) u a.new result }
 {
     match number {
         Some(number) => {
@@ -69,7 +79,7 @@ fn difference(a: &Activation, r: Register, s: Register) -> Option<u64>
 /// `add r s`: r becomes the sum.
 pub fn add(r: Register, s: Register, a: &mut Activation) -> Ran
     requires { a.old.position < 1024 }
-    ensures { (u : Shared) (t : ℕ) → left_of u (Frame.Routine a.new) result ≡ executed u t a.old (Add r s) }
+    ensures { (u : Shared) → Leaves u a.old (number_effect u a.old r (sum_of a.old r s)) u a.new result }
 {
     let number = sum(a, r, s);
     set_number(r, number, a)
@@ -78,7 +88,7 @@ pub fn add(r: Register, s: Register, a: &mut Activation) -> Ran
 /// `sub r s`: r becomes the difference.
 pub fn subtract(r: Register, s: Register, a: &mut Activation) -> Ran
     requires { a.old.position < 1024 }
-    ensures { (u : Shared) (t : ℕ) → left_of u (Frame.Routine a.new) result ≡ executed u t a.old (Subtract r s) }
+    ensures { (u : Shared) → Leaves u a.old (number_effect u a.old r (difference_of a.old r s)) u a.new result }
 {
     let number = difference(a, r, s);
     set_number(r, number, a)
@@ -87,7 +97,7 @@ pub fn subtract(r: Register, s: Register, a: &mut Activation) -> Ran
 /// Goes to the label.
 pub fn jump(label: u16, a: &mut Activation) -> Ran
     ensures activation { a.new ≡ at_label a.old label }
-    ensures ran { result ≡ record { rest = Rest.Same; reply = Reply.Stepped } }
+    ensures ran { result ≡ record { rest = Rest.Same; reply = Reply.Stepped; told = None } }
 {
     a.position = label;
     Ran::stays(Reply::Stepped)
@@ -96,7 +106,7 @@ pub fn jump(label: u16, a: &mut Activation) -> Ran
 /// Goes to the label where a test says so, if its operands were numbers.
 fn jump_if(label: u16, test: Option<bool>, a: &mut Activation) -> Ran
     requires { a.old.position < 1024 }
-    ensures { (s : Shared) (t : ℕ) → left_of s (Frame.Routine a.new) result ≡ leaves s t a.old (jump_effect s a.old label test) }
+    ensures { (u : Shared) → Leaves u a.old (jump_effect u a.old label test) u a.new result }
 {
     match test {
         Some(true) => {
@@ -129,7 +139,7 @@ fn is_less(a: &Activation, r: Register, s: Register) -> Option<bool>
 /// `jz r L`: jumps if r is 0.
 pub fn jump_if_zero(r: Register, label: u16, a: &mut Activation) -> Ran
     requires { a.old.position < 1024 }
-    ensures { (s : Shared) (t : ℕ) → left_of s (Frame.Routine a.new) result ≡ executed s t a.old (JumpIfZero r label) }
+    ensures { (u : Shared) → Leaves u a.old (jump_effect u a.old label (is_zero_at a.old r)) u a.new result }
 {
     let test = is_zero(a, r);
     jump_if(label, test, a)
@@ -138,7 +148,7 @@ pub fn jump_if_zero(r: Register, label: u16, a: &mut Activation) -> Ran
 /// `jlt r s L`: jumps if r is less than s.
 pub fn jump_if_less(r: Register, s: Register, label: u16, a: &mut Activation) -> Ran
     requires { a.old.position < 1024 }
-    ensures { (u : Shared) (t : ℕ) → left_of u (Frame.Routine a.new) result ≡ executed u t a.old (JumpIfLess r s label) }
+    ensures { (u : Shared) → Leaves u a.old (jump_effect u a.old label (is_less_at a.old r s)) u a.new result }
 {
     let test = is_less(a, r, s);
     jump_if(label, test, a)
@@ -147,7 +157,7 @@ pub fn jump_if_less(r: Register, s: Register, label: u16, a: &mut Activation) ->
 /// `loop n`: opens a loop of n turns.
 pub fn open_loop(turns: Turns, a: &mut Activation) -> Ran
     requires { a.old.position < 1024 }
-    ensures { (s : Shared) (t : ℕ) → left_of s (Frame.Routine a.new) result ≡ executed s t a.old (Loop turns) }
+    ensures { (u : Shared) → Leaves u a.old (loop_effect u a.old turns) u a.new result }
 {
     if a.loops.len() >= MAX_LOOPS {
         return Ran::stays(wrong_at(a));
@@ -163,7 +173,7 @@ pub fn open_loop(turns: Turns, a: &mut Activation) -> Ran
 /// `end`: goes back to the start of the innermost loop's body, or closes the loop.
 pub fn end_turn(a: &mut Activation) -> Ran
     requires { a.old.position < 1024 }
-    ensures { (s : Shared) (t : ℕ) → left_of s (Frame.Routine a.new) result ≡ executed s t a.old End }
+    ensures { (u : Shared) → Leaves u a.old (end_effect u a.old (innermost a.old)) u a.new result }
 {
     let _open = a.loops.len();
     let Some(innermost) = a.loops.pop() else {

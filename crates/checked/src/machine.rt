@@ -2,6 +2,7 @@
 
 ghost use Rattle.std.specs.Prelude.{◌≡◌, ◌≤◌, ◌↔◌, [], IfOk, IfErr, IsTrue};
 ghost use Rattle.model.specs.Machine.{Shows, Applies};
+ghost use Rattle.model.specs.Sound.{IsSound};
 ghost use Rattle.checked.specs.Step.{machine_now};
 
 use crate::world::World;
@@ -21,10 +22,13 @@ pub struct Checked {
 
 impl Model for Checked {
     ghost use Rattle.model.specs.Machine.{Machine};
+    ghost use Rattle.model.specs.Sound.{IsSound};
 
     ghost Value = { Machine };
 
     ghost view = { λ c. record { set = c.driver_set; world = c.state; stopped = c.halted } };
+
+    ghost invariant = { λ c. IsSound c.driver_set };
 }
 
 impl Checked {
@@ -61,7 +65,8 @@ impl Checked {
 
     /// The same by what the machine holds, and not by the trace of its run.
     fn advance(&mut self, event: &Event) -> Reply
-        ensures { record { machine = self.new; reply = result } ≡ machine_now self.old event.now }
+        ensures left { record { machine = self.new; reply = result } ≡ machine_now self.old event.now }
+        ensures sound { IsSound self.old.set }
     {
         if self.halted {
             return Reply::Refused;

@@ -1,28 +1,45 @@
 //! Steps of a routine.
 
 ghost use Rattle.std.specs.Prelude.{◌≡◌, ◌<◌};
-ghost use Rattle.checked.specs.Rest.{left_of, instruction_now};
+ghost use Rattle.checked.specs.Rest.{left_of, instruction_now, LeavesOver};
 ghost use Rattle.checked.specs.Step.{frame_now};
+ghost use Rattle.model.specs.Effect.{return_effect, top_of};
+ghost use Rattle.model.specs.Set.{sort_of};
 
 use crate::frame::{Ran, wrong_at};
 use crate::local;
 use crate::shared::Shared;
 use crate::shared::locks::spin_lock;
-use image::{DriverSet, Instr, Return};
-use model::event::{Lock, Reply};
+use image::{DriverSet, Instr, Return, Sort};
+use model::event::Lock;
 use model::world::{Activation, Frame, Value};
 
-/// Executes one instruction of a thread's routine, which stands over `below` frames.
+/// `ret ..`: the routine returns, in a form of its sort. It stands over the frames `below`.
+fn leave(set: &DriverSet, shared: &Shared, below: &[Frame], a: &Activation, form: Return) -> Ran
+    ensures { LeavesOver below.now shared.now a.now (return_effect shared.now a.now (top_of below.now) (sort_of set.now a.now.driver a.now.routine) form) shared.now a.now result }
+{
+    match (set.sort(a.driver, a.routine), form) {
+        (Sort::Dispatch, Return::WithStatus(status)) => Ran::returned(status),
+        (Sort::Dispatch, Return::Lower(r)) => match local::status_in(a.registers[r.index()]) {
+            Some(status) => Ran::returned(status),
+            None => Ran::stays(wrong_at(a)),
+        },
+        (Sort::Propagate, Return::Continue) => shared.go_on(below),
+        _ => Ran::stays(wrong_at(a)),
+    }
+}
+
+/// Executes one instruction of a thread's routine, which stands over the frames `below`.
 fn execute(
+    set: &DriverSet,
     shared: &mut Shared,
     thread: u8,
-    below: usize,
+    below: &[Frame],
     a: &mut Activation,
     instruction: Instr,
 ) -> Ran
-    requires position { a.old.position < 1024 }
-    requires room { below < 32 }
-    ensures { left_of shared.new (Frame.Routine a.new) result ≡ instruction_now shared.old thread below a.old instruction }
+    requires { a.old.position < 1024 }
+    ensures { left_of shared.new (Frame.Routine a.new) result ≡ instruction_now set.now shared.old thread below.now a.old instruction }
 {
     match instruction {
         Instr::Const(r, number) => local::set(r, Value::Num(u64::from(number)), a),
@@ -46,24 +63,26 @@ fn execute(
         Instr::Release(lock) => shared.release(thread, spin_lock(a, lock), a),
         Instr::AcquireCancel => shared.acquire(thread, Lock::SystemCancel, a),
         Instr::ReleaseCancel => shared.release(thread, Lock::SystemCancel, a),
+        Instr::Pass(r) => shared.pass(set, below, r, a),
+        Instr::Call(r, routine) => shared.call(set, below, r, routine, a),
+        Instr::IfPending(r, label) => shared.jump_if_pending(r, label, a),
         Instr::Complete(r, status) => shared.complete(below, r, status, a),
-        Instr::Ret(Return::WithStatus(_)) => Ran::gone(Reply::Stepped),
+        Instr::Ret(form) => leave(set, shared, below, a, form),
     }
 }
 
-/// Executes the instruction at the position of a thread's routine, which stands over `below` frames.
+/// Executes the instruction at the position of a thread's routine, which stands over the frames `below`.
 pub fn step(
     set: &DriverSet,
     shared: &mut Shared,
     thread: u8,
-    below: usize,
+    below: &[Frame],
     a: &mut Activation,
 ) -> Ran
-    requires { below < 32 }
-    ensures { left_of shared.new (Frame.Routine a.new) result ≡ frame_now set.now shared.old thread below (Frame.Routine a.old) }
+    ensures { left_of shared.new (Frame.Routine a.new) result ≡ frame_now set.now shared.old thread below.now (Frame.Routine a.old) }
 {
     match set.instruction(a.driver, a.routine, a.position) {
-        Some(instruction) => execute(shared, thread, below, a, instruction),
+        Some(instruction) => execute(set, shared, thread, below, a, instruction),
         None => Ran::stays(wrong_at(a)),
     }
 }

@@ -1,40 +1,42 @@
 //! What the threads of a run share.
 
-ghost use Rattle.std.specs.Prelude.{◌≡◌, IfOk};
+ghost use Rattle.std.specs.Prelude.{◌≡◌, ◌≤◌, IfOk, IsTrue};
 
+use iomgr::PacketTable;
 use irql_locks::LockTable;
-use model::limits::{CELLS, MAX_LIVE_PACKETS};
-use model::world::{Cells, Packet};
+use model::limits::CELLS;
+use model::status::Major;
+use model::world::{Cells, Value};
 use std::alloc::{AllocError, Global};
 use std::marker::Model;
 
 mod cells;
+mod completion;
+mod forwarding;
 pub mod locks;
-mod packets;
+mod touching;
 
-/// The live packets in the order of their issue, with room for all that may live at once, how many
-/// were ever issued, the locks, and by device its cells.
+/// The packets, the locks, and by device its cells.
 #[derive(Drop)]
 pub struct Shared {
-    live: Vec<Packet>,
-    issued_count: u64,
+    packet_table: PacketTable,
     lock_table: LockTable,
     cell_list: Vec<Cells>,
 }
 
 impl Model for Shared {
-    ghost use Rattle.std.specs.Prelude.{◌≤◌, vec_capacity};
     ghost use Rattle.model.specs.World.{Shared};
 
     ghost Value = { Shared };
 
-    ghost view = { λ s. record { packets = s.live.items; issued = s.issued_count; locks = s.lock_table; cells = s.cell_list.items } };
-
-    ghost invariant = { λ s. 1024 ≤ vec_capacity s.live };
+    ghost view = { λ s. record { packets = s.packet_table.packets; issued = s.packet_table.issued; locks = s.lock_table; cells = s.cell_list.items } };
 }
 
 impl Shared {
-    ghost use Rattle.model.specs.World.{unused};
+    ghost use Rattle.model.specs.Effect.{can_issue};
+    ghost use Rattle.model.specs.World.{unused, new_packet, packet_in};
+    ghost use Rattle.checked.specs.Rest.{with_issued};
+    ghost use Rattle.checked.specs.Step.{is_gone};
 
     /// What is there before the first event, for so many devices. An error where memory is refused;
     /// all that is ever needed is taken here.
@@ -46,10 +48,40 @@ impl Shared {
             paged: [0; CELLS],
         };
         Ok(Shared {
-            live: Vec::with_capacity(alloc, MAX_LIVE_PACKETS)?,
-            issued_count: 0,
+            packet_table: PacketTable::new(alloc)?,
             lock_table: LockTable::new(alloc, devices)?,
             cell_list: vec![in alloc; blank; devices]?,
         })
+    }
+
+    /// Whether one more packet may be issued.
+    pub fn can_issue(&self) -> bool
+        ensures { result ≡ can_issue self.now }
+    {
+        self.packet_table.can_issue()
+    }
+
+    /// Issues a packet to a device with this stack size, 1 to 16, and answers its number.
+    pub fn issue(&mut self, device: u8, major: Major, argument: u64, stack: u8) -> u64
+        requires room { IsTrue (can_issue self.old) }
+        requires stack { stack ≤ 16 }
+        ensures number { result ≡ self.old.issued }
+        ensures added { self.new ≡ with_issued self.old (new_packet self.old.issued device major argument stack) }
+    {
+        self.packet_table.issue(device, major, argument, stack)
+    }
+
+    /// The packet that a value refers to: one that was issued, live or not.
+    fn packet_in(&self, value: Value) -> Option<u64>
+        ensures { result ≡ packet_in self.now value }
+    {
+        self.packet_table.packet_in(value)
+    }
+
+    /// Whether a packet was issued and isn't live: it has topped out.
+    fn is_gone(&self, n: u64) -> bool
+        ensures { result ≡ is_gone self.now n }
+    {
+        n < self.packet_table.issued() && self.packet_table.find(n).is_none()
     }
 }

@@ -1,15 +1,17 @@
 //! Steps of a thread.
 
-ghost use Rattle.std.specs.Prelude.{◌≡◌, ◌+◌, ◌<◌, ◌≤◌, ◌∷◌, ◌++◌, length};
+ghost use Rattle.std.specs.Prelude.{◌≡◌, ◌+◌, ◌<◌, ◌≤◌, ◌∷◌, ◌++◌, Some, length};
 ghost use Rattle.checked.specs.Rest.{frames_left};
 ghost use Rattle.checked.specs.Step.{thread_now, moved_by, moved_to, frame_now};
+ghost use Rattle.model.specs.Effect.{told_to};
 
-use crate::frame::Rest;
-use crate::routine;
+use crate::frame::{Ran, Rest};
 use crate::shared::Shared;
+use crate::{activation, routine};
 use arrayvec::ArrayVec;
 use image::DriverSet;
 use model::event::Reply;
+use model::status::Status;
 use model::world::{Frame, Thread};
 
 /// Puts back what stands in the place of a frame that was taken off.
@@ -19,12 +21,44 @@ fn put_back(frames: &mut ArrayVec<Frame, 32>, frame: Frame, rest: Rest)
 {
     match rest {
         Rest::Same => frames.push(frame),
-        Rest::Managed(n) => {
+        Rest::Under(over) => {
             frames.push(frame);
-            frames.push(Frame::Walk(n));
+            frames.push(over);
         }
         Rest::Gone => {}
     }
+}
+
+/// The routine on the top, if one stands there, is told the status that a lower driver returned.
+fn tell(set: &DriverSet, frames: &mut ArrayVec<Frame, 32>, status: Status)
+    ensures told { frames.new.items ≡ told_to set.now frames.old.items (Some status) }
+    ensures count { length frames.new.items ≡ length frames.old.items }
+{
+    let _depth = frames.len();
+    let Some(top) = frames.pop() else {
+        return;
+    };
+    match top {
+        Frame::Routine(mut caller) => {
+            activation::answer(set, &mut caller, status);
+            frames.push(Frame::Routine(caller));
+        }
+        Frame::Walk(n) => frames.push(Frame::Walk(n)),
+    }
+}
+
+/// Puts back what a frame that was taken off has left, and answers its reply.
+fn settle(set: &DriverSet, frames: &mut ArrayVec<Frame, 32>, frame: Frame, ran: Ran) -> Reply
+    requires { length frames.old.items + length (frames_left frame ran.rest) ≤ 32 }
+    ensures frames { frames.new.items ≡ told_to set.now frames.old.items ran.told ++ frames_left frame ran.rest }
+    ensures reply { result ≡ ran.reply }
+{
+    let Ran { rest, reply, told } = ran;
+    if let Some(status) = told {
+        tell(set, frames, status);
+    }
+    put_back(frames, frame, rest);
+    reply
 }
 
 /// A step of the frame that was taken off the top of a thread's others. The reply doesn't yet tell
@@ -38,18 +72,16 @@ fn step_frame(
 ) -> Reply
     requires { length frames.old.items < 32 }
     ensures { let below = frames.old.items in
-        moved_to shared.new frames.new.items result ≡ moved_by below (frame_now set.now shared.old thread (length below) top) }
+        moved_to shared.new frames.new.items result ≡ moved_by set.now below (frame_now set.now shared.old thread below top) }
 {
     match top {
         Frame::Routine(mut activation) => {
-            let ran = routine::step(set, shared, thread, frames.len(), &mut activation);
-            put_back(frames, Frame::Routine(activation), ran.rest);
-            ran.reply
+            let ran = routine::step(set, shared, thread, frames.as_slice(), &mut activation);
+            settle(set, frames, Frame::Routine(activation), ran)
         }
         Frame::Walk(n) => {
-            let ran = shared.walk(n);
-            put_back(frames, Frame::Walk(n), ran.rest);
-            ran.reply
+            let ran = shared.walk(set, frames.as_slice(), n);
+            settle(set, frames, Frame::Walk(n), ran)
         }
     }
 }

@@ -1,16 +1,17 @@
 //! The world of a run, and what an event does to it.
 
-ghost use Rattle.std.specs.Prelude.{◌≡◌, ◌∷◌, [], IfOk, slice_get, length};
+ghost use Rattle.std.specs.Prelude.{◌≡◌, ◌≤◌, ◌∷◌, [], IfOk, IfSome, slice_get, length};
 ghost use Rattle.checked.specs.Step.{event_now, step_now};
-ghost use Rattle.model.specs.World.{opening, entered as entered_of};
+ghost use Rattle.model.specs.World.{opening};
 
+use crate::activation::entered;
 use crate::shared::Shared;
 use crate::thread;
 use arrayvec::ArrayVec;
-use image::DriverSet;
+use image::{Device, DriverSet};
 use model::event::{Event, Reply};
 use model::status::Major;
-use model::world::{Activation, Frame, Thread, Value};
+use model::world::{Activation, Frame, Thread};
 use std::alloc::{AllocError, Global};
 use std::marker::Model;
 
@@ -29,20 +30,12 @@ impl Model for World {
     ghost view = { λ w. record { threads = w.thread_list.items; shared = w.shared } };
 }
 
-/// A routine that begins, and is handed a packet in its first register.
-fn entered(driver: u8, routine: u8, device: u8, packet: u64) -> Activation
-    ensures { result ≡ entered_of driver routine device packet }
+/// The device of a number, if there is one.
+fn device_of(set: &DriverSet, number: u8) -> Option<Device>
+    ensures device { result ≡ slice_get set.now.devices number }
+    ensures stack { IfSome (slice_get set.now.devices number) (λ d. d.stack ≤ 16) }
 {
-    let mut registers = [Value::Blank; 16];
-    registers[0] = Value::Ref(packet);
-    Activation {
-        driver,
-        routine,
-        device,
-        position: 0,
-        loops: ArrayVec::new(),
-        registers,
-    }
+    set.devices().get(number as usize).copied()
 }
 
 /// A routine begins on an idle thread.
@@ -102,9 +95,8 @@ impl World {
             Some(caller) => caller.frames.is_empty(),
             None => return Reply::Refused,
         };
-        let target = match set.devices().get(device as usize) {
-            Some(target) => *target,
-            None => return Reply::Refused,
+        let Some(target) = device_of(set, device) else {
+            return Reply::Refused;
         };
         if !idle || !self.shared.can_issue() {
             return Reply::Refused;

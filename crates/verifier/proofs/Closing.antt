@@ -5,9 +5,9 @@ use Rattle.std.proofs.lemmas.Option.{slice_get-get_or}
 use Rattle.model.specs.declared.abs.Abs.{Abs}
 use Rattle.model.specs.declared.instr.Instr.{Instr}
 use Rattle.model.specs.declared.instr.Instr.TheVariants.{End}
-use Rattle.model.specs.declared.set.Routine.{Routine}
 use Rattle.model.specs.Loops.{open_at}
 use Rattle.model.specs.Paths.{Arrives, is_malformed, is_misplaced}
+use Rattle.model.specs.Set.{Member}
 use Rattle.model.specs.Typable.{ArrivesAlone, ReachesLoop, ClosesAlike, ClosesUnlike}
 use Rattle.verifier.specs.declared.loops.Place.{Place}
 use Rattle.verifier.specs.declared.seen.Seen.{Seen}
@@ -28,46 +28,46 @@ here_read code read at d i same within is =
     slice_get-get_or code at d within ∙ ap (λ (list : List Instr). Some (slice_index_or list at d)) (sym same) ∙ ap Some is
 
 -- the states that arrive at a position that the pass has come to
-pub entry_there : (routine : Routine) (at p : ℕ) (table : List Seen) → Knows routine at table → at < length routine.code → p ≤ at
-    → Describes (slice_index_or table p Nothing) (Arrives routine p)
-entry_there routine at p table known within low = settled routine at p (slice_index_or table p Nothing) low (known.seen p (omega arith))
+pub entry_there : (m : Member) (at p : ℕ) (table : List Seen) → Knows m at table → at < length m.routine.code → p ≤ at
+    → Describes (slice_index_or table p Nothing) (Arrives m p)
+entry_there m at p table known within low = settled m at p (slice_index_or table p Nothing) low (known.seen p (omega arith))
 
-pub alone_there : (routine : Routine) (at p : ℕ) (table : List Seen) (s : Abs) → Knows routine at table → at < length routine.code → p ≤ at
-    → slice_index_or table p Nothing ≡ One s → ArrivesAlone routine p s
-alone_there routine at p table s known within low entry =
-    let one : Describes (One s) (Arrives routine p) =
-    subst (λ (seen : Seen). Describes seen (Arrives routine p)) entry (entry_there routine at p table known within low)
+pub alone_there : (m : Member) (at p : ℕ) (table : List Seen) (s : Abs) → Knows m at table → at < length m.routine.code → p ≤ at
+    → slice_index_or table p Nothing ≡ One s → ArrivesAlone m p s
+alone_there m at p table s known within low entry =
+    let one : Describes (One s) (Arrives m p) =
+    subst (λ (seen : Seen). Describes seen (Arrives m p)) entry (entry_there m at p table known within low)
     in
     record { arrives = one.0; alone = one.1 }
 
-entry_of : (routine : Routine) (p : ℕ) (seen : Seen) (start : Abs) → ArrivesAlone routine p start → Describes seen (Arrives routine p) → seen ≡ One start
-entry_of routine p Nothing start arrival h = absurd (h start arrival.arrives)
-entry_of routine p (One s) start arrival h = ap One (arrival.alone s h.0)
-entry_of routine p Several start arrival h = absurd (h.4 (arrival.alone h.0 h.2 ∙ sym (arrival.alone h.1 h.3)))
+entry_of : (m : Member) (p : ℕ) (seen : Seen) (start : Abs) → ArrivesAlone m p start → Describes seen (Arrives m p) → seen ≡ One start
+entry_of m p Nothing start arrival h = absurd (h start arrival.arrives)
+entry_of m p (One s) start arrival h = ap One (arrival.alone s h.0)
+entry_of m p Several start arrival h = absurd (h.4 (arrival.alone h.0 h.2 ∙ sym (arrival.alone h.1 h.3)))
 
-pub alike_there : (routine : Routine) (at q : ℕ) (table : List Seen) (s : Abs) → Knows routine at table → at < length routine.code
-    → slice_get routine.code at ≡ Some End → first_of (open_at routine.code at) ≡ Some q → slice_index_or table q Nothing ≡ One s
-    → ClosesAlike routine at s (slice_get routine.code at)
-alike_there routine at q table s known within here first entry =
-    let low : q < at = (first_open routine.code at q first).0 in
-    let alone : ReachesLoop routine (Some q) s = alone_there routine at q table s known within (omega arith) entry in
-    let closes : ClosesAlike routine at s (Some End) = subst (λ (o : Option ℕ). ReachesLoop routine o s) (sym first) alone in
-    subst (λ (i : Option Instr). ClosesAlike routine at s i) (sym here) closes
+pub alike_there : (m : Member) (at q : ℕ) (table : List Seen) (s : Abs) → Knows m at table → at < length m.routine.code
+    → slice_get m.routine.code at ≡ Some End → first_of (open_at m.routine.code at) ≡ Some q → slice_index_or table q Nothing ≡ One s
+    → ClosesAlike m at s (slice_get m.routine.code at)
+alike_there m at q table s known within here first entry =
+    let low : q < at = (first_open m.routine.code at q first).0 in
+    let alone : ReachesLoop m (Some q) s = alone_there m at q table s known within (omega arith) entry in
+    let closes : ClosesAlike m at s (Some End) = subst (λ (o : Option ℕ). ReachesLoop m o s) (sym first) alone in
+    subst (λ (i : Option Instr). ClosesAlike m at s i) (sym here) closes
 
-pub unlike_there : (routine : Routine) (at q : ℕ) (table : List Seen) (s : Abs) → Knows routine at table → at < length routine.code
-    → slice_get routine.code at ≡ Some End → first_of (open_at routine.code at) ≡ Some q → (slice_index_or table q Nothing ≡ One s → ⊥)
-    → ClosesUnlike routine at s (slice_get routine.code at)
-unlike_there routine at q table s known within here first never =
-    let low : q < at = (first_open routine.code at q first).0 in
+pub unlike_there : (m : Member) (at q : ℕ) (table : List Seen) (s : Abs) → Knows m at table → at < length m.routine.code
+    → slice_get m.routine.code at ≡ Some End → first_of (open_at m.routine.code at) ≡ Some q → (slice_index_or table q Nothing ≡ One s → ⊥)
+    → ClosesUnlike m at s (slice_get m.routine.code at)
+unlike_there m at q table s known within here first never =
+    let low : q < at = (first_open m.routine.code at q first).0 in
     let start : Abs = (known.fine q low).state in
-    let alone : ReachesLoop routine (Some q) start = (known.fine q low).arrival in
+    let alone : ReachesLoop m (Some q) start = (known.fine q low).arrival in
     let entry : slice_index_or table q Nothing ≡ One start =
-    entry_of routine q (slice_index_or table q Nothing) start alone (entry_there routine at q table known within (omega arith))
+    entry_of m q (slice_index_or table q Nothing) start alone (entry_there m at q table known within (omega arith))
     in
-    let closes : ClosesUnlike routine at s (Some End) =
-    (start, subst (λ (o : Option ℕ). ReachesLoop routine o start) (sym first) alone, λ same. never (entry ∙ ap One same))
+    let closes : ClosesUnlike m at s (Some End) =
+    (start, subst (λ (o : Option ℕ). ReachesLoop m o start) (sym first) alone, λ same. never (entry ∙ ap One same))
     in
-    subst (λ (i : Option Instr). ClosesUnlike routine at s i) (sym here) closes
+    subst (λ (i : Option Instr). ClosesUnlike m at s i) (sym here) closes
 
 pub false_isnt_true : (b : Bool) → b ≡ false → IsTrue b → ⊥
 false_isnt_true true fails holds = cc
@@ -80,10 +80,10 @@ never_unopened code at formed here first =
     let none : nat_eq (length (open_at code at)) 0 ≡ true = ap (λ (loops : List ℕ). nat_eq (length loops) 0) (none_open code at first) in
     cc
 
-closes_other : (routine : Routine) (at : ℕ) (s : Abs) (i : Instr) → (i ≡ End → ⊥) → ClosesAlike routine at s (Some i)
-closes_other routine at s End never = absurd (never refl)
-closes_other routine at s _ never = tt
+closes_other : (m : Member) (at : ℕ) (s : Abs) (i : Instr) → (i ≡ End → ⊥) → ClosesAlike m at s (Some i)
+closes_other m at s End never = absurd (never refl)
+closes_other m at s _ never = tt
 
-pub other_there : (routine : Routine) (at : ℕ) (s : Abs) (i : Instr) → slice_get routine.code at ≡ Some i → (i ≡ End → ⊥)
-    → ClosesAlike routine at s (slice_get routine.code at)
-other_there routine at s i here never = subst (λ (x : Option Instr). ClosesAlike routine at s x) (sym here) (closes_other routine at s i never)
+pub other_there : (m : Member) (at : ℕ) (s : Abs) (i : Instr) → slice_get m.routine.code at ≡ Some i → (i ≡ End → ⊥)
+    → ClosesAlike m at s (slice_get m.routine.code at)
+other_there m at s i here never = subst (λ (x : Option Instr). ClosesAlike m at s x) (sym here) (closes_other m at s i never)

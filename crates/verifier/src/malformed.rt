@@ -34,9 +34,10 @@ fn is_misplaced(code: &[Instr], places: &[Place], at: usize) -> bool
 {
     let place = &places[at];
     match code[at] {
-        Instr::JumpIfZero(_, label) | Instr::JumpIfLess(_, _, label) | Instr::Jump(label) => {
-            !goes_forward(code, places, at, label as usize)
-        }
+        Instr::JumpIfZero(_, label)
+        | Instr::JumpIfLess(_, _, label)
+        | Instr::Jump(label)
+        | Instr::IfPending(_, label) => !goes_forward(code, places, at, label as usize),
         Instr::Loop(_) => !place.closed || place.round.depth >= MAX_LOOPS,
         Instr::End => place.opened.is_none(),
         _ => false,
@@ -52,8 +53,8 @@ fn goes_forward(code: &[Instr], places: &[Place], at: usize, label: usize) -> bo
     at < label && label < code.len() && are_in_same_loops(&places[at], &places[label])
 }
 
-/// Whether the same loops' bodies hold two positions. The innermost of them says which the others
-/// are, so it is enough to compare that one.
+/// Whether the same loops' bodies hold two positions: since a loop is in the same ones wherever it is
+/// the innermost, that is whether the innermost loop is the same.
 fn are_in_same_loops(here: &Place, there: &Place) -> bool
     ensures { IsTrue result ↔ (here.now.round.innermost ≡ there.now.round.innermost) }
 {

@@ -4,7 +4,7 @@
 ghost use Rattle.std.specs.Prelude.{◌≡◌, ◌+◌, ◌<◌, length, false, slice_get, IfOk, IfErr, OnOk, IsTrue};
 ghost use Rattle.model.specs.Certificate.{certificate};
 ghost use Rattle.model.specs.Paths.{is_malformed};
-ghost use Rattle.model.specs.Set.{label_of};
+ghost use Rattle.model.specs.Set.{member, label_of};
 ghost use Rattle.model.specs.Sound.{RoutineFits};
 ghost use Rattle.model.specs.Typable.{IsTypableRoutine, IsFaultAt, ClosesAlike, ClosesUnlike};
 ghost use Rattle.verifier.specs.Survey.{ArePlaced};
@@ -14,6 +14,7 @@ use crate::loops::{Place, survey};
 use crate::malformed::is_malformed;
 use crate::seen::{Seen, hand_on, is_only};
 use absstate::{Abs, Outs, Rule, entry_state, transfer};
+use image::DriverSet;
 use model::instr::Instr;
 use model::limits::MAX_CERTIFICATE;
 use model::set::Routine;
@@ -31,13 +32,18 @@ pub enum Stop {
 ghost use Rattle.verifier.specs.Pass.{Knows, AreSums, IsPassed};
 ghost use Rattle.verifier.specs.Stops.{IsStopOf};
 
-/// Accepts a routine exactly if it is typable, memory apart, and answers its certificate; else its
-/// first fault.
-pub fn check_routine(alloc: Global, routine: &Routine) -> Result<u32, Stop>
+/// Accepts a routine of the driver of this number, of a set, exactly if it is typable, memory apart,
+/// and answers its certificate; else its first fault.
+pub fn check_routine(
+    alloc: Global,
+    set: &DriverSet,
+    driver: u8,
+    routine: &Routine,
+) -> Result<u32, Stop>
     requires { RoutineFits routine.now }
-    ensures typable { OnOk result (IsTypableRoutine routine.now) }
+    ensures typable { OnOk result (IsTypableRoutine (member set.now driver routine.now)) }
     ensures certificate { IfOk result (λ sum. sum ≡ certificate routine.now.code) }
-    ensures fault { IfErr result (λ stop. IsStopOf routine.now stop) }
+    ensures fault { IfErr result (λ stop. IsStopOf (member set.now driver routine.now) stop) }
 {
     let code = routine.code.as_slice();
     let length = code.len();
@@ -58,7 +64,7 @@ pub fn check_routine(alloc: Global, routine: &Routine) -> Result<u32, Stop>
     };
     table[0] = Seen::One(entry_state(routine.sort));
     for at in 0..length {
-        if let Err(rule) = pass_over(&mut table, &mut sums, routine, &places, at) {
+        if let Err(rule) = pass_over(&mut table, &mut sums, set, driver, routine, &places, at) {
             return Err(Stop::Fault {
                 at: at as u16,
                 rule,
@@ -73,19 +79,21 @@ pub fn check_routine(alloc: Global, routine: &Routine) -> Result<u32, Stop>
 fn pass_over(
     table: &mut [Seen],
     sums: &mut [u32],
+    set: &DriverSet,
+    driver: u8,
     routine: &Routine,
     places: &[Place],
     at: usize,
 ) -> Result<(), Rule>
     requires within { at < length routine.now.code }
     requires placed { ArePlaced routine.now.code (length routine.now.code) places.now }
-    requires known { Knows routine.now at table.old }
+    requires known { Knows (member set.now driver routine.now) at table.old }
     requires summed { AreSums routine.now.code at sums.old }
-    ensures known { OnOk result (Knows routine.now (at + 1) table.new) }
+    ensures known { OnOk result (Knows (member set.now driver routine.now) (at + 1) table.new) }
     ensures summed { OnOk result (AreSums routine.now.code (at + 1) sums.new) }
-    ensures fault { IfErr result (λ rule. IsFaultAt routine.now at rule) }
+    ensures fault { IfErr result (λ rule. IsFaultAt (member set.now driver routine.now) at rule) }
 {
-    let outs = match judge(table, routine, places, at) {
+    let outs = match judge(table, set, driver, routine, places, at) {
         Ok(outs) => outs,
         Err(rule) => return Err(rule),
     };
@@ -112,12 +120,19 @@ fn label(instr: &Instr) -> Option<usize>
 
 /// The states that the instruction at a position hands on, where no fault stands there but one of
 /// length; else the first of the others.
-fn judge(table: &[Seen], routine: &Routine, places: &[Place], at: usize) -> Result<Outs, Rule>
+fn judge(
+    table: &[Seen],
+    set: &DriverSet,
+    driver: u8,
+    routine: &Routine,
+    places: &[Place],
+    at: usize,
+) -> Result<Outs, Rule>
     requires within { at < length routine.now.code }
     requires placed { ArePlaced routine.now.code (length routine.now.code) places.now }
-    requires known { Knows routine.now at table.now }
-    ensures passed { IfOk result (λ outs. IsPassed routine.now at outs) }
-    ensures fault { IfErr result (λ rule. IsFaultAt routine.now at rule) }
+    requires known { Knows (member set.now driver routine.now) at table.now }
+    ensures passed { IfOk result (λ outs. IsPassed (member set.now driver routine.now) at outs) }
+    ensures fault { IfErr result (λ rule. IsFaultAt (member set.now driver routine.now) at rule) }
 {
     let code = routine.code.as_slice();
     if is_malformed(code, places, at) {
@@ -128,20 +143,28 @@ fn judge(table: &[Seen], routine: &Routine, places: &[Place], at: usize) -> Resu
         Seen::Nothing => return Err(Rule::Unreachable),
         Seen::Several => return Err(Rule::StatesDiffer),
     };
-    if !closes_alike(table, routine, places, at, &state) {
+    if !closes_alike(table, set, driver, routine, places, at, &state) {
         return Err(Rule::StatesDiffer);
     }
-    transfer(&state, &code[at], routine.sort)
+    transfer(&state, &code[at], routine.sort, set, driver)
 }
 
 /// Whether an `end` is reached in the state in which its `loop` is. Anything else closes no loop.
-fn closes_alike(table: &[Seen], routine: &Routine, places: &[Place], at: usize, state: &Abs) -> bool
+fn closes_alike(
+    table: &[Seen],
+    set: &DriverSet,
+    driver: u8,
+    routine: &Routine,
+    places: &[Place],
+    at: usize,
+    state: &Abs,
+) -> bool
     requires within { at < length routine.now.code }
     requires placed { ArePlaced routine.now.code (length routine.now.code) places.now }
-    requires known { Knows routine.now at table.now }
+    requires known { Knows (member set.now driver routine.now) at table.now }
     requires formed { is_malformed routine.now.code at ≡ false }
-    ensures alike { IsTrue result → ClosesAlike routine.now at state.now (slice_get routine.now.code at) }
-    ensures unlike { result ≡ false → ClosesUnlike routine.now at state.now (slice_get routine.now.code at) }
+    ensures alike { IsTrue result → ClosesAlike (member set.now driver routine.now) at state.now (slice_get routine.now.code at) }
+    ensures unlike { result ≡ false → ClosesUnlike (member set.now driver routine.now) at state.now (slice_get routine.now.code at) }
 {
     match routine.code.as_slice()[at] {
         Instr::End => match places[at].opened {

@@ -20,23 +20,24 @@ fn ret(status: Status) -> Instr {
     Instr::Ret(Return::WithStatus(status))
 }
 
-/// The set of one driver with one routine, and one device.
-fn set_of(alloc: Global, code: &[Instr]) -> Result<DriverSet, Fail>
+/// The set of one driver with one routine of a sort, and one device.
+fn set_of(alloc: Global, sort: Sort, code: &[Instr]) -> Result<DriverSet, Fail>
     ensures { IfOk result (λ set. IsSome (routine_of set 0 0)) }
 {
     let routine = Routine {
-        sort: Sort::Dispatch,
+        sort,
         code: Items::of(Vec::from_slice(alloc, code)?),
     };
     let driver = Driver {
         routines: Items::of(vec![in alloc; routine]?),
-        read: Some(0),
+        read: None,
         write: None,
         control: None,
     };
     let device = Device {
         driver: 0,
         stack: 1,
+        lower: None,
     };
     match DriverSet::of(vec![in alloc; driver]?, vec![in alloc; device]?) {
         Ok(set) => Ok(set),
@@ -44,12 +45,17 @@ fn set_of(alloc: Global, code: &[Instr]) -> Result<DriverSet, Fail>
     }
 }
 
-/// The certificate of the routine, or where and why its set is refused.
-fn verdict(alloc: Global, code: &[Instr]) -> Result<Result<u32, (u16, Rule)>, Fail> {
-    match verify(alloc, set_of(alloc, code)?) {
+/// The certificate of a routine of a sort, or where and why its set is refused.
+fn verdict_on(alloc: Global, sort: Sort, code: &[Instr]) -> Result<Result<u32, (u16, Rule)>, Fail> {
+    match verify(alloc, set_of(alloc, sort, code)?) {
         Ok(accepted) => Ok(Ok(accepted.cert(0, 0))),
         Err((_, refusal)) => Ok(Err((refusal.at, refusal.rule))),
     }
+}
+
+/// The same of a dispatch routine.
+fn verdict(alloc: Global, code: &[Instr]) -> Result<Result<u32, (u16, Rule)>, Fail> {
+    verdict_on(alloc, Sort::Dispatch, code)
 }
 
 #[test]
@@ -202,6 +208,33 @@ fn refuses_a_jump_into_a_loop(rt: HostRuntime) -> Result<(), Fail> {
 }
 
 #[test]
+fn accepts_a_mark_that_is_carried_up(rt: HostRuntime) -> Result<(), Fail> {
+    let code = [
+        Instr::IfPending(FIRST, 2),
+        Instr::Ret(Return::Continue),
+        Instr::Mark(FIRST),
+        Instr::Ret(Return::Continue),
+    ];
+    assert_eq!(rt; verdict_on(rt.alloc(), Sort::Propagate, &code)?, Ok(4));
+    Ok(())
+}
+
+#[test]
+fn refuses_a_mark_that_may_be_lost(rt: HostRuntime) -> Result<(), Fail> {
+    let code = [Instr::Ret(Return::Continue)];
+    let verdict = verdict_on(rt.alloc(), Sort::Propagate, &code)?;
+    assert_eq!(rt; verdict, Err((0, Rule::Completion)));
+    Ok(())
+}
+
+#[test]
+fn refuses_to_forward_to_no_device(rt: HostRuntime) -> Result<(), Fail> {
+    let code = [Instr::Pass(FIRST), Instr::Ret(Return::Lower(FIRST))];
+    assert_eq!(rt; verdict(rt.alloc(), &code)?, Err((0, Rule::NoLower)));
+    Ok(())
+}
+
+#[test]
 fn refuses_a_million_turns(rt: HostRuntime) -> Result<(), Fail> {
     let turns = Turns::of(1000).ok_or("no turns")?;
     let code = [
@@ -233,7 +266,8 @@ fn refuses_a_set_without_devices(rt: HostRuntime) -> Result<(), Fail> {
 
 #[test]
 fn names_the_default_certificate(rt: HostRuntime) -> Result<(), Fail> {
-    let set = set_of(rt.alloc(), &[complete(FIRST), ret(Status::Success)])?;
+    let code = [complete(FIRST), ret(Status::Success)];
+    let set = set_of(rt.alloc(), Sort::Dispatch, &code)?;
     let accepted = verify(rt.alloc(), set).ok().ok_or("refused")?;
     assert_eq!(rt; accepted.cert(0, DEFAULT_ROUTINE), 2);
     assert_eq!(rt; accepted.set().devices().len(), 1);

@@ -96,7 +96,7 @@ fn check_set(alloc: Global, set: &DriverSet) -> Result<Vec<Items<u32>>, Refusal>
     let drivers = set.drivers();
     let mut certificates = Vec::new(alloc);
     for (number, driver) in drivers.iter().enumerate() {
-        let of_driver = match check_driver(alloc, number as u8, driver) {
+        let of_driver = match check_driver(alloc, set, number as u8, driver) {
             Ok(of_driver) => of_driver,
             Err(refusal) => return Err(refusal),
         };
@@ -107,18 +107,23 @@ fn check_set(alloc: Global, set: &DriverSet) -> Result<Vec<Items<u32>>, Refusal>
     Ok(certificates)
 }
 
-/// Accepts the driver of this number exactly if all its routines are typable, memory apart, and
-/// answers their certificates; else the refusal of their set.
-fn check_driver(alloc: Global, driver_number: u8, driver: &Driver) -> Result<Items<u32>, Refusal>
+/// Accepts the driver of this number, of a set, exactly if all its routines are typable, memory apart,
+/// and answers their certificates; else the refusal of the set.
+fn check_driver(
+    alloc: Global,
+    set: &DriverSet,
+    driver_number: u8,
+    driver: &Driver,
+) -> Result<Items<u32>, Refusal>
     requires { DriverFits driver.now }
-    ensures typable { OnOk result (IsTypableDriver driver.now) }
+    ensures typable { OnOk result (IsTypableDriver set.now driver_number driver.now) }
     ensures certificates { IfOk result (λ certificates. certificates ≡ driver_certificates driver.now) }
-    ensures refused { IfErr result (λ refusal. IsRefusalOfDriver driver.now driver_number refusal) }
+    ensures refused { IfErr result (λ refusal. IsRefusalOfDriver set.now driver_number driver.now refusal) }
 {
     let routines = driver.routines.as_slice();
     let mut certificates = Vec::new(alloc);
     for (number, routine) in routines.iter().enumerate() {
-        let certificate = match check_routine(alloc, routine) {
+        let certificate = match check_routine(alloc, set, driver_number, routine) {
             Ok(certificate) => certificate,
             Err(stop) => return Err(stop.refusal(driver_number, number as u8)),
         };

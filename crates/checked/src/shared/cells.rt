@@ -1,6 +1,6 @@
 //! The number cells of devices.
 
-ghost use Rattle.std.specs.Prelude.{◌≡◌, ◌<◌, ℕ};
+ghost use Rattle.std.specs.Prelude.{◌≡◌, ◌<◌, slice_get};
 ghost use Rattle.model.specs.Effect.{cell_of};
 
 use super::Shared;
@@ -8,7 +8,7 @@ use crate::frame::{Ran, wrong_at};
 use crate::local::number_in;
 use image::{Cell, Register};
 use model::event::{Bug, BugCheck, OfDevice, Reply, Subject};
-use model::world::{Activation, Frame, Value};
+use model::world::{Activation, Value};
 
 /// The bug check that a paged cell of the activation's device is touched at DISPATCH_LEVEL.
 fn paged_bug(a: &Activation, cell: Cell) -> Reply
@@ -24,13 +24,14 @@ fn paged_bug(a: &Activation, cell: Cell) -> Reply
 }
 
 impl Shared {
-    ghost use Rattle.checked.specs.Rest.{left_of, executed};
-    ghost use Rattle.model.specs.declared.instr.Instr.TheVariants.{Load, LoadPaged, Store, StorePaged};
+    ghost use Rattle.checked.specs.Rest.{Leaves, LeavesOn};
+    ghost use Rattle.model.specs.Effect.{load_effect, load_paged_effect, store_effect, store_paged_effect};
+    ghost use Rattle.model.specs.World.{register, number_in as number_in_of};
 
     /// `load r c`: the register becomes the number in a cell.
     pub fn load(&self, r: Register, cell: Cell, a: &mut Activation) -> Ran
         requires { a.old.position < 1024 }
-        ensures { (t : ℕ) → left_of self.now (Frame.Routine a.new) result ≡ executed self.now t a.old (Load r cell) }
+        ensures { Leaves self.now a.old (load_effect self.now a.old r cell (slice_get self.now.cells a.old.device)) self.now a.new result }
     {
         let Some(cells) = self.cell_list.get(a.device as usize) else {
             return Ran::stays(wrong_at(a));
@@ -43,7 +44,7 @@ impl Shared {
     /// `loadp r p`: the register becomes the number in a paged cell.
     pub fn load_paged(&self, thread: u8, r: Register, cell: Cell, a: &mut Activation) -> Ran
         requires { a.old.position < 1024 }
-        ensures { left_of self.now (Frame.Routine a.new) result ≡ executed self.now thread a.old (LoadPaged r cell) }
+        ensures { LeavesOn thread self.now a.old (load_paged_effect self.now a.old r cell (slice_get self.now.cells a.old.device)) self.now a.new result }
     {
         let number = match self.cell_list.get(a.device as usize) {
             Some(_) if self.lock_table.owns_any(thread) => return Ran::stays(paged_bug(a, cell)),
@@ -58,7 +59,7 @@ impl Shared {
     /// `store c r`: the cell becomes the number in the register.
     pub fn store(&mut self, cell: Cell, r: Register, a: &mut Activation) -> Ran
         requires { a.old.position < 1024 }
-        ensures { (t : ℕ) → left_of self.new (Frame.Routine a.new) result ≡ executed self.old t a.old (Store cell r) }
+        ensures { Leaves self.old a.old (store_effect self.old a.old cell (number_in_of (register a.old r)) (slice_get self.old.cells a.old.device)) self.new a.new result }
     {
         let Some(number) = number_in(a.registers[r.index()]) else {
             return Ran::stays(wrong_at(a));
@@ -75,7 +76,7 @@ impl Shared {
     /// `storep p r`: the paged cell becomes the number in the register.
     pub fn store_paged(&mut self, thread: u8, cell: Cell, r: Register, a: &mut Activation) -> Ran
         requires { a.old.position < 1024 }
-        ensures { left_of self.new (Frame.Routine a.new) result ≡ executed self.old thread a.old (StorePaged cell r) }
+        ensures { LeavesOn thread self.old a.old (store_paged_effect self.old a.old cell (number_in_of (register a.old r)) (slice_get self.old.cells a.old.device)) self.new a.new result }
     {
         let Some(number) = number_in(a.registers[r.index()]) else {
             return Ran::stays(wrong_at(a));

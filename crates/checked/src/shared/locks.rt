@@ -7,7 +7,7 @@ use super::Shared;
 use crate::frame::{Ran, wrong_at};
 use image::SpinLock;
 use model::event::{Bug, BugCheck, Lock, OfDevice, Reply, Subject};
-use model::world::{Activation, Frame};
+use model::world::Activation;
 
 /// A spin lock of the activation's device.
 pub fn spin_lock(a: &Activation, lock: SpinLock) -> Lock
@@ -30,15 +30,14 @@ fn bug(check: BugCheck, lock: Lock) -> Reply
 }
 
 impl Shared {
-    ghost use Rattle.checked.specs.Rest.{left_of, leaves};
+    ghost use Rattle.checked.specs.Rest.{LeavesOn};
     ghost use Rattle.model.specs.Effect.{acquire_effect, release_effect};
     ghost use Rattle.model.specs.World.{owner_of};
 
     /// `acquire l` and `acqc`: the thread acquires a lock, or waits for its owner.
     pub fn acquire(&mut self, thread: u8, lock: Lock, a: &mut Activation) -> Ran
         requires { a.old.position < 1024 }
-        ensures { let owner = owner_of self.old.locks lock in
-            left_of self.new (Frame.Routine a.new) result ≡ leaves self.old thread a.old (acquire_effect self.old thread a.old lock owner) }
+        ensures { LeavesOn thread self.old a.old (acquire_effect self.old thread a.old lock (owner_of self.old.locks lock)) self.new a.new result }
     {
         let Some(owner) = self.lock_table.owner(lock) else {
             return Ran::stays(wrong_at(a));
@@ -56,8 +55,7 @@ impl Shared {
     /// `release l` and `relc`: the thread releases a lock that it owns.
     pub fn release(&mut self, thread: u8, lock: Lock, a: &mut Activation) -> Ran
         requires { a.old.position < 1024 }
-        ensures { let owner = owner_of self.old.locks lock in
-            left_of self.new (Frame.Routine a.new) result ≡ leaves self.old thread a.old (release_effect self.old a.old lock owner) }
+        ensures { LeavesOn thread self.old a.old (release_effect self.old a.old lock (owner_of self.old.locks lock)) self.new a.new result }
     {
         let Some(owner) = self.lock_table.owner(lock) else {
             return Ran::stays(wrong_at(a));

@@ -1,0 +1,134 @@
+//! What a return breaks: the duty to the packet, what is left behind, and the form of the sort.
+
+ghost use Rattle.std.specs.Prelude.{◌≡◌};
+ghost use Rattle.std.specs.List.{list_any};
+ghost use Rattle.model.specs.LocalRule.{kind_of, is_owed, is_lower, is_given_down, status_fault, duty_fault, form_fault, is_settled, settled_fault, left_packet, kept_fault, return_fault, holds_spin_lock, first_of_two, broken_if};
+
+use crate::fault::{broken_if, holds_spin_lock, is_pending};
+use crate::state::kind;
+use model::abs::{Abs, Duty, Kind, Rule, Settled};
+use model::instr::{Register, Return};
+use model::set::Sort;
+use model::status::Status;
+
+/// A return keeps the duty to the packet, leaves no lock and no packet behind, and has its sort's form.
+pub fn return_fault(state: &Abs, form: Return, sort: Sort) -> Option<Rule>
+    ensures { result ≡ return_fault state.now form sort }
+{
+    let wanted = form;
+    let owed = duty_fault(state, form);
+    owed.or(kept_or_form_fault(state, wanted, sort))
+}
+
+fn kept_or_form_fault(state: &Abs, form: Return, sort: Sort) -> Option<Rule>
+    ensures { result ≡ first_of_two (kept_fault state.now) (first_of_two (form_fault sort form) (settled_fault sort state.now.settled)) }
+{
+    let sorted = form_fault(sort, form).or(settled_fault(sort, state.settled));
+    kept_fault(state).or(sorted)
+}
+
+/// The duty to the packet says which status is returned.
+fn duty_fault(state: &Abs, form: Return) -> Option<Rule>
+    ensures { result ≡ duty_fault state.now form }
+{
+    match form {
+        Return::WithStatus(status) => status_fault(state.duty, status),
+        Return::Lower(register) => lower_fault(state, register),
+        Return::Continue => None,
+    }
+}
+
+/// STATUS_PENDING is returned exactly where the packet was marked, and no status of its own where it
+/// was given down.
+fn status_fault(duty: Duty, status: Status) -> Option<Rule>
+    ensures { result ≡ status_fault duty status }
+{
+    match duty {
+        Duty::Pending => broken_if(!is_pending(status), Rule::MarkIrpPending),
+        Duty::GivenDown => Some(Rule::MarkIrpPending),
+        Duty::Fresh | Duty::Finished | Duty::NoDuty => {
+            broken_if(is_pending(status), Rule::MarkIrpPending)
+        }
+    }
+}
+
+/// What the lower driver returned is returned where the packet was given down.
+fn lower_fault(state: &Abs, register: Register) -> Option<Rule>
+    ensures { result ≡ duty_fault state.now (Return.Lower register) }
+{
+    let other = broken_if(!is_lower(kind(state, register)), Rule::WrongKind);
+    other.or(broken_if(!is_given_down(state.duty), Rule::MarkIrpPending))
+}
+
+fn is_lower(kind: Kind) -> bool
+    ensures { result ≡ is_lower kind }
+{
+    matches!(kind, Kind::Lower)
+}
+
+fn is_given_down(duty: Duty) -> bool
+    ensures { result ≡ is_given_down duty }
+{
+    matches!(duty, Duty::GivenDown)
+}
+
+/// Each sort has its forms.
+fn form_fault(sort: Sort, form: Return) -> Option<Rule>
+    ensures { result ≡ form_fault sort form }
+{
+    match (sort, form) {
+        (Sort::Dispatch, Return::WithStatus(_)) => None,
+        (Sort::Dispatch, Return::Lower(_)) => None,
+        (Sort::Dispatch, Return::Continue) => Some(Rule::Sort),
+        (Sort::Propagate, Return::Continue) => None,
+        (Sort::Propagate, Return::WithStatus(_)) => Some(Rule::Sort),
+        (Sort::Propagate, Return::Lower(_)) => Some(Rule::Sort),
+    }
+}
+
+/// A completion routine has carried the mark up.
+fn settled_fault(sort: Sort, settled: Settled) -> Option<Rule>
+    ensures { result ≡ settled_fault sort settled }
+{
+    match sort {
+        Sort::Dispatch => None,
+        Sort::Propagate => broken_if(!is_settled(settled), Rule::Completion),
+    }
+}
+
+fn is_settled(settled: Settled) -> bool
+    ensures { result ≡ is_settled settled }
+{
+    matches!(settled, Settled::Settled)
+}
+
+/// A routine that returns keeps no lock, and no packet in a register.
+fn kept_fault(state: &Abs) -> Option<Rule>
+    ensures { result ≡ kept_fault state.now }
+{
+    broken_if(state.cancel, Rule::CancelSpinLock).or(spin_or_left_fault(state))
+}
+
+fn spin_or_left_fault(state: &Abs) -> Option<Rule>
+    ensures { result ≡ first_of_two (broken_if (holds_spin_lock state.now) Rule.SpinLock) (left_packet state.now) }
+{
+    broken_if(holds_spin_lock(state), Rule::SpinLock).or(left_fault(state))
+}
+
+fn left_fault(state: &Abs) -> Option<Rule>
+    ensures { result ≡ left_packet state.now }
+{
+    broken_if(holds_owed(&state.kinds), Rule::Dropped)
+}
+
+fn holds_owed(kinds: &[Kind]) -> bool
+    ensures { result ≡ list_any is_owed kinds.now }
+{
+    kinds.iter().any(|kind| is_owed(*kind))
+}
+
+fn is_owed(kind: Kind) -> bool
+    ensures { result ≡ is_owed kind }
+{
+    matches!(kind, Kind::New | Kind::Own)
+}

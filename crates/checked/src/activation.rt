@@ -1,0 +1,81 @@
+//! Routines that begin, and what they are told.
+
+ghost use Rattle.std.specs.Prelude.{◌≡◌, Some, slice_get};
+ghost use Rattle.model.specs.World.{entered as entered_of};
+ghost use Rattle.model.specs.Effect.{serving_for as serving_for_of, dispatched as dispatched_of, completes_with, operand_of, answered_in, answered};
+
+use arrayvec::ArrayVec;
+use image::{DriverSet, Instr};
+use model::limits::DEFAULT_ROUTINE;
+use model::status::{Major, Status};
+use model::world::{Activation, Completion, Value};
+
+/// A routine that begins, and is handed a packet in its first register.
+pub fn entered(driver: u8, routine: u8, device: u8, packet: u64) -> Activation
+    ensures { result ≡ entered_of driver routine device packet }
+{
+    let mut registers = [Value::Blank; 16];
+    registers[0] = Value::Ref(packet);
+    Activation {
+        driver,
+        routine,
+        device,
+        position: 0,
+        loops: ArrayVec::new(),
+        registers,
+    }
+}
+
+/// The number of the routine of a driver that serves what a packet asks for.
+fn serving_for(set: &DriverSet, driver: u8, major: Option<Major>) -> u8
+    ensures { result ≡ serving_for_of set.now driver major }
+{
+    match major {
+        Some(major) => set.handler(driver, major),
+        None => DEFAULT_ROUTINE,
+    }
+}
+
+/// The dispatch routine begins that serves what a packet asks of a device.
+pub fn dispatched(set: &DriverSet, device: u8, major: Option<Major>, packet: u64) -> Activation
+    ensures { result ≡ dispatched_of set.now device (slice_get set.now.devices device) major packet }
+{
+    let driver = match set.devices().get(device as usize) {
+        Some(target) => target.driver,
+        None => return entered(0, DEFAULT_ROUTINE, device, packet),
+    };
+    let routine = serving_for(set, driver, major);
+    entered(driver, routine, device, packet)
+}
+
+/// A completion routine begins, for the device whose driver set it.
+pub fn completing(set: &DriverSet, completion: Completion, packet: u64) -> Activation
+    ensures { result ≡ completes_with set.now completion packet }
+{
+    let driver = match set.devices().get(completion.device as usize) {
+        Some(device) => device.driver,
+        None => 0,
+    };
+    entered(driver, completion.routine, completion.device, packet)
+}
+
+/// The register of a `pass` or a `call` becomes the status that the lower driver returned.
+fn answer_to(instruction: Instr, a: &mut Activation, status: Status)
+    ensures { a.new ≡ answered_in a.old status (operand_of (Some instruction)) }
+{
+    match instruction {
+        Instr::Pass(r) => a.registers[r.index()] = Value::Status(status),
+        Instr::Call(r, _) => a.registers[r.index()] = Value::Status(status),
+        _ => {}
+    }
+}
+
+/// A routine that waits for a lower driver is told what that returned.
+pub fn answer(set: &DriverSet, a: &mut Activation, status: Status)
+    ensures { a.new ≡ answered set.now a.old status }
+{
+    let before = a.position.saturating_sub(1);
+    if let Some(instruction) = set.instruction(a.driver, a.routine, before) {
+        answer_to(instruction, a, status);
+    }
+}
