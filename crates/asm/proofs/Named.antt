@@ -1,5 +1,5 @@
 -- The laws of faults.
-use Rattle.std.proofs.Common.{◌≡◌, ℕ, ◌⊎◌, inl, inr, true, false, List, [], Option, Some, None, refl, ap, sym, ◌∙◌, subst}
+use Rattle.std.proofs.Common.{◌≡◌, ℕ, ◌⊎◌, inl, inr, true, false, List, Option, Some, None, refl, ap, sym, ◌∙◌, subst}
 use Rattle.std.specs.Prelude.{Result, Ok, Err}
 use Rattle.text.specs.Cut.{lines_of}
 use Rattle.model.specs.Set.{Set}
@@ -8,12 +8,12 @@ use Rattle.asm.specs.declared.fault.AsmKind.{AsmKind}
 use Rattle.asm.specs.declared.fault.AsmKind.TheVariants.{UnknownName, Unclosed}
 use Rattle.asm.specs.Outline.{Outline, nothing_read}
 use Rattle.asm.specs.Reading.{named, reading, resolved}
-use Rattle.asm.specs.Laws.{shows, unknown_from, FaultIsFirst, IsEndFault, IsFaultless, IsFirst, IsLineFault, IsRead, NamedIsFaultless}
+use Rattle.asm.specs.Laws.{nothing_named, shows, unknown_from, FaultIsFirst, IsEndFault, IsFaultless, IsFirst, IsLineFault, IsRead, NamedIsFaultless}
 use Rattle.asm.proofs.First.{reading_closed, reading_ends, reading_fault}
 use Rattle.asm.proofs.Unknown.{unknown_is}
 
 -- a text that is read to its end
-all_read : (text : List ℕ) (end : Outline) → reading nothing_read 1 (lines_of text) ≡ Ok end → (all : IsRead text) × (unknown_from [] [] [] 1 all.lines ≡ end.unknown)
+all_read : (text : List ℕ) (end : Outline) → reading nothing_read 1 (lines_of text) ≡ Ok end → (all : IsRead text) × (unknown_from nothing_named 1 all.lines ≡ end.unknown)
 all_read text end is =
     let to = reading_ends nothing_read 1 (lines_of text) end is in
     let closed = reading_closed nothing_read 1 (lines_of text) end is in

@@ -1,14 +1,14 @@
--- The instructions that are read are those of the lines, with each label's position.
+-- The instructions that are read are those of the lines, with each label's position and the number of
+-- the routine that each call names.
 use Rattle.std.proofs.Common.{◌≡◌, ℕ, ◌+◌, ◌≤◌, inl, inr, Bool, true, false, not, cond, List, [], ◌∷◌, ◌++◌, length, suc, Option, Some, None, refl, ap, sym, ◌∙◌, subst, arith, append_assoc, append-nil, length-append}
 use Rattle.std.specs.Prelude.{bytes_eq, map, nat_lt, slice_get, unwrap_or, option_map, option_and_then, option_to_list, Result, Ok, Err, if◌then◌else◌}
 use Rattle.std.specs.List.{position_or_len}
 use Rattle.std.proofs.lemmas.List.{map-append}
-use Rattle.std.proofs.lemmas.Option.{slice_get_cases}
+use Rattle.std.proofs.lemmas.Option.{slice_get_cases, slice_get-map}
 use Rattle.std.proofs.lemmas.Bool.Decides.{nat_tests}
 use Rattle.text.specs.Cut.{lines_of}
 use Rattle.model.specs.declared.instr.Instr.{Instr}
 use Rattle.model.specs.declared.set.Driver.{Driver}
-use Rattle.model.specs.declared.set.Routine.{Routine}
 use Rattle.model.specs.declared.set.Sort.{Sort}
 use Rattle.model.specs.declared.status.Major.{Major}
 use Rattle.model.specs.declared.status.Major.TheVariants.{Read, Write, Control}
@@ -16,15 +16,20 @@ use Rattle.model.specs.Set.{Set}
 use Rattle.asm_line.specs.declared.line.Body.{Body}
 use Rattle.asm_line.specs.declared.line.Body.TheVariants.{Blank, OpenDriver, CloseDriver, Handle, OpenRoutine, CloseRoutine, AddDevice, Step as TakeStep}
 use Rattle.asm_line.specs.declared.line.Line.{Line}
+use Rattle.asm_line.specs.declared.line.Target.{Target}
+use Rattle.asm_line.specs.declared.line.Target.TheVariants.{Nothing, Label, Routine as RoutineNamed}
+use Rattle.asm.specs.declared.routines.Role.TheVariants.{Completion}
+use Rattle.asm.specs.declared.draft.ClosedRoutine.{ClosedRoutine}
+use Rattle.asm.specs.declared.draft.Linked.{Linked}
 use Rattle.asm.specs.declared.draft.Place.{Place}
 use Rattle.asm.specs.declared.draft.Place.TheVariants.{Outside, InDriver, InRoutine}
 use Rattle.asm.specs.declared.draft.Step.{Step}
 use Rattle.asm.specs.declared.draft.Use.{Use}
 use Rattle.asm.specs.declared.fault.AsmFault.{AsmFault}
-use Rattle.asm.specs.Outline.{Outline, nothing_read, driver_closed, driver_opened, handled, is_out_of_range, noted, open_driver, position_of, resolved, routine_closed, routine_opened, stands, stepped, used_at, with_label}
+use Rattle.asm.specs.Outline.{Outline, nothing_read, call_place, call_used, called, driver_closed, driver_opened, finished, finished_driver, handled, is_out_of_range, label_used, noted, position_of, resolved, routine_called, routine_closed, routine_named, routine_opened, stands, stepped, with_label, with_routine}
 use Rattle.asm.specs.Reading.{named, reading, resolved as set_of}
-use Rattle.asm.specs.Laws.{IsRead, Reads}
-use Rattle.asm.specs.Code.{all_codes, codes_of, driver_codes, instruction_on, instructions_on, label_place, routine_codes, routine_lines, CodeIsOfItsLines, IsOfItsLines}
+use Rattle.asm.specs.Laws.{routines_ahead, sorts_ahead, IsRead, Reads}
+use Rattle.asm.specs.Code.{all_codes, call_number, codes_of, driver_codes, instruction_on, instructions_on, label_place, routine_codes, routine_lines, CodeIsOfItsLines, IsOfItsLines}
 use Rattle.asm.proofs.First.{reading_closed, reading_ends}
 use Rattle.asm.proofs.Orderly.{fitting}
 
@@ -93,35 +98,96 @@ named_place name ls =
     let n = position_or_len (bytes_eq name) (labels_in ls) in
     by_place (nat_lt n (length (labels_in ls))) n (length (labels_in ls)) (positions_in 0 ls) refl (same_lengths 0 ls) ∙ found_in name 0 ls
 
--- the instructions on lines, with labels of these positions
-abbrev linked_on : List (List ℕ) → List ℕ → Body → Option Instr
-linked_on labels positions (TakeStep (Some i) target) = Some (with_label i (unwrap_or (option_and_then (λ name. position_of labels positions name) target) 0))
-linked_on labels positions _ = None
+-- where an instruction jumps to, if labels have these positions
+abbrev jump_to : List (List ℕ) → List ℕ → Target → ℕ
+jump_to labels positions (Label name) = unwrap_or (position_of labels positions name) 0
+jump_to labels positions _ = 0
 
-abbrev linked_lines : List (List ℕ) → List ℕ → List Line → List Instr
-linked_lines labels positions [] = []
-linked_lines labels positions (l ∷ ls) = option_to_list (linked_on labels positions l.body) ++ linked_lines labels positions ls
+-- the instructions on lines, with labels of these positions, in a driver with routines of these names
+-- and sorts
+abbrev linked_on : List (List ℕ) → List Sort → List (List ℕ) → List ℕ → Body → Option Instr
+linked_on names sorts labels positions (TakeStep (Some i) target) = Some (with_routine (with_label i (jump_to labels positions target)) (call_number names sorts target))
+linked_on names sorts labels positions _ = None
 
-one_linked : (all : List Line) (body : Body) → linked_on (labels_in all) (positions_in 0 all) body ≡ instruction_on all body
-one_linked all (TakeStep (Some i) (Some name)) = ap (λ (o : Option ℕ). Some (with_label i (unwrap_or o 0))) (named_place name all)
-one_linked all (TakeStep (Some i) None) = refl
-one_linked all _ = refl
+abbrev linked_lines : List (List ℕ) → List Sort → List (List ℕ) → List ℕ → List Line → List Instr
+linked_lines names sorts labels positions [] = []
+linked_lines names sorts labels positions (l ∷ ls) = option_to_list (linked_on names sorts labels positions l.body) ++ linked_lines names sorts labels positions ls
 
-all_linked : (all ls : List Line) → linked_lines (labels_in all) (positions_in 0 all) ls ≡ instructions_on all ls
-all_linked all [] = refl
-all_linked all (l ∷ ls) = rw (one_linked all l.body, all_linked all ls) refl
+one_linked : (names : List (List ℕ)) (sorts : List Sort) (all : List Line) (body : Body) → linked_on names sorts (labels_in all) (positions_in 0 all) body ≡ instruction_on names sorts all body
+one_linked names sorts all (TakeStep (Some i) (Label name)) = ap (λ (o : Option ℕ). Some (with_routine (with_label i (unwrap_or o 0)) None)) (named_place name all)
+one_linked names sorts all (TakeStep (Some i) (RoutineNamed name)) = refl
+one_linked names sorts all (TakeStep (Some i) Nothing) = refl
+one_linked names sorts all _ = refl
+
+all_linked : (names : List (List ℕ)) (sorts : List Sort) (all ls : List Line) → linked_lines names sorts (labels_in all) (positions_in 0 all) ls ≡ instructions_on names sorts all ls
+all_linked names sorts all [] = refl
+all_linked names sorts all (l ∷ ls) = rw (one_linked names sorts all l.body, all_linked names sorts all ls) refl
+
+-- the routines that calls name on lines up to the end of the driver
+abbrev call_name : Target → Option (List ℕ)
+call_name (RoutineNamed name) = Some name
+call_name _ = None
+
+abbrev called_ahead : Body → List (List ℕ) → List (List ℕ)
+called_ahead CloseDriver after = []
+called_ahead (TakeStep instr target) after = option_to_list (call_name target) ++ after
+called_ahead _ after = after
+
+abbrev calls_ahead : List Line → List (List ℕ)
+calls_ahead [] = []
+calls_ahead (l ∷ ls) = called_ahead l.body (calls_ahead ls)
+
+-- the open driver as it is when it is closed: the names and sorts of its routines, and the routines
+-- that its calls name
+record Whole : Type 0 where
+  names : List (List ℕ)
+  sorts : List Sort
+  calls : List (List ℕ)
+
+abbrev name_of : Use → List ℕ
+name_of u = u.name
+
+abbrev whole : Outline → List Line → Whole
+whole o ls = record {
+  names = o.routine_names ++ routines_ahead ls;
+  sorts = o.sorts ++ sorts_ahead ls;
+  calls = map name_of o.calls ++ calls_ahead ls;
+}
+
+-- the number of the routine that the call of a place sets
+abbrev number_called : Whole → Option ℕ → Option ℕ
+number_called w call = option_and_then (λ name. routine_named w.names w.sorts Completion name) (option_and_then (λ place. slice_get w.calls place) call)
+
+abbrev finish : Whole → Linked → Instr
+finish w step = with_routine step.instr (number_called w step.call)
+
+abbrev closed_codes : Whole → List ClosedRoutine → List (List Instr)
+closed_codes w routines = map (λ (r : ClosedRoutine). map (finish w) r.code) routines
 
 -- the code of the open routine, of which these lines are left
-abbrev open_code : Outline → List Line → List Instr
-open_code o ls =
-    map (resolved (o.labels ++ labels_in ls) (o.positions ++ positions_in (length o.steps) ls)) o.steps
-    ++ linked_lines (o.labels ++ labels_in ls) (o.positions ++ positions_in (length o.steps) ls) ls
+abbrev open_code : Outline → Whole → List Line → List Instr
+open_code o w ls =
+    map (finish w) (map (resolved (o.labels ++ labels_in ls) (o.positions ++ positions_in (length o.steps) ls)) o.steps)
+    ++ linked_lines w.names w.sorts (o.labels ++ labels_in ls) (o.positions ++ positions_in (length o.steps) ls) ls
 
--- the codes of all drivers: those that were read and those on the lines that are left
+-- the codes of the open driver in a place: those that were read and those on the lines that are left
+abbrev driver_left : Outline → Whole → List Line → List (List Instr)
+driver_left o w ls = closed_codes w o.routines ++ routine_codes w.names w.sorts ls
+
+abbrev routine_left : Outline → Whole → List Instr → List Line → List (List Instr)
+routine_left o w code ls = closed_codes w o.routines ++ code ∷ routine_codes w.names w.sorts ls
+
+-- the codes of all drivers
 abbrev left_codes : Outline → Place → List Line → List (List (List Instr))
 left_codes o Outside ls = all_codes o.drivers ++ driver_codes ls
-left_codes o InDriver ls = all_codes o.drivers ++ (codes_of o.routines ++ routine_codes ls) ∷ driver_codes ls
-left_codes o InRoutine ls = all_codes o.drivers ++ (codes_of o.routines ++ open_code o (routine_lines ls) ∷ routine_codes ls) ∷ driver_codes ls
+left_codes o InDriver ls = all_codes o.drivers ++ driver_left o (whole o ls) ls ∷ driver_codes ls
+left_codes o InRoutine ls = all_codes o.drivers ++ routine_left o (whole o ls) (open_code o (whole o ls) (routine_lines ls)) ls ∷ driver_codes ls
+
+-- no driver is open
+record IsClear (o : Outline) : Type 0 where
+  routines : o.routines ≡ []
+  names : o.routine_names ≡ []
+  sorts : o.sorts ≡ []
 
 -- no routine is open
 record IsIdle (o : Outline) : Type 0 where
@@ -131,7 +197,7 @@ record IsIdle (o : Outline) : Type 0 where
 
 -- what is open is empty where nothing is open
 record IsTidy (o : Outline) : Type 0 where
-  outside : o.place ≡ Outside → o.routines ≡ []
+  outside : o.place ≡ Outside → IsClear o
   idle : (o.place ≡ InRoutine → ⊥) → IsIdle o
 
 abbrev place_after : Place → Body → Place
@@ -148,56 +214,104 @@ record Turn (o next : Outline) (p : Place) (label : Option (List ℕ)) (body : B
   same : left_codes o p (record { label = label; body = body } ∷ ls) ≡ left_codes next (place_after p body) ls
 
 -- a routine that is opened
-fresh_code : (o : Outline) (ls : List Line) → IsIdle o → open_code o ls ≡ instructions_on ls ls
-fresh_code o ls idle = rw (idle.labels, idle.positions, idle.steps) (all_linked ls ls)
+fresh_code : (o : Outline) (w : Whole) (ls : List Line) → IsIdle o → open_code o w ls ≡ instructions_on w.names w.sorts ls ls
+fresh_code o w ls idle = rw (idle.labels, idle.positions, idle.steps) (all_linked w.names w.sorts ls ls)
+
+whole_opened : (o : Outline) (name : List ℕ) (sort : Sort) (label : Option (List ℕ)) (ls : List Line) → whole o (record { label = label; body = OpenRoutine name sort } ∷ ls) ≡ whole (routine_opened o name sort) ls
+whole_opened o name sort label ls = rw (append_assoc o.routine_names (name ∷ []) (routines_ahead ls), append_assoc o.sorts (sort ∷ []) (sorts_ahead ls)) refl
 
 -- a routine that is closed
-closed_code : (o : Outline) → open_code o [] ≡ map (resolved o.labels o.positions) o.steps
-closed_code o = rw (append-nil o.labels, append-nil o.positions) (append-nil (map (resolved o.labels o.positions) o.steps))
+closed_code : (o : Outline) (w : Whole) → open_code o w [] ≡ map (finish w) (map (resolved o.labels o.positions) o.steps)
+closed_code o w = rw (append-nil o.labels, append-nil o.positions) (append-nil (map (finish w) (map (resolved o.labels o.positions) o.steps)))
+
+-- the name in the place of the next call
+next_name : (calls : List Use) (name : List ℕ) (after : List (List ℕ)) → slice_get (map name_of calls ++ name ∷ after) (length calls) ≡ Some name
+next_name [] name after = refl
+next_name (u ∷ us) name after = next_name us name after
 
 -- a routine with one instruction more
-resolved_same : (labels : List (List ℕ)) (positions : List ℕ) (i : Instr) (n : ℕ) (target : Option (List ℕ))
-    → resolved labels positions (record { instr = i; target = used_at n target }) ≡ with_label i (unwrap_or (option_and_then (λ name. position_of labels positions name) target) 0)
-resolved_same labels positions i n None = refl
-resolved_same labels positions i n (Some name) = refl
+whole_stepped : (o : Outline) (n : ℕ) (label : Option (List ℕ)) (i : Instr) (target : Target) (ls : List Line)
+    → whole o (record { label = label; body = TakeStep (Some i) target } ∷ ls) ≡ whole (stepped o n label i target) ls
+whole_stepped o n label i Nothing ls = rw (append-nil o.calls) refl
+whole_stepped o n label i (Label name) ls = rw (append-nil o.calls) refl
+whole_stepped o n label i (RoutineNamed name) ls =
+    let u : Use = record { line = n; name = name } in
+    rw (map-append name_of o.calls (u ∷ []), append_assoc (map name_of o.calls) (name ∷ []) (calls_ahead ls)) refl
 
-step_code : (o : Outline) (n : ℕ) (label : Option (List ℕ)) (i : Instr) (target : Option (List ℕ)) (ls : List Line)
-    → open_code o (record { label = label; body = TakeStep (Some i) target } ∷ ls) ≡ open_code (stepped o n label i target) ls
-step_code o n label i target ls =
-    let step : Step = record { instr = i; target = used_at n target } in
+-- the call of an instruction that is added has the number of the routine that it names
+number_named : (o : Outline) (names : List (List ℕ)) (sorts : List Sort) (target : Target) (after : List (List ℕ))
+    → number_called (record { names = names; sorts = sorts; calls = map name_of o.calls ++ (option_to_list (call_name target) ++ after) }) (call_place (length o.calls) target)
+    ≡ call_number names sorts target
+number_named o names sorts Nothing after = refl
+number_named o names sorts (Label name) after = refl
+number_named o names sorts (RoutineNamed name) after = ap (λ (found : Option (List ℕ)). option_and_then (λ name. routine_named names sorts Completion name) found) (next_name o.calls name after)
+
+jump_same : (labels : List (List ℕ)) (positions : List ℕ) (i : Instr) (n : ℕ) (target : Target) (call : Option ℕ)
+    → resolved labels positions (record { instr = i; label = label_used n target; call = call }) ≡ record { instr = with_label i (jump_to labels positions target); call = call }
+jump_same labels positions i n Nothing call = refl
+jump_same labels positions i n (Label name) call = refl
+jump_same labels positions i n (RoutineNamed name) call = refl
+
+finished_same : (w : Whole) (labels : List (List ℕ)) (positions : List ℕ) (i : Instr) (n : ℕ) (target : Target) (call : Option ℕ)
+    → number_called w call ≡ call_number w.names w.sorts target
+    → finish w (resolved labels positions (record { instr = i; label = label_used n target; call = call })) ≡ with_routine (with_label i (jump_to labels positions target)) (call_number w.names w.sorts target)
+finished_same w labels positions i n target call is =
+    ap (finish w) (jump_same labels positions i n target call) ∙ ap (λ (number : Option ℕ). with_routine (with_label i (jump_to labels positions target)) number) is
+
+map_push : {A B : Type 0} (f : A → B) (xs : List A) (x : A) → map f (xs ++ x ∷ []) ≡ map f xs ++ f x ∷ []
+map_push f xs x = map-append f xs (x ∷ [])
+
+step_code : (o : Outline) (w : Whole) (n : ℕ) (label : Option (List ℕ)) (i : Instr) (target : Target) (ls : List Line)
+    → number_called w (call_place (length o.calls) target) ≡ call_number w.names w.sorts target
+    → open_code o w (record { label = label; body = TakeStep (Some i) target } ∷ ls) ≡ open_code (stepped o n label i target) w ls
+step_code o w n label i target ls is =
+    let step : Step = record { instr = i; label = label_used n target; call = call_place (length o.calls) target } in
     let new = option_to_list (option_map (λ (label : List ℕ). length o.steps) label) in
     let labels = o.labels ++ (option_to_list label ++ labels_in ls) in
     let positions = o.positions ++ (new ++ positions_in (length o.steps + 1) ls) in
-    let rest = linked_lines labels positions ls in
+    let rest = linked_lines w.names w.sorts labels positions ls in
     rw (
       length-append o.steps (step ∷ []),
       append_assoc o.labels (option_to_list label) (labels_in ls),
       append_assoc o.positions new (positions_in (length o.steps + 1) ls),
-      map-append (resolved labels positions) o.steps (step ∷ []),
-      append_assoc (map (resolved labels positions) o.steps) (resolved labels positions step ∷ []) rest,
-      resolved_same labels positions i n target,
+      map_push (resolved labels positions) o.steps step,
+      map_push (finish w) (map (resolved labels positions) o.steps) (resolved labels positions step),
+      append_assoc (map (finish w) (map (resolved labels positions) o.steps)) (finish w (resolved labels positions step) ∷ []) rest,
+      finished_same w labels positions i n target (call_place (length o.calls) target) is,
     ) refl
 
-step_turn : (o : Outline) (n : ℕ) (label : Option (List ℕ)) (i : Instr) (target : Option (List ℕ)) (ls : List Line) → o.place ≡ InRoutine
+-- the codes of all drivers, of which the open one has these
+abbrev around : Outline → List Line → List (List Instr) → List (List (List Instr))
+around o ls codes = all_codes o.drivers ++ codes ∷ driver_codes ls
+
+step_turn : (o : Outline) (n : ℕ) (label : Option (List ℕ)) (i : Instr) (target : Target) (ls : List Line) → o.place ≡ InRoutine
     → Turn o (stepped o n label i target) InRoutine label (TakeStep (Some i) target) ls
-step_turn o n label i target ls at = record {
-  place = at;
-  tidy = record { outside = λ is. let bad : InRoutine ≡ Outside = sym at ∙ is in cc; idle = λ closed. absurd (closed at) };
-  same = ap (λ (code : List Instr). all_codes o.drivers ++ (codes_of o.routines ++ code ∷ routine_codes ls) ∷ driver_codes ls) (step_code o n label i target (routine_lines ls));
-}
+step_turn o n label i target ls at =
+    let next = stepped o n label i target in
+    let old = whole o (record { label = label; body = TakeStep (Some i) target } ∷ ls) in
+    let is = number_named o old.names old.sorts target (calls_ahead ls) in
+    record {
+      place = at;
+      tidy = record { outside = λ is. let bad : InRoutine ≡ Outside = sym at ∙ is in cc; idle = λ closed. absurd (closed at) };
+      same =
+          ap (λ (code : List Instr). around o ls (routine_left o old code ls)) (step_code o old n label i target (routine_lines ls) is)
+          ∙ ap (λ (w : Whole). around o ls (routine_left o w (open_code next w (routine_lines ls)) ls)) (whole_stepped o n label i target ls);
+    }
 
 routine_closed_turn : (o : Outline) (label : Option (List ℕ)) (ls : List Line) → Turn o (routine_closed o) InRoutine label CloseRoutine ls
 routine_closed_turn o label ls =
-    let code = map (resolved o.labels o.positions) o.steps in
-    let closed : Routine = record { sort = o.sort; code = code } in
-    let pushed : codes_of (o.routines ++ closed ∷ []) ≡ codes_of o.routines ++ code ∷ [] = map-append (λ (r : Routine). r.code) o.routines (closed ∷ []) in
+    let w = whole o ls in
+    let closed : ClosedRoutine = record { sort = o.sort; code = map (resolved o.labels o.positions) o.steps } in
+    let code = map (finish w) closed.code in
+    let after = routine_codes w.names w.sorts ls in
+    let pushed : closed_codes w (o.routines ++ closed ∷ []) ≡ closed_codes w o.routines ++ code ∷ [] = map_push (λ (r : ClosedRoutine). map (finish w) r.code) o.routines closed in
     record {
       place = refl;
       tidy = record { outside = λ is. cc; idle = λ closed. record { labels = refl; positions = refl; steps = refl } };
       same =
-          ap (λ (code : List Instr). all_codes o.drivers ++ (codes_of o.routines ++ code ∷ routine_codes ls) ∷ driver_codes ls) (closed_code o)
-          ∙ ap (λ (codes : List (List Instr)). all_codes o.drivers ++ codes ∷ driver_codes ls)
-          (sym (ap (λ (codes : List (List Instr)). codes ++ routine_codes ls) pushed ∙ append_assoc (codes_of o.routines) (code ∷ []) (routine_codes ls)));
+          ap (λ (code : List Instr). around o ls (routine_left o w code ls)) (closed_code o w)
+          ∙ ap (λ (codes : List (List Instr)). around o ls codes)
+          (sym (ap (λ (codes : List (List Instr)). codes ++ after) pushed ∙ append_assoc (closed_codes w o.routines) (code ∷ []) after));
     }
 
 routine_opened_turn : (o : Outline) (name : List ℕ) (sort : Sort) (label : Option (List ℕ)) (ls : List Line) → IsIdle o
@@ -205,28 +319,58 @@ routine_opened_turn : (o : Outline) (name : List ℕ) (sort : Sort) (label : Opt
 routine_opened_turn o name sort label ls idle =
     let next = routine_opened o name sort in
     let still : IsIdle next = record { labels = idle.labels; positions = idle.positions; steps = idle.steps } in
+    let old = whole o (record { label = label; body = OpenRoutine name sort } ∷ ls) in
     record {
       place = refl;
       tidy = record { outside = λ is. cc; idle = λ closed. absurd (closed refl) };
-      same = ap (λ (code : List Instr). all_codes o.drivers ++ (codes_of o.routines ++ code ∷ routine_codes ls) ∷ driver_codes ls) (sym (fresh_code next (routine_lines ls) still));
+      same =
+          ap (λ (code : List Instr). around o ls (routine_left o old code ls)) (sym (fresh_code next old (routine_lines ls) still))
+          ∙ ap (λ (w : Whole). around o ls (routine_left o w (open_code next w (routine_lines ls)) ls)) (whole_opened o name sort label ls);
     }
 
-driver_opened_turn : (o : Outline) (name : List ℕ) (label : Option (List ℕ)) (ls : List Line) → o.routines ≡ [] → IsIdle o → Turn o (driver_opened o name) Outside label (OpenDriver name) ls
-driver_opened_turn o name label ls none idle = record {
+driver_opened_turn : (o : Outline) (name : List ℕ) (label : Option (List ℕ)) (ls : List Line) → IsClear o → IsIdle o → Turn o (driver_opened o name) Outside label (OpenDriver name) ls
+driver_opened_turn o name label ls clear idle = record {
   place = refl;
   tidy = record { outside = λ is. cc; idle = λ closed. record { labels = idle.labels; positions = idle.positions; steps = idle.steps } };
-  same = rw none refl;
+  same = rw (clear.routines, clear.names, clear.sorts) refl;
 }
+
+-- a driver that is closed: its routines have their numbers
+call_same : (o : Outline) (call : Option ℕ) → routine_called o call ≡ number_called (record { names = o.routine_names; sorts = o.sorts; calls = map name_of o.calls }) call
+call_same o None = refl
+call_same o (Some place) = by_use (slice_get o.calls place) (slice_get (map name_of o.calls) place) (slice_get-map name_of o.calls place)
+  where
+    by_use : (u : Option Use) (name : Option (List ℕ)) → name ≡ option_map name_of u
+        → option_and_then (λ (u : Use). routine_named o.routine_names o.sorts Completion u.name) u ≡ option_and_then (λ (name : List ℕ). routine_named o.routine_names o.sorts Completion name) name
+    by_use None name is = rw is refl
+    by_use (Some u) name is = rw is refl
+
+code_same : (o : Outline) (code : List Linked) → map (called o) code ≡ map (finish (record { names = o.routine_names; sorts = o.sorts; calls = map name_of o.calls })) code
+code_same o [] = refl
+code_same o (step ∷ steps) = rw (call_same o step.call, code_same o steps) refl
+
+codes_same : (o : Outline) (routines : List ClosedRoutine)
+    → codes_of (map (finished o) routines) ≡ closed_codes (record { names = o.routine_names; sorts = o.sorts; calls = map name_of o.calls }) routines
+codes_same o [] = refl
+codes_same o (r ∷ rs) = rw (code_same o r.code, codes_same o rs) refl
 
 driver_closed_turn : (o : Outline) (label : Option (List ℕ)) (ls : List Line) → IsIdle o → Turn o (driver_closed o) InDriver label CloseDriver ls
 driver_closed_turn o label ls idle =
-    let codes = codes_of o.routines in
-    let pushed : all_codes (o.drivers ++ open_driver o ∷ []) ≡ all_codes o.drivers ++ codes ∷ [] = map-append (λ (d : Driver). codes_of d.routines) o.drivers (open_driver o ∷ []) in
+    let w : Whole = record { names = o.routine_names; sorts = o.sorts; calls = map name_of o.calls } in
+    let old = whole o (record { label = label; body = CloseDriver } ∷ ls) in
+    let same : old ≡ w = rw (append-nil o.routine_names, append-nil o.sorts, append-nil (map name_of o.calls)) refl in
+    let codes = codes_of (map (finished o) o.routines) in
+    let pushed : all_codes (o.drivers ++ finished_driver o ∷ []) ≡ all_codes o.drivers ++ codes ∷ [] = map_push (λ (d : Driver). codes_of d.routines) o.drivers (finished_driver o) in
     record {
       place = refl;
-      tidy = record { outside = λ is. refl; idle = λ closed. record { labels = idle.labels; positions = idle.positions; steps = idle.steps } };
+      tidy = record {
+        outside = λ is. record { routines = refl; names = refl; sorts = refl };
+        idle = λ closed. record { labels = idle.labels; positions = idle.positions; steps = idle.steps };
+      };
       same =
-          ap (λ (codes : List (List Instr)). all_codes o.drivers ++ codes ∷ driver_codes ls) (append-nil codes)
+          ap (λ (codes : List (List Instr)). around o ls codes) (append-nil (closed_codes old o.routines))
+          ∙ ap (λ (w : Whole). around o ls (closed_codes w o.routines)) same
+          ∙ ap (λ (codes : List (List Instr)). around o ls codes) (sym (codes_same o o.routines))
           ∙ sym (ap (λ (all : List (List (List Instr))). all ++ driver_codes ls) pushed ∙ append_assoc (all_codes o.drivers) (codes ∷ []) (driver_codes ls));
     }
 
@@ -263,11 +407,12 @@ turn o n InRoutine label (OpenRoutine name sort) ls at stood range h = cc
 turn o n InRoutine label CloseRoutine ls at stood range h = routine_closed_turn o label ls
 turn o n Outside label CloseRoutine ls at stood range h = cc
 turn o n InDriver label CloseRoutine ls at stood range h = cc
-turn o n Outside label (AddDevice name driver stack) ls at stood range h =
+turn o n Outside label (AddDevice name driver stack lower) ls at stood range h =
     let idle = idle_at o Outside at (λ is. cc) h in
-    record { place = at; tidy = record { outside = λ is. h.outside at; idle = λ closed. record { labels = idle.labels; positions = idle.positions; steps = idle.steps } }; same = refl }
-turn o n InDriver label (AddDevice name driver stack) ls at stood range h = cc
-turn o n InRoutine label (AddDevice name driver stack) ls at stood range h = cc
+    let clear = h.outside at in
+    record { place = at; tidy = record { outside = λ is. record { routines = clear.routines; names = clear.names; sorts = clear.sorts }; idle = λ closed. record { labels = idle.labels; positions = idle.positions; steps = idle.steps } }; same = refl }
+turn o n InDriver label (AddDevice name driver stack lower) ls at stood range h = cc
+turn o n InRoutine label (AddDevice name driver stack lower) ls at stood range h = cc
 turn o n InRoutine label (TakeStep (Some i) target) ls at stood range h = step_turn o n label i target ls at
 turn o n Outside label (TakeStep (Some i) target) ls at stood range h = cc
 turn o n InDriver label (TakeStep (Some i) target) ls at stood range h = cc
@@ -298,7 +443,7 @@ resolved_lines text set end None is h =
     let closed = reading_closed nothing_read 1 (lines_of text) end is in
     let all : IsRead text = record { lines = to.lines; outline = end; read = to.read; closed = closed } in
     let same : record { drivers = end.drivers; devices = end.devices } ≡ set = cc in
-    let codes = codes_read nothing_read 1 Outside (lines_of text) to.lines end to.read closed refl (record { outside = λ is. refl; idle = λ closed. record { labels = refl; positions = refl; steps = refl } }) in
+    let codes = codes_read nothing_read 1 Outside (lines_of text) to.lines end to.read closed refl (record { outside = λ is. record { routines = refl; names = refl; sorts = refl }; idle = λ closed. record { labels = refl; positions = refl; steps = refl } }) in
     (all, ap (λ (s : Set). all_codes s.drivers) (sym same) ∙ codes)
 resolved_lines text set end (Some line) is h = cc
 

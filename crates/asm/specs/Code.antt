@@ -1,16 +1,21 @@
--- The instructions of a text in other words: those of a routine are on its lines, in order, and a
--- label names the position of the instruction on its line.
-use Rattle.std.specs.Prelude.{ℕ, ◌≡◌, ◌+◌, Bool, false, bytes_eq, List, [], ◌∷◌, ◌++◌, map, Option, Some, None, option_and_then, option_to_list, unwrap_or, if◌then◌else◌}
+-- The instructions of a text in other words: those of a routine are on its lines, in order, a label
+-- names the position of the instruction on its line, and a `call` has the number of the routine that
+-- it names.
+use Rattle.std.specs.Prelude.{ℕ, ◌≡◌, ◌+◌, Bool, false, bytes_eq, List, [], ◌∷◌, ◌++◌, map, Option, Some, None, option_to_list, unwrap_or, if◌then◌else◌}
 use Rattle.model.specs.declared.instr.Instr.{Instr}
 use Rattle.model.specs.declared.set.Driver.{Driver}
 use Rattle.model.specs.declared.set.Routine.{Routine}
+use Rattle.model.specs.declared.set.Sort.{Sort}
 use Rattle.model.specs.Set.{Set}
 use Rattle.asm_line.specs.declared.line.Body.{Body}
 use Rattle.asm_line.specs.declared.line.Body.TheVariants.{OpenDriver, CloseDriver, OpenRoutine, CloseRoutine, Step}
 use Rattle.asm_line.specs.declared.line.Line.{Line}
-use Rattle.asm.specs.Outline.{with_label}
+use Rattle.asm_line.specs.declared.line.Target.{Target}
+use Rattle.asm_line.specs.declared.line.Target.TheVariants.{Label, Routine as RoutineNamed}
+use Rattle.asm.specs.declared.routines.Role.TheVariants.{Completion}
+use Rattle.asm.specs.Outline.{routine_named, with_label, with_routine}
 use Rattle.asm.specs.Reading.{IsNamed}
-use Rattle.asm.specs.Laws.{IsRead}
+use Rattle.asm.specs.Laws.{routines_ahead, sorts_ahead, IsRead}
 
 -- the label is this name
 abbrev pub is_labelled : Option (List ℕ) → List ℕ → Bool
@@ -27,16 +32,28 @@ abbrev pub label_place : List ℕ → ℕ → List Line → Option ℕ
 label_place name p [] = None
 label_place name p (l ∷ ls) = place_at name p l.label l.body (λ next. label_place name next ls)
 
+-- where an instruction on a line of a routine jumps to: the position that its label names; 0 where it
+-- doesn't jump
+abbrev pub jump_place : List Line → Target → ℕ
+jump_place routine (Label name) = unwrap_or (label_place name 0 routine) 0
+jump_place routine _ = 0
+
+-- the number of the routine that a `call` sets; given are the names and sorts of the driver's
+-- routines, in order
+abbrev pub call_number : List (List ℕ) → List Sort → Target → Option ℕ
+call_number names sorts (RoutineNamed name) = routine_named names sorts Completion name
+call_number names sorts _ = None
+
 -- the instruction on one of the lines of a routine; where it jumps, to the position that its label
--- names among them
-abbrev pub instruction_on : List Line → Body → Option Instr
-instruction_on routine (Step (Some i) target) = Some (with_label i (unwrap_or (option_and_then (λ name. label_place name 0 routine) target) 0))
-instruction_on routine _ = None
+-- names among them; where it is a `call`, with the number of the routine that it names in its driver
+abbrev pub instruction_on : List (List ℕ) → List Sort → List Line → Body → Option Instr
+instruction_on names sorts routine (Step (Some i) target) = Some (with_routine (with_label i (jump_place routine target)) (call_number names sorts target))
+instruction_on names sorts routine _ = None
 
 -- the instructions on some of the lines of a routine
-abbrev pub instructions_on : List Line → List Line → List Instr
-instructions_on routine [] = []
-instructions_on routine (l ∷ ls) = option_to_list (instruction_on routine l.body) ++ instructions_on routine ls
+abbrev pub instructions_on : List (List ℕ) → List Sort → List Line → List Line → List Instr
+instructions_on names sorts routine [] = []
+instructions_on names sorts routine (l ∷ ls) = option_to_list (instruction_on names sorts routine l.body) ++ instructions_on names sorts routine ls
 
 -- a line and those after it, unless it ends the routine
 abbrev pub unless_end : Line → Body → List Line → List Line
@@ -49,8 +66,8 @@ routine_lines [] = []
 routine_lines (l ∷ ls) = unless_end l l.body (routine_lines ls)
 
 -- the instructions of the routine whose lines begin here
-abbrev pub routine_code : List Line → List Instr
-routine_code ls = instructions_on (routine_lines ls) (routine_lines ls)
+abbrev pub routine_code : List (List ℕ) → List Sort → List Line → List Instr
+routine_code names sorts ls = instructions_on names sorts (routine_lines ls) (routine_lines ls)
 
 -- the codes of the routines from a line on: that of the routine which it opens, and those after it,
 -- unless it ends the driver
@@ -59,10 +76,15 @@ codes_from CloseDriver code after = []
 codes_from (OpenRoutine name sort) code after = code ∷ after
 codes_from _ code after = after
 
--- the codes of the routines from here to the end of the driver
-abbrev pub routine_codes : List Line → List (List Instr)
-routine_codes [] = []
-routine_codes (l ∷ ls) = codes_from l.body (routine_code ls) (routine_codes ls)
+-- the codes of the routines from here to the end of the driver, of whose routines the names and sorts
+-- are given
+abbrev pub routine_codes : List (List ℕ) → List Sort → List Line → List (List Instr)
+routine_codes names sorts [] = []
+routine_codes names sorts (l ∷ ls) = codes_from l.body (routine_code names sorts ls) (routine_codes names sorts ls)
+
+-- the codes of the routines of the driver whose lines begin here
+abbrev pub driver_code : List Line → List (List Instr)
+driver_code ls = routine_codes (routines_ahead ls) (sorts_ahead ls) ls
 
 -- the codes of the drivers from a line on: that of the driver which it opens, and those after it
 abbrev pub drivers_from : Body → List (List Instr) → List (List (List Instr)) → List (List (List Instr))
@@ -72,7 +94,7 @@ drivers_from _ codes after = after
 -- the codes of the drivers that the lines open
 abbrev pub driver_codes : List Line → List (List (List Instr))
 driver_codes [] = []
-driver_codes (l ∷ ls) = drivers_from l.body (routine_codes ls) (driver_codes ls)
+driver_codes (l ∷ ls) = drivers_from l.body (driver_code ls) (driver_codes ls)
 
 -- the codes of routines
 abbrev pub codes_of : List Routine → List (List Instr)

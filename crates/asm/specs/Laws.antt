@@ -4,6 +4,7 @@ use Rattle.std.specs.List.{list_all}
 use Rattle.text.specs.Class.{is_token}
 use Rattle.text.specs.Cut.{is_clean, lines_of, tokens_of}
 use Rattle.model.specs.Set.{Set}
+use Rattle.model.specs.declared.set.Sort.{Sort}
 use Rattle.asm.specs.declared.draft.Place.TheVariants.{Outside}
 use Rattle.asm.specs.declared.fault.AsmFault.{AsmFault}
 use Rattle.asm.specs.declared.fault.AsmKind.{AsmKind}
@@ -11,8 +12,10 @@ use Rattle.asm.specs.declared.fault.AsmKind.TheVariants.{Lex, UnknownWord, Dupli
 use Rattle.asm_line.specs.declared.line.Body.{Body}
 use Rattle.asm_line.specs.declared.line.Body.TheVariants.{OpenDriver, CloseDriver, Handle, OpenRoutine, CloseRoutine, AddDevice, Step}
 use Rattle.asm_line.specs.declared.line.Line.{Line}
+use Rattle.asm_line.specs.declared.line.Target.TheVariants.{Label, Routine as RoutineNamed}
+use Rattle.asm.specs.declared.routines.Role.TheVariants.{Handler, Completion}
 use Rattle.asm_line.specs.Line.{line_of, read_line}
-use Rattle.asm.specs.Outline.{Outline, nothing_read, has_room, is_again, is_among, is_out_of_range, misfit, noted, stands}
+use Rattle.asm.specs.Outline.{Outline, nothing_read, has_room, has_routine, is_again, is_among, is_out_of_range, misfit, noted, stands}
 use Rattle.asm.specs.Reading.{IsFaultOf, IsNamed}
 
 -- the number of a kind
@@ -89,6 +92,17 @@ abbrev pub routines_ahead : List Line → List (List ℕ)
 routines_ahead [] = []
 routines_ahead (l ∷ ls) = named_ahead l.body (routines_ahead ls)
 
+-- the sorts of the routines from a line to the end of the driver, after which there are these
+abbrev pub sorted_ahead : Body → List Sort → List Sort
+sorted_ahead CloseDriver after = []
+sorted_ahead (OpenRoutine name sort) after = sort ∷ after
+sorted_ahead _ after = after
+
+-- the sorts of the routines from here to the end of the driver
+abbrev pub sorts_ahead : List Line → List Sort
+sorts_ahead [] = []
+sorts_ahead (l ∷ ls) = sorted_ahead l.body (sorts_ahead ls)
+
 -- the labels from a line to the end of the routine, after which there are these
 abbrev pub labelled_ahead : Option (List ℕ) → Body → List (List ℕ) → List (List ℕ)
 labelled_ahead label CloseRoutine after = []
@@ -100,38 +114,75 @@ abbrev pub labels_ahead : List Line → List (List ℕ)
 labels_ahead [] = []
 labels_ahead (l ∷ ls) = labelled_ahead l.label l.body (labels_ahead ls)
 
+-- the names that a line may use: of the drivers and devices before it, of the routines in the driver
+-- around it, whose sorts are given in the same order, and of the labels in the routine around it
+pub record Scope : Type 0 where
+  pub drivers : List (List ℕ)
+  pub devices : List (List ℕ)
+  pub routines : List (List ℕ)
+  pub sorts : List Sort
+  pub labels : List (List ℕ)
+
+-- before the first line
+abbrev pub nothing_named : Scope
+nothing_named = record { drivers = []; devices = []; routines = []; sorts = []; labels = [] }
+
 -- the names of the drivers before the next line
 abbrev pub drivers_after : List (List ℕ) → Body → List (List ℕ)
 drivers_after drivers (OpenDriver name) = drivers ++ name ∷ []
 drivers_after drivers _ = drivers
+
+-- the names of the devices before the next line
+abbrev pub devices_after : List (List ℕ) → Body → List (List ℕ)
+devices_after devices (AddDevice name driver stack lower) = devices ++ name ∷ []
+devices_after devices _ = devices
 
 -- the names of the routines in the driver around the next line
 abbrev pub routines_around : List (List ℕ) → Body → List Line → List (List ℕ)
 routines_around routines (OpenDriver name) next = routines_ahead next
 routines_around routines _ next = routines
 
+-- the sorts of the routines in the driver around the next line
+abbrev pub sorts_around : List Sort → Body → List Line → List Sort
+sorts_around sorts (OpenDriver name) next = sorts_ahead next
+sorts_around sorts _ next = sorts
+
 -- the labels in the routine around the next line
 abbrev pub labels_around : List (List ℕ) → Body → List Line → List (List ℕ)
 labels_around labels (OpenRoutine name sort) next = labels_ahead next
 labels_around labels _ next = labels
 
--- the line's own number where it uses a name that nothing has: a routine that isn't in the driver
--- around it, a driver that isn't before it, or a label that isn't in the routine around it; else what
--- comes of the lines after it
-abbrev pub unknown_at : List (List ℕ) → List (List ℕ) → List (List ℕ) → ℕ → Body → Option ℕ → Option ℕ
-unknown_at drivers routines labels n (Handle major routine) after = if is_among routines routine then after else Some n
-unknown_at drivers routines labels n (AddDevice name driver stack) after = if is_among drivers driver then after else Some n
-unknown_at drivers routines labels n (Step instr (Some target)) after = if is_among labels target then after else Some n
-unknown_at drivers routines labels n _ after = after
+-- the names that the next line may use
+abbrev pub scope_after : Scope → Body → List Line → Scope
+scope_after s body next = record {
+  drivers = drivers_after s.drivers body;
+  devices = devices_after s.devices body;
+  routines = routines_around s.routines body next;
+  sorts = sorts_around s.sorts body next;
+  labels = labels_around s.labels body next;
+}
 
--- the first line from number n on that uses a name which nothing has. Given are the names of the
--- drivers before the lines, of the routines in the driver around the first of them, and of the labels
--- in the routine around it.
-abbrev pub unknown_from : List (List ℕ) → List (List ℕ) → List (List ℕ) → ℕ → List Line → Option ℕ
-unknown_from drivers routines labels n [] = None
-unknown_from drivers routines labels n (l ∷ ls) =
-    unknown_at drivers routines labels n l.body
-    (unknown_from (drivers_after drivers l.body) (routines_around routines l.body ls) (labels_around labels l.body ls) (n + 1) ls)
+-- a device has no lower one, or one of these
+abbrev pub has_lower : List (List ℕ) → Option (List ℕ) → Bool
+has_lower devices None = true
+has_lower devices (Some lower) = is_among devices lower
+
+-- the line's own number where it uses a name that nothing has: a routine that isn't in the driver
+-- around it or isn't of the sort that serves a major function or that a call sets; a driver or lower
+-- device that isn't before it; or a label that isn't in the routine around it; else what comes of the
+-- lines after it
+abbrev pub unknown_at : Scope → ℕ → Body → Option ℕ → Option ℕ
+unknown_at s n (Handle major routine) after = if has_routine s.routines s.sorts Handler routine then after else Some n
+unknown_at s n (AddDevice name driver stack lower) after = if is_among s.drivers driver && has_lower s.devices lower then after else Some n
+unknown_at s n (Step instr (Label label)) after = if is_among s.labels label then after else Some n
+unknown_at s n (Step instr (RoutineNamed routine)) after = if has_routine s.routines s.sorts Completion routine then after else Some n
+unknown_at s n _ after = after
+
+-- the first line from number n on that uses a name which nothing has; given are the names that the
+-- first of them may use
+abbrev pub unknown_from : Scope → ℕ → List Line → Option ℕ
+unknown_from s n [] = None
+unknown_from s n (l ∷ ls) = unknown_at s n l.body (unknown_from (scope_after s l.body ls) (n + 1) ls)
 
 -- all lines of a text are without a fault, and it ends outside of drivers
 pub record IsRead (text : List ℕ) : Type 0 where
@@ -144,11 +195,11 @@ pub record IsRead (text : List ℕ) : Type 0 where
 -- the text ends too early; and only where there is none of these, the first use of an unknown name
 pub record IsFirst (text : List ℕ) (fault : AsmFault) : Type 0 where
   pub other : (fault.kind ≡ UnknownName → ⊥) → IsLineFault nothing_read 1 (lines_of text) fault ⊎ IsEndFault nothing_read 1 (lines_of text) fault
-  pub unknown : fault.kind ≡ UnknownName → (all : IsRead text) × (unknown_from [] [] [] 1 all.lines ≡ Some fault.line)
+  pub unknown : fault.kind ≡ UnknownName → (all : IsRead text) × (unknown_from nothing_named 1 all.lines ≡ Some fault.line)
 
 -- a text that names a set has no fault
 abbrev pub IsFaultless : List ℕ → Type 0
-IsFaultless text = (all : IsRead text) × (unknown_from [] [] [] 1 all.lines ≡ None)
+IsFaultless text = (all : IsRead text) × (unknown_from nothing_named 1 all.lines ≡ None)
 
 -- the fault that is given is the first
 abbrev pub FaultIsFirst : Type 0

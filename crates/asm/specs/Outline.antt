@@ -2,30 +2,37 @@
 use Rattle.std.specs.Prelude.{ℕ, ◌≡◌, ◌<◌, ◌≤◌, All, map, slice_get, unwrap_or, ◌+◌, min, Bool, true, false, not, ◌&&◌, nat_lt, nat_le, bytes_eq, List, [], ◌∷◌, ◌++◌, length, Option, Some, None, is_some, is_none, option_map, option_and_then, option_to_list, position, if◌then◌else◌}
 use Rattle.std.specs.List.{list_any}
 use Rattle.model.specs.declared.instr.Instr.{Instr}
-use Rattle.model.specs.declared.instr.Instr.TheVariants.{JumpIfZero, JumpIfLess, Jump}
+use Rattle.model.specs.declared.instr.Instr.TheVariants.{JumpIfZero, JumpIfLess, Jump, Call, IfPending}
 use Rattle.model.specs.declared.set.Device.{Device}
 use Rattle.model.specs.declared.set.Driver.{Driver}
 use Rattle.model.specs.declared.set.Routine.{Routine}
 use Rattle.model.specs.declared.set.Sort.{Sort}
-use Rattle.model.specs.declared.set.Sort.TheVariants.{Dispatch}
-use Rattle.model.specs.Sound.{DriverFits, DeviceFits, RoutineFits}
+use Rattle.model.specs.declared.set.Sort.TheVariants.{Dispatch, Propagate}
+use Rattle.model.specs.Sound.{DriverFits, DevicesFit, LabelFits}
 use Rattle.model.specs.declared.status.Major.{Major}
 use Rattle.model.specs.declared.status.Major.TheVariants.{Read, Write, Control}
 use Rattle.asm.specs.declared.draft.Place.{Place}
 use Rattle.asm.specs.declared.draft.Place.TheVariants.{Outside, InDriver, InRoutine}
+use Rattle.asm.specs.declared.draft.ClosedRoutine.{ClosedRoutine}
+use Rattle.asm.specs.declared.draft.Linked.{Linked}
 use Rattle.asm.specs.declared.draft.Step.{Step as StepOf}
 use Rattle.asm.specs.declared.draft.Use.{Use}
+use Rattle.asm.specs.declared.routines.Role.{Role}
+use Rattle.asm.specs.declared.routines.Role.TheVariants.{Handler, Completion}
 use Rattle.asm.specs.declared.fault.AsmKind.{AsmKind}
 use Rattle.asm.specs.declared.fault.AsmKind.TheVariants.{UnknownWord, DuplicateName, OutOfRange, OverLimit}
 use Rattle.asm_line.specs.declared.line.Body.{Body}
 use Rattle.asm_line.specs.declared.line.Body.TheVariants.{Blank, OpenDriver, CloseDriver, Handle, OpenRoutine, CloseRoutine, AddDevice, Step}
 use Rattle.asm_line.specs.declared.line.Line.{Line}
+use Rattle.asm_line.specs.declared.line.Target.{Target}
+use Rattle.asm_line.specs.declared.line.Target.TheVariants.{Label, Routine as RoutineNamed}
 
 -- What was read: the drivers that are closed and the devices, with the names of all of them; of the
--- open driver its routines that are closed, the names of all of its routines, and what serves each
--- major function; of the open routine its sort, its labels, the position that each of them names, and
--- its instructions; and the first line that uses a name which nothing has, of those that are weighed
--- already. What is open is empty where nothing is open.
+-- open driver its routines that are closed, the names and sorts of all of its routines, the uses of
+-- routines by its calls, and what serves each major function; of the open routine its sort, its
+-- labels, the position that each of them names, and its instructions; and the first line that uses a
+-- name which nothing has, of those that are weighed already. What is open is empty where nothing is
+-- open.
 pub record Outline : Type 0 where
   pub place : Place
   pub driver_names : List (List ℕ)
@@ -33,7 +40,9 @@ pub record Outline : Type 0 where
   pub device_names : List (List ℕ)
   pub devices : List Device
   pub routine_names : List (List ℕ)
-  pub routines : List Routine
+  pub sorts : List Sort
+  pub routines : List ClosedRoutine
+  pub calls : List Use
   pub read : Option Use
   pub write : Option Use
   pub control : Option Use
@@ -52,7 +61,9 @@ nothing_read = record {
   device_names = [];
   devices = [];
   routine_names = [];
+  sorts = [];
   routines = [];
+  calls = [];
   read = None;
   write = None;
   control = None;
@@ -75,7 +86,7 @@ number_of names name = position (bytes_eq name) names
 abbrev pub stands : Place → Body → Bool
 stands place Blank = true
 stands Outside (OpenDriver name) = true
-stands Outside (AddDevice name driver stack) = true
+stands Outside (AddDevice name driver stack lower) = true
 stands InDriver CloseDriver = true
 stands InDriver (Handle major routine) = true
 stands InDriver (OpenRoutine name sort) = true
@@ -99,7 +110,7 @@ abbrev pub is_again : Outline → Option (List ℕ) → Body → Bool
 is_again o label (OpenDriver name) = is_among o.driver_names name
 is_again o label (Handle major routine) = is_some (handler_of o major)
 is_again o label (OpenRoutine name sort) = is_among o.routine_names name
-is_again o label (AddDevice name driver stack) = is_among o.device_names name
+is_again o label (AddDevice name driver stack lower) = is_among o.device_names name
 is_again o label (Step instr target) = is_known_label o.labels label
 is_again o label _ = false
 
@@ -110,14 +121,14 @@ is_stack_size (Some n) = nat_le 1 n && nat_le n 16
 
 -- an operand of the line is out of range
 abbrev pub is_out_of_range : Body → Bool
-is_out_of_range (AddDevice name driver stack) = not (is_stack_size stack)
+is_out_of_range (AddDevice name driver stack lower) = not (is_stack_size stack)
 is_out_of_range (Step instr target) = is_none instr
 is_out_of_range _ = false
 
 -- there is room for what the line adds
 abbrev pub has_room : Outline → Body → Bool
 has_room o (OpenDriver name) = nat_lt (length o.driver_names) 8
-has_room o (AddDevice name driver stack) = nat_lt (length o.device_names) 16
+has_room o (AddDevice name driver stack lower) = nat_lt (length o.device_names) 16
 has_room o (OpenRoutine name sort) = nat_lt (length o.routine_names) 32
 has_room o (Step instr target) = nat_lt (length o.steps) 1024
 has_room o _ = true
@@ -152,36 +163,98 @@ earliest (Some a) (Some b) = Some (min a b)
 abbrev pub driver_opened : Outline → List ℕ → Outline
 driver_opened o name = record o { place = InDriver; driver_names = o.driver_names ++ name ∷ [] }
 
+-- routines of this sort are for this role
+abbrev pub serves : Role → Sort → Bool
+serves Handler Dispatch = true
+serves Completion Propagate = true
+serves _ _ = false
+
+-- the number, if there is a sort and it is for the role
+abbrev pub number_for : Role → ℕ → Option Sort → Option ℕ
+number_for role number None = None
+number_for role number (Some sort) = if serves role sort then Some number else None
+
+-- the number of the routine with this name, if its sort is for the role; given are the names and sorts
+-- of the driver's routines, in order
+abbrev pub routine_named : List (List ℕ) → List Sort → Role → List ℕ → Option ℕ
+routine_named names sorts role name = option_and_then (λ number. number_for role number (slice_get sorts number)) (number_of names name)
+
+-- there is a routine with this name, and its sort is for the role
+abbrev pub has_routine : List (List ℕ) → List Sort → Role → List ℕ → Bool
+has_routine names sorts role name = is_some (routine_named names sorts role name)
+
 -- the number of the routine that serves a major function
-abbrev pub handler_in : List (List ℕ) → Option Use → Option ℕ
-handler_in names u = option_and_then (λ u. number_of names u.name) u
+abbrev pub handler_in : List (List ℕ) → List Sort → Option Use → Option ℕ
+handler_in names sorts u = option_and_then (λ u. routine_named names sorts Handler u.name) u
+
+-- the number of the routine that the call of a place sets
+abbrev pub routine_called : Outline → Option ℕ → Option ℕ
+routine_called o call =
+    option_and_then (λ u. routine_named o.routine_names o.sorts Completion u.name)
+    (option_and_then (λ place. slice_get o.calls place) call)
+
+-- the instruction with this routine in place of its own, if it is a `call`
+abbrev pub with_routine : Instr → Option ℕ → Instr
+with_routine (Call r old) routine = Call r routine
+with_routine i routine = i
+
+-- an instruction of the open driver; if it is a call, with the number of its routine
+abbrev pub called : Outline → Linked → Instr
+called o step = with_routine step.instr (routine_called o step.call)
+
+-- a routine of the open driver
+abbrev pub finished : Outline → ClosedRoutine → Routine
+finished o routine = record { sort = routine.sort; code = map (called o) routine.code }
 
 -- the open driver
-abbrev pub open_driver : Outline → Driver
-open_driver o = record {
-  routines = o.routines;
-  read = handler_in o.routine_names o.read;
-  write = handler_in o.routine_names o.write;
-  control = handler_in o.routine_names o.control;
+abbrev pub finished_driver : Outline → Driver
+finished_driver o = record {
+  routines = map (finished o) o.routines;
+  read = handler_in o.routine_names o.sorts o.read;
+  write = handler_in o.routine_names o.sorts o.write;
+  control = handler_in o.routine_names o.sorts o.control;
 }
 
--- the first line of the open driver that uses a routine which it doesn't have
-abbrev pub missed_handler : Outline → Option ℕ
-missed_handler o =
-    earliest (missed o.routine_names o.read)
-    (earliest (missed o.routine_names o.write) (missed o.routine_names o.control))
+-- the line of a use of a name, if there is no routine with that name, of a sort for the role
+abbrev pub missed_use : List (List ℕ) → List Sort → Role → Use → Option ℕ
+missed_use names sorts role u = if has_routine names sorts role u.name then None else Some u.line
+
+-- such a line of a table entry
+abbrev pub missed_entry : List (List ℕ) → List Sort → Option Use → Option ℕ
+missed_entry names sorts None = None
+missed_entry names sorts (Some u) = missed_use names sorts Handler u
+
+-- the first such line of the entries of the open driver
+abbrev pub missed_handler : List (List ℕ) → List Sort → Outline → Option ℕ
+missed_handler names sorts o =
+    earliest (missed_entry names sorts o.read)
+    (earliest (missed_entry names sorts o.write) (missed_entry names sorts o.control))
+
+-- the first such line of these calls, or the one found already if that is earlier
+abbrev pub missed_calls : List (List ℕ) → List Sort → Option ℕ → List Use → Option ℕ
+missed_calls names sorts found [] = found
+missed_calls names sorts found (u ∷ us) = missed_calls names sorts (earliest found (missed_use names sorts Completion u)) us
+
+-- the first line of the open driver that uses a routine which it doesn't have, or one of a sort that
+-- isn't for its role
+abbrev pub missed_routine : Outline → Option ℕ
+missed_routine o =
+    earliest (missed_calls o.routine_names o.sorts None o.calls)
+    (missed_handler o.routine_names o.sorts o)
 
 -- `endd`: now the driver's routines are known
 abbrev pub driver_closed : Outline → Outline
 driver_closed o = record o {
   place = Outside;
-  drivers = o.drivers ++ open_driver o ∷ [];
+  drivers = o.drivers ++ finished_driver o ∷ [];
   routine_names = [];
+  sorts = [];
   routines = [];
+  calls = [];
   read = None;
   write = None;
   control = None;
-  unknown = earliest o.unknown (missed_handler o);
+  unknown = earliest o.unknown (missed_routine o);
 }
 
 -- `dispatch MAJOR ROUTINE`
@@ -195,6 +268,7 @@ abbrev pub routine_opened : Outline → List ℕ → Sort → Outline
 routine_opened o name sort = record o {
   place = InRoutine;
   routine_names = o.routine_names ++ name ∷ [];
+  sorts = o.sorts ++ sort ∷ [];
   sort = sort;
 }
 
@@ -212,17 +286,21 @@ abbrev pub with_label : Instr → ℕ → Instr
 with_label (JumpIfZero r old) label = JumpIfZero r label
 with_label (JumpIfLess r s old) label = JumpIfLess r s label
 with_label (Jump old) label = Jump label
+with_label (IfPending r old) label = IfPending r label
 with_label i label = i
 
 -- an instruction with the position of its label
-abbrev pub resolved : List (List ℕ) → List ℕ → StepOf → Instr
-resolved labels positions s = with_label s.instr (target_position labels positions s.target)
+abbrev pub resolved : List (List ℕ) → List ℕ → StepOf → Linked
+resolved labels positions s = record {
+  instr = with_label s.instr (target_position labels positions s.label);
+  call = s.call;
+}
 
 -- the earliest line of these steps that uses a label which isn't there, or the one found already if
 -- that is earlier
 abbrev pub missed_from : List (List ℕ) → Option ℕ → List StepOf → Option ℕ
 missed_from labels found [] = found
-missed_from labels found (s ∷ ss) = missed_from labels (earliest found (missed labels s.target)) ss
+missed_from labels found (s ∷ ss) = missed_from labels (earliest found (missed labels s.label)) ss
 
 -- `endr`: now the routine's labels are known
 abbrev pub routine_closed : Outline → Outline
@@ -235,18 +313,22 @@ routine_closed o = record o {
   unknown = missed_from o.labels o.unknown o.steps;
 }
 
+-- the number of a name that is used, if one is
+abbrev pub number_used : List (List ℕ) → Option Use → Option ℕ
+number_used names u = option_and_then (λ u. number_of names u.name) u
+
 -- a device of the driver with this name, if there is one before it
-abbrev pub device_of : Outline → List ℕ → Option ℕ → Option Device
-device_of o driver stack =
-    option_and_then (λ number. option_map (λ s. record { driver = number; stack = s }) stack)
+abbrev pub device_of : Outline → List ℕ → Option ℕ → Option Use → Option Device
+device_of o driver stack lower =
+    option_and_then (λ number. option_map (λ s. record { driver = number; stack = s; lower = number_used o.device_names lower }) stack)
     (number_of o.driver_names driver)
 
--- `device NAME DRIVER STACK`
-abbrev pub device_added : Outline → List ℕ → Use → Option ℕ → Outline
-device_added o name driver stack = record o {
+-- `device NAME DRIVER STACK` and `device NAME DRIVER STACK LOWER`
+abbrev pub device_added : Outline → List ℕ → Use → Option ℕ → Option Use → Outline
+device_added o name driver stack lower = record o {
   device_names = o.device_names ++ name ∷ [];
-  devices = o.devices ++ option_to_list (device_of o driver.name stack);
-  unknown = earliest o.unknown (missed o.driver_names (Some driver));
+  devices = o.devices ++ option_to_list (device_of o driver.name stack lower);
+  unknown = earliest o.unknown (earliest (missed o.driver_names (Some driver)) (missed o.device_names lower));
 }
 
 -- a label, if there is one: it names the position of the next instruction
@@ -260,11 +342,36 @@ label_added o label = record o {
 abbrev pub used_at : ℕ → Option (List ℕ) → Option Use
 used_at n name = option_map (λ name. record { line = n; name = name }) name
 
--- an instruction with its label, and the name of the label that it jumps to
-abbrev pub stepped : Outline → ℕ → Option (List ℕ) → Instr → Option (List ℕ) → Outline
-stepped o n label instr target = record (label_added o label) {
-  steps = o.steps ++ (record { instr = instr; target = used_at n target }) ∷ [];
+-- the use of a label in a line, if its instruction jumps
+abbrev pub label_used : ℕ → Target → Option Use
+label_used n (Label name) = Some (record { line = n; name = name })
+label_used n _ = None
+
+-- the use of a routine in a line, if its instruction is a call that sets one
+abbrev pub call_used : ℕ → Target → Option Use
+call_used n (RoutineNamed name) = Some (record { line = n; name = name })
+call_used n _ = None
+
+-- the place of that use among those of a driver's calls, which were so many
+abbrev pub call_place : ℕ → Target → Option ℕ
+call_place count (RoutineNamed name) = Some count
+call_place count _ = None
+
+-- an instruction, with the use of its label and the place of its call
+abbrev pub step_pushed : Outline → Instr → Option Use → Option ℕ → Outline
+step_pushed o instr label call = record o {
+  steps = o.steps ++ (record { instr = instr; label = label; call = call }) ∷ [];
 }
+
+-- an instruction, and the name that it uses
+abbrev pub step_added : Outline → ℕ → Instr → Target → Outline
+step_added o n instr target = record (step_pushed o instr (label_used n target) (call_place (length o.calls) target)) {
+  calls = o.calls ++ option_to_list (call_used n target);
+}
+
+-- an instruction with its label, and the name that it uses
+abbrev pub stepped : Outline → ℕ → Option (List ℕ) → Instr → Target → Outline
+stepped o n label instr target = step_added (label_added o label) n instr target
 
 -- what is read with a line more, whose number is n
 abbrev pub noted : Outline → ℕ → Option (List ℕ) → Body → Outline
@@ -274,7 +381,7 @@ noted o n label CloseDriver = driver_closed o
 noted o n label (Handle major routine) = handled o (record { line = n; name = routine }) major
 noted o n label (OpenRoutine name sort) = routine_opened o name sort
 noted o n label CloseRoutine = routine_closed o
-noted o n label (AddDevice name driver stack) = device_added o name (record { line = n; name = driver }) stack
+noted o n label (AddDevice name driver stack lower) = device_added o name (record { line = n; name = driver }) stack (used_at n lower)
 noted o n label (Step (Some instr) target) = stepped o n label instr target
 noted o n label (Step None target) = o
 
@@ -290,7 +397,24 @@ open_routines Outside = 0
 open_routines InDriver = 0
 open_routines InRoutine = 1
 
--- what was read is within the limits of a set, and its numbers name things
+-- the sort of the routine that is open in a place
+abbrev pub open_sort : Place → Sort → List Sort
+open_sort Outside sort = []
+open_sort InDriver sort = []
+open_sort InRoutine sort = sort ∷ []
+
+-- a closed routine is within the limits, and its labels are among its positions
+pub record ClosedFits (routine : ClosedRoutine) : Type 0 where
+  pub few : length routine.code ≤ 1024
+  pub labels : All (λ (step : Linked). LabelFits (length routine.code) step.instr) routine.code
+
+-- each device has the number of its name, and all of them fit
+pub record DevicesKnown (o : Outline) : Type 0 where
+  pub count : length o.devices ≡ length o.device_names
+  pub fit : DevicesFit (length o.driver_names) 0 o.devices
+
+-- what was read is within the limits of a set, and its numbers name things, those of its devices where
+-- no name is unknown
 pub record IsOrderly (o : Outline) : Type 0 where
   pub few_drivers : length o.driver_names ≤ 8
   pub few_devices : length o.device_names ≤ 16
@@ -298,8 +422,8 @@ pub record IsOrderly (o : Outline) : Type 0 where
   pub few_steps : length o.steps ≤ 1024
   pub positions_fit : All (λ position. position < length o.steps) o.positions
   pub driver_count : length o.drivers + open_drivers o.place ≡ length o.driver_names
-  pub device_count : length o.devices ≤ length o.device_names
   pub routine_count : length o.routines + open_routines o.place ≡ length o.routine_names
+  pub sorts_known : map (λ (routine : ClosedRoutine). routine.sort) o.routines ++ open_sort o.place o.sort ≡ o.sorts
   pub drivers_fit : All DriverFits o.drivers
-  pub devices_fit : All (DeviceFits (length o.driver_names)) o.devices
-  pub routines_fit : All RoutineFits o.routines
+  pub devices_known : o.unknown ≡ None → DevicesKnown o
+  pub routines_fit : All ClosedFits o.routines

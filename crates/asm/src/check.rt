@@ -38,7 +38,7 @@ impl<'a> Draft<'a> {
             Body::OpenDriver(name) => is_among(&self.driver_names, name),
             Body::Handle(major, _) => self.handler_of(*major).is_some(),
             Body::OpenRoutine(name, _) => is_among(&self.routine_names, name),
-            Body::AddDevice(name, _, _) => is_among(&self.device_names, name),
+            Body::AddDevice(name, _, _, _) => is_among(&self.device_names, name),
             Body::Step(_, _) => is_known(&self.labels, &line.label),
             Body::Blank | Body::CloseDriver | Body::CloseRoutine => false,
         }
@@ -61,7 +61,7 @@ impl<'a> Draft<'a> {
     {
         match body {
             Body::OpenDriver(_) => self.driver_names.len() < MAX_DRIVERS,
-            Body::AddDevice(_, _, _) => self.device_names.len() < MAX_DEVICES,
+            Body::AddDevice(_, _, _, _) => self.device_names.len() < MAX_DEVICES,
             Body::OpenRoutine(_, _) => self.routine_names.len() < MAX_ROUTINES,
             Body::Step(_, _) => self.steps.len() < MAX_INSTRUCTIONS,
             _ => true,
@@ -75,7 +75,7 @@ fn stands(place: Place, body: &Body<'_>) -> bool
 {
     match body {
         Body::Blank => true,
-        Body::OpenDriver(_) | Body::AddDevice(_, _, _) => matches!(place, Place::Outside),
+        Body::OpenDriver(_) | Body::AddDevice(_, _, _, _) => matches!(place, Place::Outside),
         Body::CloseDriver | Body::Handle(_, _) | Body::OpenRoutine(_, _) => {
             matches!(place, Place::InDriver)
         }
@@ -88,7 +88,7 @@ fn is_out_of_range(body: &Body<'_>) -> bool
     ensures { result ≡ is_out_of_range body.now }
 {
     match body {
-        Body::AddDevice(_, _, stack) => !is_stack_size(*stack),
+        Body::AddDevice(_, _, stack, _) => !is_stack_size(*stack),
         Body::Step(instr, _) => instr.is_none(),
         _ => false,
     }

@@ -5,7 +5,8 @@ ghost use Rattle.asm.specs.Outline.{nothing_read};
 
 use indexmap::IndexSet;
 use model::instr::Instr;
-use model::set::{Device, Driver, Routine, Sort};
+use model::items::Items;
+use model::set::{Device, Driver, Sort};
 use std::alloc::Global;
 use std::marker::Model;
 use text::piece::Piece;
@@ -25,11 +26,28 @@ pub struct Use<'a> {
     pub name: Piece<'a>,
 }
 
-/// An instruction of the open routine. Where it jumps, the target is the use of its label's name.
+/// An instruction of the open routine. Where it jumps, `label` is the use of its label's name; where
+/// it is a `call` that sets a routine, `call` is the place of the use of that routine's name among
+/// those of the open driver's calls.
 #[derive(Drop)]
 pub struct Step<'a> {
     pub instr: Instr,
-    pub target: Option<Use<'a>>,
+    pub label: Option<Use<'a>>,
+    pub call: Option<usize>,
+}
+
+/// An instruction of a closed routine, so its label is known. For `call` see `Step`.
+#[derive(Drop)]
+pub struct Linked {
+    pub instr: Instr,
+    pub call: Option<usize>,
+}
+
+/// A closed routine of the open driver.
+#[derive(Drop)]
+pub struct ClosedRoutine {
+    pub sort: Sort,
+    pub code: Items<Linked>,
 }
 
 /// What was read. Contracts see an `Outline`.
@@ -41,7 +59,9 @@ pub struct Draft<'a> {
     pub(crate) device_names: IndexSet<Piece<'a>>,
     pub(crate) devices: Vec<Device>,
     pub(crate) routine_names: IndexSet<Piece<'a>>,
-    pub(crate) routines: Vec<Routine>,
+    pub(crate) sorts: Vec<Sort>,
+    pub(crate) routines: Vec<ClosedRoutine>,
+    pub(crate) calls: Vec<Use<'a>>,
     pub(crate) read: Option<Use<'a>>,
     pub(crate) write: Option<Use<'a>>,
     pub(crate) control: Option<Use<'a>>,
@@ -64,7 +84,9 @@ impl<'a> Model for Draft<'a> {
       device_names = d.device_names.keys;
       devices = d.devices.items;
       routine_names = d.routine_names.keys;
+      sorts = d.sorts.items;
       routines = d.routines.items;
+      calls = d.calls.items;
       read = d.read;
       write = d.write;
       control = d.control;
@@ -88,7 +110,9 @@ impl<'a> Draft<'a> {
             device_names: IndexSet::new(alloc),
             devices: Vec::new(alloc),
             routine_names: IndexSet::new(alloc),
+            sorts: Vec::new(alloc),
             routines: Vec::new(alloc),
+            calls: Vec::new(alloc),
             read: None,
             write: None,
             control: None,

@@ -12,6 +12,7 @@ mod link;
 mod names;
 mod note;
 mod reading;
+mod routines;
 
 pub use fault::{AsmFault, AsmKind};
 pub use reading::assemble;

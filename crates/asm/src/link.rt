@@ -3,7 +3,7 @@
 ghost use Rattle.std.specs.Prelude.{◌≡◌, IfOk, map};
 ghost use Rattle.asm.specs.Outline.{missed_from, position_of, resolved, target_position, with_label};
 
-use crate::draft::{Step, Use};
+use crate::draft::{Linked, Step, Use};
 use crate::names::{earliest, missed};
 use indexmap::IndexSet;
 use model::instr::Instr;
@@ -16,7 +16,7 @@ pub fn linked(
     labels: &IndexSet<Piece<'_>>,
     positions: &[u16],
     steps: &[Step<'_>],
-) -> Result<Vec<Instr>, AllocError>
+) -> Result<Vec<Linked>, AllocError>
     ensures { IfOk result (λ code. code.items ≡ map (resolved labels.now.keys positions.now) steps.now) }
 {
     let mut code = Vec::new(alloc);
@@ -27,10 +27,13 @@ pub fn linked(
 }
 
 /// An instruction with the position of its label.
-fn resolved(labels: &IndexSet<Piece<'_>>, positions: &[u16], step: &Step<'_>) -> Instr
+fn resolved(labels: &IndexSet<Piece<'_>>, positions: &[u16], step: &Step<'_>) -> Linked
     ensures { result ≡ resolved labels.now.keys positions.now step.now }
 {
-    with_label(step.instr, target_position(labels, positions, &step.target))
+    Linked {
+        instr: with_label(step.instr, target_position(labels, positions, &step.label)),
+        call: step.call,
+    }
 }
 
 /// The instruction with this label in place of its own, if it has one.
@@ -41,6 +44,7 @@ fn with_label(instr: Instr, label: u16) -> Instr
         Instr::JumpIfZero(register, _) => Instr::JumpIfZero(register, label),
         Instr::JumpIfLess(less, more, _) => Instr::JumpIfLess(less, more, label),
         Instr::Jump(_) => Instr::Jump(label),
+        Instr::IfPending(register, _) => Instr::IfPending(register, label),
         other => other,
     }
 }
@@ -73,7 +77,7 @@ pub fn missed_from(
 {
     let mut earliest_line = found;
     for step in steps {
-        earliest_line = earliest(earliest_line, missed(labels, &step.target));
+        earliest_line = earliest(earliest_line, missed(labels, &step.label));
     }
     earliest_line
 }

@@ -1,7 +1,7 @@
 //! Names and what they number.
 
 ghost use Rattle.std.specs.Prelude.{◌≡◌, ◌≤◌, ◌++◌, [], ◌∷◌, false, length, OnOk, option_to_list};
-ghost use Rattle.asm.specs.Outline.{earliest, handler_in, is_among, is_known_label, missed, number_of, used_at};
+ghost use Rattle.asm.specs.Outline.{earliest, is_among, is_known_label, missed, number_of, number_used, used_at};
 
 use crate::draft::Use;
 use indexmap::IndexSet;
@@ -34,12 +34,12 @@ pub fn number_of(names: &IndexSet<Piece<'_>>, name: &Piece<'_>) -> Option<u8>
     Some(number as u8)
 }
 
-/// The number of the routine that serves a major function.
-pub fn handler_in(names: &IndexSet<Piece<'_>>, handler: &Option<Use<'_>>) -> Option<u8>
+/// What the name that is used, if one is, is the number of.
+pub fn number_used(names: &IndexSet<Piece<'_>>, used: &Option<Use<'_>>) -> Option<u8>
     requires { length names.now.keys ≤ 32 }
-    ensures { result ≡ handler_in names.now.keys handler.now }
+    ensures { result ≡ number_used names.now.keys used.now }
 {
-    match handler {
+    match used {
         Some(used) => number_of(names, &used.name),
         None => None,
     }

@@ -1,18 +1,17 @@
 //! What a line adds to what was read.
 
-ghost use Rattle.std.specs.Prelude.{◌≡◌, ◌≤◌, ◌<◌, false, true, [], length, OnOk};
-ghost use Rattle.asm.specs.Outline.{device_added, device_of, driver_closed, driver_opened, handled, is_among, is_known_label, is_stack_size, label_added, missed_handler, noted, open_driver, routine_closed, routine_opened, stepped, IsFitting, IsOrderly};
+ghost use Rattle.std.specs.Prelude.{◌≡◌, ◌≤◌, ◌<◌, false, true, length, OnOk};
+ghost use Rattle.asm.specs.Outline.{device_added, device_of, driver_closed, driver_opened, handled, is_among, is_known_label, is_stack_size, label_added, noted, routine_closed, routine_opened, step_added, step_pushed, stepped, IsFitting, IsOrderly};
 
-use crate::draft::{Draft, Place, Step, Use};
+use crate::draft::{ClosedRoutine, Draft, Place, Step, Use};
 use crate::link::{linked, missed_from};
-use crate::names::{add, earliest, handler_in, missed, number_of, push_some, used_at};
-use asm_line::{Body, Line};
+use crate::names::{add, earliest, missed, number_of, number_used, push_some, used_at};
+use asm_line::{Body, Line, Target};
 use model::instr::Instr;
 use model::items::Items;
-use model::set::{Device, Driver, Routine, Sort};
+use model::set::{Device, Sort};
 use model::status::Major;
 use std::alloc::{AllocError, Global};
-use std::mem;
 use text::piece::Piece;
 
 impl<'a> Draft<'a> {
@@ -34,12 +33,12 @@ impl<'a> Draft<'a> {
             Body::Handle(major, name) => self.handle(major, Use { line: number, name }),
             Body::OpenRoutine(name, sort) => self.open_routine(name, sort),
             Body::CloseRoutine => self.close_routine(alloc),
-            Body::AddDevice(name, driver, stack) => {
+            Body::AddDevice(name, driver, stack, lower) => {
                 let used = Use {
                     line: number,
                     name: driver,
                 };
-                self.add_device(name, used, stack)
+                self.add_device(name, used, stack, used_at(number, lower))
             }
             Body::Step(instr, target) => match instr {
                 Some(instr) => self.step(number, label, instr, target),
@@ -63,39 +62,18 @@ impl<'a> Draft<'a> {
         requires { length self.old.routine_names ≤ 32 }
         ensures { OnOk result (self.new ≡ driver_closed self.old) }
     {
-        self.unknown = earliest(self.unknown, self.missed_handler());
-        let driver = self.take_driver(alloc);
+        let driver = self.finished_driver(alloc)?;
+        self.unknown = earliest(self.unknown, self.missed_routine());
         self.drivers.push(driver)?;
         self.routine_names.clear();
+        self.sorts.clear();
+        self.routines.clear();
+        self.calls.clear();
         self.read = None;
         self.write = None;
         self.control = None;
         self.place = Place::Outside;
         Ok(())
-    }
-
-    /// The first line of the open driver that uses a routine which it doesn't have.
-    fn missed_handler(&self) -> Option<u64>
-        ensures { result ≡ missed_handler self.now }
-    {
-        let read = missed(&self.routine_names, &self.read);
-        let write = missed(&self.routine_names, &self.write);
-        let control = missed(&self.routine_names, &self.control);
-        earliest(read, earliest(write, control))
-    }
-
-    /// The open driver, whose routines are taken.
-    fn take_driver(&mut self, alloc: Global) -> Driver
-        requires { length self.old.routine_names ≤ 32 }
-        ensures driver { result ≡ open_driver self.old }
-        ensures rest { self.new ≡ record self.old { routines = [] } }
-    {
-        Driver {
-            routines: Items::of(mem::replace(&mut self.routines, Vec::new(alloc))),
-            read: handler_in(&self.routine_names, &self.read),
-            write: handler_in(&self.routine_names, &self.write),
-            control: handler_in(&self.routine_names, &self.control),
-        }
     }
 
     /// `dispatch MAJOR ROUTINE`.
@@ -116,6 +94,7 @@ impl<'a> Draft<'a> {
         ensures { OnOk result (self.new ≡ routine_opened self.old name.entry sort) }
     {
         add(&mut self.routine_names, name)?;
+        self.sorts.push(sort)?;
         self.sort = sort;
         self.place = Place::InRoutine;
         Ok(())
@@ -127,7 +106,7 @@ impl<'a> Draft<'a> {
     {
         let code = linked(alloc, &self.labels, &self.positions, &self.steps)?;
         self.unknown = missed_from(&self.labels, self.unknown, &self.steps);
-        self.routines.push(Routine {
+        self.routines.push(ClosedRoutine {
             sort: self.sort,
             code: Items::of(code),
         })?;
@@ -138,54 +117,89 @@ impl<'a> Draft<'a> {
         Ok(())
     }
 
-    /// `device NAME DRIVER STACK`.
+    /// `device NAME DRIVER STACK` and `device NAME DRIVER STACK LOWER`.
     fn add_device(
         &mut self,
         name: Piece<'a>,
         driver: Use<'a>,
         stack: Option<u64>,
+        lower: Option<Use<'a>>,
     ) -> Result<(), AllocError>
         requires fresh { is_among self.old.device_names name ≡ false }
-        requires few { length self.old.driver_names ≤ 32 }
+        requires few_drivers { length self.old.driver_names ≤ 32 }
+        requires few_devices { length self.old.device_names ≤ 32 }
         requires stack { is_stack_size stack ≡ true }
-        ensures { OnOk result (self.new ≡ device_added self.old name.entry driver.entry stack) }
+        ensures { OnOk result (self.new ≡ device_added self.old name.entry driver.entry stack lower.entry) }
     {
-        let device = self.device_of(&driver.name, stack);
+        let device = self.device_of(&driver.name, stack, &lower);
         push_some(&mut self.devices, device)?;
-        self.unknown = earliest(self.unknown, missed(&self.driver_names, &Some(driver)));
+        let missed_driver = missed(&self.driver_names, &Some(driver));
+        let missed_lower = missed(&self.device_names, &lower);
+        self.unknown = earliest(self.unknown, earliest(missed_driver, missed_lower));
         add(&mut self.device_names, name)
     }
 
     /// A device of the driver with this name, if there is one before it.
-    fn device_of(&self, driver: &Piece<'a>, stack: Option<u64>) -> Option<Device>
-        requires few { length self.now.driver_names ≤ 32 }
+    fn device_of(
+        &self,
+        driver: &Piece<'a>,
+        stack: Option<u64>,
+        lower: &Option<Use<'a>>,
+    ) -> Option<Device>
+        requires few_drivers { length self.now.driver_names ≤ 32 }
+        requires few_devices { length self.now.device_names ≤ 32 }
         requires stack { is_stack_size stack ≡ true }
-        ensures { result ≡ device_of self.now driver.now stack }
+        ensures { result ≡ device_of self.now driver.now stack lower.now }
     {
         let number = number_of(&self.driver_names, driver)?;
         Some(Device {
             driver: number,
             stack: stack? as u8,
+            lower: number_used(&self.device_names, lower),
         })
     }
 
-    /// An instruction with its label, and the name of the label that it jumps to.
+    /// An instruction with its label, and the name that it uses.
     fn step(
         &mut self,
         number: u64,
         label: Option<Piece<'a>>,
         instr: Instr,
-        target: Option<Piece<'a>>,
+        target: Target<'a>,
     ) -> Result<(), AllocError>
         requires fresh { is_known_label self.old.labels label ≡ false }
         requires room { length self.old.steps < 1024 }
         ensures { OnOk result (self.new ≡ stepped self.old number label.entry instr target.entry) }
     {
         self.add_label(label)?;
-        self.steps.push(Step {
-            instr,
-            target: used_at(number, target),
-        })?;
+        self.add_step(number, instr, target)
+    }
+
+    /// An instruction, and the name that it uses.
+    fn add_step(&mut self, number: u64, instr: Instr, target: Target<'a>) -> Result<(), AllocError>
+        ensures { OnOk result (self.new ≡ step_added self.old number instr target.entry) }
+    {
+        match target {
+            Target::Nothing => self.push_step(instr, None, None),
+            Target::Label(name) => self.push_step(instr, Some(Use { line: number, name }), None),
+            Target::Routine(name) => {
+                let place = self.calls.len();
+                self.calls.push(Use { line: number, name })?;
+                self.push_step(instr, None, Some(place))
+            }
+        }
+    }
+
+    /// An instruction, with the use of its label and the place of its call.
+    fn push_step(
+        &mut self,
+        instr: Instr,
+        label: Option<Use<'a>>,
+        call: Option<usize>,
+    ) -> Result<(), AllocError>
+        ensures { OnOk result (self.new ≡ step_pushed self.old instr label.entry call) }
+    {
+        self.steps.push(Step { instr, label, call })?;
         Ok(())
     }
 

@@ -2,6 +2,7 @@
 
 use crate::{AsmFault, AsmKind, assemble};
 use model::instr::{Cell, Field, Instr, Register, Return, SpinLock, Turns};
+use model::set::{Device, Sort};
 use model::status::Status;
 use std::alloc::{AllocError, Global};
 use std::process::Abort;
@@ -111,6 +112,58 @@ fn names_each_instruction(rt: HostRuntime) -> Result<(), Fail> {
     Ok(())
 }
 
+/// Two devices of a driver over one of another: it passes packets down and calls with a routine that
+/// is named before its line.
+const ALL_OF_FORWARDING: &str = "driver bus\nendd\ndevice bottom bus 1\ndriver filter\n\
+    dispatch READ down\ndispatch WRITE copy\nroutine down dispatch\npass r0\nret lower r0\nendr\n\
+    routine copy dispatch\ncall r0 done\nret lower r0\nendr\nroutine plain dispatch\ncall r15\n\
+    ret lower r15\nendr\nroutine done propagate\nifpending r0 carry\nret continue\n\
+    carry: mark r0\nret continue\nendr\nendd\ndevice middle filter 2 bottom\n\
+    device top filter 0x3 middle\n";
+
+#[test]
+fn names_forwarding(rt: HostRuntime) -> Result<(), Fail> {
+    let set = assemble(rt.alloc(), ALL_OF_FORWARDING.as_bytes())?;
+    let driver = &set.drivers()[1];
+    assert_eq!(rt; (driver.read, driver.write), (Some(0), Some(1)));
+    let routines = driver.routines.as_slice();
+    let (zero, last) = (register(0)?, register(15)?);
+    assert_eq!(rt;
+        (routines[2].sort, routines[3].sort),
+        (Sort::Dispatch, Sort::Propagate)
+    );
+    let code = [Instr::Pass(zero), Instr::Ret(Return::Lower(zero))];
+    assert_eq!(rt; routines[0].code.as_slice(), code.as_slice());
+    let code = [Instr::Call(zero, Some(3)), Instr::Ret(Return::Lower(zero))];
+    assert_eq!(rt; routines[1].code.as_slice(), code.as_slice());
+    let code = [Instr::Call(last, None), Instr::Ret(Return::Lower(last))];
+    assert_eq!(rt; routines[2].code.as_slice(), code.as_slice());
+    let code = [
+        Instr::IfPending(zero, 2),
+        Instr::Ret(Return::Continue),
+        Instr::Mark(zero),
+        Instr::Ret(Return::Continue),
+    ];
+    assert_eq!(rt; routines[3].code.as_slice(), code.as_slice());
+    let bottom = Device {
+        driver: 0,
+        stack: 1,
+        lower: None,
+    };
+    let middle = Device {
+        driver: 1,
+        stack: 2,
+        lower: Some(0),
+    };
+    let top = Device {
+        driver: 1,
+        stack: 3,
+        lower: Some(1),
+    };
+    assert_eq!(rt; set.devices(), [bottom, middle, top].as_slice());
+    Ok(())
+}
+
 #[test]
 fn names_the_empty_set(rt: HostRuntime) -> Result<(), Fail> {
     for text in ["", "\n\n", " ; nothing\r\n", "driver d\nendd"] {
@@ -192,6 +245,18 @@ fn gives_the_first_fault(rt: HostRuntime) -> Result<(), Fail> {
             2,
             UnknownName,
         ),
+        (
+            "driver d\ndispatch READ f\nroutine f propagate\nendr\nendd",
+            2,
+            UnknownName,
+        ),
+        ("driver d\nendd\ndevice v d 1 v", 3, UnknownName),
+        (
+            "driver d\nendd\ndevice u d 1 v\ndevice v d 1",
+            3,
+            UnknownName,
+        ),
+        ("driver d\nendd\ndevice v d 1 u w", 3, UnknownWord),
     ] {
         expect_fault(&rt, text, line, kind)?;
     }
@@ -227,6 +292,15 @@ fn gives_the_first_fault_of_a_routine(rt: HostRuntime) -> Result<(), Fail> {
         ("jz r16 x:\n", 4, UnknownWord),
         ("jz r0 y\njmp x\nx: clear r1\n", 4, UnknownName),
         ("jmp x\nclear r16\n", 5, OutOfRange),
+        ("ret lower r16\n", 4, OutOfRange),
+        ("ret lower\n", 4, UnknownWord),
+        ("ret lower x\n", 4, UnknownWord),
+        ("ret continue r0\n", 4, UnknownWord),
+        ("ret SUCCESS r0\n", 4, UnknownWord),
+        ("ret stop\n", 4, UnknownWord),
+        ("call r0 g\njmp x\n", 4, UnknownName),
+        ("call r0 f\n", 4, UnknownName),
+        ("ifpending r0 y\n", 4, UnknownName),
         (
             "x: clear r1\nendr\nroutine g dispatch\njmp x\n",
             7,

@@ -1,14 +1,18 @@
 -- The instruction that a keyword makes of its operands.
-use Rattle.std.specs.Prelude.{ℕ, List, Option, Some, None, option_map, option_and_then}
+use Rattle.std.specs.Prelude.{ℕ, Option, Some, None, option_map, option_and_then}
 use Rattle.model.specs.declared.instr.Field.{Field}
 use Rattle.model.specs.declared.instr.Instr.{Instr}
-use Rattle.model.specs.declared.instr.Instr.TheVariants.{Const, Move, Clear, Add, Subtract, JumpIfZero, JumpIfLess, Jump, Loop, End, Load, Store, LoadPaged, StorePaged, Get, Put, Mark, Acquire, Release, AcquireCancel, ReleaseCancel, Complete, Ret}
-use Rattle.model.specs.declared.instr.Return.TheVariants.{WithStatus as ReturnStatus}
+use Rattle.model.specs.declared.instr.Instr.TheVariants.{Const, Move, Clear, Add, Subtract, JumpIfZero, JumpIfLess, Jump, Loop, End, Load, Store, LoadPaged, StorePaged, Get, Put, Mark, Acquire, Release, AcquireCancel, ReleaseCancel, Pass, Call, Complete, IfPending, Ret}
+use Rattle.model.specs.declared.instr.Return.TheVariants.{WithStatus as ReturnStatus, Lower as ReturnLower, Continue as ReturnContinue}
 use Rattle.model.specs.declared.status.Status.{Status}
 use Rattle.asm_line.specs.declared.line.Keyword.{Keyword}
 use Rattle.asm_line.specs.declared.line.Keyword.TheVariants as word
 use Rattle.asm_line.specs.declared.line.Arg.{Arg}
-use Rattle.asm_line.specs.declared.line.Arg.TheVariants.{Named, InRegister, OnLock, InCell, Constant, SoManyTurns, OfField, WithStatus}
+use Rattle.asm_line.specs.declared.line.ReturnWord.{ReturnWord}
+use Rattle.asm_line.specs.declared.line.ReturnWord.TheVariants as word_of_return
+use Rattle.asm_line.specs.declared.line.Target.{Target}
+use Rattle.asm_line.specs.declared.line.Target.TheVariants.{Nothing, Label, Routine}
+use Rattle.asm_line.specs.declared.line.Arg.TheVariants.{Absent, Named, InRegister, OnLock, InCell, Constant, SoManyTurns, OfField, WithStatus}
 
 -- the register that an operand is, if it is in range
 abbrev pub register_in : Arg → Option ℕ
@@ -45,13 +49,19 @@ abbrev pub status_in : Arg → Option Status
 status_in (WithStatus status) = Some status
 status_in _ = None
 
--- the name that an operand is
-abbrev pub name_in : Arg → Option (List ℕ)
-name_in (Named name) = Some name
-name_in _ = None
+-- the label that an operand names
+abbrev pub label_in : Arg → Target
+label_in (Named name) = Label name
+label_in _ = Nothing
+
+-- the routine that an operand names, if it is there
+abbrev pub called_routine : Arg → Target
+called_routine (Named name) = Routine name
+called_routine _ = Nothing
 
 -- the instruction of a keyword with these operands, which are of the forms that it wants: it is there
--- if all of them are in range. The label of a jump is 0 until the labels of its routine are known.
+-- if all of them are in range. The label of a jump is 0 until the labels of its routine are known, and
+-- a `call` has no routine until those of its driver are.
 abbrev pub instr_of : Keyword → Arg → Arg → Arg → Option Instr
 instr_of word.Const a b c = option_and_then (λ r. option_map (λ n. Const r n) (constant_in b)) (register_in a)
 instr_of word.Move a b c = option_and_then (λ r. option_map (λ s. Move r s) (register_in b)) (register_in a)
@@ -75,12 +85,24 @@ instr_of word.Release a b c = option_map (λ l. Release l) (lock_in a)
 instr_of word.AcquireCancel a b c = Some AcquireCancel
 instr_of word.ReleaseCancel a b c = Some ReleaseCancel
 instr_of word.Complete a b c = option_and_then (λ r. option_map (λ status. Complete r status) (status_in b)) (register_in a)
-instr_of word.Ret a b c = option_map (λ status. Ret (ReturnStatus status)) (status_in a)
+instr_of word.Pass a b c = option_map (λ r. Pass r) (register_in a)
+instr_of word.Call a b c = option_map (λ r. Call r None) (register_in a)
+instr_of word.IfPending a b c = option_map (λ r. IfPending r 0) (register_in a)
 instr_of _ a b c = None
 
--- the name of the label that an instruction jumps to
-abbrev pub target_of : Keyword → Arg → Arg → Arg → Option (List ℕ)
-target_of word.JumpIfZero a b c = name_in b
-target_of word.JumpIfLess a b c = name_in c
-target_of word.Jump a b c = name_in a
-target_of _ a b c = None
+-- the name that an instruction uses
+abbrev pub target_of : Keyword → Arg → Arg → Arg → Target
+target_of word.JumpIfZero a b c = label_in b
+target_of word.JumpIfLess a b c = label_in c
+target_of word.Jump a b c = label_in a
+target_of word.IfPending a b c = label_in b
+target_of word.Call a b c = called_routine b
+target_of _ a b c = Nothing
+
+-- what `ret` makes of the word after it and what follows that, if they are of a form: the
+-- instruction, if the register is in range
+abbrev pub returned : ReturnWord → Arg → Option (Option Instr)
+returned (word_of_return.Status status) Absent = Some (Some (Ret (ReturnStatus status)))
+returned word_of_return.Lower (InRegister register) = Some (option_map (λ r. Ret (ReturnLower r)) register)
+returned word_of_return.Continue Absent = Some (Some (Ret ReturnContinue))
+returned _ _ = None

@@ -4,13 +4,13 @@ use Rattle.text.specs.Class.{is_name}
 use Rattle.text.specs.Number.{number_in, numbered_in}
 use Rattle.text.specs.declared.number.Numeral.{Numeral}
 use Rattle.text.specs.declared.number.Numeral.TheVariants.{Other, TooLarge, Number}
-use Rattle.asm_line.specs.Words.{field_of, major_of, sort_of, status_of}
+use Rattle.asm_line.specs.Words.{field_of, major_of, return_of, sort_of, status_of}
 use Rattle.asm_line.specs.declared.line.Keyword.{Keyword}
 use Rattle.asm_line.specs.declared.line.Keyword.TheVariants as word
 use Rattle.asm_line.specs.declared.line.Operand.{Operand}
 use Rattle.asm_line.specs.declared.line.Operand.TheVariants as wanted
 use Rattle.asm_line.specs.declared.line.Arg.{Arg}
-use Rattle.asm_line.specs.declared.line.Arg.TheVariants.{Absent, Named, InRegister, OnLock, InCell, Constant, SoManyTurns, StackSize, OfMajor, OfField, OfSort, WithStatus}
+use Rattle.asm_line.specs.declared.line.Arg.TheVariants.{Absent, Named, InRegister, OnLock, InCell, Constant, SoManyTurns, StackSize, OfMajor, OfField, OfSort, WithStatus, Returning}
 
 -- what a keyword wants first
 abbrev pub first_operand : Keyword → Operand
@@ -31,13 +31,16 @@ first_operand word.LoadPaged = wanted.Register
 first_operand word.Get = wanted.Register
 first_operand word.Put = wanted.Register
 first_operand word.Mark = wanted.Register
+first_operand word.Pass = wanted.Register
+first_operand word.Call = wanted.Register
 first_operand word.Complete = wanted.Register
+first_operand word.IfPending = wanted.Register
 first_operand word.Store = wanted.Cell
 first_operand word.StorePaged = wanted.PagedCell
 first_operand word.Acquire = wanted.SpinLock
 first_operand word.Release = wanted.SpinLock
 first_operand word.Loop = wanted.Turns
-first_operand word.Ret = wanted.Status
+first_operand word.Ret = wanted.Return
 first_operand _ = wanted.Nothing
 
 -- what a keyword wants second
@@ -45,6 +48,9 @@ abbrev pub second_operand : Keyword → Operand
 second_operand word.Dispatch = wanted.Name
 second_operand word.Device = wanted.Name
 second_operand word.JumpIfZero = wanted.Name
+second_operand word.IfPending = wanted.Name
+second_operand word.Call = wanted.MaybeName
+second_operand word.Ret = wanted.MaybeRegister
 second_operand word.Routine = wanted.Sort
 second_operand word.Const = wanted.Number
 second_operand word.Move = wanted.Register
@@ -66,6 +72,11 @@ third_operand word.Device = wanted.Stack
 third_operand word.JumpIfLess = wanted.Name
 third_operand word.Get = wanted.Field
 third_operand _ = wanted.Nothing
+
+-- what a keyword wants fourth
+abbrev pub fourth_operand : Keyword → Operand
+fourth_operand word.Device = wanted.MaybeName
+fourth_operand _ = wanted.Nothing
 
 -- a register by its number, if there is one
 abbrev pub register_of : ℕ → Option ℕ
@@ -131,7 +142,9 @@ stack_arg (Number n) = Some (StackSize (Some n))
 abbrev pub token_arg : Operand → List ℕ → Option Arg
 token_arg wanted.Nothing t = None
 token_arg wanted.Name t = name_arg t
+token_arg wanted.MaybeName t = name_arg t
 token_arg wanted.Register t = register_arg (numbered_in 114 t)
+token_arg wanted.MaybeRegister t = register_arg (numbered_in 114 t)
 token_arg wanted.SpinLock t = lock_arg (numbered_in 108 t)
 token_arg wanted.Cell t = cell_arg (numbered_in 99 t)
 token_arg wanted.PagedCell t = cell_arg (numbered_in 112 t)
@@ -142,10 +155,13 @@ token_arg wanted.Major t = option_map OfMajor (major_of t)
 token_arg wanted.Field t = option_map OfField (field_of t)
 token_arg wanted.Sort t = option_map OfSort (sort_of t)
 token_arg wanted.Status t = option_map WithStatus (status_of t)
+token_arg wanted.Return t = option_map Returning (return_of t)
 
--- no token: right where nothing is wanted
+-- no token: right where nothing is wanted or nothing need be there
 abbrev pub absent_arg : Operand → Option Arg
 absent_arg wanted.Nothing = Some Absent
+absent_arg wanted.MaybeName = Some Absent
+absent_arg wanted.MaybeRegister = Some Absent
 absent_arg _ = None
 
 -- what stands in the place of an operand, read as the operand that is wanted

@@ -1,7 +1,9 @@
 -- The words of a driver text.
-use Rattle.std.specs.Prelude.{ℕ, List, Option, Some, None, bytes_eq, codes, if◌then◌else◌}
+use Rattle.std.specs.Prelude.{ℕ, List, Option, Some, None, option_map, bytes_eq, codes, if◌then◌else◌}
 use Rattle.asm_line.specs.declared.line.Keyword.{Keyword}
-use Rattle.asm_line.specs.declared.line.Keyword.TheVariants.{Driver, Endd, Dispatch, Routine, Endr, Device, Const, Move, Clear, Add, Subtract, JumpIfZero, JumpIfLess, Jump, Loop, End, Load, Store, LoadPaged, StorePaged, Get, Put, Mark, Acquire, Release, AcquireCancel, ReleaseCancel, Complete, Ret}
+use Rattle.asm_line.specs.declared.line.Keyword.TheVariants.{Driver, Endd, Dispatch, Routine, Endr, Device, Const, Move, Clear, Add, Subtract, JumpIfZero, JumpIfLess, Jump, Loop, End, Load, Store, LoadPaged, StorePaged, Get, Put, Mark, Acquire, Release, AcquireCancel, ReleaseCancel, Pass, Call, Complete, IfPending, Ret}
+use Rattle.asm_line.specs.declared.line.ReturnWord.{ReturnWord}
+use Rattle.asm_line.specs.declared.line.ReturnWord.TheVariants.{Status as StatusReturned, Lower, Continue}
 use Rattle.model.specs.declared.status.Status.{Status}
 use Rattle.model.specs.declared.status.Status.TheVariants.{Success, Pending, Busy, Unsuccessful, InvalidParameter, InvalidDeviceRequest, Cancelled}
 use Rattle.model.specs.declared.status.Major.{Major}
@@ -9,7 +11,7 @@ use Rattle.model.specs.declared.status.Major.TheVariants.{Read, Write, Control}
 use Rattle.model.specs.declared.instr.Field.{Field}
 use Rattle.model.specs.declared.instr.Field.TheVariants.{Major as MajorField, Argument, Info}
 use Rattle.model.specs.declared.set.Sort.{Sort}
-use Rattle.model.specs.declared.set.Sort.TheVariants.{Dispatch as DispatchSort}
+use Rattle.model.specs.declared.set.Sort.TheVariants.{Dispatch as DispatchSort, Propagate}
 
 -- the word of an instruction
 abbrev pub instruction_of : List ℕ → Option Keyword
@@ -35,8 +37,11 @@ instruction_of t =
     (if bytes_eq t (codes "release") then Some Release else
     (if bytes_eq t (codes "acqc") then Some AcquireCancel else
     (if bytes_eq t (codes "relc") then Some ReleaseCancel else
+    (if bytes_eq t (codes "pass") then Some Pass else
+    (if bytes_eq t (codes "call") then Some Call else
     (if bytes_eq t (codes "complete") then Some Complete else
-    (if bytes_eq t (codes "ret") then Some Ret else None))))))))))))))))))))))
+    (if bytes_eq t (codes "ifpending") then Some IfPending else
+    (if bytes_eq t (codes "ret") then Some Ret else None)))))))))))))))))))))))))
 
 -- the word with which a line begins
 abbrev pub keyword_of : List ℕ → Option Keyword
@@ -73,6 +78,14 @@ field_of t =
     (if bytes_eq t (codes "ARG") then Some Argument else
     (if bytes_eq t (codes "INFO") then Some Info else None))
 
+-- what a routine returns: the status of a lower driver, the word to continue, or a status of its own
+abbrev pub return_of : List ℕ → Option ReturnWord
+return_of t =
+    if bytes_eq t (codes "lower") then Some Lower else
+    (if bytes_eq t (codes "continue") then Some Continue else option_map StatusReturned (status_of t))
+
 -- a sort of routine
 abbrev pub sort_of : List ℕ → Option Sort
-sort_of t = if bytes_eq t (codes "dispatch") then Some DispatchSort else None
+sort_of t =
+    if bytes_eq t (codes "dispatch") then Some DispatchSort else
+    (if bytes_eq t (codes "propagate") then Some Propagate else None)

@@ -3,11 +3,11 @@
 ghost use Rattle.std.specs.Prelude.{◌≡◌, ◌≤◌, IfOk, option_map, slice_get};
 ghost use Rattle.std.specs.List.{list_all};
 ghost use Rattle.text.specs.Class.{is_token};
-ghost use Rattle.asm_line.specs.Line.{body_from, body_of, device_line, dispatch_line, driver_line, labelled, line_of, line_with, read_line, routine_line};
+ghost use Rattle.asm_line.specs.Line.{body_from, body_of, device_line, dispatch_line, driver_line, labelled, line_of, line_with, lower_name, read_line, return_line, routine_line};
 
-use crate::instruction::{instr_of, target_of};
-use crate::line::{Arg, Body, Keyword, Line, LineFault};
-use crate::operand::{arg_of, first_operand, second_operand, third_operand};
+use crate::instruction::{instr_of, returned, target_of};
+use crate::line::{Arg, Body, Keyword, Line, LineFault, Target};
+use crate::operand::{arg_of, first_operand, fourth_operand, second_operand, third_operand};
 use crate::words::keyword_of;
 use std::alloc::{AllocError, Global};
 use text::class::{is_token, label_name};
@@ -94,13 +94,14 @@ fn body_from<'a>(tokens: &[Piece<'a>], start: usize) -> Option<Body<'a>>
     ensures { result ≡ body_from tokens.now start }
 {
     let keyword = keyword_of(token_at(tokens, start)?)?;
-    if token_at(tokens, start + 4).is_some() {
+    if token_at(tokens, start + 5).is_some() {
         return None;
     }
     let first = arg_of(first_operand(keyword), token_at(tokens, start + 1))?;
     let second = arg_of(second_operand(keyword), token_at(tokens, start + 2))?;
     let third = arg_of(third_operand(keyword), token_at(tokens, start + 3))?;
-    body_of(keyword, first, second, third)
+    let fourth = arg_of(fourth_operand(keyword), token_at(tokens, start + 4))?;
+    body_of(keyword, first, second, third, fourth)
 }
 
 /// What a keyword says with its operands.
@@ -109,8 +110,9 @@ fn body_of<'a>(
     first: Arg<'a>,
     second: Arg<'a>,
     third: Arg<'a>,
+    fourth: Arg<'a>,
 ) -> Option<Body<'a>>
-    ensures { result ≡ body_of keyword first.entry second.entry third.entry }
+    ensures { result ≡ body_of keyword first.entry second.entry third.entry fourth.entry }
 {
     match keyword {
         Keyword::Driver => driver_line(first),
@@ -118,7 +120,8 @@ fn body_of<'a>(
         Keyword::Dispatch => dispatch_line(first, second),
         Keyword::Routine => routine_line(first, second),
         Keyword::Endr => Some(Body::CloseRoutine),
-        Keyword::Device => device_line(first, second, third),
+        Keyword::Device => device_line(first, second, third, fourth),
+        Keyword::Ret => return_line(first, second),
         _ => Some(Body::Step(
             instr_of(keyword, &first, &second, &third),
             target_of(keyword, first, second, third),
@@ -156,14 +159,39 @@ fn routine_line<'a>(name: Arg<'a>, sort: Arg<'a>) -> Option<Body<'a>>
     }
 }
 
-/// `device NAME DRIVER STACK`.
-fn device_line<'a>(name: Arg<'a>, driver: Arg<'a>, stack: Arg<'a>) -> Option<Body<'a>>
-    ensures { result ≡ device_line name.entry driver.entry stack.entry }
+/// `device NAME DRIVER STACK` and `device NAME DRIVER STACK LOWER`.
+fn device_line<'a>(
+    name: Arg<'a>,
+    driver: Arg<'a>,
+    stack: Arg<'a>,
+    lower: Arg<'a>,
+) -> Option<Body<'a>>
+    ensures { result ≡ device_line name.entry driver.entry stack.entry lower.entry }
 {
     match (name, driver, stack) {
         (Arg::Named(name), Arg::Named(driver), Arg::StackSize(stack)) => {
-            Some(Body::AddDevice(name, driver, stack))
+            Some(Body::AddDevice(name, driver, stack, lower_name(lower)))
         }
+        _ => None,
+    }
+}
+
+/// The name of a lower device, if one is given.
+fn lower_name<'a>(lower: Arg<'a>) -> Option<Piece<'a>>
+    ensures { result ≡ lower_name lower.entry }
+{
+    match lower {
+        Arg::Named(name) => Some(name),
+        _ => None,
+    }
+}
+
+/// `ret STATUS`, `ret lower REGISTER` and `ret continue`.
+fn return_line<'a>(word: Arg<'a>, second: Arg<'a>) -> Option<Body<'a>>
+    ensures { result ≡ return_line word.entry second.entry }
+{
+    match word {
+        Arg::Returning(word) => Some(Body::Step(returned(word, second)?, Target::Nothing)),
         _ => None,
     }
 }

@@ -1,15 +1,15 @@
 //! The instruction that a keyword makes of its operands.
 
 ghost use Rattle.std.specs.Prelude.{◌≡◌};
-ghost use Rattle.asm_line.specs.Instruction.{cell_in, constant_in, field_in, instr_of, lock_in, name_in, register_in, status_in, target_of, turns_in};
+ghost use Rattle.asm_line.specs.Instruction.{called_routine, cell_in, constant_in, field_in, instr_of, label_in, lock_in, register_in, returned, status_in, target_of, turns_in};
 
-use crate::line::{Arg, Keyword};
+use crate::line::{Arg, Keyword, ReturnWord, Target};
 use model::instr::{Cell, Field, Instr, Register, Return, SpinLock, Turns};
 use model::status::Status;
-use text::piece::Piece;
 
 /// The instruction of a keyword with these operands, which are of the forms that it wants. It is
-/// there if all of them are in range. The label of a jump is 0: `target_of` has its name.
+/// there if all of them are in range. The label of a jump is 0, and a `call` has no routine:
+/// `target_of` has the name. What `ret` makes is told by `returned`.
 pub fn instr_of(
     keyword: Keyword,
     first: &Arg<'_>,
@@ -48,36 +48,68 @@ pub fn instr_of(
         Keyword::Release => Some(Instr::Release(lock_in(first)?)),
         Keyword::AcquireCancel => Some(Instr::AcquireCancel),
         Keyword::ReleaseCancel => Some(Instr::ReleaseCancel),
+        Keyword::Pass => Some(Instr::Pass(register_in(first)?)),
+        Keyword::Call => Some(Instr::Call(register_in(first)?, None)),
         Keyword::Complete => Some(Instr::Complete(register_in(first)?, status_in(second)?)),
-        Keyword::Ret => Some(Instr::Ret(Return::WithStatus(status_in(first)?))),
+        Keyword::IfPending => Some(Instr::IfPending(register_in(first)?, 0)),
         _ => None,
     }
 }
 
-/// The name of the label that an instruction jumps to.
+/// The name that an instruction uses.
 pub fn target_of<'a>(
     keyword: Keyword,
     first: Arg<'a>,
     second: Arg<'a>,
     third: Arg<'a>,
-) -> Option<Piece<'a>>
+) -> Target<'a>
     ensures { result ≡ target_of keyword first.entry second.entry third.entry }
 {
     match keyword {
-        Keyword::JumpIfZero => name_in(second),
-        Keyword::JumpIfLess => name_in(third),
-        Keyword::Jump => name_in(first),
+        Keyword::JumpIfZero => label_in(second),
+        Keyword::JumpIfLess => label_in(third),
+        Keyword::Jump => label_in(first),
+        Keyword::IfPending => label_in(second),
+        Keyword::Call => called_routine(second),
+        _ => Target::Nothing,
+    }
+}
+
+/// What `ret` makes of the word after it and what follows that, if they are of a form: the
+/// instruction, if the register is in range.
+pub fn returned(word: ReturnWord, second: Arg<'_>) -> Option<Option<Instr>>
+    ensures { result ≡ returned word second.entry }
+{
+    match (word, second) {
+        (ReturnWord::Status(status), Arg::Absent) => {
+            Some(Some(Instr::Ret(Return::WithStatus(status))))
+        }
+        (ReturnWord::Lower, Arg::InRegister(Some(register))) => {
+            Some(Some(Instr::Ret(Return::Lower(register))))
+        }
+        (ReturnWord::Lower, Arg::InRegister(None)) => Some(None),
+        (ReturnWord::Continue, Arg::Absent) => Some(Some(Instr::Ret(Return::Continue))),
         _ => None,
     }
 }
 
-/// The name that an operand is.
-fn name_in<'a>(arg: Arg<'a>) -> Option<Piece<'a>>
-    ensures { result ≡ name_in arg.entry }
+/// The label that an operand names.
+fn label_in<'a>(arg: Arg<'a>) -> Target<'a>
+    ensures { result ≡ label_in arg.entry }
 {
     match arg {
-        Arg::Named(name) => Some(name),
-        _ => None,
+        Arg::Named(name) => Target::Label(name),
+        _ => Target::Nothing,
+    }
+}
+
+/// The routine that an operand names, if it is there.
+fn called_routine<'a>(arg: Arg<'a>) -> Target<'a>
+    ensures { result ≡ called_routine arg.entry }
+{
+    match arg {
+        Arg::Named(name) => Target::Routine(name),
+        _ => Target::Nothing,
     }
 }
 

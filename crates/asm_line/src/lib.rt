@@ -9,4 +9,4 @@ mod operand;
 mod words;
 
 pub use form::read_line;
-pub use line::{Body, Line, LineFault};
+pub use line::{Body, Line, LineFault, Target};

@@ -35,7 +35,10 @@ pub enum Keyword {
     Release,
     AcquireCancel,
     ReleaseCancel,
+    Pass,
+    Call,
     Complete,
+    IfPending,
     Ret,
 }
 
@@ -44,7 +47,9 @@ pub enum Keyword {
 pub enum Operand {
     Nothing,
     Name,
+    MaybeName,
     Register,
+    MaybeRegister,
     SpinLock,
     Cell,
     PagedCell,
@@ -55,6 +60,18 @@ pub enum Operand {
     Field,
     Sort,
     Status,
+    Return,
+}
+
+/// The word after `ret`.
+#[derive(Clone, Copy)]
+pub enum ReturnWord {
+    /// A status, which the routine returns.
+    Status(Status),
+    /// `lower`, with a register: the status in it, which a lower driver returned.
+    Lower,
+    /// `continue`.
+    Continue,
 }
 
 /// An operand as it was read. What is out of range is `None`: a register, lock or cell that isn't
@@ -74,6 +91,17 @@ pub enum Arg<'a> {
     OfField(Field),
     OfSort(Sort),
     WithStatus(Status),
+    Returning(ReturnWord),
+}
+
+/// The name that an instruction uses.
+#[derive(Drop)]
+pub enum Target<'a> {
+    Nothing,
+    /// Of the label that it jumps to.
+    Label(Piece<'a>),
+    /// Of the routine that a `call` sets.
+    Routine(Piece<'a>),
 }
 
 /// What a line says.
@@ -91,11 +119,13 @@ pub enum Body<'a> {
     OpenRoutine(Piece<'a>, Sort),
     /// `endr`.
     CloseRoutine,
-    /// `device NAME DRIVER STACK`: its name, its driver's name and its stack size.
-    AddDevice(Piece<'a>, Piece<'a>, Option<u64>),
-    /// An instruction, if all its operands are in range, and the name of the label that it jumps
-    /// to. The instruction itself has label 0 until the labels of its routine are known.
-    Step(Option<Instr>, Option<Piece<'a>>),
+    /// `device NAME DRIVER STACK` and `device NAME DRIVER STACK LOWER`: its name, its driver's name,
+    /// its stack size, and the name of the device under it.
+    AddDevice(Piece<'a>, Piece<'a>, Option<u64>, Option<Piece<'a>>),
+    /// An instruction, if all its operands are in range, and the name that it uses. The instruction
+    /// itself has label 0 until the labels of its routine are known, and no routine until those of
+    /// its driver are.
+    Step(Option<Instr>, Target<'a>),
 }
 
 /// A line: what it says, and its label if it has one.

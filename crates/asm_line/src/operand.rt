@@ -1,10 +1,10 @@
 //! The operands of a line: which ones a keyword wants, and what stands in their place.
 
 ghost use Rattle.std.specs.Prelude.{◌≡◌, ◌^◌, option_map};
-ghost use Rattle.asm_line.specs.Operand.{absent_arg, arg_of, cell_arg, cell_of, constant_arg, constant_of, first_operand, lock_arg, lock_of, name_arg, register_arg, register_of, second_operand, stack_arg, third_operand, token_arg, turns_arg, turns_of};
+ghost use Rattle.asm_line.specs.Operand.{absent_arg, arg_of, cell_arg, cell_of, constant_arg, constant_of, first_operand, fourth_operand, lock_arg, lock_of, name_arg, register_arg, register_of, second_operand, stack_arg, third_operand, token_arg, turns_arg, turns_of};
 
 use crate::line::{Arg, Keyword, Operand};
-use crate::words::{field_of, major_of, sort_of, status_of};
+use crate::words::{field_of, major_of, return_of, sort_of, status_of};
 use model::instr::{Cell, Register, SpinLock, Turns};
 use text::class::is_name;
 use text::number::{Numeral, number, numbered};
@@ -29,12 +29,15 @@ pub fn first_operand(keyword: Keyword) -> Operand
         | Keyword::Get
         | Keyword::Put
         | Keyword::Mark
-        | Keyword::Complete => Operand::Register,
+        | Keyword::Pass
+        | Keyword::Call
+        | Keyword::Complete
+        | Keyword::IfPending => Operand::Register,
         Keyword::Store => Operand::Cell,
         Keyword::StorePaged => Operand::PagedCell,
         Keyword::Acquire | Keyword::Release => Operand::SpinLock,
         Keyword::Loop => Operand::Turns,
-        Keyword::Ret => Operand::Status,
+        Keyword::Ret => Operand::Return,
         _ => Operand::Nothing,
     }
 }
@@ -44,7 +47,11 @@ pub fn second_operand(keyword: Keyword) -> Operand
     ensures { result ≡ second_operand keyword }
 {
     match keyword {
-        Keyword::Dispatch | Keyword::Device | Keyword::JumpIfZero => Operand::Name,
+        Keyword::Dispatch | Keyword::Device | Keyword::JumpIfZero | Keyword::IfPending => {
+            Operand::Name
+        }
+        Keyword::Call => Operand::MaybeName,
+        Keyword::Ret => Operand::MaybeRegister,
         Keyword::Routine => Operand::Sort,
         Keyword::Const => Operand::Number,
         Keyword::Move
@@ -74,6 +81,16 @@ pub fn third_operand(keyword: Keyword) -> Operand
     }
 }
 
+/// What a keyword wants fourth.
+pub fn fourth_operand(keyword: Keyword) -> Operand
+    ensures { result ≡ fourth_operand keyword }
+{
+    match keyword {
+        Keyword::Device => Operand::MaybeName,
+        _ => Operand::Nothing,
+    }
+}
+
 /// What stands in an operand's place, read as the operand that is wanted.
 pub fn arg_of<'a>(operand: Operand, token: Option<&'a [u8]>) -> Option<Arg<'a>>
     ensures { result ≡ arg_of operand (option_map (λ token. token.now) token.entry) }
@@ -84,12 +101,14 @@ pub fn arg_of<'a>(operand: Operand, token: Option<&'a [u8]>) -> Option<Arg<'a>>
     }
 }
 
-/// No token, which is right where nothing is wanted.
+/// No token, which is right where nothing is wanted or nothing need be there.
 fn absent_arg<'a>(operand: Operand) -> Option<Arg<'a>>
     ensures { result ≡ absent_arg operand }
 {
     match operand {
         Operand::Nothing => Some(Arg::Absent),
+        Operand::MaybeName => Some(Arg::Absent),
+        Operand::MaybeRegister => Some(Arg::Absent),
         _ => None,
     }
 }
@@ -101,7 +120,9 @@ fn token_arg<'a>(operand: Operand, token: &'a [u8]) -> Option<Arg<'a>>
     match operand {
         Operand::Nothing => None,
         Operand::Name => name_arg(token),
+        Operand::MaybeName => name_arg(token),
         Operand::Register => register_arg(numbered(b'r', token)),
+        Operand::MaybeRegister => register_arg(numbered(b'r', token)),
         Operand::SpinLock => lock_arg(numbered(b'l', token)),
         Operand::Cell => cell_arg(numbered(b'c', token)),
         Operand::PagedCell => cell_arg(numbered(b'p', token)),
@@ -112,6 +133,7 @@ fn token_arg<'a>(operand: Operand, token: &'a [u8]) -> Option<Arg<'a>>
         Operand::Field => Some(Arg::OfField(field_of(token)?)),
         Operand::Sort => Some(Arg::OfSort(sort_of(token)?)),
         Operand::Status => Some(Arg::WithStatus(status_of(token)?)),
+        Operand::Return => Some(Arg::Returning(return_of(token)?)),
     }
 }
 

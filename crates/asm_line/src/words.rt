@@ -1,9 +1,9 @@
 //! The words of a driver text.
 
 ghost use Rattle.std.specs.Prelude.{◌≡◌};
-ghost use Rattle.asm_line.specs.Words.{field_of, instruction_of, keyword_of, major_of, sort_of, status_of};
+ghost use Rattle.asm_line.specs.Words.{field_of, instruction_of, keyword_of, major_of, return_of, sort_of, status_of};
 
-use crate::line::Keyword;
+use crate::line::{Keyword, ReturnWord};
 use model::instr::Field;
 use model::set::Sort;
 use model::status::{Major, Status};
@@ -76,8 +76,14 @@ fn instruction_of(token: &[u8]) -> Option<Keyword>
         Some(Keyword::AcquireCancel)
     } else if is(token, b"relc") {
         Some(Keyword::ReleaseCancel)
+    } else if is(token, b"pass") {
+        Some(Keyword::Pass)
+    } else if is(token, b"call") {
+        Some(Keyword::Call)
     } else if is(token, b"complete") {
         Some(Keyword::Complete)
+    } else if is(token, b"ifpending") {
+        Some(Keyword::IfPending)
     } else if is(token, b"ret") {
         Some(Keyword::Ret)
     } else {
@@ -138,12 +144,27 @@ pub fn field_of(token: &[u8]) -> Option<Field>
     }
 }
 
+/// What the token says that a routine returns.
+pub fn return_of(token: &[u8]) -> Option<ReturnWord>
+    ensures { result ≡ return_of token.now }
+{
+    if is(token, b"lower") {
+        Some(ReturnWord::Lower)
+    } else if is(token, b"continue") {
+        Some(ReturnWord::Continue)
+    } else {
+        Some(ReturnWord::Status(status_of(token)?))
+    }
+}
+
 /// The sort of routine that the token names.
 pub fn sort_of(token: &[u8]) -> Option<Sort>
     ensures { result ≡ sort_of token.now }
 {
     if is(token, b"dispatch") {
         Some(Sort::Dispatch)
+    } else if is(token, b"propagate") {
+        Some(Sort::Propagate)
     } else {
         None
     }

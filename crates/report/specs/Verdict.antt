@@ -3,14 +3,15 @@ use Rattle.std.specs.Prelude.{ℕ, List, [], ◌∷◌, codes}
 use Rattle.std.specs.Fmt.{decimal}
 use Rattle.model.specs.declared.abs.Refusal.{Refusal}
 use Rattle.model.specs.declared.abs.Rule.{Rule}
-use Rattle.model.specs.declared.abs.Rule.TheVariants.{Malformed, Unreachable, StatesDiffer, WrongKind, DoubleCompletion, MarkIrpPending, CancelSpinLock, SpinLock, LockHeld, Level, Dropped, TooLong, Memory}
+use Rattle.model.specs.declared.abs.Rule.TheVariants.{Malformed, Unreachable, StatesDiffer, WrongKind, DoubleCompletion, MarkIrpPending, CancelSpinLock, SpinLock, LockHeld, Level, Dropped, Sort as SortRule, Completion, StackTooSmall, NoLower, TooLong, Memory}
 use Rattle.model.specs.declared.set.Sort.{Sort}
-use Rattle.model.specs.declared.set.Sort.TheVariants.{Dispatch}
+use Rattle.model.specs.declared.set.Sort.TheVariants.{Dispatch, Propagate}
 use Rattle.report.specs.Line.{line_of}
 
 -- the word of a sort
 abbrev pub sort_text : Sort → List ℕ
 sort_text Dispatch = codes "dispatch"
+sort_text Propagate = codes "propagate"
 
 -- a rule: its number and its name
 abbrev pub rule_text : Rule → List ℕ
@@ -25,6 +26,10 @@ rule_text SpinLock = codes "V8 SpinLock"
 rule_text LockHeld = codes "V9 LockHeld"
 rule_text Level = codes "V10 Level"
 rule_text Dropped = codes "V13 Dropped"
+rule_text SortRule = codes "V15 Sort"
+rule_text Completion = codes "V16 Completion"
+rule_text StackTooSmall = codes "V17 StackTooSmall"
+rule_text NoLower = codes "V18 NoLower"
 rule_text TooLong = codes "V19 TooLong"
 rule_text Memory = codes "V20 Memory"
 

@@ -42,6 +42,7 @@ fn bug_check_code(check: BugCheck) -> u8
         BugCheck::IrqlNotLessOrEqual => 0x0A,
         BugCheck::SpinLockAlreadyOwned => 0x0F,
         BugCheck::SpinLockNotOwned => 0x10,
+        BugCheck::NoMoreIrpStackLocations => 0x35,
         BugCheck::MultipleIrpCompleteRequests => 0x44,
     }
 }

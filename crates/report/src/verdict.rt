@@ -53,6 +53,7 @@ fn sort_name(sort: Sort) -> &'static str
 {
     match sort {
         Sort::Dispatch => "dispatch",
+        Sort::Propagate => "propagate",
     }
 }
 
@@ -72,6 +73,10 @@ fn rule_name(rule: Rule) -> &'static str
         Rule::LockHeld => "V9 LockHeld",
         Rule::Level => "V10 Level",
         Rule::Dropped => "V13 Dropped",
+        Rule::Sort => "V15 Sort",
+        Rule::Completion => "V16 Completion",
+        Rule::StackTooSmall => "V17 StackTooSmall",
+        Rule::NoLower => "V18 NoLower",
         Rule::TooLong => "V19 TooLong",
         Rule::Memory => "V20 Memory",
     }

@@ -1,0 +1,206 @@
+//! The routines of a driver put in place of their names, once all of them are known.
+
+ghost use Rattle.std.specs.Prelude.{◌≡◌, ◌≤◌, length, map, IfOk, None};
+ghost use Rattle.asm.specs.Outline.{called, finished, handler_in, missed_calls, missed_entry, missed_handler, missed_routine, missed_use, number_for, finished_driver, routine_called, routine_named, serves, with_routine};
+
+use crate::draft::{ClosedRoutine, Draft, Linked, Use};
+use crate::names::{earliest, number_of};
+use indexmap::IndexSet;
+use model::instr::Instr;
+use model::items::Items;
+use model::set::{Driver, Routine, Sort};
+use std::alloc::{AllocError, Global};
+use text::piece::Piece;
+
+/// What a routine is named for.
+#[derive(Clone, Copy)]
+pub enum Role {
+    /// To serve a major function.
+    Handler,
+    /// To be set by a `call`.
+    Completion,
+}
+
+/// Whether routines of this sort are for this role.
+fn serves(role: Role, sort: Sort) -> bool
+    ensures { result ≡ serves role sort }
+{
+    match (role, sort) {
+        (Role::Handler, Sort::Dispatch) => true,
+        (Role::Completion, Sort::Propagate) => true,
+        _ => false,
+    }
+}
+
+/// The number of the routine with this name, if its sort is for the role.
+fn routine_named(
+    names: &IndexSet<Piece<'_>>,
+    sorts: &[Sort],
+    role: Role,
+    name: &Piece<'_>,
+) -> Option<u8>
+    requires { length names.now.keys ≤ 32 }
+    ensures { result ≡ routine_named names.now.keys sorts.now role name.now }
+{
+    let number = number_of(names, name)?;
+    number_for(role, number, sorts.get(number as usize).copied())
+}
+
+/// The number, if there is a sort and it is for the role.
+fn number_for(role: Role, number: u8, sort: Option<Sort>) -> Option<u8>
+    ensures { result ≡ number_for role number sort }
+{
+    match sort {
+        Some(sort) => {
+            if serves(role, sort) {
+                Some(number)
+            } else {
+                None
+            }
+        }
+        None => None,
+    }
+}
+
+/// The instruction with this routine in place of its own, if it is a `call`.
+fn with_routine(instr: Instr, routine: Option<u8>) -> Instr
+    ensures { result ≡ with_routine instr routine }
+{
+    match instr {
+        Instr::Call(register, _) => Instr::Call(register, routine),
+        other => other,
+    }
+}
+
+impl<'a> Draft<'a> {
+    /// The first line of the open driver that uses a routine which it doesn't have, or one of a sort
+    /// that isn't for its role.
+    pub fn missed_routine(&self) -> Option<u64>
+        requires { length self.now.routine_names ≤ 32 }
+        ensures { result ≡ missed_routine self.now }
+    {
+        earliest(self.missed_calls(), self.missed_handler())
+    }
+
+    /// The first line that names such a routine for a major function.
+    fn missed_handler(&self) -> Option<u64>
+        requires { length self.now.routine_names ≤ 32 }
+        ensures { result ≡ missed_handler self.now.routine_names self.now.sorts self.now }
+    {
+        let read = self.missed_entry(&self.read);
+        let write = self.missed_entry(&self.write);
+        let control = self.missed_entry(&self.control);
+        earliest(read, earliest(write, control))
+    }
+
+    /// The line of a table entry that names such a routine.
+    fn missed_entry(&self, entry: &Option<Use<'a>>) -> Option<u64>
+        requires { length self.now.routine_names ≤ 32 }
+        ensures { result ≡ missed_entry self.now.routine_names self.now.sorts entry.now }
+    {
+        match entry {
+            Some(used) => self.missed_use(Role::Handler, used),
+            None => None,
+        }
+    }
+
+    /// The line of this use of a name, if it names such a routine.
+    fn missed_use(&self, role: Role, used: &Use<'a>) -> Option<u64>
+        requires { length self.now.routine_names ≤ 32 }
+        ensures { result ≡ missed_use self.now.routine_names self.now.sorts role used.now }
+    {
+        if self.routine_named(role, &used.name).is_some() {
+            None
+        } else {
+            Some(used.line)
+        }
+    }
+
+    /// The first call that names such a routine.
+    fn missed_calls(&self) -> Option<u64>
+        requires { length self.now.routine_names ≤ 32 }
+        ensures { result ≡ missed_calls self.now.routine_names self.now.sorts None self.now.calls }
+    {
+        let mut found = None;
+        for used in &self.calls {
+            found = earliest(found, self.missed_use(Role::Completion, used));
+        }
+        found
+    }
+
+    /// The open driver, whose routines are all closed.
+    pub fn finished_driver(&self, alloc: Global) -> Result<Driver, AllocError>
+        requires { length self.now.routine_names ≤ 32 }
+        ensures { IfOk result (λ driver. driver ≡ finished_driver self.now) }
+    {
+        Ok(Driver {
+            routines: Items::of(self.finished_routines(alloc)?),
+            read: self.handler_in(&self.read),
+            write: self.handler_in(&self.write),
+            control: self.handler_in(&self.control),
+        })
+    }
+
+    /// The number of the routine that serves a major function.
+    fn handler_in(&self, entry: &Option<Use<'a>>) -> Option<u8>
+        requires { length self.now.routine_names ≤ 32 }
+        ensures { result ≡ handler_in self.now.routine_names self.now.sorts entry.now }
+    {
+        match entry {
+            Some(used) => self.routine_named(Role::Handler, &used.name),
+            None => None,
+        }
+    }
+
+    /// The number of the open driver's routine with this name, if its sort is for the role.
+    fn routine_named(&self, role: Role, name: &Piece<'a>) -> Option<u8>
+        requires { length self.now.routine_names ≤ 32 }
+        ensures { result ≡ routine_named self.now.routine_names self.now.sorts role name.now }
+    {
+        routine_named(&self.routine_names, &self.sorts, role, name)
+    }
+
+    /// The open driver's routines, whose calls have the numbers of their routines.
+    fn finished_routines(&self, alloc: Global) -> Result<Vec<Routine>, AllocError>
+        requires { length self.now.routine_names ≤ 32 }
+        ensures { IfOk result (λ routines. routines.items ≡ map (finished self.now) self.now.routines) }
+    {
+        let mut routines = Vec::new(alloc);
+        for routine in &self.routines {
+            routines.push(self.finished(alloc, routine)?)?;
+        }
+        Ok(routines)
+    }
+
+    /// A routine whose calls have the numbers of their routines.
+    fn finished(&self, alloc: Global, routine: &ClosedRoutine) -> Result<Routine, AllocError>
+        requires { length self.now.routine_names ≤ 32 }
+        ensures { IfOk result (λ whole. whole ≡ finished self.now routine.now) }
+    {
+        Ok(Routine {
+            sort: routine.sort,
+            code: Items::of(self.code_of(alloc, routine.code.as_slice())?),
+        })
+    }
+
+    /// Instructions whose calls have the numbers of their routines.
+    fn code_of(&self, alloc: Global, steps: &[Linked]) -> Result<Vec<Instr>, AllocError>
+        requires { length self.now.routine_names ≤ 32 }
+        ensures { IfOk result (λ code. code.items ≡ map (called self.now) steps.now) }
+    {
+        let mut code = Vec::new(alloc);
+        for step in steps {
+            code.push(with_routine(step.instr, self.routine_called(step.call)))?;
+        }
+        Ok(code)
+    }
+
+    /// The number of the routine that the call of this place sets.
+    fn routine_called(&self, call: Option<usize>) -> Option<u8>
+        requires { length self.now.routine_names ≤ 32 }
+        ensures { result ≡ routine_called self.now call }
+    {
+        let used = self.calls.get(call?)?;
+        self.routine_named(Role::Completion, &used.name)
+    }
+}
