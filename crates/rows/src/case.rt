@@ -7,6 +7,7 @@ use drvhost_parts::trace::trace;
 use std::alloc::Global;
 
 /// One run of the library.
+#[derive(Drop)]
 pub(crate) struct Case<'a> {
     pub(crate) name: &'a str,
     pub(crate) set: &'a str,

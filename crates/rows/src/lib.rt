@@ -12,4 +12,6 @@ mod failures;
 #[cfg(test)]
 mod routines;
 #[cfg(test)]
+mod stacks;
+#[cfg(test)]
 mod worked;

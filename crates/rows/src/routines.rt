@@ -123,7 +123,9 @@ static LOCKING: [Worked; 6] = [
 
 /// The text of the set with this routine.
 fn set_with(alloc: Global, code: &str) -> Result<String, AllocError> {
-    format!(in alloc; "driver d\ndispatch READ f\nroutine f dispatch\n{code}endr\nendd\ndevice v d 1\n")
+    format!(in alloc;
+        "driver d\ndispatch READ f\nroutine f dispatch\n{code}endr\nendd\ndevice v d 1\n"
+    )
 }
 
 /// Whether the library answers as it should.
