@@ -26,7 +26,7 @@ use Rattle.asm.specs.declared.draft.Place.TheVariants.{Outside, InDriver, InRout
 use Rattle.asm.specs.declared.draft.Step.{Step}
 use Rattle.asm.specs.declared.draft.Use.{Use}
 use Rattle.asm.specs.declared.fault.AsmFault.{AsmFault}
-use Rattle.asm.specs.Outline.{Outline, nothing_read, call_place, call_used, called, driver_closed, driver_opened, finished, finished_driver, handled, is_out_of_range, label_used, noted, position_of, resolved, routine_called, routine_closed, routine_named, routine_opened, stands, stepped, with_label, with_routine}
+use Rattle.asm.specs.Outline.{Outline, nothing_read, call_place, called, driver_closed, driver_opened, finished, finished_driver, handled, is_out_of_range, label_used, noted, position_of, resolved, routine_called, routine_closed, routine_named, routine_opened, stands, stepped, with_label, with_routine}
 use Rattle.asm.specs.Reading.{named, reading, resolved as set_of}
 use Rattle.asm.specs.Laws.{routines_ahead, sorts_ahead, IsRead, Reads}
 use Rattle.asm.specs.Code.{all_codes, call_number, codes_of, driver_codes, instruction_on, instructions_on, label_place, routine_codes, routine_lines, CodeIsOfItsLines, IsOfItsLines}
