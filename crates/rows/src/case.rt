@@ -7,40 +7,72 @@ use drvhost_parts::trace::trace;
 use std::alloc::Global;
 
 /// One run of the library.
-#[derive(Drop)]
-pub(crate) struct Case<'a> {
-    pub(crate) name: &'a str,
-    pub(crate) set: &'a str,
+pub(crate) struct Case {
+    pub(crate) name: &'static str,
+    pub(crate) set: &'static str,
     /// None for a verdict.
-    pub(crate) trace: Option<(&'a str, Verification)>,
+    pub(crate) trace: Option<(&'static str, Verification)>,
     pub(crate) status: u8,
-    pub(crate) out: &'a str,
-    pub(crate) err: &'a str,
+    pub(crate) out: &'static str,
+    pub(crate) err: &'static str,
 }
 
 /// Whether the library does in the case what it should.
-pub(crate) fn is_met(alloc: Global, case: &Case<'_>) -> bool {
-    let mut set = Reader::new(Some(case.set.as_bytes()));
-    let mut out = Writer::new(Vec::<u8>::new(alloc));
-    let mut err = Writer::new(Vec::<u8>::new(alloc));
-    let status = match case.trace {
-        None => check(alloc, &mut set, &mut out, &mut err),
-        Some((text, verification)) => {
-            let mut schedule = Reader::new(Some(text.as_bytes()));
-            trace(
-                alloc,
-                &mut set,
-                &mut schedule,
-                verification,
-                &mut out,
-                &mut err,
-            )
-        }
-    };
-    status == case.status
-        && set.failures() == 0
-        && out.failures() == 0
-        && err.failures() == 0
-        && out.into_inner().as_slice() == case.out.as_bytes()
-        && err.into_inner().as_slice() == case.err.as_bytes()
+pub(crate) fn is_met(alloc: Global, case: &Case) -> bool {
+    match case.trace {
+        None => is_judged_so(alloc, case.set, case.status, case.out, case.err),
+        Some((schedule, verification)) => runs_so(
+            alloc,
+            case.set,
+            schedule,
+            verification,
+            case.status,
+            case.out,
+            case.err,
+        ),
+    }
+}
+
+/// Whether the verdict on a set ends and writes so.
+pub(crate) fn is_judged_so(alloc: Global, set: &str, status: u8, out: &str, err: &str) -> bool {
+    let mut source = Reader::new(Some(set.as_bytes()));
+    let mut output = Writer::new(Vec::<u8>::new(alloc));
+    let mut errors = Writer::new(Vec::<u8>::new(alloc));
+    let answer = check(alloc, &mut source, &mut output, &mut errors);
+    answer == status
+        && source.failures() == 0
+        && output.failures() == 0
+        && errors.failures() == 0
+        && output.into_inner().as_slice() == out.as_bytes()
+        && errors.into_inner().as_slice() == err.as_bytes()
+}
+
+/// Whether the trace of a schedule ends and writes so.
+pub(crate) fn runs_so(
+    alloc: Global,
+    set: &str,
+    schedule: &str,
+    verification: Verification,
+    status: u8,
+    out: &str,
+    err: &str,
+) -> bool {
+    let mut source = Reader::new(Some(set.as_bytes()));
+    let mut events = Reader::new(Some(schedule.as_bytes()));
+    let mut output = Writer::new(Vec::<u8>::new(alloc));
+    let mut errors = Writer::new(Vec::<u8>::new(alloc));
+    let answer = trace(
+        alloc,
+        &mut source,
+        &mut events,
+        verification,
+        &mut output,
+        &mut errors,
+    );
+    answer == status
+        && source.failures() == 0
+        && output.failures() == 0
+        && errors.failures() == 0
+        && output.into_inner().as_slice() == out.as_bytes()
+        && errors.into_inner().as_slice() == err.as_bytes()
 }

@@ -1,6 +1,6 @@
 //! Dispatch routines that compute, branch, loop and lock: their verdicts and their unchecked traces.
 
-use crate::case::{Case, is_met};
+use crate::case::{is_judged_so, runs_so};
 use drvhost_parts::job::Verification;
 use std::alloc::{AllocError, Global};
 
@@ -133,23 +133,18 @@ fn is_worked(alloc: Global, worked: &Worked) -> bool {
     let Ok(set) = set_with(alloc, worked.code) else {
         return false;
     };
-    let verdict = Case {
-        name: worked.name,
-        set: set.as_str(),
-        trace: None,
-        status: worked.verdict.0,
-        out: worked.verdict.1,
-        err: "",
-    };
-    let trace = Case {
-        name: worked.name,
-        set: set.as_str(),
-        trace: Some((worked.schedule, Verification::Skipped)),
-        status: worked.trace.0,
-        out: worked.trace.1,
-        err: "",
-    };
-    is_met(alloc, &verdict) && is_met(alloc, &trace)
+    let (judged, verdict) = worked.verdict;
+    let (ended, trace) = worked.trace;
+    is_judged_so(alloc, set.as_str(), judged, verdict, "")
+        && runs_so(
+            alloc,
+            set.as_str(),
+            worked.schedule,
+            Verification::Skipped,
+            ended,
+            trace,
+            "",
+        )
 }
 
 #[test]
@@ -183,17 +178,7 @@ fn long_routine(alloc: Global, count: usize) -> Result<String, AllocError> {
 /// Whether the verdict on the long routine is this one.
 fn is_judged(alloc: Global, count: usize, status: u8, out: &str) -> bool {
     match long_routine(alloc, count) {
-        Ok(set) => {
-            let case = Case {
-                name: "a long routine",
-                set: set.as_str(),
-                trace: None,
-                status,
-                out,
-                err: "",
-            };
-            is_met(alloc, &case)
-        }
+        Ok(set) => is_judged_so(alloc, set.as_str(), status, out, ""),
         Err(_refused) => false,
     }
 }

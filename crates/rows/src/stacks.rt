@@ -23,7 +23,7 @@ const TOO_SMALL: &str =
 const LARGE_ENOUGH: &str =
     "driver a\ndispatch READ f\nroutine f dispatch\ncomplete r0 SUCCESS\nret SUCCESS\nendr\nendd\ndriver b\ndispatch READ f\nroutine f dispatch\ncall r0\nret lower r0\nendr\nendd\ndevice v a 1\ndevice w b 2 v\n";
 
-static VERDICTS: [Case<'static>; 6] = [
+static VERDICTS: [Case; 6] = [
     Case {
         name: "a call under a driver that marks",
         set: CALLED,
@@ -74,7 +74,7 @@ static VERDICTS: [Case<'static>; 6] = [
     },
 ];
 
-static TRACES: [Case<'static>; 4] = [
+static TRACES: [Case; 4] = [
     Case {
         name: "the manager carries the mark up",
         set: CALLED,

@@ -23,7 +23,7 @@ const DROPS: &str =
 
 const ONE_REQUEST: &str = "threads 1\nissue 0 0 READ 7\nstep 0 4\n";
 
-static VERDICTS: [Case<'static>; 8] = [
+static VERDICTS: [Case; 8] = [
     Case {
         name: "a completed packet",
         set: COMPLETES,
@@ -90,7 +90,7 @@ static VERDICTS: [Case<'static>; 8] = [
     },
 ];
 
-static TRACES: [Case<'static>; 7] = [
+static TRACES: [Case; 7] = [
     Case {
         name: "one request",
         set: COMPLETES,
