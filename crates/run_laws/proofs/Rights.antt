@@ -1,0 +1,177 @@
+-- The rights of a frame's registers, as they are written.
+use Rattle.std.proofs.Common.{◌≡◌, ℕ, zero, suc, ◌+◌, ◌<◌, ◌≤◌, true, false, List, [], ◌∷◌, length, refl, arith, ap}
+use Rattle.std.specs.Prelude.{slice_set, slice_index_or}
+use Rattle.std.specs.List.{list_any}
+use Rattle.std.proofs.lemmas.Bool.{eq-eqb}
+use Rattle.model.specs.declared.abs.Kind.{Kind}
+use Rattle.model.specs.declared.abs.Kind.TheVariants.{Blank as BlankKind, Num as NumKind, Lower, New, Own, View}
+use Rattle.model.specs.declared.status.Status.{Status}
+use Rattle.model.specs.declared.world.Value.{Value}
+use Rattle.model.specs.declared.world.Value.TheVariants.{Blank, Ref, Status as StatusValue}
+use Rattle.model.specs.LocalRule.{is_packet, is_owed, left_behind}
+use Rattle.run_laws.specs.Holder.{right, rights}
+use Rattle.run_laws.proofs.Leading.{or_left, or_right}
+use Rattle.run_laws.proofs.Suiting.{HasKinds, Suits, copied}
+
+pub no_right : (k : Kind) (v : Value) (n : ℕ) → is_owed k ≡ false → right k v n ≡ 0
+no_right k v n h = rw h refl
+
+pub one_right : (k : Kind) (v : Value) (n : ℕ) → is_owed k ≡ true → v ≡ Ref n → right k v n ≡ 1
+one_right k v n is h = rw (is, h, eq-eqb n n refl) refl
+
+-- a register that has no right gets a value, or a kind and a value without one
+pub rights_write : (issued : ℕ) (kinds : List Kind) (values : List Value) (r : ℕ) (k : Kind) (v : Value) (n : ℕ)
+    → HasKinds issued kinds values
+    → is_owed (slice_index_or kinds r BlankKind) ≡ false → is_owed k ≡ false
+    → rights (slice_set kinds r k) (slice_set values r v) n ≡ rights kinds values n
+rights_write issued [] [] r k v n h free is = refl
+rights_write issued [] (w ∷ values) r k v n h free is = absurd h
+rights_write issued (j ∷ kinds) [] r k v n h free is = absurd h
+rights_write issued (j ∷ kinds) (w ∷ values) zero k v n h free is = rw (free, is) refl
+rights_write issued (j ∷ kinds) (w ∷ values) (suc r) k v n h free is =
+    ap (λ (sum : ℕ). right j w n + sum) (rights_write issued kinds values r k v n h.1 free is)
+
+pub rights_value : (issued : ℕ) (kinds : List Kind) (values : List Value) (r : ℕ) (v : Value) (n : ℕ)
+    → HasKinds issued kinds values
+    → is_owed (slice_index_or kinds r BlankKind) ≡ false → rights kinds (slice_set values r v) n
+    ≡ rights kinds values n
+rights_value issued [] [] r v n h free = refl
+rights_value issued [] (w ∷ values) r v n h free = absurd h
+rights_value issued (j ∷ kinds) [] r v n h free = absurd h
+rights_value issued (j ∷ kinds) (w ∷ values) zero v n h free = rw free refl
+rights_value issued (j ∷ kinds) (w ∷ values) (suc r) v n h free =
+    ap (λ (sum : ℕ). right j w n + sum) (rights_value issued kinds values r v n h.1 free)
+
+-- a register's right goes, and another one comes
+pub rights_both : (issued : ℕ) (kinds : List Kind) (values : List Value) (r : ℕ) (k : Kind) (v : Value) (n : ℕ)
+    → HasKinds issued kinds values → r < length kinds
+    → rights (slice_set kinds r k) (slice_set values r v) n + right (slice_index_or kinds r BlankKind)
+    (slice_index_or values r Blank) n
+    ≡ rights kinds values n + right k v n
+rights_both issued [] [] r k v n h within = absurd (omega arith)
+rights_both issued [] (w ∷ values) r k v n h within = absurd h
+rights_both issued (j ∷ kinds) [] r k v n h within = absurd h
+rights_both issued (j ∷ kinds) (w ∷ values) zero k v n h within = omega arith
+rights_both issued (j ∷ kinds) (w ∷ values) (suc r) k v n h within =
+    let others : rights (slice_set kinds r k) (slice_set values r v) n + right (slice_index_or kinds r BlankKind)
+    (slice_index_or values r Blank) n
+    ≡ rights kinds values n + right k v n =
+    rights_both issued kinds values r k v n h.1 (omega arith)
+    in
+    omega arith
+
+no_name : (k : Kind) (n : ℕ) → right k Blank n ≡ 0
+no_name BlankKind n = refl
+no_name NumKind n = refl
+no_name Lower n = refl
+no_name View n = refl
+no_name New n = refl
+no_name Own n = refl
+
+pub rights_turn : (issued : ℕ) (kinds : List Kind) (values : List Value) (r : ℕ) (k : Kind) (n : ℕ)
+    → HasKinds issued kinds values
+    → rights (slice_set kinds r k) values n + right (slice_index_or kinds r BlankKind) (slice_index_or values r Blank)
+    n
+    ≡ rights kinds values n + right k (slice_index_or values r Blank) n
+rights_turn issued [] [] r k n h = rw (no_name k n) refl
+rights_turn issued [] (w ∷ values) r k n h = absurd h
+rights_turn issued (j ∷ kinds) [] r k n h = absurd h
+rights_turn issued (j ∷ kinds) (w ∷ values) zero k n h = omega arith
+rights_turn issued (j ∷ kinds) (w ∷ values) (suc r) k n h =
+    let others : rights (slice_set kinds r k) values n + right (slice_index_or kinds r BlankKind)
+    (slice_index_or values r Blank) n
+    ≡ rights kinds values n + right k (slice_index_or values r Blank) n =
+    rights_turn issued kinds values r k n h.1
+    in
+    omega arith
+
+-- one register's right is among all
+pub right_le : (issued : ℕ) (kinds : List Kind) (values : List Value) (r n : ℕ) → HasKinds issued kinds values
+    → right (slice_index_or kinds r BlankKind) (slice_index_or values r Blank) n ≤ rights kinds values n
+right_le issued [] [] r n h = omega arith
+right_le issued [] (w ∷ values) r n h = absurd h
+right_le issued (j ∷ kinds) [] r n h = absurd h
+right_le issued (j ∷ kinds) (w ∷ values) zero n h = omega arith
+right_le issued (j ∷ kinds) (w ∷ values) (suc r) n h =
+    let others : right (slice_index_or kinds r BlankKind) (slice_index_or values r Blank) n ≤ rights kinds values n =
+    right_le issued kinds values r n h.1 in
+    omega arith
+
+-- a move takes the right along
+left_right : (k : Kind) (v : Value) (n : ℕ) → right (left_behind k) v n ≡ 0
+left_right BlankKind v n = refl
+left_right NumKind v n = refl
+left_right Lower v n = refl
+left_right View v n = refl
+left_right New v n = refl
+left_right Own v n = refl
+
+pub rights_move : (issued : ℕ) (kinds : List Kind) (values : List Value) (r q n : ℕ) → HasKinds issued kinds values
+    → r < length kinds
+    → is_owed (slice_index_or kinds r BlankKind) ≡ false
+    → HasKinds issued (slice_set kinds r (slice_index_or kinds q BlankKind))
+    (slice_set values r (slice_index_or values q Blank))
+    → rights (slice_set (slice_set kinds r (slice_index_or kinds q BlankKind)) q
+    (left_behind (slice_index_or kinds q BlankKind)))
+    (slice_set values r (slice_index_or values q Blank)) n
+    ≡ rights kinds values n
+rights_move issued kinds values r q n h within free moved =
+    let k : Kind = slice_index_or kinds q BlankKind in
+    let v : Value = slice_index_or values q Blank in
+    let ks : List Kind = slice_set kinds r k in
+    let vs : List Value = slice_set values r v in
+    let both : rights ks vs n + right (slice_index_or kinds r BlankKind) (slice_index_or values r Blank) n
+    ≡ rights kinds values n + right k v n =
+    rights_both issued kinds values r k v n h within
+    in
+    let none : right (slice_index_or kinds r BlankKind) (slice_index_or values r Blank) n ≡ 0 =
+    no_right (slice_index_or kinds r BlankKind) (slice_index_or values r Blank) n free
+    in
+    let turn : rights (slice_set ks q (left_behind k)) vs n + right (slice_index_or ks q BlankKind)
+    (slice_index_or vs q Blank) n
+    ≡ rights ks vs n + right (left_behind k) (slice_index_or vs q Blank) n =
+    rights_turn issued ks vs q (left_behind k) n moved
+    in
+    let left : right (left_behind k) (slice_index_or vs q Blank) n ≡ 0 = left_right k (slice_index_or vs q Blank) n in
+    let there : right (slice_index_or ks q BlankKind) (slice_index_or vs q Blank) n ≡ right k v n =
+    rw (copied kinds r q BlankKind, copied values r q Blank) refl in
+    omega arith
+
+-- a register that is told a status has no right
+not_told : (issued : ℕ) (k : Kind) (status : Status) → Suits issued k (StatusValue status) → is_owed k ≡ false
+not_told issued BlankKind status h = refl
+not_told issued NumKind status h = refl
+not_told issued Lower status h = refl
+not_told issued View status h = refl
+not_told issued New status h = let no : StatusValue status ≡ Ref h.0 = h.1 in cc
+not_told issued Own status h = let no : StatusValue status ≡ Ref h.0 = h.1 in cc
+
+pub rights_told : (issued : ℕ) (kinds : List Kind) (values : List Value) (r : ℕ) (status : Status) (n : ℕ)
+    → HasKinds issued kinds (slice_set values r (StatusValue status))
+    → rights kinds (slice_set values r (StatusValue status)) n ≡ rights kinds values n
+rights_told issued [] values r status n h = refl
+rights_told issued (k ∷ kinds) [] r status n h = refl
+rights_told issued (k ∷ kinds) (v ∷ values) zero status n h = rw (not_told issued k status h.0) refl
+rights_told issued (k ∷ kinds) (v ∷ values) (suc r) status n h =
+    ap (λ (sum : ℕ). right k v n + sum) (rights_told issued kinds values r status n h.1)
+
+-- a register that may be written over has no right
+pub not_owed : (k : Kind) → is_packet k ≡ false → is_owed k ≡ false
+not_owed BlankKind h = refl
+not_owed NumKind h = refl
+not_owed Lower h = refl
+not_owed View h = refl
+not_owed New h = cc
+not_owed Own h = cc
+
+-- where no kind is a packet's there is no right
+pub no_rights : (kinds : List Kind) (values : List Value) (n : ℕ) → list_any is_owed kinds ≡ false
+    → rights kinds values n ≡ 0
+no_rights [] values n h = refl
+no_rights (k ∷ kinds) [] n h = refl
+no_rights (k ∷ kinds) (v ∷ values) n h =
+    let one : right k v n ≡ 0 = no_right k v n (or_left (is_owed k) (list_any is_owed kinds) h) in
+    let others : rights kinds values n ≡ 0 =
+    no_rights kinds values n (or_right (is_owed k) (list_any is_owed kinds) h)
+    in
+    omega arith

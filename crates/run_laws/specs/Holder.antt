@@ -1,0 +1,73 @@
+-- Who holds a packet: a register that has the right to it, or the I/O manager's frame that completes it.
+use Rattle.std.specs.Prelude.{ℕ, ◌≡◌, ◌<◌, ◌+◌, false, List, [], ◌∷◌, length, Option, None, Some, nat_eq, if◌then◌else◌}
+use Rattle.model.specs.declared.abs.Abs.{Abs}
+use Rattle.model.specs.declared.abs.Kind.{Kind}
+use Rattle.model.specs.declared.event.Event.{Event}
+use Rattle.model.specs.declared.set.Routine.{Routine as RoutineOf}
+use Rattle.model.specs.declared.world.Frame.{Frame}
+use Rattle.model.specs.declared.world.Frame.TheVariants.{Routine, Walk}
+use Rattle.model.specs.declared.world.Packet.{Packet}
+use Rattle.model.specs.declared.world.Thread.{Thread}
+use Rattle.model.specs.declared.world.Value.{Value}
+use Rattle.model.specs.declared.world.Value.TheVariants.{Ref}
+use Rattle.model.specs.LocalRule.{is_owed}
+use Rattle.model.specs.Paths.{Arrives}
+use Rattle.model.specs.Run.{run}
+use Rattle.model.specs.Set.{Set, member, routine_of}
+use Rattle.model.specs.Sound.{IsSound}
+use Rattle.model.specs.Typable.{IsTypable}
+use Rattle.model.specs.World.{packet_of}
+use Rattle.run_laws.specs.Operand.{OperandsFit}
+
+-- 1 where a value refers to a packet, else 0
+abbrev pub names : Value → ℕ → ℕ
+names (Ref m) n = if nat_eq m n then 1 else 0
+names _ n = 0
+
+-- how many registers have a right to a packet: it is theirs by their kind
+abbrev pub right : Kind → Value → ℕ → ℕ
+right k v n = if is_owed k then names v n else 0
+
+abbrev pub rights : List Kind → List Value → ℕ → ℕ
+rights [] values n = 0
+rights (k ∷ kinds) [] n = 0
+rights (k ∷ kinds) (v ∷ values) n = right k v n + rights kinds values n
+
+-- the registers of a frame, by the state at its position, and the I/O manager's frames of a packet
+abbrev pub frame_rights : (ℕ → ℕ → ℕ → Abs) → Frame → ℕ → ℕ
+frame_rights states (Routine a) n = rights (states a.driver a.routine a.position).kinds a.registers n
+frame_rights states (Walk m) n = 0
+
+abbrev pub frame_walks : Frame → ℕ → ℕ
+frame_walks (Routine a) n = 0
+frame_walks (Walk m) n = if nat_eq m n then 1 else 0
+
+abbrev pub stack_sum : (Frame → ℕ) → List Frame → ℕ
+stack_sum count [] = 0
+stack_sum count (f ∷ frames) = count f + stack_sum count frames
+
+abbrev pub thread_sum : (Frame → ℕ) → List Thread → ℕ
+thread_sum count [] = 0
+thread_sum count (thread ∷ threads) = stack_sum count thread.frames.items + thread_sum count threads
+
+abbrev pub holders : (ℕ → ℕ → ℕ → Abs) → List Thread → ℕ → ℕ
+holders states threads n = thread_sum (λ f. frame_rights states f n + frame_walks f n) threads
+
+abbrev pub alive : Option Packet → ℕ
+alive None = 0
+alive (Some p) = 1
+
+-- a live packet of a run has one holder, and one that has topped out none; the states are those that
+-- arrive at the positions of the routines
+pub record HasOneHolder (set : Set) (threads : ℕ) (events : List Event) : Type 0 where
+  pub states : ℕ → ℕ → ℕ → Abs
+  pub arrive : (driver number p : ℕ) (routine : RoutineOf) → routine_of set driver number ≡ Some routine
+      → p < length routine.code
+      → Arrives (member set driver routine) p (states driver number p)
+  pub one : (n : ℕ) → holders states (run set threads events).world.threads n
+      ≡ alive (packet_of (run set threads events).world.shared n)
+
+abbrev pub PacketsHaveOneHolder : Type 0
+PacketsHaveOneHolder =
+    (set : Set) → IsTypable set → IsSound set → OperandsFit set → (threads : ℕ) (events : List Event)
+    → HasOneHolder set threads events
