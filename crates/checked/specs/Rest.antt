@@ -2,21 +2,32 @@
 use Rattle.std.specs.Prelude.{ℕ, ◌≡◌, ◌+◌, List, [], ◌∷◌, ◌++◌, Option, length}
 use Rattle.model.specs.declared.world.Activation.{Activation}
 use Rattle.model.specs.declared.world.Frame.{Frame}
-use Rattle.model.specs.declared.world.Frame.TheVariants.{Routine}
+use Rattle.model.specs.declared.world.Frame.TheVariants.{Routine, Walk}
 use Rattle.model.specs.declared.world.Packet.{Packet}
 use Rattle.model.specs.declared.instr.Instr.{Instr}
 use Rattle.model.specs.Effect.{Outcome, instruction_effect, top_of}
 use Rattle.model.specs.Set.{Set}
-use Rattle.model.specs.World.{Shared}
+use Rattle.model.specs.World.{Shared, entered}
+use Rattle.checked.specs.declared.frame.Beginning.{Beginning}
+use Rattle.checked.specs.declared.frame.Over.{Over}
+use Rattle.checked.specs.declared.frame.Over.TheVariants.{Manager, Routine as RoutineOver}
 use Rattle.checked.specs.declared.frame.Ran.{Ran}
 use Rattle.checked.specs.declared.frame.Rest.{Rest}
 use Rattle.checked.specs.declared.frame.Rest.TheVariants.{Same, Under, Gone}
 use Rattle.checked.specs.Step.{Left, judged, bounded}
 
+-- a routine that begins, and a frame that is put over another
+abbrev pub begun_by : Beginning → Activation
+begun_by b = entered b.driver b.routine b.device b.packet
+
+abbrev pub frame_over : Over → Frame
+frame_over (Manager n) = Walk n
+frame_over (RoutineOver b) = Routine (begun_by b)
+
 -- the frames that stand in the place of the one that ran, the lowest first
 abbrev pub frames_left : Frame → Rest → List Frame
 frames_left f Same = f ∷ []
-frames_left f (Under g) = f ∷ g ∷ []
+frames_left f (Under over) = f ∷ frame_over over ∷ []
 frames_left f Gone = []
 
 -- what a step has left, of a frame that is now f

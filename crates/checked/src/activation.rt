@@ -1,9 +1,11 @@
 //! Routines that begin, and what they are told.
 
 ghost use Rattle.std.specs.Prelude.{◌≡◌, Some, slice_get};
+ghost use Rattle.checked.specs.Rest.{begun_by};
 ghost use Rattle.model.specs.World.{entered as entered_of};
 ghost use Rattle.model.specs.Effect.{serving_for as serving_for_of, dispatched as dispatched_of, completes_with, operand_of, answered_in, answered};
 
+use crate::frame::Beginning;
 use arrayvec::ArrayVec;
 use image::{DriverSet, Instr};
 use model::limits::DEFAULT_ROUTINE;
@@ -37,26 +39,43 @@ fn serving_for(set: &DriverSet, driver: u8, major: Option<Major>) -> u8
 }
 
 /// The dispatch routine begins that serves what a packet asks of a device.
-pub fn dispatched(set: &DriverSet, device: u8, major: Option<Major>, packet: u64) -> Activation
-    ensures { result ≡ dispatched_of set.now device (slice_get set.now.devices device) major packet }
+pub fn dispatched(set: &DriverSet, device: u8, major: Option<Major>, packet: u64) -> Beginning
+    ensures { begun_by result ≡ dispatched_of set.now device (slice_get set.now.devices device) major packet }
 {
     let driver = match set.devices().get(device as usize) {
         Some(target) => target.driver,
-        None => return entered(0, DEFAULT_ROUTINE, device, packet),
+        None => {
+            return Beginning {
+                driver: 0,
+                routine: DEFAULT_ROUTINE,
+                device,
+                packet,
+            };
+        }
     };
     let routine = serving_for(set, driver, major);
-    entered(driver, routine, device, packet)
+    Beginning {
+        driver,
+        routine,
+        device,
+        packet,
+    }
 }
 
 /// A completion routine begins, for the device whose driver set it.
-pub fn completing(set: &DriverSet, completion: Completion, packet: u64) -> Activation
-    ensures { result ≡ completes_with set.now completion packet }
+pub fn completing(set: &DriverSet, completion: Completion, packet: u64) -> Beginning
+    ensures { begun_by result ≡ completes_with set.now completion packet }
 {
     let driver = match set.devices().get(completion.device as usize) {
         Some(device) => device.driver,
         None => 0,
     };
-    entered(driver, completion.routine, completion.device, packet)
+    Beginning {
+        driver,
+        routine: completion.routine,
+        device: completion.device,
+        packet,
+    }
 }
 
 /// The register of a `pass` or a `call` becomes the status that the lower driver returned.

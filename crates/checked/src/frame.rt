@@ -5,21 +5,39 @@ ghost use Rattle.std.specs.Prelude.{◌≡◌, ◌≤◌, ◌+◌, nat_le, Some,
 use model::event::{Bug, BugCheck, Place, Reply, Subject};
 use model::limits::MAX_FRAMES;
 use model::status::Status;
-use model::world::{Activation, Frame};
+use model::world::Activation;
+
+/// A routine that begins, and is handed a packet.
+#[derive(Clone, Copy)]
+pub struct Beginning {
+    pub driver: u8,
+    pub routine: u8,
+    pub device: u8,
+    pub packet: u64,
+}
+
+/// A frame that is put over the one that ran.
+#[derive(Clone, Copy)]
+pub enum Over {
+    /// The I/O manager's, which completes the packet of this number.
+    Manager(u64),
+    /// That of a routine.
+    Routine(Beginning),
+}
 
 /// What stands in the place of a frame after its step.
-#[derive(Drop)]
+#[derive(Clone, Copy)]
 pub enum Rest {
     /// The frame.
     Same,
     /// The frame, and this one over it.
-    Under(Frame),
+    Under(Over),
     /// Nothing.
     Gone,
 }
 
 /// A frame that ran: what stands in its place, the reply, and the status that the frame below is told.
-#[derive(Drop)]
+#[derive(Clone, Copy)]
 pub struct Ran {
     pub rest: Rest,
     pub reply: Reply,
@@ -39,11 +57,11 @@ impl Ran {
     }
 
     /// The frame stands, and another one over it.
-    pub fn under(frame: Frame) -> Ran
-        ensures { result ≡ record { rest = Rest.Under frame; reply = Reply.Stepped; told = None } }
+    pub fn under(over: Over) -> Ran
+        ensures { result ≡ record { rest = Rest.Under over; reply = Reply.Stepped; told = None } }
     {
         Ran {
-            rest: Rest::Under(frame),
+            rest: Rest::Under(over),
             reply: Reply::Stepped,
             told: None,
         }

@@ -1,11 +1,11 @@
 //! Steps of a thread.
 
 ghost use Rattle.std.specs.Prelude.{◌≡◌, ◌+◌, ◌<◌, ◌≤◌, ◌∷◌, ◌++◌, Some, length};
-ghost use Rattle.checked.specs.Rest.{frames_left};
+ghost use Rattle.checked.specs.Rest.{frame_over, frames_left};
 ghost use Rattle.checked.specs.Step.{thread_now, moved_by, moved_to, frame_now};
 ghost use Rattle.model.specs.Effect.{told_to};
 
-use crate::frame::{Ran, Rest};
+use crate::frame::{Over, Ran, Rest};
 use crate::shared::Shared;
 use crate::{activation, routine};
 use arrayvec::ArrayVec;
@@ -13,6 +13,21 @@ use image::DriverSet;
 use model::event::Reply;
 use model::status::Status;
 use model::world::{Frame, Thread};
+
+/// The frame that is put over another one.
+fn frame_over(over: Over) -> Frame
+    ensures { result ≡ frame_over over }
+{
+    match over {
+        Over::Manager(n) => Frame::Walk(n),
+        Over::Routine(begins) => Frame::Routine(activation::entered(
+            begins.driver,
+            begins.routine,
+            begins.device,
+            begins.packet,
+        )),
+    }
+}
 
 /// Puts back what stands in the place of a frame that was taken off.
 fn put_back(frames: &mut ArrayVec<Frame, 32>, frame: Frame, rest: Rest)
@@ -23,7 +38,7 @@ fn put_back(frames: &mut ArrayVec<Frame, 32>, frame: Frame, rest: Rest)
         Rest::Same => frames.push(frame),
         Rest::Under(over) => {
             frames.push(frame);
-            frames.push(over);
+            frames.push(frame_over(over));
         }
         Rest::Gone => {}
     }
@@ -77,7 +92,18 @@ fn step_frame(
     match top {
         Frame::Routine(mut activation) => {
             let ran = routine::step(set, shared, thread, frames.as_slice(), &mut activation);
-            settle(set, frames, Frame::Routine(activation), ran)
+            match ran {
+                // Most steps: the frame stands, and no other one is told anything.
+                Ran {
+                    rest: Rest::Same,
+                    reply,
+                    told: None,
+                } => {
+                    frames.push(Frame::Routine(activation));
+                    reply
+                }
+                _ => settle(set, frames, Frame::Routine(activation), ran),
+            }
         }
         Frame::Walk(n) => {
             let ran = shared.walk(set, frames.as_slice(), n);

@@ -5,7 +5,7 @@ ghost use Rattle.model.specs.Effect.{top_of};
 
 use super::Shared;
 use crate::activation;
-use crate::frame::{Ran, has_room, packet_bug, wrong_at};
+use crate::frame::{Over, Ran, has_room, packet_bug, wrong_at};
 use image::{DriverSet, Register};
 use iomgr::WalkStep;
 use model::event::{BugCheck, Reply};
@@ -47,7 +47,7 @@ impl Shared {
             packet.complete(status);
         }
         a.position += 1;
-        Ran::under(Frame::Walk(n))
+        Ran::under(Over::Manager(n))
     }
 
     /// A step of the I/O manager, over the frames `below`, which completes the packet of this number.
@@ -64,7 +64,7 @@ impl Shared {
             // A packet that was never issued can't have topped out; no run completes one.
             WalkStep::Missing => Ran::gone(Reply::Stepped),
             WalkStep::Runs(completion) => {
-                Ran::under(Frame::Routine(activation::completing(set, completion, n)))
+                Ran::under(Over::Routine(activation::completing(set, completion, n)))
             }
             WalkStep::Ascends { marked: _ } => Ran::stays(Reply::Stepped),
             WalkStep::TopsOut { status, info } => Ran::gone(Reply::Topped {

@@ -5,7 +5,7 @@ ghost use Rattle.model.specs.Effect.{set_by};
 
 use super::Shared;
 use crate::activation::dispatched;
-use crate::frame::{Ran, has_room, packet_bug, wrong_at};
+use crate::frame::{Over, Ran, has_room, packet_bug, wrong_at};
 use image::{DriverSet, Register};
 use model::event::{BugCheck, Reply};
 use model::world::{Activation, Completion, Frame};
@@ -50,7 +50,7 @@ impl Shared {
             packet.share(lower);
         }
         a.position += 1;
-        Ran::under(Frame::Routine(dispatched(set, lower, asked, n)))
+        Ran::under(Over::Routine(dispatched(set, lower, asked, n)))
     }
 
     /// `call r` and `call r f`: the lower driver is asked in a location of its own, with a completion
@@ -87,6 +87,6 @@ impl Shared {
             packet.down(lower, completion(a, routine));
         }
         a.position += 1;
-        Ran::under(Frame::Routine(dispatched(set, lower, asked, n)))
+        Ran::under(Over::Routine(dispatched(set, lower, asked, n)))
     }
 }
