@@ -9,7 +9,7 @@ use Rattle.std.proofs.lemmas.List.Quantifiers.{position-Some}
 use Rattle.std.proofs.lemmas.Bool.{ltb-true}
 use Rattle.std.proofs.lemmas.Bool.Decides.{nat_tests}
 use Rattle.model.specs.declared.set.Device.{Device}
-use Rattle.model.specs.Sound.{DriverFits, DeviceFits, DevicesFit, RoutineFits, HandlerFits, LabelFits, CallFits, CallsFit, HasSort, IsDispatch, IsCompletion, IsSound}
+use Rattle.model.specs.Sound.{DriverFits, DeviceFits, DevicesFit, RoutineFits, HandlerFits, LabelFits, OperandFits, CallFits, CallsFit, HasSort, IsDispatch, IsCompletion, IsSound}
 use Rattle.model.specs.declared.status.Major.{Major}
 use Rattle.model.specs.declared.status.Major.TheVariants.{Read, Write, Control}
 use Rattle.model.specs.declared.set.Sort.{Sort}
@@ -29,7 +29,7 @@ use Rattle.asm_line.specs.declared.line.Line.{Line}
 use Rattle.asm_line.specs.declared.line.Target.{Target}
 use Rattle.asm.specs.declared.routines.Role.{Role}
 use Rattle.asm.specs.declared.routines.Role.TheVariants.{Handler, Completion}
-use Rattle.asm.specs.Outline.{Outline, with_label, with_routine, label_added, label_used, call_place, resolved, target_position, used_at, nothing_read, misfit, stands, is_again, is_among, is_out_of_range, is_stack_size, has_room, noted, number_of, number_used, number_for, routine_named, routine_called, handler_in, called, finished, finished_driver, missed, missed_from, missed_routine, earliest, driver_opened, driver_closed, handled, routine_opened, routine_closed, open_drivers, open_routines, open_sort, device_added, stepped, ClosedFits, DevicesKnown, IsFitting, IsOrderly}
+use Rattle.asm.specs.Outline.{Outline, with_label, with_routine, label_added, label_used, call_place, resolved, target_position, used_at, nothing_read, misfit, stands, is_again, is_among, is_out_of_range, is_stack_size, has_room, noted, number_of, number_used, number_for, routine_named, routine_called, handler_in, called, finished, finished_driver, missed, missed_from, missed_routine, earliest, driver_opened, driver_closed, handled, routine_opened, routine_closed, open_drivers, open_routines, open_sort, device_added, stepped, BodyFits, ClosedFits, DevicesKnown, IsFitting, IsOrderly}
 
 -- no kind is chosen only where each test passes
 none_chosen : (a b c d : Bool)
@@ -126,6 +126,7 @@ driver_opened_orderly o name place room h =
       few_routines = h.few_routines;
       few_steps = h.few_steps;
       positions_fit = h.positions_fit;
+      operands_fit = h.operands_fit;
       driver_count = omega (arith, more, h.driver_count, p.0);
       routine_count = omega (arith, h.routine_count, p.1);
       sorts_known = ap (λ (opened : List Sort). map sort_at o.routines ++ opened) (sym none) ∙ h.sorts_known;
@@ -141,6 +142,11 @@ labelled_still : (count : ℕ) (i : Instr) (f : Option ℕ) → LabelFits count 
 labelled_still count (Call r old) f h = tt
 labelled_still count _ f h = h
 
+-- the operands of an instruction fit still when the routine of a call is known
+operands_still : (i : Instr) (f : Option ℕ) → OperandFits i → OperandFits (with_routine i f)
+operands_still (Call r old) f h = tt
+operands_still _ f h = h
+
 -- so a closed routine fits when its driver is finished
 finished_fits : (o : Outline) (routine : ClosedRoutine) → ClosedFits routine → RoutineFits (finished o routine)
 finished_fits o routine h =
@@ -151,6 +157,9 @@ finished_fits o routine h =
       labels = All-map (LabelFits count) (called o) routine.code (λ i d inside.
           let step = get_or routine.code i d in
           labelled_still count step.instr (routine_called o step.call) (subst (λ (k : ℕ). LabelFits k step.instr) (sym same) (h.labels i d inside)));
+      operands = All-map OperandFits (called o) routine.code (λ i d inside.
+          let step = get_or routine.code i d in
+          operands_still step.instr (routine_called o step.call) (h.operands i d inside));
     }
 
 -- a routine's sort stays when its driver is finished
@@ -228,6 +237,7 @@ driver_closed_orderly o place h =
       few_routines = omega arith;
       few_steps = h.few_steps;
       positions_fit = h.positions_fit;
+      operands_fit = h.operands_fit;
       driver_count = omega (arith, more, h.driver_count, p.0);
       routine_count = refl;
       sorts_known = refl;
@@ -246,9 +256,9 @@ same_devices o next unknown devices names drivers h none =
     record { count = rw (devices, names) old.count; fit = rw (devices, drivers) old.fit }
 
 handled_orderly : (o : Outline) (u : Use) (major : Major) → IsOrderly o → IsOrderly (handled o u major)
-handled_orderly o u Read h = record { few_drivers = h.few_drivers; few_devices = h.few_devices; few_routines = h.few_routines; few_steps = h.few_steps; positions_fit = h.positions_fit; driver_count = h.driver_count; routine_count = h.routine_count; sorts_known = h.sorts_known; drivers_fit = h.drivers_fit; devices_known = same_devices o (handled o u Read) refl refl refl refl h.devices_known; routines_fit = h.routines_fit }
-handled_orderly o u Write h = record { few_drivers = h.few_drivers; few_devices = h.few_devices; few_routines = h.few_routines; few_steps = h.few_steps; positions_fit = h.positions_fit; driver_count = h.driver_count; routine_count = h.routine_count; sorts_known = h.sorts_known; drivers_fit = h.drivers_fit; devices_known = same_devices o (handled o u Write) refl refl refl refl h.devices_known; routines_fit = h.routines_fit }
-handled_orderly o u Control h = record { few_drivers = h.few_drivers; few_devices = h.few_devices; few_routines = h.few_routines; few_steps = h.few_steps; positions_fit = h.positions_fit; driver_count = h.driver_count; routine_count = h.routine_count; sorts_known = h.sorts_known; drivers_fit = h.drivers_fit; devices_known = same_devices o (handled o u Control) refl refl refl refl h.devices_known; routines_fit = h.routines_fit }
+handled_orderly o u Read h = record { few_drivers = h.few_drivers; few_devices = h.few_devices; few_routines = h.few_routines; few_steps = h.few_steps; positions_fit = h.positions_fit; operands_fit = h.operands_fit; driver_count = h.driver_count; routine_count = h.routine_count; sorts_known = h.sorts_known; drivers_fit = h.drivers_fit; devices_known = same_devices o (handled o u Read) refl refl refl refl h.devices_known; routines_fit = h.routines_fit }
+handled_orderly o u Write h = record { few_drivers = h.few_drivers; few_devices = h.few_devices; few_routines = h.few_routines; few_steps = h.few_steps; positions_fit = h.positions_fit; operands_fit = h.operands_fit; driver_count = h.driver_count; routine_count = h.routine_count; sorts_known = h.sorts_known; drivers_fit = h.drivers_fit; devices_known = same_devices o (handled o u Write) refl refl refl refl h.devices_known; routines_fit = h.routines_fit }
+handled_orderly o u Control h = record { few_drivers = h.few_drivers; few_devices = h.few_devices; few_routines = h.few_routines; few_steps = h.few_steps; positions_fit = h.positions_fit; operands_fit = h.operands_fit; driver_count = h.driver_count; routine_count = h.routine_count; sorts_known = h.sorts_known; drivers_fit = h.drivers_fit; devices_known = same_devices o (handled o u Control) refl refl refl refl h.devices_known; routines_fit = h.routines_fit }
 
 routine_opened_orderly : (o : Outline) (name : List ℕ) (sort : Sort) → stands o.place (OpenRoutine name sort) ≡ true → length o.routine_names < 32 → IsOrderly o → IsOrderly (routine_opened o name sort)
 routine_opened_orderly o name sort place room h =
@@ -263,6 +273,7 @@ routine_opened_orderly o name sort place room h =
       few_routines = omega (arith, more);
       few_steps = h.few_steps;
       positions_fit = h.positions_fit;
+      operands_fit = h.operands_fit;
       driver_count = omega (arith, h.driver_count, p.0);
       routine_count = omega (arith, more, h.routine_count, p.1);
       sorts_known = ap (λ (all : List Sort). all ++ sort ∷ []) sorts;
@@ -295,6 +306,14 @@ label_fits count label (Jump old) h = h
 label_fits count label (IfPending r old) h = h
 label_fits count label _ h = tt
 
+-- the operands of an instruction fit still with its label's position
+operands_labelled : (label : ℕ) (i : Instr) → OperandFits i → OperandFits (with_label i label)
+operands_labelled label (JumpIfZero r old) h = tt
+operands_labelled label (JumpIfLess r s old) h = tt
+operands_labelled label (Jump old) h = tt
+operands_labelled label (IfPending r old) h = tt
+operands_labelled label _ h = h
+
 -- so a routine that is closed fits
 closed_fits : (o : Outline) → IsOrderly o → ClosedFits (record { sort = o.sort; code = map (resolved o.labels o.positions) o.steps })
 closed_fits o h =
@@ -307,6 +326,9 @@ closed_fits o h =
           let some : 0 < length o.steps = omega (arith, inside) in
           let below = target_fits (length o.steps) o.labels o.positions some h.positions_fit step.label in
           label_fits count (target_position o.labels o.positions step.label) step.instr (omega (arith, same, below)));
+      operands = All-map (λ (step : Linked). OperandFits step.instr) (resolved o.labels o.positions) o.steps (λ i d inside.
+          let step = get_or o.steps i d in
+          operands_labelled (target_position o.labels o.positions step.label) step.instr (h.operands_fit i d inside));
     }
 
 routine_closed_orderly : (o : Outline) → stands o.place CloseRoutine ≡ true → IsOrderly o → IsOrderly (routine_closed o)
@@ -321,6 +343,7 @@ routine_closed_orderly o place h =
       few_routines = h.few_routines;
       few_steps = omega arith;
       positions_fit = All-nil (λ p. p < 0);
+      operands_fit = All-nil (λ (step : Step). OperandFits step.instr);
       driver_count = omega (arith, h.driver_count, p.0);
       routine_count = omega (arith, more, h.routine_count, p.1);
       sorts_known =
@@ -406,6 +429,7 @@ device_added_orderly o name u stack lower size room h =
       few_routines = h.few_routines;
       few_steps = h.few_steps;
       positions_fit = h.positions_fit;
+      operands_fit = h.operands_fit;
       driver_count = h.driver_count;
       routine_count = h.routine_count;
       sorts_known = h.sorts_known;
@@ -428,8 +452,8 @@ added_fits o label n more h =
     one None = All-nil (λ p. p < n)
     one (Some label) = All-push (λ p. p < n) [] (length o.steps) (All-nil (λ p. p < n)) more
 
-stepped_orderly : (o : Outline) (n : ℕ) (label : Option (List ℕ)) (instr : Instr) (target : Target) → length o.steps < 1024 → IsOrderly o → IsOrderly (stepped o n label instr target)
-stepped_orderly o n label instr target room h =
+stepped_orderly : (o : Outline) (n : ℕ) (label : Option (List ℕ)) (instr : Instr) (target : Target) → length o.steps < 1024 → OperandFits instr → IsOrderly o → IsOrderly (stepped o n label instr target)
+stepped_orderly o n label instr target room operand h =
     let step : Step = record { instr = instr; label = label_used n target; call = call_place (length o.calls) target } in
     let more = length_one_more o.steps step in
     record {
@@ -438,6 +462,7 @@ stepped_orderly o n label instr target room h =
       few_routines = h.few_routines;
       few_steps = omega (arith, more);
       positions_fit = added_fits o label (length (o.steps ++ step ∷ [])) (omega (arith, more)) h.positions_fit;
+      operands_fit = All-push (λ (step : Step). OperandFits step.instr) o.steps step h.operands_fit operand;
       driver_count = h.driver_count;
       routine_count = h.routine_count;
       sorts_known = h.sorts_known;
@@ -451,20 +476,20 @@ not_false true h = refl
 not_false false h = cc
 
 orderly_with : (o : Outline) (n : ℕ) (label : Option (List ℕ)) (body : Body)
-    → stands o.place body ≡ true → is_out_of_range body ≡ false → has_room o body ≡ true
+    → stands o.place body ≡ true → is_out_of_range body ≡ false → has_room o body ≡ true → BodyFits body
     → IsOrderly o → IsOrderly (noted o n label body)
-orderly_with o n label Blank place size room h = h
-orderly_with o n label (OpenDriver name) place size room h = driver_opened_orderly o name place (ltb-true (length o.driver_names) 8 room) h
-orderly_with o n label CloseDriver place size room h = driver_closed_orderly o place h
-orderly_with o n label (Handle major routine) place size room h = handled_orderly o (record { line = n; name = routine }) major h
-orderly_with o n label (OpenRoutine name sort) place size room h = routine_opened_orderly o name sort place (ltb-true (length o.routine_names) 32 room) h
-orderly_with o n label CloseRoutine place size room h = routine_closed_orderly o place h
-orderly_with o n label (AddDevice name driver stack lower) place size room h = device_added_orderly o name (record { line = n; name = driver }) stack (used_at n lower) (not_false (is_stack_size stack) size) (ltb-true (length o.device_names) 16 room) h
-orderly_with o n label (TakeStep (Some instr) target) place size room h = stepped_orderly o n label instr target (ltb-true (length o.steps) 1024 room) h
-orderly_with o n label (TakeStep None target) place size room h = h
+orderly_with o n label Blank place size room operand h = h
+orderly_with o n label (OpenDriver name) place size room operand h = driver_opened_orderly o name place (ltb-true (length o.driver_names) 8 room) h
+orderly_with o n label CloseDriver place size room operand h = driver_closed_orderly o place h
+orderly_with o n label (Handle major routine) place size room operand h = handled_orderly o (record { line = n; name = routine }) major h
+orderly_with o n label (OpenRoutine name sort) place size room operand h = routine_opened_orderly o name sort place (ltb-true (length o.routine_names) 32 room) h
+orderly_with o n label CloseRoutine place size room operand h = routine_closed_orderly o place h
+orderly_with o n label (AddDevice name driver stack lower) place size room operand h = device_added_orderly o name (record { line = n; name = driver }) stack (used_at n lower) (not_false (is_stack_size stack) size) (ltb-true (length o.device_names) 16 room) h
+orderly_with o n label (TakeStep (Some instr) target) place size room operand h = stepped_orderly o n label instr target (ltb-true (length o.steps) 1024 room) operand h
+orderly_with o n label (TakeStep None target) place size room operand h = h
 
-pub orderly_on : (o : Outline) (n : ℕ) (l : Line) → IsFitting o l → IsOrderly o → IsOrderly (noted o n l.label l.body)
-orderly_on o n l fits h = orderly_with o n l.label l.body fits.standing fits.in_range fits.room h
+pub orderly_on : (o : Outline) (n : ℕ) (l : Line) → IsFitting o l → BodyFits l.body → IsOrderly o → IsOrderly (noted o n l.label l.body)
+orderly_on o n l fits operand h = orderly_with o n l.label l.body fits.standing fits.in_range fits.room operand h
 
 -- what was read is a set, where no driver is open and no name is unknown
 pub sound : (o : Outline) → IsOrderly o → o.place ≡ Outside → o.unknown ≡ None → IsSound (record { drivers = o.drivers; devices = o.devices })
@@ -486,6 +511,7 @@ nothing_orderly = record {
   few_routines = omega arith;
   few_steps = omega arith;
   positions_fit = All-nil (λ p. p < 0);
+  operands_fit = All-nil (λ (step : Step). OperandFits step.instr);
   driver_count = refl;
   routine_count = refl;
   sorts_known = refl;

@@ -1,5 +1,5 @@
 -- What the lines of a driver text say so far, and what the next line adds to it.
-use Rattle.std.specs.Prelude.{ℕ, ◌≡◌, ◌<◌, ◌≤◌, All, map, slice_get, unwrap_or, ◌+◌, min, Bool, true, false, not, ◌&&◌, nat_lt, nat_le, bytes_eq, List, [], ◌∷◌, ◌++◌, length, Option, Some, None, is_some, is_none, option_map, option_and_then, option_to_list, position, if◌then◌else◌}
+use Rattle.std.specs.Prelude.{ℕ, ⊤, ◌≡◌, ◌<◌, ◌≤◌, All, map, slice_get, unwrap_or, ◌+◌, min, Bool, true, false, not, ◌&&◌, nat_lt, nat_le, bytes_eq, List, [], ◌∷◌, ◌++◌, length, Option, Some, None, is_some, is_none, option_map, option_and_then, option_to_list, position, if◌then◌else◌}
 use Rattle.std.specs.List.{list_any}
 use Rattle.model.specs.declared.instr.Instr.{Instr}
 use Rattle.model.specs.declared.instr.Instr.TheVariants.{JumpIfZero, JumpIfLess, Jump, Call, IfPending}
@@ -8,7 +8,7 @@ use Rattle.model.specs.declared.set.Driver.{Driver}
 use Rattle.model.specs.declared.set.Routine.{Routine}
 use Rattle.model.specs.declared.set.Sort.{Sort}
 use Rattle.model.specs.declared.set.Sort.TheVariants.{Dispatch, Propagate}
-use Rattle.model.specs.Sound.{DriverFits, DevicesFit, LabelFits}
+use Rattle.model.specs.Sound.{DriverFits, DevicesFit, LabelFits, OperandFits}
 use Rattle.model.specs.declared.status.Major.{Major}
 use Rattle.model.specs.declared.status.Major.TheVariants.{Read, Write, Control}
 use Rattle.asm.specs.declared.draft.Place.{Place}
@@ -403,10 +403,16 @@ open_sort Outside sort = []
 open_sort InDriver sort = []
 open_sort InRoutine sort = sort ∷ []
 
--- a closed routine is within the limits, and its labels are among its positions
+-- a closed routine is within the limits, its labels are among its positions, and its operands fit
 pub record ClosedFits (routine : ClosedRoutine) : Type 0 where
   pub few : length routine.code ≤ 1024
   pub labels : All (λ (step : Linked). LabelFits (length routine.code) step.instr) routine.code
+  pub operands : All (λ (step : Linked). OperandFits step.instr) routine.code
+
+-- the operands of a line's instruction fit, if it has one
+abbrev pub BodyFits : Body → Type 0
+BodyFits (Step (Some instr) target) = OperandFits instr
+BodyFits _ = ⊤
 
 -- each device has the number of its name, and all of them fit
 pub record DevicesKnown (o : Outline) : Type 0 where
@@ -421,6 +427,7 @@ pub record IsOrderly (o : Outline) : Type 0 where
   pub few_routines : length o.routine_names ≤ 32
   pub few_steps : length o.steps ≤ 1024
   pub positions_fit : All (λ position. position < length o.steps) o.positions
+  pub operands_fit : All (λ (step : StepOf). OperandFits step.instr) o.steps
   pub driver_count : length o.drivers + open_drivers o.place ≡ length o.driver_names
   pub routine_count : length o.routines + open_routines o.place ≡ length o.routine_names
   pub sorts_known : map (λ (routine : ClosedRoutine). routine.sort) o.routines ++ open_sort o.place o.sort ≡ o.sorts

@@ -1,14 +1,16 @@
 //! The text read line by line, and the set that it names.
 
 ghost use Rattle.std.specs.Prelude.{◌≡◌, ◌⊎◌, ℕ, IfOk, MatchResult, OnOk, Ok, Err};
-ghost use Rattle.asm.specs.Outline.{nothing_read, IsOrderly};
+ghost use Rattle.asm.specs.Outline.{nothing_read, BodyFits, IsOrderly};
+ghost use Rattle.model.specs.Sound.{OperandFits};
 ghost use Rattle.asm.specs.declared.draft.Place.{Place};
 ghost use Rattle.asm.specs.Reading.{kind_of, memory, read_on, reading, resolved, set_in, IsFaultOf, IsNamed};
 
 use crate::draft::{Draft, Place};
 use crate::fault::{AsmFault, AsmKind};
-use asm_line::{LineFault, read_line};
+use asm_line::{Body, LineFault, read_line};
 use image::DriverSet;
+use model::instr::Instr;
 use std::alloc::{AllocError, Global};
 use text::cut::lines;
 use text::piece::Piece;
@@ -89,6 +91,7 @@ impl<'a> Draft<'a> {
         if let Some(kind) = self.misfit(&line) {
             return Ok(Err(kind));
         }
+        operands_fit(&line.body);
         self.note(alloc, number, line)?;
         Ok(Ok(()))
     }
@@ -116,6 +119,33 @@ impl<'a> Draft<'a> {
             Ok(set) => Ok(set),
             Err(_) => unreachable!(),
         }
+    }
+}
+
+/// The operands of a line's instruction fit, as their types keep them.
+fn operands_fit(body: &Body<'_>)
+    ensures { BodyFits body.now }
+{
+    if let Body::Step(Some(instr), _) = body {
+        operand_fits(*instr);
+    }
+}
+
+/// The operands of an instruction fit.
+fn operand_fits(instr: Instr)
+    ensures { OperandFits instr }
+{
+    match instr {
+        Instr::Move(register, _) => {
+            let _place = register.index();
+        }
+        Instr::Loop(turns) => {
+            let _count = turns.count();
+        }
+        Instr::Acquire(lock) | Instr::Release(lock) => {
+            let _place = lock.index();
+        }
+        _ => {}
     }
 }
 

@@ -1,10 +1,12 @@
 //! The tests that a driver set has to pass to be one.
 
 ghost use Rattle.std.specs.Prelude.{◌≡◌, ◌≤◌, ◌<◌, ◌↔◌, length, IsTrue, IfSome, All, ℕ, slice_get};
-ghost use Rattle.model.specs.Sound.{IsSound, DriverFits, DeviceFits, DevicesFit, RoutineFits, HandlerFits, LabelFits, HasSort, IsDispatch, IsCompletion, CallFits, CallsFit};
+ghost use Rattle.model.specs.Sound.{IsSound, DriverFits, DeviceFits, DevicesFit, RoutineFits, HandlerFits, LabelFits, OperandFits, HasSort, IsDispatch, IsCompletion, CallFits, CallsFit};
 
 use model::instr::Instr;
-use model::limits::{MAX_DEVICES, MAX_DRIVERS, MAX_INSTRUCTIONS, MAX_ROUTINES, MAX_STACK};
+use model::limits::{
+    MAX_DEVICES, MAX_DRIVERS, MAX_INSTRUCTIONS, MAX_ROUTINES, MAX_STACK, REGISTERS, SPIN_LOCKS,
+};
 use model::set::{Device, Driver, Routine, Sort};
 
 fn label_fits(positions: usize, instr: &Instr) -> bool
@@ -16,12 +18,36 @@ fn label_fits(positions: usize, instr: &Instr) -> bool
     }
 }
 
+/// Whether an instruction's operands are within their limits, as their types keep them.
+fn operand_fits(instr: &Instr) -> bool
+    ensures { IsTrue result ↔ OperandFits instr.now }
+{
+    match *instr {
+        Instr::Move(register, _) => register.index() < REGISTERS,
+        Instr::Loop(turns) => 1 <= turns.count(),
+        Instr::Acquire(lock) | Instr::Release(lock) => lock.index() < SPIN_LOCKS,
+        _ => true,
+    }
+}
+
+fn labels_fit(code: &[Instr]) -> bool
+    ensures { IsTrue result ↔ All (LabelFits (length code.now)) code.now }
+{
+    let positions = code.len();
+    code.iter().all(|instr| label_fits(positions, instr))
+}
+
+fn operands_fit(code: &[Instr]) -> bool
+    ensures { IsTrue result ↔ All OperandFits code.now }
+{
+    code.iter().all(|instr| operand_fits(instr))
+}
+
 fn routine_fits(routine: &Routine) -> bool
     ensures { IsTrue result ↔ RoutineFits routine.now }
 {
     let code = routine.code.as_slice();
-    let positions = code.len();
-    positions <= MAX_INSTRUCTIONS && code.iter().all(|instr| label_fits(positions, instr))
+    code.len() <= MAX_INSTRUCTIONS && labels_fit(code) && operands_fit(code)
 }
 
 /// Whether the routine of a number is a dispatch routine.

@@ -8,6 +8,7 @@ pub mod Action
 pub mod Effect
 pub mod Trace
 pub mod Fault
+pub mod PendingAgreement
 pub mod Run
 pub mod LocalRule
 pub mod Paths

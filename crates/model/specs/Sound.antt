@@ -2,7 +2,7 @@
 -- It doesn't keep that a routine ends in a return, nor anything that the verifier decides.
 use Rattle.std.specs.Prelude.{ℕ, suc, ⊤, ◌<◌, ◌≤◌, List, [], ◌∷◌, length, All, IfSome, Option, None, Some, slice_get}
 use Rattle.model.specs.declared.instr.Instr.{Instr}
-use Rattle.model.specs.declared.instr.Instr.TheVariants.{Call}
+use Rattle.model.specs.declared.instr.Instr.TheVariants.{Move, Loop, Acquire, Release, Call}
 use Rattle.model.specs.declared.set.Driver.{Driver}
 use Rattle.model.specs.declared.set.Device.{Device}
 use Rattle.model.specs.declared.set.Routine.{Routine}
@@ -14,10 +14,20 @@ use Rattle.model.specs.Set.{Set, label_of}
 abbrev pub LabelFits : ℕ → Instr → Type 0
 LabelFits positions i = IfSome (label_of i) (λ label. label < positions)
 
--- a routine has at most 1,024 instructions, and its labels are among its positions
+-- a value is moved to one of the sixteen registers, a loop turns, and a spin lock is one of the eight of
+-- its device
+abbrev pub OperandFits : Instr → Type 0
+OperandFits (Move r q) = r < 16
+OperandFits (Loop turns) = 1 ≤ turns
+OperandFits (Acquire lock) = lock < 8
+OperandFits (Release lock) = lock < 8
+OperandFits _ = ⊤
+
+-- a routine has at most 1,024 instructions, its labels are among its positions, and its operands fit
 pub record RoutineFits (routine : Routine) : Type 0 where
   pub few : length routine.code ≤ 1024
   pub labels : All (LabelFits (length routine.code)) routine.code
+  pub operands : All OperandFits routine.code
 
 -- a routine of a driver has a sort of these
 abbrev pub HasSort : (Sort → Type 0) → Option Routine → Type 0
