@@ -183,14 +183,14 @@ any_tail : (b c : Bool) → (b || c) ≡ false → c ≡ false
 any_tail true c h = cc
 any_tail false c h = h
 
-any_false : {A : Type 0} (f : A → Bool) (xs : List A) (i : ℕ) (x : A) → list_any f xs ≡ false → slice_get xs i ≡ Some x
+pub any_false : {A : Type 0} (f : A → Bool) (xs : List A) (i : ℕ) (x : A) → list_any f xs ≡ false → slice_get xs i ≡ Some x
     → f x ≡ false
 any_false f [] i x none there = cc
 any_false {A = A} f (y ∷ xs) zero x none there =
     let same : y ≡ x = cc in subst (λ (z : A). f z ≡ false) same (any_head (f y) _ none)
 any_false f (y ∷ xs) (suc i) x none there = any_false f xs i x (any_tail (f y) _ none) there
 
-device_fits : (drivers first : ℕ) (devices : List Device) (i : ℕ) (d : Device) → DevicesFit drivers first devices
+pub device_fits : (drivers first : ℕ) (devices : List Device) (i : ℕ) (d : Device) → DevicesFit drivers first devices
     → slice_get devices i ≡ Some d → DeviceFits drivers (first + i) d
 device_fits drivers first [] i d fit there = cc
 device_fits drivers first (e ∷ devices) zero d fit there =
@@ -211,7 +211,7 @@ earlier_there : (set : Set) (device : ℕ) (o : Option ℕ) → device < length 
 earlier_there set device None within fits = tt
 earlier_there set device (Some lower) within fits = let l : lower < device = fits in omega arith
 
-not_none : (b c : Bool) → b ≡ true → (b && c) ≡ false → c ≡ false
+pub not_none : (b c : Bool) → b ≡ true → (b && c) ≡ false → c ≡ false
 not_none true c is h = h
 not_none false c is h = cc
 

@@ -121,7 +121,7 @@ pub record Forwards (i : Instr) (r : ℕ) (locations : ℕ) : Type 0 where
       → forward_of s r set driver sort locations ≡ None
 
 -- what the status does that it is told
-told_operand : (set : Set) (routine : RoutineOf) (a : Activation) (i : Instr) (r : ℕ)
+pub told_operand : (set : Set) (routine : RoutineOf) (a : Activation) (i : Instr) (r : ℕ)
     → routine_of set a.driver a.routine ≡ Some routine → slice_get routine.code a.position ≡ Some i
     → operand_of (Some i) ≡ Some r
     → operand_of (instruction_at set a.driver a.routine (a.position + 1 - 1)) ≡ Some r

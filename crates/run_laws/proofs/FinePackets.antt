@@ -27,7 +27,7 @@ use Rattle.model.specs.Effect.{Outcome, goes_on, get_packet, get_effect, put_pac
 use Rattle.model.specs.LocalRule.{first_of_two, number_kind, packet_kind, mark_kind, complete_kind, completion_fault, holds_lock, broken_if, kind_of, handed, marked}
 use Rattle.model.specs.Set.{Set}
 use Rattle.model.specs.World.{Shared, field_of, with_info, mark_current, completed, owner_of, with_owner, with_locks, packet_of, with_packet, packet_in, number_in, register, next, at_label, place_of}
-use Rattle.run_laws.specs.Operand.{OperandFits}
+use Rattle.model.specs.Sound.{OperandFits}
 use Rattle.run_laws.proofs.Leading.{next_state, lt_of}
 use Rattle.run_laws.proofs.Led.{States}
 use Rattle.run_laws.proofs.Completing.{PacketLeads, mark_leads}

@@ -54,7 +54,7 @@ use Rattle.run_laws.proofs.HoldSteps.{unheld, held, is_clean, lock_clean, HoldSt
 use Rattle.run_laws.proofs.HoldTouches.{IsOwn, walked_if, HasRight, has_right, HeldIf, there_of, not_taken, clean_if, same_number, unheld_set, held_set, move_held, clear_held, get_held, put_held, mark_held, look_held}
 
 -- a completion: the right goes from the register to the I/O manager's frame
-complete_owed : (k : Kind) (b : Bool) → complete_kind k ≡ None → (is_view k || b) ≡ false → is_owed k ≡ true
+pub complete_owed : (k : Kind) (b : Bool) → complete_kind k ≡ None → (is_view k || b) ≡ false → is_owed k ≡ true
 complete_owed New b h free = refl
 complete_owed Own b h free = refl
 complete_owed View b h free = cc
@@ -62,7 +62,7 @@ complete_owed BlankKind b h free = cc
 complete_owed NumKind b h free = cc
 complete_owed LowerKind b h free = cc
 
-completion_free : (s : Abs) (k : Kind) (status : Status) (sort : Sort) → completion_fault s k status sort ≡ None
+pub completion_free : (s : Abs) (k : Kind) (status : Status) (sort : Sort) → completion_fault s k status sort ≡ None
     → (is_view k || is_completion sort) ≡ false
 completion_free s k status sort rule =
     unbroken (is_view k || is_completion sort) CompletionRule
@@ -78,7 +78,7 @@ pass_owed BlankKind b h free = cc
 pass_owed NumKind b h free = cc
 pass_owed LowerKind b h free = cc
 
-call_owed : (k : Kind) (b : Bool) → call_kind k ≡ None → (is_view k || b) ≡ false → is_owed k ≡ true
+pub call_owed : (k : Kind) (b : Bool) → call_kind k ≡ None → (is_view k || b) ≡ false → is_owed k ≡ true
 call_owed New b h free = refl
 call_owed Own b h free = refl
 call_owed View b h free = cc
@@ -344,7 +344,7 @@ call_held set states s past t tag routine a r f h =
     (lt_of own.0 s.issued (named s (register a r) own.0 own.2.operand)) is own.2.refers own.2.own
 
 -- a return keeps no packet
-kept_owed : (s : Abs) → kept_fault s ≡ None → list_any is_owed s.kinds ≡ false
+pub kept_owed : (s : Abs) → kept_fault s ≡ None → list_any is_owed s.kinds ≡ false
 kept_owed s kept =
     let left : left_packet s ≡ None =
     second_none (broken_if (holds_spin_lock s) SpinLock) (left_packet s)

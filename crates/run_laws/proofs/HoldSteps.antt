@@ -208,7 +208,7 @@ loop_held set states s past t tag routine a turns h =
     (λ n. refl) refl refl refl)
     (λ full. wrong_held states s past t tag a)
 
-turned_registers : (a : Activation) (l : OpenLoop) → (turned a l).registers ≡ a.registers
+pub turned_registers : (a : Activation) (l : OpenLoop) → (turned a l).registers ≡ a.registers
 turned_registers a l = cond_both (nat_lt 1 l.turns) _ _ (λ (b : Activation). b.registers ≡ a.registers) (λ more. refl)
     (λ last. refl)
 

@@ -16,7 +16,7 @@ use Rattle.model.specs.Run.{Run, Answered, begun, thread_of, step, run_from, run
 use Rattle.model.specs.Set.{Set, serving, instruction_at}
 use Rattle.model.specs.Trace.{Entry, Tag}
 use Rattle.model.specs.World.{Shared, World, packet_of, new_packet, entered, idle_thread}
-use Rattle.run_laws.specs.Holder.{frame_rights, frame_walks, stack_sum, thread_sum, holders, alive, PacketsHaveOneHolder}
+use Rattle.run_laws.specs.Holder.{frame_rights, frame_walks, stack_sum, thread_sum, holders, alive}
 use Rattle.run_laws.proofs.EventCases.{Happens, happens, tag_on, Answers, answers}
 use Rattle.run_laws.proofs.FineSteps.{AllLive, StepLeaves as LeavesFine}
 use Rattle.run_laws.proofs.HoldPackets.{hold_step, begun_rights}
@@ -27,7 +27,6 @@ use Rattle.run_laws.proofs.Moving.{Ready, state_of}
 use Rattle.run_laws.proofs.Entering.{Begins}
 use Rattle.run_laws.proofs.FineFrames.{frame_fine}
 use Rattle.run_laws.proofs.Rights.{rights_told}
-use Rattle.run_laws.proofs.NeverWrong.{good_set}
 use Rattle.run_laws.proofs.Stacking.{Stands, Stacked, Replaces, top_stands, told_frame, told_last, told_is}
 use Rattle.run_laws.proofs.StandingRuns.{IsGood, Standing, StandingOn, frames_there, begins, live_actions, standing_step, standing_begun}
 
@@ -37,13 +36,13 @@ pub record Held (states : States) (w : World) : Type 0 where
   pub walks : (n : ℕ) → thread_sum (λ f. frame_walks f n) w.threads ≡ held (find w.shared.packets n)
 
 -- sums over frames and threads
-stack_append : (count : Frame → ℕ) (xs ys : List Frame) → stack_sum count (xs ++ ys)
+pub stack_append : (count : Frame → ℕ) (xs ys : List Frame) → stack_sum count (xs ++ ys)
     ≡ stack_sum count xs + stack_sum count ys
 stack_append count [] ys = omega arith
 stack_append count (f ∷ xs) ys = let others : stack_sum count (xs ++ ys) ≡ stack_sum count xs + stack_sum count ys =
     stack_append count xs ys in omega arith
 
-thread_set : (count : Frame → ℕ) (threads : List Thread) (t : ℕ) (thread after : Thread) → slice_get threads t
+pub thread_set : (count : Frame → ℕ) (threads : List Thread) (t : ℕ) (thread after : Thread) → slice_get threads t
     ≡ Some thread
     → thread_sum count (slice_set threads t after) + stack_sum count thread.frames.items
     ≡ thread_sum count threads + stack_sum count after.frames.items
@@ -56,7 +55,7 @@ thread_set count (x ∷ threads) (suc t) thread after found =
     in
     omega arith
 
-stack_le : (count : Frame → ℕ) (threads : List Thread) (t : ℕ) (thread : Thread) → slice_get threads t ≡ Some thread
+pub stack_le : (count : Frame → ℕ) (threads : List Thread) (t : ℕ) (thread : Thread) → slice_get threads t ≡ Some thread
     → stack_sum count thread.frames.items ≤ thread_sum count threads
 stack_le count [] t thread found = cc
 stack_le count (x ∷ threads) zero thread found = let one : x ≡ thread = cc in rw one (omega arith)
@@ -84,7 +83,7 @@ answered_rights set states issued a status None n h = refl
 answered_rights set states issued a status (Some r) n h =
     rights_told issued (state_of states a).kinds a.registers r status n h.1.kinds
 
-frame_told_rights : (set : Set) (states : States) (issued : ℕ) (told : Option Status) (g : Frame) (n : ℕ)
+pub frame_told_rights : (set : Set) (states : States) (issued : ℕ) (told : Option Status) (g : Frame) (n : ℕ)
     → Stands set states issued None (told_frame set told g)
     → frame_rights states (told_frame set told g) n ≡ frame_rights states g n
 frame_told_rights set states issued None (Routine a) n h = refl
@@ -191,7 +190,7 @@ new_held s p m rises same free =
     ])
 
 -- what an event does to the rights
-held_event : (set : Set) (states : States) (w : World) (past : List Entry) (t : ℕ) (tag : Tag) (c : Change)
+pub held_event : (set : Set) (states : States) (w : World) (past : List Entry) (t : ℕ) (tag : Tag) (c : Change)
     → IsGood set states → Standing set states w past
     → Held states w → Happens set w t c → first_fault past t tag c.actions ≡ None → Held states c.world
 held_event set states w past t tag c good stands kept (inl h) none =
@@ -370,30 +369,22 @@ alive_parts : (o : Option Packet) → unheld o + held o ≡ alive o
 alive_parts None = refl
 alive_parts (Some p) = alive_bit p.completing
 
-pub one_holder : PacketsHaveOneHolder
-one_holder set typable sound operands threads events =
-    let states : (states : States) × IsGood set states = good_set set typable sound operands in
-    let r : Run = run set threads events in
-    let holds : Holds set states.0 r = holds_run set states.0 threads events states.1 in
-    record {
-      states = states.0;
-      arrive = λ driver number p routine there within.
-          (states.1.led.known driver number routine there).follows.arrives p within;
-      one = λ n.
-          let both : holders states.0 r.world.threads n
-          ≡ thread_sum (λ f. frame_rights states.0 f n) r.world.threads + thread_sum
-          (λ f. frame_walks f n) r.world.threads =
-          thread_both (λ f. frame_rights states.0 f n) (λ f. frame_walks f n) r.world.threads
-          in
-          let rights_are : thread_sum (λ f. frame_rights states.0 f n) r.world.threads
-          ≡ unheld (find r.world.shared.packets n) = holds.kept.rights n in
-          let walks_are : thread_sum (λ f. frame_walks f n) r.world.threads ≡ held (find r.world.shared.packets n) =
-          holds.kept.walks n in
-          let parts : unheld (find r.world.shared.packets n) + held (find r.world.shared.packets n)
-          ≡ alive (find r.world.shared.packets n) =
-          alive_parts (find r.world.shared.packets n)
-          in
-          let same : alive (packet_of r.world.shared n) ≡ alive (find r.world.shared.packets n) =
-          ap alive (find_place r.world.shared.packets n) in
-          omega arith;
-    }
+pub held_once : (set : Set) (states : States) (r : Run) → Holds set states r → (n : ℕ)
+    → holders states r.world.threads n ≡ alive (packet_of r.world.shared n)
+held_once set states r holds n =
+    let both : holders states r.world.threads n
+    ≡ thread_sum (λ f. frame_rights states f n) r.world.threads + thread_sum
+    (λ f. frame_walks f n) r.world.threads =
+    thread_both (λ f. frame_rights states f n) (λ f. frame_walks f n) r.world.threads
+    in
+    let rights_are : thread_sum (λ f. frame_rights states f n) r.world.threads
+    ≡ unheld (find r.world.shared.packets n) = holds.kept.rights n in
+    let walks_are : thread_sum (λ f. frame_walks f n) r.world.threads ≡ held (find r.world.shared.packets n) =
+    holds.kept.walks n in
+    let parts : unheld (find r.world.shared.packets n) + held (find r.world.shared.packets n)
+    ≡ alive (find r.world.shared.packets n) =
+    alive_parts (find r.world.shared.packets n)
+    in
+    let same : alive (packet_of r.world.shared n) ≡ alive (find r.world.shared.packets n) =
+    ap alive (find_place r.world.shared.packets n) in
+    omega arith

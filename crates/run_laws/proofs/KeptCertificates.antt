@@ -419,8 +419,8 @@ allowed_at set number (suc k) g (e ∷ born) same =
     ]
 
 pub certificates_kept : ActivationsKeepTheirCertificate
-certificates_kept set typable sound operands threads events =
-    let states : (states : States) × IsGood set states = good_set set typable sound operands in
+certificates_kept set typable sound threads events =
+    let states : (states : States) × IsGood set states = good_set set typable sound in
     let tally : TallyOn set (run set threads events) (entered set threads events) =
     tally_from set states.0 (begun set threads) events [] states.1 (standing_begun set states.0 threads)
     (tally_begun set threads)

@@ -15,7 +15,8 @@ use Rattle.model.specs.Loops.{open_at}
 use Rattle.model.specs.Set.{Set, Member, member, routine_of, default_routine, default_number, default_code}
 use Rattle.model.specs.Sound.{IsSound, DriverFits, HasSort, IsCompletion, CallFits, CallsFit}
 use Rattle.model.specs.Typable.{IsTypableRoutine, IsTypableDriver, IsTypable}
-use Rattle.run_laws.specs.Operand.{OperandFits, RoutineOperandsFit, DriverOperandsFit, OperandsFit}
+use Rattle.model.specs.Sound.{OperandFits}
+use Rattle.run_laws.proofs.Fitting.{RoutineOperandsFit, DriverOperandsFit, OperandsFit, operands_fit}
 use Rattle.run_laws.proofs.Leading.{Follows, Typed, LoopsBefore, typed, default_typed}
 use Rattle.run_laws.proofs.InsideLoops.{Chain, chain}
 use Rattle.run_laws.proofs.Lists.{all_at}
@@ -163,8 +164,8 @@ known_in set driver (Some other) h routine there =
     let same : other ≡ routine = cc in
     subst (λ (r : Routine). IsKnown (member set driver r) (h other refl).0) same (h other refl).1
 
-pub led : (set : Set) → IsTypable set → IsSound set → OperandsFit set → (states : States) × IsLed set states
-led set typable sound operands = (
+led_with : (set : Set) → IsTypable set → IsSound set → OperandsFit set → (states : States) × IsLed set states
+led_with set typable sound operands = (
   λ driver number. states_in set driver (routine_of set driver number)
       (knows_routine set typable sound operands driver number),
   record {
@@ -172,3 +173,6 @@ led set typable sound operands = (
         (knows_routine set typable sound operands driver number) routine there;
   },
 )
+
+pub led : (set : Set) → IsTypable set → IsSound set → (states : States) × IsLed set states
+led set typable sound = led_with set typable sound (operands_fit set sound)

@@ -269,8 +269,8 @@ reply_answered set states r t c a bug good h happens (inr (inr (inr stop))) repl
     cc
 
 pub orderly_locks : LocksAreOrderly
-orderly_locks set typable sound operands threads events e bug reply =
-    let states : (states : States) × IsGood set states = good_set set typable sound operands in
+orderly_locks set typable sound threads events e bug reply =
+    let states : (states : States) × IsGood set states = good_set set typable sound in
     let r : Run = run set threads events in
     reply_answered set states.0 r (thread_of e) (effect set r.world e) (step set r e) bug states.1
     (locked_run set states.0 threads events states.1) (happens set r.world e) (answers set r e) reply

@@ -21,7 +21,8 @@ use Rattle.model.specs.Paths.{is_misplaced, goes_forward, are_same_positions}
 use Rattle.model.specs.Set.{Set, member, label_of, routine_of}
 use Rattle.model.specs.Typable.{fault_in}
 use Rattle.model.specs.World.{at_label, with_loops, next}
-use Rattle.run_laws.specs.Operand.{OperandFits, RoutineOperandsFit}
+use Rattle.model.specs.Sound.{OperandFits}
+use Rattle.run_laws.proofs.Fitting.{RoutineOperandsFit}
 use Rattle.run_laws.proofs.Leading.{next_state, jump_state, label_in, placed, goes_to_label, and_left, and_right, lt_of, or_right}
 use Rattle.run_laws.proofs.InsideLoops.{rest, rest_at, IsFormed, HasTurns, round_open, summed, summed_same, forward_le}
 use Rattle.run_laws.proofs.Led.{States, IsKnown}

@@ -15,7 +15,6 @@ use Rattle.model.specs.Trace.{Entry, Tag, entry, recorded}
 use Rattle.model.specs.Typable.{IsTypable}
 use Rattle.model.specs.World.{World}
 use Rattle.run_laws.specs.NoWrong.{AcceptedRunsNeverGoWrong}
-use Rattle.run_laws.specs.Operand.{OperandsFit}
 use Rattle.run_laws.proofs.Leading.{or_left, or_right}
 use Rattle.run_laws.proofs.Led.{States, IsLed, led}
 use Rattle.run_laws.proofs.EventCases.{Happens, happens, tag_on, Answers, answers}
@@ -132,9 +131,9 @@ pub standing_run : (set : Set) (states : States) (threads : ℕ) (events : List 
     → StandingOn set states (run set threads events)
 standing_run set states threads events good = (quiet_run set states threads events good).stands
 
-pub good_set : (set : Set) → IsTypable set → IsSound set → OperandsFit set → (states : States) × IsGood set states
-good_set set typable sound operands =
-    let states : (states : States) × IsLed set states = led set typable sound operands in
+pub good_set : (set : Set) → IsTypable set → IsSound set → (states : States) × IsGood set states
+good_set set typable sound =
+    let states : (states : States) × IsLed set states = led set typable sound in
     (states.0, record { sound = sound; led = states.1 })
 
 -- in the words of the law
@@ -147,8 +146,8 @@ all_quiet (e ∷ past) h zero d within = not_wrong e.action (or_left _ _ h)
 all_quiet (e ∷ past) h (suc k) d within = all_quiet past (or_right _ _ h) k d (omega arith)
 
 pub never_wrong : AcceptedRunsNeverGoWrong
-never_wrong set typable sound operands threads events =
-    let states : (states : States) × IsGood set states = good_set set typable sound operands in
+never_wrong set typable sound threads events =
+    let states : (states : States) × IsGood set states = good_set set typable sound in
     let r : Run = run set threads events in
     let h : Quiet set states.0 r = quiet_run set states.0 threads events states.1 in
     record {

@@ -129,11 +129,11 @@ pub top_is : (tags : List Tag) (tag : Tag) → top_tag (tags ++ tag ∷ []) ≡ 
 top_is tags tag = get_or_from_slice_get (tags ++ tag ∷ []) _ tag Managing (last_of tags tag)
 
 -- the frames below the top one keep their tags
-same_kept : (past : List Entry) (number : ℕ) (f : Frame) (tag : Tag) → kept_tag past number f tag f ≡ tag
+pub same_kept : (past : List Entry) (number : ℕ) (f : Frame) (tag : Tag) → kept_tag past number f tag f ≡ tag
 same_kept past number (Routine a) tag = refl
 same_kept past number (Walk n) tag = refl
 
-same_counted : (f : Frame) (number : ℕ) → counted_kept f f number ≡ number
+pub same_counted : (f : Frame) (number : ℕ) → counted_kept f f number ≡ number
 same_counted (Routine a) number = refl
 same_counted (Walk n) number = refl
 
@@ -180,14 +180,14 @@ pub told_alike : (set : Set) (told : Option Status) (below : List Frame) → All
 told_alike set told below =
     subst (λ (now : List Frame). AllAlike set below now) (sym (told_is set below told)) (last_alike set told below)
 
-alike_kept : (set : Set) (past : List Entry) (number : ℕ) (f g : Frame) (tag : Tag) → Alike set f g
+pub alike_kept : (set : Set) (past : List Entry) (number : ℕ) (f g : Frame) (tag : Tag) → Alike set f g
     → kept_tag past number f tag g ≡ tag
 alike_kept set past number (Routine a) (Routine b) tag h = refl
 alike_kept set past number (Walk m) (Walk n) tag h = refl
 alike_kept set past number (Routine a) (Walk n) tag h = absurd h
 alike_kept set past number (Walk m) (Routine b) tag h = absurd h
 
-alike_counted : (set : Set) (f g : Frame) (number : ℕ) → Alike set f g → counted_kept f g number ≡ number
+pub alike_counted : (set : Set) (f g : Frame) (number : ℕ) → Alike set f g → counted_kept f g number ≡ number
 alike_counted set (Routine a) (Routine b) number h = refl
 alike_counted set (Walk m) (Walk n) number h = refl
 alike_counted set (Routine a) (Walk n) number h = absurd h
@@ -514,9 +514,9 @@ afforded set born g below f row n h le =
     omega arith)
 
 -- frames on an idle thread
-pub follows_idle : (set : Set) (born : List Entered) (past : List Entry) (number : ℕ) (row : List Tag)
-    (frames : List Frame) → Matched born [] row
-    → length born ≡ number → AllFresh set frames → ThreadFollows set born past number [] row 0 frames
+pub follows_idle : (set : Set) (born : List Entered) (past : List Entry) (number : ℕ) (kept : List Tag)
+    (frames : List Frame) → Matched born [] kept
+    → length born ≡ number → AllFresh set frames → ThreadFollows set born past number [] kept 0 frames
 follows_idle set born past number [] frames h long fresh =
     record {
       paid = λ g.
@@ -527,7 +527,7 @@ follows_idle set born past number [] frames h long fresh =
           omega arith;
       matched = fresh_matched born past number frames long;
     }
-follows_idle set born past number (tag ∷ row) frames h long fresh = absurd h
+follows_idle set born past number (tag ∷ kept) frames h long fresh = absurd h
 
 -- nothing changes where the frames are the same
 pub tags_same : (born : List Entered) (past : List Entry) (number : ℕ) (frames : List Frame) (row : List Tag)

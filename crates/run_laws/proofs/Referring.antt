@@ -39,7 +39,7 @@ StillRefers m [] = ⊤
 StillRefers m (Routine b ∷ frames) = Refers m b
 StillRefers m (Walk n ∷ frames) = ⊤
 
-refers_at : (m : ℕ) (values : List Value) (q : ℕ) → Each (RefersTo m) values
+pub refers_at : (m : ℕ) (values : List Value) (q : ℕ) → Each (RefersTo m) values
     → RefersTo m (slice_index_or values q Blank)
 refers_at m [] q h = tt
 refers_at m (v ∷ values) zero h = h.0

@@ -21,19 +21,19 @@ use Rattle.model.specs.Effect.{Change, Outcome, top_of, told_to, frame_effect, i
 use Rattle.model.specs.Fault.{first_fault, fault_of, first_or, bug_if, topped, tops}
 use Rattle.model.specs.Run.{Run, Answered, begun, frames_on, frames_of, thread_of, step}
 use Rattle.model.specs.Set.{Set, serving}
-use Rattle.model.specs.Sound.{IsSound}
+use Rattle.model.specs.Sound.{IsSound, DeviceFits}
 use Rattle.model.specs.Trace.{Entry, Tag, entry, recorded}
 use Rattle.model.specs.World.{Shared, World, packet_of, new_packet, entered, idle_thread, blank_cells}
 use Rattle.run_laws.proofs.Leading.{or_left}
 use Rattle.run_laws.proofs.Completing.{PacketLeads, new_leads}
-use Rattle.run_laws.proofs.Entering.{Begins, Serving, serves, begins_with}
+use Rattle.run_laws.proofs.Entering.{device_fits, Begins, Serving, serves, begins_with}
 use Rattle.run_laws.proofs.Led.{States, IsLed}
 use Rattle.run_laws.proofs.EventCases.{StepsFrame, IssuesPacket, Happens, happens, tag_on, Answers, answers}
 use Rattle.run_laws.proofs.FineFrames.{frame_fine}
 use Rattle.run_laws.proofs.FineSteps.{stops_run, Fits, Fine, StepLeaves as LeavesFine, AllLive, TouchesLive}
 use Rattle.run_laws.proofs.LivePackets.{find}
 use Rattle.run_laws.proofs.Lists.{set_same, set_other, each_push}
-use Rattle.run_laws.proofs.PastPackets.{or_true, Tells, found, tells_issue, lt_false}
+use Rattle.run_laws.proofs.PastPackets.{or_true, Tells, found, tells_issue, tells_nothing}
 use Rattle.run_laws.proofs.Stacking.{Stacked, top_stands, replaced, stacked_later}
 use Rattle.run_laws.proofs.ToldSteps.{told_step}
 
@@ -50,7 +50,7 @@ pub first_of : (one other : Option Bug) → first_or one other ≡ None → one 
 first_of None other h = refl
 first_of (Some bug) other h = cc
 
-second_of : (one other : Option Bug) → first_or one other ≡ None → other ≡ None
+pub second_of : (one other : Option Bug) → first_or one other ≡ None → other ≡ None
 second_of None other h = h
 second_of (Some bug) other h = cc
 
@@ -59,7 +59,7 @@ tops_later (TopsOut m) n before h = rw h (or_true (nat_eq m n))
 tops_later _ n before h = h
 
 -- a packet that has topped out stays so
-later_topped : (e : Entry) (past : List Entry) (n : ℕ) → topped past n ≡ true → topped (e ∷ past) n ≡ true
+pub later_topped : (e : Entry) (past : List Entry) (n : ℕ) → topped past n ≡ true → topped (e ∷ past) n ≡ true
 later_topped e past n h = tops_later e.action n (topped past n) h
 
 pub none_if : (b : Bool) (check : BugCheck) (subject : Subject) → bug_if b check subject ≡ None → b ≡ false
@@ -154,7 +154,7 @@ steps set states w past t tag c good stands h none =
     subst (λ (x : Change). Standing set states x.world (recorded past t tag x.actions)) (sym h.is)
     (record {
       fits = leaves.fits;
-      tells = told_step set past t tag w.shared (top_of h.below) h.frame stands.tells;
+      tells = (told_step past t tag w.shared stands.tells set (top_of h.below) h.frame).packets;
       frames = λ k. elim (cases_eq t k) [
         | inl same ↦
             subst (λ (j : ℕ). Stacked set states o.shared.issued
@@ -180,7 +180,6 @@ issues set states w past t tag c good stands h =
     let after : Shared = record w.shared { packets = w.shared.packets ++ packet ∷ []; issued = n + 1 } in
     let frame : Frame = Routine
     (entered h.device.driver (serving (slice_get set.drivers h.device.driver) h.major) h.d n) in
-    let told : Tells after past = tells_issue w.shared past packet stands.tells refl refl in
     subst (λ (x : Change). Standing set states x.world (recorded past t tag x.actions)) (sym h.is)
     (record {
       fits = record {
@@ -190,7 +189,10 @@ issues set states w past t tag c good stands h =
         completions = each_push (PacketLeads set) w.shared.packets packet stands.fits.completions
             (new_leads set n h.d h.major h.argument h.device.stack);
       };
-      tells = record { rises = told.rises; gone = told.gone; taken = told.taken };
+      tells =
+          let fits : DeviceFits (length set.drivers) (0 + h.d) h.device =
+          device_fits (length set.drivers) 0 set.devices h.d h.device good.sound.devices h.there in
+          tells_issue w.shared past h.d h.major h.argument h.device.stack fits.low stands.tells;
       frames = λ k. elim (cases_eq t k) [
         | inl same ↦
             subst (λ (j : ℕ). Stacked set states (n + 1) (frames_on (with_frames w t after (frame ∷ [])) j)) same
@@ -204,7 +206,7 @@ issues set states w past t tag c good stands h =
       ];
     })
 
-changed : (set : Set) (states : States) (w : World) (past : List Entry) (t : ℕ) (tag : Tag) (c : Change)
+pub changed : (set : Set) (states : States) (w : World) (past : List Entry) (t : ℕ) (tag : Tag) (c : Change)
     → IsGood set states → Standing set states w past
     → Happens set w t c → first_fault past t tag c.actions ≡ None
     → Standing set states c.world (recorded past t tag c.actions)
@@ -282,11 +284,6 @@ standing_begun set states threads on =
         rows = free_row (length set.devices);
         completions = tt;
       };
-      tells = record {
-        rises = omega arith;
-        gone = λ n. rw (lt_false n 0 (omega arith)) refl;
-        taken =
-            λ n. rw (lt_false n 0 (omega arith)) refl;
-      };
+      tells = tells_nothing;
       frames = λ t. rw (idle_frames threads t) tt;
     }

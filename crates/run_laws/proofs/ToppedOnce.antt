@@ -164,8 +164,8 @@ at_most_one true n h = omega arith
 at_most_one false n h = omega arith
 
 pub tops_out_once : PacketsTopOutOnce
-tops_out_once set typable sound operands threads events n =
-    let states : (states : States) × IsGood set states = good_set set typable sound operands in
+tops_out_once set typable sound threads events n =
+    let states : (states : States) × IsGood set states = good_set set typable sound in
     let r : Run = run set threads events in
     let h : Once set states.0 r =
     once_from set states.0 (begun set threads) events states.1

@@ -1,5 +1,5 @@
 -- Who holds a packet: a register that has the right to it, or the I/O manager's frame that completes it.
-use Rattle.std.specs.Prelude.{ℕ, ◌≡◌, ◌<◌, ◌+◌, false, List, [], ◌∷◌, length, Option, None, Some, nat_eq, if◌then◌else◌}
+use Rattle.std.specs.Prelude.{ℕ, ◌≡◌, ◌<◌, ◌+◌, ◌&&◌, not, Bool, List, [], ◌∷◌, length, Option, None, Some, nat_eq, nat_lt, if◌then◌else◌}
 use Rattle.model.specs.declared.abs.Abs.{Abs}
 use Rattle.model.specs.declared.abs.Kind.{Kind}
 use Rattle.model.specs.declared.event.Event.{Event}
@@ -10,14 +10,14 @@ use Rattle.model.specs.declared.world.Packet.{Packet}
 use Rattle.model.specs.declared.world.Thread.{Thread}
 use Rattle.model.specs.declared.world.Value.{Value}
 use Rattle.model.specs.declared.world.Value.TheVariants.{Ref}
+use Rattle.model.specs.Fault.{topped}
 use Rattle.model.specs.LocalRule.{is_owed}
 use Rattle.model.specs.Paths.{Arrives}
-use Rattle.model.specs.Run.{run}
+use Rattle.model.specs.Run.{Run, run}
 use Rattle.model.specs.Set.{Set, member, routine_of}
 use Rattle.model.specs.Sound.{IsSound}
 use Rattle.model.specs.Typable.{IsTypable}
 use Rattle.model.specs.World.{packet_of}
-use Rattle.run_laws.specs.Operand.{OperandsFit}
 
 -- 1 where a value refers to a packet, else 0
 abbrev pub names : Value → ℕ → ℕ
@@ -57,17 +57,23 @@ abbrev pub alive : Option Packet → ℕ
 alive None = 0
 alive (Some p) = 1
 
--- a live packet of a run has one holder, and one that has topped out none; the states are those that
--- arrive at the positions of the routines
+-- a packet was issued in a run, and hasn't topped out
+abbrev pub is_live : Run → ℕ → Bool
+is_live r n = nat_lt n r.world.shared.issued && not (topped r.past n)
+
+-- a packet of a run that was issued and hasn't topped out has one holder, and is in the list of live packets;
+-- any other one has none, and isn't there. The states are those that arrive at the positions of the routines
 pub record HasOneHolder (set : Set) (threads : ℕ) (events : List Event) : Type 0 where
   pub states : ℕ → ℕ → ℕ → Abs
   pub arrive : (driver number p : ℕ) (routine : RoutineOf) → routine_of set driver number ≡ Some routine
       → p < length routine.code
       → Arrives (member set driver routine) p (states driver number p)
   pub one : (n : ℕ) → holders states (run set threads events).world.threads n
-      ≡ alive (packet_of (run set threads events).world.shared n)
+      ≡ (if is_live (run set threads events) n then 1 else 0)
+  pub listed : (n : ℕ) → alive (packet_of (run set threads events).world.shared n)
+      ≡ (if is_live (run set threads events) n then 1 else 0)
 
 abbrev pub PacketsHaveOneHolder : Type 0
 PacketsHaveOneHolder =
-    (set : Set) → IsTypable set → IsSound set → OperandsFit set → (threads : ℕ) (events : List Event)
+    (set : Set) → IsTypable set → IsSound set → (threads : ℕ) (events : List Event)
     → HasOneHolder set threads events

@@ -1,6 +1,10 @@
-pub mod Operand
 pub mod NoWrong
 pub mod Lifetime
 pub mod LockOrder
 pub mod Holder
 pub mod TopsOnce
+pub mod NeverStops
+pub mod Rules
+pub mod CarriedMark
+pub mod PendingReturns
+pub mod PastTells

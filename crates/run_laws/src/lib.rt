@@ -2,11 +2,23 @@
 //! runs here: each law is the contract of a function that does nothing.
 #![tactic(auto)]
 
+ghost use Rattle.run_laws.specs.CarriedMark.{CarriedUp};
 ghost use Rattle.run_laws.specs.Holder.{PacketsHaveOneHolder};
 ghost use Rattle.run_laws.specs.Lifetime.{ActivationsKeepTheirCertificate};
 ghost use Rattle.run_laws.specs.LockOrder.{LocksAreOrderly};
+ghost use Rattle.run_laws.specs.NeverStops.{AcceptedRunsNeverStop};
 ghost use Rattle.run_laws.specs.NoWrong.{AcceptedRunsNeverGoWrong};
+ghost use Rattle.run_laws.specs.PastTells.{PastTellsOfTheWorld};
+ghost use Rattle.run_laws.specs.PendingReturns.{AcceptedRunsAgreeOnPending};
+ghost use Rattle.run_laws.specs.Rules.{AcceptedRunsKeepTheRules};
 ghost use Rattle.run_laws.specs.TopsOnce.{PacketsTopOutOnce};
+
+/// Of any set, accepted or not, until its run stops: a packet has topped out exactly where it was issued and isn't
+/// live, the live packets are as the trace says, a thread holds a lock exactly where it is its owner, and no thread
+/// has more than 32 frames.
+pub fn the_past_tells_of_the_world()
+    ensures { PastTellsOfTheWorld }
+{}
 
 /// No run of an accepted set goes wrong: no operand is of a wrong kind, no position is outside its
 /// routine, no loop instruction is without its loop, and an activation's device is there with its locks
@@ -32,7 +44,30 @@ pub fn packets_have_one_holder()
     ensures { PacketsHaveOneHolder }
 {}
 
+/// No run of an accepted set stops: there is no bug check of any kind, nothing goes wrong, and no step of a
+/// thread is refused.
+pub fn accepted_runs_never_stop()
+    ensures { AcceptedRunsNeverStop }
+{}
+
 /// No packet tops out twice.
 pub fn packets_top_out_once()
     ensures { PacketsTopOutOnce }
+{}
+
+/// Every run of an accepted set keeps all these rules.
+pub fn accepted_runs_keep_the_rules()
+    ensures { AcceptedRunsKeepTheRules }
+{}
+
+/// Dispatch routines return STATUS_PENDING exactly where their stack location was marked pending when
+/// completion left it.
+pub fn pending_returns_agree()
+    ensures { AcceptedRunsAgreeOnPending }
+{}
+
+/// A worked run in which a mark is carried up, as a check of the definitions: both locations are left marked,
+/// and STATUS_PENDING is returned from both.
+pub fn a_mark_is_carried_up()
+    ensures { CarriedUp }
 {}

@@ -1,4 +1,4 @@
-use Rattle.run_laws.proofs.HoldingRuns.{one_holder}
+use Rattle.run_laws.proofs.HoldingLive.{one_holder}
 use Rattle.run_laws.proofs.packets_have_one_holder.Goals as goal
 
 pub returns : goal.returns

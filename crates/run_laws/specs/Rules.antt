@@ -1,0 +1,36 @@
+-- The rules that every run of an accepted set keeps, all in one.
+use Rattle.std.specs.Prelude.{ℕ, ⊤, ◌≡◌, ◌≤◌, List, [], ◌∷◌, None}
+use Rattle.model.specs.declared.event.Event.{Event}
+use Rattle.model.specs.Fault.{fault_of}
+use Rattle.model.specs.PendingAgreement.{PendingAgree}
+use Rattle.model.specs.Run.{run}
+use Rattle.model.specs.Set.{Set}
+use Rattle.model.specs.Sound.{IsSound}
+use Rattle.model.specs.Trace.{Entry}
+use Rattle.model.specs.Typable.{IsTypable}
+use Rattle.run_laws.specs.Holder.{HasOneHolder}
+use Rattle.run_laws.specs.Lifetime.{KeepCertificates}
+use Rattle.run_laws.specs.NeverStops.{NeverStops}
+use Rattle.run_laws.specs.NoWrong.{NeverGoesWrong}
+use Rattle.run_laws.specs.TopsOnce.{times_topped}
+
+-- no action of a trace makes a bug check, looking back over what was before it
+abbrev pub Faultless : List Entry → Type 0
+Faultless [] = ⊤
+Faultless (e ∷ past) = (fault_of past e.thread e.action ≡ None) × Faultless past
+
+-- the run of these events: no bug check and no operand of a wrong kind in its trace, so it hasn't stopped
+-- and no step of its threads is refused; each activation is within its certificate, what was returned agrees
+-- with the marks, each live packet has one holder, and no packet tops out twice
+pub record KeepsTheRules (set : Set) (threads : ℕ) (events : List Event) : Type 0 where
+  pub faultless : Faultless (run set threads events).past
+  pub right : NeverGoesWrong set threads events
+  pub lasting : NeverStops set threads events
+  pub certificates : KeepCertificates set threads events
+  pub pending : PendingAgree (run set threads events).past
+  pub holders : HasOneHolder set threads events
+  pub topped : (n : ℕ) → times_topped (run set threads events).past n ≤ 1
+
+abbrev pub AcceptedRunsKeepTheRules : Type 0
+AcceptedRunsKeepTheRules =
+    (set : Set) → IsTypable set → IsSound set → (threads : ℕ) (events : List Event) → KeepsTheRules set threads events
