@@ -1,6 +1,6 @@
 -- An event on the machine and on the run: both end with the same world and the same reply.
-use Rattle.std.proofs.Common.{◌≡◌, ◌≤◌, ◌<◌, ◌+◌, ◌-◌, ℕ, List, [], ◌∷◌, ◌++◌, Option, None, Some, Bool, true, false, cond, length, take, refl, ap, sym, ◌∙◌, ◌⊎◌, inl, inr, arith, length-append}
-use Rattle.std.specs.Prelude.{◌&&◌, nat_le, slice_get}
+use Rattle.std.proofs.Common.{◌≡◌, ◌≤◌, ◌<◌, ◌+◌, ◌-◌, ℕ, zero, suc, List, [], ◌∷◌, ◌++◌, Option, None, Some, Bool, true, false, cond, length, take, refl, ap, sym, ◌∙◌, ◌⊎◌, inl, inr, arith, length-append}
+use Rattle.std.specs.Prelude.{◌&&◌, nat_le, slice_get, slice_set}
 use Rattle.std.proofs.lemmas.Bool.Decides.{leb_tells}
 use Rattle.model.specs.declared.world.Activation.{Activation}
 use Rattle.model.specs.declared.world.Frame.{Frame}
@@ -20,9 +20,11 @@ use Rattle.model.specs.Set.{Set}
 use Rattle.model.specs.Trace.{Entry, Tag, recorded}
 use Rattle.model.specs.World.{Shared, World}
 use Rattle.checked.specs.Step.{Left, Ended, first_now, stays, left_by, fits, bounded, moved_by, top_now, step_ended, step_now, ended, event_now, is_stop}
-use Rattle.checked.proofs.Lists.{set_same, set_back, last_split}
+use Rattle.checked.proofs.Lists.{set_same, last_split}
 use Rattle.checked.proofs.Effects.{Fine, WrongHere, fine_frame}
-use Rattle.checked.proofs.Known.{Knows}
+use Rattle.irql_locks.specs.Owns.{OwningTells}
+use Rattle.run_laws.specs.PastTells.{PastTells}
+use Rattle.checked.proofs.Known.{known}
 
 -- the run answers as the machine ends
 pub record Same (a : Answered) (e : Ended) : Type 0 where
@@ -66,6 +68,11 @@ told_count set below (Some status) = told_frames set below status (top_of below)
 -- the frames of a thread are put back
 abbrev with_threads : Shared → List Thread → World
 with_threads s threads = record { threads = threads; shared = s }
+
+set_back : {A : Type 0} (xs : List A) (i : ℕ) (x : A) → slice_get xs i ≡ Some x → slice_set xs i x ≡ xs
+set_back {A = A} [] i x h = refl
+set_back {A = A} (z ∷ xs) zero x h = let same : z ≡ x = cc in rw same refl
+set_back {A = A} (z ∷ xs) (suc i) x h = ap (λ (ys : List A). z ∷ ys) (set_back xs i x h)
 
 put_back : (w : World) (t : ℕ) (thread : Thread) (items : List Frame) → slice_get w.threads t ≡ Some thread →
     thread.frames.items ≡ items → with_frames w t w.shared items ≡ w
@@ -215,10 +222,10 @@ compare_change r t past c plain few =
     rw (unless_plain r t past c _ plain) (compare_goes r t past c _ room plain)
 
 -- what a run knows before an event
-module _ (set : Set) (r : Run) (t : ℕ) (tag : Tag) (few : length (frames_on r.world t) ≤ 32) (on : r.stopped ≡ false)
-    (knows : Knows r.world.shared r.past) where
+module _ (set : Set) (r : Run) (t : ℕ) (tag : Tag) (on : r.stopped ≡ false) (tells : PastTells r)
+    (owning : OwningTells) where
   compare_refused : Same (unless_wrong r t r.past (unchanged r.world Refused) Refused) (ended (unchanged r.world Refused))
-  compare_refused = compare_change r t r.past (unchanged r.world Refused) refl few
+  compare_refused = compare_change r t r.past (unchanged r.world Refused) refl (tells.few t)
 
   compare_top : (thread : Thread) (o : Option Frame) → slice_get thread.frames.items (length thread.frames.items - 1) ≡ o →
       slice_get r.world.threads t ≡ Some thread → length thread.frames.items ≤ 32 →
@@ -226,7 +233,7 @@ module _ (set : Set) (r : Run) (t : ℕ) (tag : Tag) (few : length (frames_on r.
       (step_ended r.world t (top_now set r.world.shared t thread (take (length thread.frames.items - 1) thread.frames.items) o))
   compare_top thread None e h here =
       let same : Same (unless_wrong r t r.past (unchanged r.world Idle) Idle) (ended (unchanged r.world Idle)) =
-      compare_change r t r.past (unchanged r.world Idle) refl few in
+      compare_change r t r.past (unchanged r.world Idle) refl (tells.few t) in
       record {
         world = same.world ∙ ap (with_threads r.world.shared) (sym (set_back r.world.threads t thread h));
         reply = same.reply;
@@ -236,13 +243,13 @@ module _ (set : Set) (r : Run) (t : ℕ) (tag : Tag) (few : length (frames_on r.
       let below : List Frame = take (length thread.frames.items - 1) thread.frames.items in
       compare_frame set r t tag thread below f (frame_effect set r.world.shared t (top_of below) f)
       (record { there = h; split = last_split thread.frames.items f e; few = here; on = on })
-      (fine_frame r.past t tag r.world.shared knows set (top_of below) f)
+      (fine_frame r.past t tag r.world.shared (known r tells owning) set (top_of below) f)
 
   compare_step : (o : Option Thread) → slice_get r.world.threads t ≡ o →
       Same (run_judged r t tag (step_thread set r.world t o)) (step_now set r.world t o)
   compare_step None h = compare_refused
   compare_step (Some thread) h =
-      let here : length thread.frames.items ≤ 32 = rw h at few in
+      let here : length thread.frames.items ≤ 32 = rw h at (tells.few t) in
       compare_top thread (slice_get thread.frames.items (length thread.frames.items - 1)) refl h here
 
   compare_issued : (d : ℕ) (thread : Thread) (device : Device) (major : Major) (argument : ℕ) (b : Bool) →
@@ -261,8 +268,8 @@ module _ (set : Set) (r : Run) (t : ℕ) (tag : Tag) (few : length (frames_on r.
       compare_issued d thread device major argument (is_idle thread && can_issue r.world.shared) h
 
 -- every event
-pub compare_event : (set : Set) (r : Run) (tag : Tag) (e : Event) → length (frames_on r.world (thread_of e)) ≤ 32 →
-    r.stopped ≡ false → Knows r.world.shared r.past → Same (run_judged r (thread_of e) tag (effect set r.world e)) (event_now set r.world e)
-compare_event set r tag (Issue t d major argument) few on knows =
-    compare_issue set r t tag few on knows d major argument (slice_get r.world.threads t) (slice_get set.devices d) refl
-compare_event set r tag (Step t) few on knows = compare_step set r t tag few on knows (slice_get r.world.threads t) refl
+pub compare_event : (set : Set) (r : Run) (tag : Tag) (e : Event) → r.stopped ≡ false → PastTells r → OwningTells →
+    Same (run_judged r (thread_of e) tag (effect set r.world e)) (event_now set r.world e)
+compare_event set r tag (Issue t d major argument) on tells owning =
+    compare_issue set r t tag on tells owning d major argument (slice_get r.world.threads t) (slice_get set.devices d) refl
+compare_event set r tag (Step t) on tells owning = compare_step set r t tag on tells owning (slice_get r.world.threads t) refl

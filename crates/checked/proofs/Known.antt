@@ -1,79 +1,88 @@
--- What the threads share tells what the past of a run tells.
-use Rattle.std.proofs.Common.{◌≡◌, ℕ, List, Some, Bool, true, refl, ap, sym, ◌∙◌, inl, inr}
-use Rattle.std.specs.Prelude.{nat_eq, if◌then◌else◌}
-use Rattle.std.proofs.lemmas.Bool.Decides.{eqb_tells}
-use Rattle.model.specs.declared.world.Packet.{Packet}
+-- The machine's tests of packets and locks tell what the past tells, where the past tells of the world.
+use Rattle.std.proofs.Common.{◌≡◌, ℕ, suc, List, Option, None, Some, Bool, true, false, refl, sym, ◌∙◌, inl, inr, arith, ◌<◌, ◌≤◌, length}
+use Rattle.std.specs.Prelude.{◌||◌, ◌&&◌, not, nat_lt, nat_le}
+use Rattle.std.proofs.lemmas.Bool.Decides.{leb_tells}
 use Rattle.model.specs.declared.event.Lock.{Lock}
-use Rattle.model.specs.declared.status.Status.{Status}
-use Rattle.model.specs.Fault.{holds, topped, completing, stack_size, depth}
+use Rattle.model.specs.declared.world.Packet.{Packet}
+use Rattle.model.specs.Fault.{holds, topped, completing, stack_size, depth, at_dispatch}
+use Rattle.model.specs.Run.{Run}
 use Rattle.model.specs.Trace.{Entry}
-use Rattle.model.specs.World.{Shared, Locks, packet_of, with_packet, completed}
-use Rattle.irql_locks.specs.Owns.{owns}
-use Rattle.checked.proofs.Live.{find, find_place, find_number}
-use Rattle.checked.proofs.Stacks.{Stacked, Stacks, Changed, stacks_set}
-use Rattle.checked.proofs.Tells.{Told, tells_set}
+use Rattle.model.specs.World.{Shared, owner_of, packet_of}
+use Rattle.run_laws.specs.PastTells.{PastTells, TellsOfPacket}
+use Rattle.irql_locks.specs.Owns.{owns, owns_any, OwningTells, OwnsSome}
+use Rattle.checked.specs.Step.{is_gone, is_held, is_full}
 
-pub record Known (live : List Packet) (count : ℕ) (owners : Locks) (tops ends : ℕ → Bool) (held : ℕ → Lock → Bool)
-    (sizes deeps : ℕ → ℕ) : Type 0 where
-  pub packets : Told live count tops ends
-  pub locks : (t : ℕ) (l : Lock) → held t l ≡ owns owners t l
-  pub stacks : Stacks live sizes deeps
+pub record Known (s : Shared) (past : List Entry) : Type 0 where
+  pub gone : (n : ℕ) → topped past n ≡ is_gone s n
+  pub taken : (n : ℕ) → nat_lt n s.issued ≡ true → (topped past n || completing past n) ≡ (is_gone s n || is_held (packet_of s n))
+  pub full : (n : ℕ) (p : Packet) → packet_of s n ≡ Some p → nat_le (stack_size past n) (depth past n) ≡ is_full (packet_of s n)
+  pub locks : (t : ℕ) (l : Lock) → holds past t l ≡ owns s.locks t l
+  pub level : (t : ℕ) → at_dispatch past t ≡ owns_any s.locks t
 
-abbrev pub KnowsAt : Shared → List Entry → (ℕ → ℕ) → Type 0
-KnowsAt s past deeps = Known s.packets s.issued s.locks (topped past) (completing past) (holds past) (stack_size past) deeps
+-- a packet is at its last location exactly where it was sent down as often as it has locations
+le_not_lt : (a b : ℕ) → nat_le a b ≡ not (nat_lt b a)
+le_not_lt a b =
+    elim (leb_tells a b) [
+      | inl l ↦ elim (leb_tells (suc b) a) [
+        | inl m ↦ let low : a ≤ b = l.1 in let high : suc b ≤ a = m.1 in absurd (omega arith)
+        | inr m ↦ rw (l.0, m.0) refl
+      ]
+      | inr l ↦ elim (leb_tells (suc b) a) [
+        | inl m ↦ rw (l.0, m.0) refl
+        | inr m ↦ let low : b < a = l.1 in let high : a < suc b = m.1 in absurd (omega arith)
+      ]
+    ]
 
-abbrev pub Knows : Shared → List Entry → Type 0
-Knows s past = KnowsAt s past (depth past)
+and_false : (b : Bool) → (b && false) ≡ false
+and_false true = refl
+and_false false = refl
 
-pub numbered : (s : Shared) (n : ℕ) (p : Packet) → packet_of s n ≡ Some p → p.number ≡ n
-numbered s n p h = find_number s.packets n p (sym (find_place s.packets n) ∙ h)
+both_ways : (a b : Bool) → (a ≡ true → b ≡ true) → (b ≡ true → a ≡ true) → a ≡ b
+both_ways true b there back = sym (there refl)
+both_ways false true there back = back refl
+both_ways false false there back = refl
 
-found : (s : Shared) (n : ℕ) (p : Packet) → packet_of s n ≡ Some p → find s.packets n ≡ Some p
-found s n p h = sym (find_place s.packets n) ∙ h
+module _ (r : Run) (tells : PastTells r) (owning : OwningTells) where
+  abbrev shared : Shared
+  shared = r.world.shared
 
-same_number : (n : ℕ) → nat_eq n n ≡ true
-same_number n = elim (eqb_tells n n) [ inl g ↦ g.0 | inr g ↦ absurd (g.1 refl) ]
+  -- of a packet that was issued
+  taken_as : (n : ℕ) (o : Option Packet) → packet_of shared n ≡ o → nat_lt n shared.issued ≡ true →
+      (topped r.past n || completing r.past n) ≡ (is_gone shared n || is_held (packet_of shared n))
+  taken_as n None there issued =
+      let gone : is_gone shared n ≡ true = rw (issued, there) refl in
+      let before : topped r.past n ≡ true = tells.gone n ∙ gone in
+      rw (before, gone) refl
+  taken_as n (Some p) there issued =
+      let here : is_gone shared n ≡ false = rw there (and_false (nat_lt n shared.issued)) in
+      let before : topped r.past n ≡ false = tells.gone n ∙ here in
+      let its : TellsOfPacket r.past n p = tells.live n p there in
+      rw (before, here, there) its.completion
 
-module _ (s : Shared) (past : List Entry) (knows : Knows s past) (n : ℕ) (p : Packet) (there : packet_of s n ≡ Some p) where
-  -- what the past tells of a live packet's stack
-  pub stack_of : Stacked p (stack_size past n) (depth past n)
-  stack_of = knows.stacks n p (found s n p there)
+  full_as : (n : ℕ) (p : Packet) → packet_of shared n ≡ Some p →
+      nat_le (stack_size r.past n) (depth r.past n) ≡ is_full (packet_of shared n)
+  full_as n p there =
+      let its : TellsOfPacket r.past n p = tells.live n p there in
+      rw (its.size, its.place, there) (le_not_lt (length p.locations.items) p.depth)
 
-  -- a packet changes that stays at its depth
-  pub knows_kept : (q : Packet) → Changed p q p.depth → Knows (with_packet s n q) past
-  knows_kept q changed =
-      let number : q.number ≡ n = changed.number ∙ numbered s n p there in
-      let stacked : Stacked q (stack_size past n) (depth past n) =
-      record { count = stack_of.count ∙ sym changed.count; place = stack_of.place ∙ sym changed.place } in
+  owned_as : (t : ℕ) (l : Lock) → holds r.past t l ≡ owns shared.locks t l
+  owned_as t l =
+      both_ways (holds r.past t l) (owns shared.locks t l)
+      (λ held. (owning.lock shared.locks t l).1 (tells.owner t l held))
+      (λ own. tells.holder t l ((owning.lock shared.locks t l).0 own))
+
+  level_as : (t : ℕ) → at_dispatch r.past t ≡ owns_any shared.locks t
+  level_as t =
+      both_ways (at_dispatch r.past t) (owns_any shared.locks t)
+      (λ high. (owning.any shared.locks t).1 (tells.raised t high))
+      (λ own. let some : OwnsSome shared.locks t = (owning.any shared.locks t).0 own in tells.raises t some.0 some.1)
+
+  pub known : Known r.world.shared r.past
+  known =
       record {
-        packets = tells_set s past n p q knows.packets there number changed.taken;
-        locks = knows.locks;
-        stacks =
-            stacks_set s.packets (stack_size past) (depth past) (depth past) n p q knows.stacks (found s n p there) number
-            stacked (λ m other. refl);
+        gone = tells.gone;
+        taken = λ n issued. taken_as n (packet_of shared n) refl issued;
+        full = full_as;
+        locks = owned_as;
+        level = level_as;
       }
-
-  -- a packet moves down or up
-  pub knows_moved : (q : Packet) (moves : ℕ → ℕ) (deeps : ℕ → ℕ) → Changed p q (moves p.depth) →
-      ((m : ℕ) → deeps m ≡ (if nat_eq n m then moves (depth past m) else depth past m)) → KnowsAt (with_packet s n q) past deeps
-  knows_moved q moves deeps changed told =
-      let number : q.number ≡ n = changed.number ∙ numbered s n p there in
-      let moved : deeps n ≡ moves (depth past n) = told n ∙ (rw (same_number n) refl) in
-      let stacked : Stacked q (stack_size past n) (deeps n) =
-      record {
-        count = stack_of.count ∙ sym changed.count;
-        place = moved ∙ ap moves stack_of.place ∙ sym changed.place;
-      } in
-      record {
-        packets = tells_set s past n p q knows.packets there number changed.taken;
-        locks = knows.locks;
-        stacks =
-            stacks_set s.packets (stack_size past) (depth past) deeps n p q knows.stacks (found s n p there) number
-            stacked (λ m other. told m ∙ (rw other refl));
-      }
-
-  -- the stacks of the packets after a completion
-  pub stacks_completed : (status : Status) → Stacks (with_packet s n (completed p status)).packets (stack_size past) (depth past)
-  stacks_completed status =
-      stacks_set s.packets (stack_size past) (depth past) (depth past) n p (completed p status) knows.stacks (found s n p there)
-      (numbered s n p there) (record { count = stack_of.count; place = stack_of.place }) (λ m other. refl)

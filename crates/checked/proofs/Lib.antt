@@ -1,10 +1,6 @@
 pub mod Lists
-pub mod Live
 pub mod Devices
 pub mod Room
-pub mod Owners
-pub mod Stacks
-pub mod Tells
 pub mod Known
 pub mod Effects
 pub mod Compare

@@ -12,6 +12,7 @@ mod thread;
 mod world;
 
 pub use machine::Checked;
+pub use world::World;
 
 #[cfg(test)]
 mod tests;

@@ -1,14 +1,16 @@
 //! The reference machine.
 
-ghost use Rattle.std.specs.Prelude.{◌≡◌, ◌≤◌, ◌↔◌, [], IfOk, IfErr, IsTrue};
+ghost use Rattle.std.specs.Prelude.{◌≡◌, ◌≤◌, [], false, IfOk, IfErr};
 ghost use Rattle.model.specs.Machine.{Shows, Applies};
 ghost use Rattle.model.specs.Sound.{IsSound};
 ghost use Rattle.checked.specs.Step.{machine_now};
 
 use crate::world::World;
 use image::DriverSet;
+use irql_locks::owning_tells;
 use model::event::{Event, Reply};
 use model::memory::OutOfMemory;
+use run_laws::the_past_tells_of_the_world;
 use std::alloc::Global;
 use std::marker::Model;
 
@@ -32,6 +34,17 @@ impl Model for Checked {
 }
 
 impl Checked {
+    /// A machine that runs the set in a world.
+    pub fn of(set: DriverSet, world: World) -> Checked
+        ensures { result ≡ record { set = set; world = world; stopped = false } }
+    {
+        Checked {
+            driver_set: set,
+            state: world,
+            halted: false,
+        }
+    }
+
     /// A machine that runs the set on so many threads, 1 to 32, before the first event. All memory
     /// that it ever needs is taken here: the set comes back where some of it is refused.
     pub fn new(
@@ -46,11 +59,7 @@ impl Checked {
         ensures back { IfErr result (λ refused. refused.0 ≡ set) }
     {
         match World::new(alloc, set.devices().len(), threads) {
-            Ok(state) => Ok(Checked {
-                driver_set: set,
-                state,
-                halted: false,
-            }),
+            Ok(world) => Ok(Checked::of(set, world)),
             Err(_refused) => Err((set, OutOfMemory)),
         }
     }
@@ -60,6 +69,8 @@ impl Checked {
     pub fn apply(&mut self, event: &Event) -> Reply
         ensures { Applies self.old event.now self.new result }
     {
+        the_past_tells_of_the_world();
+        owning_tells();
         self.advance(event)
     }
 

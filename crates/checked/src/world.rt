@@ -47,7 +47,8 @@ fn begin(thread: &mut Thread, root: Activation)
 }
 
 impl World {
-    /// So many devices and idle threads, before the first event. An error where memory is refused.
+    /// So many devices and idle threads, before the first event. All memory that a run ever needs is
+    /// taken here: an error where some of it is refused.
     pub fn new(alloc: Global, devices: usize, threads: u8) -> Result<World, AllocError>
         ensures { IfOk result (λ w. w ≡ opening devices threads) }
     {
@@ -65,7 +66,7 @@ impl World {
     }
 
     /// What an event does, and its reply. After a bug check or a wrong operand nothing has changed.
-    pub fn perform(&mut self, set: &DriverSet, event: &Event) -> Reply
+    pub(crate) fn perform(&mut self, set: &DriverSet, event: &Event) -> Reply
         ensures { record { world = self.new; reply = result } ≡ event_now set.now self.old event.now }
     {
         match *event {

@@ -18,12 +18,15 @@ owner_its t (Some owner) h =
       | inr e ↦ let no : false ≡ true = sym e.0 ∙ h in cc
     ]
 
-its_owner : (t : ℕ) → is_owner t (Some t) ≡ true
+pub its_owner : (t : ℕ) → is_owner t (Some t) ≡ true
 its_owner t = elim (eqb_tells t t) [ inl e ↦ e.0 | inr e ↦ absurd (e.1 refl) ]
 
-owned_its : (t : ℕ) (o : Option (Option ℕ)) → is_owned_by t o ≡ true → o ≡ Some (Some t)
+pub owned_its : (t : ℕ) (o : Option (Option ℕ)) → is_owned_by t o ≡ true → o ≡ Some (Some t)
 owned_its t None h = cc
 owned_its t (Some owner) h = ap (λ (x : Option ℕ). Some x) (owner_its t owner h)
+
+pub owned_as : (locks : Locks) (t : ℕ) (lock : Lock) → IsTrue (owns locks t lock) ↔ (owner_of locks lock ≡ Some (Some t))
+owned_as locks t lock = (owned_its t (owner_of locks lock), λ h. rw h (its_owner t))
 
 -- an element that passes a test, and where it stands
 pub record Passes {A : Type 0} (test : A → Bool) (xs : List A) : Type 0 where
