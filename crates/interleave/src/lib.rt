@@ -3,6 +3,7 @@
 
 pub mod parse;
 pub mod read;
+pub mod run;
 pub mod schedule;
 #[cfg(test)]
 mod tests;

@@ -1,0 +1,96 @@
+//! Runs of accepted sets.
+
+ghost use Rattle.std.specs.Prelude.{◌≡◌, ◌≤◌, List, [], IfOk, IfErr};
+ghost use Rattle.model.specs.declared.event.Event.{Event};
+ghost use Rattle.interleave.specs.Runs.{IsRun, RulesKept};
+ghost use Rattle.model.specs.Machine.{Shows, Applies};
+ghost use Rattle.run_laws.specs.NeverStops.{LetsGoOn};
+ghost use Rattle.run_laws.specs.Rules.{KeepsTheRules};
+
+use checked::{Checked, World};
+use model::event::{Event, Reply};
+use model::memory::OutOfMemory;
+use run_laws::accepted_runs_keep_the_rules;
+use std::alloc::Global;
+use std::marker::Model;
+use verifier::Accepted;
+
+/// A run of an accepted driver set: the machine that it has led to so far.
+#[derive(Drop)]
+pub struct AcceptedRun {
+    machine: Checked,
+}
+
+impl Model for AcceptedRun {
+    ghost use Rattle.model.specs.Machine.{Machine};
+    ghost use Rattle.model.specs.Sound.{IsSound};
+    ghost use Rattle.model.specs.Typable.{IsTypable};
+    ghost use Rattle.interleave.specs.Runs.{IsRun};
+
+    ghost Value = { Machine };
+
+    ghost view = { λ r. r.machine };
+
+    ghost invariant = { λ r. IsTypable r.machine.set × (IsSound r.machine.set × IsRun r.machine) };
+}
+
+impl AcceptedRun {
+    /// The run of no events, on so many threads, 1 to 32. All memory that it ever needs is taken here:
+    /// the set comes back where some of it is refused.
+    pub fn new(
+        alloc: Global,
+        accepted: Accepted,
+        threads: u8,
+    ) -> Result<AcceptedRun, (Accepted, OutOfMemory)>
+        requires some { 1 ≤ threads }
+        requires few { threads ≤ 32 }
+        ensures set { IfOk result (λ run. run.set ≡ accepted) }
+        ensures shows { IfOk result (λ run. Shows run threads []) }
+        ensures rules { IfOk result (λ run. (events : List Event) → KeepsTheRules accepted threads events) }
+        ensures back { IfErr result (λ refused. refused.0 ≡ accepted) }
+    {
+        accepted_runs_keep_the_rules();
+        match World::new(alloc, accepted.set().devices().len(), threads) {
+            Ok(world) => Ok(AcceptedRun {
+                machine: Checked::of(accepted.into_set(), world),
+            }),
+            Err(_refused) => Err((accepted, OutOfMemory)),
+        }
+    }
+
+    /// Adds an event to the run, and answers as the run does. The run keeps the rules: no bug check, no
+    /// wrong operand, no activation past its certificate.
+    pub fn apply(&mut self, event: &Event) -> Reply
+        ensures applies { Applies self.old event.now self.new result }
+        ensures rules { RulesKept self.old event.now }
+        ensures goes_on { LetsGoOn result }
+    {
+        accepted_runs_keep_the_rules();
+        self.machine.apply(event)
+    }
+}
+
+/// The run of these events, on so many threads, 1 to 32. The set comes back where memory is refused.
+pub fn run(
+    alloc: Global,
+    accepted: Accepted,
+    threads: u8,
+    events: &[Event],
+) -> Result<AcceptedRun, (Accepted, OutOfMemory)>
+    requires some { 1 ≤ threads }
+    requires few { threads ≤ 32 }
+    ensures set { IfOk result (λ run. run.set ≡ accepted) }
+    ensures shows { IfOk result (λ run. Shows run threads events.now) }
+    ensures rules { IfOk result (λ run. KeepsTheRules accepted threads events.now) }
+    ensures back { IfErr result (λ refused. refused.0 ≡ accepted) }
+{
+    accepted_runs_keep_the_rules();
+    let mut run = match AcceptedRun::new(alloc, accepted, threads) {
+        Ok(run) => run,
+        Err(refused) => return Err(refused),
+    };
+    for event in events {
+        let _reply = run.apply(event);
+    }
+    Ok(run)
+}
