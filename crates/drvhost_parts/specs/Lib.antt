@@ -1,4 +1,5 @@
 pub mod CommandLine
 pub mod Device
 pub mod Fault
+pub mod Following
 pub mod Verdict

@@ -5,6 +5,7 @@
 pub mod check;
 pub mod device;
 pub mod fault;
+mod follow;
 pub mod job;
 pub mod trace;
 mod transfer;

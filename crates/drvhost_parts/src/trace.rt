@@ -1,6 +1,6 @@
 //! The trace of a run.
 
-ghost use Rattle.std.specs.Prelude.{◌≡◌, ◌+◌, ◌<◌, ◌^◌, false, if◌then◌else◌, IfOk, length};
+ghost use Rattle.std.specs.Prelude.{◌≡◌, ◌+◌, IfOk};
 ghost use Rattle.interleave.specs.Listing.{IsWithinLimits};
 ghost use Rattle.drvhost_parts.specs.Device.{CanCount};
 ghost use Rattle.drvhost_parts.specs.Fault.{AnswersBy, reads_failed, writes_failed};
@@ -8,18 +8,16 @@ ghost use Rattle.drvhost_parts.specs.Fault.{AnswersBy, reads_failed, writes_fail
 use crate::check::{Verdict, read_set, refused};
 use crate::device::{Sink, Source};
 use crate::fault::{End, Fault, finish, of_schedule};
+use crate::follow::follow;
 use crate::job::Verification;
 use crate::transfer::{read_whole, write_text};
 use checked::Checked;
+use image::DriverSet;
 use interleave::parse::parse_schedule;
+use interleave::run::AcceptedRun;
 use interleave::schedule::Schedule;
-use model::event::Event;
-use report::reply::reply_line;
-use std::alloc::{AllocError, Global};
-use verifier::verify;
-
-/// Events whose lines are written in one call.
-const EVENTS_A_BLOCK: usize = 4096;
+use std::alloc::Global;
+use verifier::{Accepted, verify};
 
 /// Runs a driver set by a schedule, and writes a line for each event, up to the first bug check or
 /// wrong operand. Where verification is required, a refused set isn't run, and what is written is
@@ -58,20 +56,55 @@ fn trace_set<S: Source, P: Source, O: Sink>(
     ensures reads { S.failures set.new + P.failures schedule.new ≡ S.failures set.old + P.failures schedule.old + reads_failed result }
     ensures writes { O.failures out.new ≡ O.failures out.old + writes_failed result }
 {
-    let mut set = read_set(alloc, set)?;
-    if verification == Verification::Required {
-        set = match verify(alloc, set) {
-            Ok(accepted) => accepted.into_set(),
-            Err((set, refusal)) => {
-                let Verdict { end, text } = refused(alloc, &set, &refusal)?;
-                write_text(out, text.as_str())?;
-                return Ok(end);
-            }
-        };
+    let set = read_set(alloc, set)?;
+    if verification == Verification::Skipped {
+        return trace_unverified(alloc, set, schedule, out);
     }
+    match verify(alloc, set) {
+        Ok(accepted) => trace_accepted(alloc, accepted, schedule, out),
+        Err((set, refusal)) => {
+            let Verdict { end, text } = refused(alloc, &set, &refusal)?;
+            write_text(out, text.as_str())?;
+            Ok(end)
+        }
+    }
+}
+
+/// Runs an accepted set to the end of its schedule.
+fn trace_accepted<P: Source, O: Sink>(
+    alloc: Global,
+    accepted: Accepted,
+    schedule: &mut P,
+    out: &mut O,
+) -> Result<End, Fault>
+    requires schedule { CanCount (P.failures schedule.old) }
+    requires out { CanCount (O.failures out.old) }
+    ensures reads { P.failures schedule.new ≡ P.failures schedule.old + reads_failed result }
+    ensures writes { O.failures out.new ≡ O.failures out.old + writes_failed result }
+    ensures complete { IfOk result (λ end. end ≡ End.Complete) }
+{
+    let schedule = read_schedule(alloc, schedule)?;
+    match AcceptedRun::new(alloc, accepted, schedule.threads) {
+        Ok(mut run) => follow(alloc, &mut run, schedule.events.as_slice(), out),
+        Err((_accepted, _refused)) => Err(Fault::Memory),
+    }
+}
+
+/// Runs any set, up to the first bug check or wrong operand.
+fn trace_unverified<P: Source, O: Sink>(
+    alloc: Global,
+    set: DriverSet,
+    schedule: &mut P,
+    out: &mut O,
+) -> Result<End, Fault>
+    requires schedule { CanCount (P.failures schedule.old) }
+    requires out { CanCount (O.failures out.old) }
+    ensures reads { P.failures schedule.new ≡ P.failures schedule.old + reads_failed result }
+    ensures writes { O.failures out.new ≡ O.failures out.old + writes_failed result }
+{
     let schedule = read_schedule(alloc, schedule)?;
     match Checked::new(alloc, set, schedule.threads) {
-        Ok(mut machine) => run(alloc, &mut machine, schedule.events.as_slice(), out),
+        Ok(mut machine) => follow(alloc, &mut machine, schedule.events.as_slice(), out),
         Err((_set, _refused)) => Err(Fault::Memory),
     }
 }
@@ -88,53 +121,4 @@ fn read_schedule<P: Source>(alloc: Global, source: &mut P) -> Result<Schedule, F
         Ok(schedule) => Ok(schedule),
         Err(fault) => Err(of_schedule(fault)),
     }
-}
-
-/// Runs the events, and writes their lines.
-fn run<O: Sink>(
-    alloc: Global,
-    machine: &mut Checked,
-    events: &[Event],
-    out: &mut O,
-) -> Result<End, Fault>
-    requires count { CanCount (O.failures out.old) }
-    requires fresh { machine.old.stopped ≡ false }
-    ensures reads { reads_failed result ≡ 0 }
-    ensures writes { O.failures out.new ≡ O.failures out.old + writes_failed result }
-    ensures stopped { IfOk result (λ end. end ≡ (if machine.new.stopped then End.Stopped else End.Complete)) }
-{
-    let total = events.len();
-    let mut rest = events;
-    while !rest.is_empty() {
-        let (block, after) = rest.split_at(rest.len().min(EVENTS_A_BLOCK));
-        let text = run_block(alloc, machine, total - rest.len(), block)?;
-        write_text(out, text.as_str())?;
-        if machine.stopped() {
-            return Ok(End::Stopped);
-        }
-        rest = after;
-    }
-    Ok(End::Complete)
-}
-
-/// Runs the events of a block, the first of which has this number, up to one that stops the run, and
-/// gives their lines.
-fn run_block(
-    alloc: Global,
-    machine: &mut Checked,
-    first: usize,
-    events: &[Event],
-) -> Result<String, AllocError>
-    requires { first + length events.now < 2 ^ 64 }
-{
-    let mut text = String::new(alloc);
-    for (offset, event) in events.iter().enumerate() {
-        let reply = machine.apply(event);
-        let line = reply_line(alloc, (first + offset) as u64, &reply)?;
-        text.push_str(line.as_str())?;
-        if machine.stopped() {
-            break;
-        }
-    }
-    Ok(text)
 }

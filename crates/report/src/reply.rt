@@ -1,52 +1,76 @@
 //! The lines of a trace.
 
-ghost use Rattle.std.specs.Prelude.{◌≡◌, IfOk, string_bytes};
+ghost use Rattle.std.specs.Prelude.{◌≡◌, ◌++◌, IfOk, OnOk, string_bytes, decimal};
 ghost use Rattle.report.specs.Reply.{reply_line};
 
 use crate::number::{BugCheckText, OfDeviceText, PlaceText, StatusText};
+use itoa::Buffer;
 use model::event::{Bug, BugCheck, Lock, OfDevice, Reply, Subject};
 use model::status::Status;
 use std::alloc::{AllocError, Global};
 
-/// The line of the event of a number: the number, and what the run answered.
+/// Adds the line of the event of a number to a text: the number, and what the run answered.
 ///
 /// # Errors
 ///
 /// When memory runs out.
-pub fn reply_line(alloc: Global, number: u64, reply: &Reply) -> Result<String, AllocError>
-    ensures { IfOk result (λ line. string_bytes line ≡ reply_line number reply.now) }
+pub fn push_reply_line(
+    alloc: Global,
+    text: &mut String,
+    number: u64,
+    reply: &Reply,
+) -> Result<(), AllocError>
+    ensures { OnOk result (string_bytes text.new ≡ string_bytes text.old ++ reply_line number reply.now) }
 {
     match *reply {
-        Reply::Started(packet) => format!(in alloc; "{number} started {packet}\n"),
-        Reply::Stepped => format!(in alloc; "{number} stepped\n"),
-        Reply::Finished => format!(in alloc; "{number} finished\n"),
+        Reply::Started(packet) => {
+            let line = format!(in alloc; "{number} started {packet}\n")?;
+            text.push_str(line.as_str())
+        }
+        Reply::Stepped => push_word(text, number, " stepped\n"),
+        Reply::Finished => push_word(text, number, " finished\n"),
         Reply::Topped {
             packet,
             status,
             info,
-        } => topped_line(alloc, number, packet, status, info),
-        Reply::Waited => format!(in alloc; "{number} waited\n"),
-        Reply::Idle => format!(in alloc; "{number} idle\n"),
-        Reply::Refused => format!(in alloc; "{number} refused\n"),
-        Reply::Bug(bug) => bug_line(alloc, number, bug),
+        } => push_topped(alloc, text, number, packet, status, info),
+        Reply::Waited => push_word(text, number, " waited\n"),
+        Reply::Idle => push_word(text, number, " idle\n"),
+        Reply::Refused => push_word(text, number, " refused\n"),
+        Reply::Bug(bug) => {
+            let line = bug_line(alloc, number, bug)?;
+            text.push_str(line.as_str())
+        }
         Reply::Wrong(place) => {
             let place = PlaceText(place);
-            format!(in alloc; "{number} wrong {place}\n")
+            let line = format!(in alloc; "{number} wrong {place}\n")?;
+            text.push_str(line.as_str())
         }
     }
 }
 
-fn topped_line(
+/// Adds a number and the rest of its line to a text.
+fn push_word(text: &mut String, number: u64, rest: &str) -> Result<(), AllocError>
+    ensures { OnOk result (string_bytes text.new ≡ string_bytes text.old ++ decimal number ++ rest.now) }
+{
+    let mut digits = Buffer::new();
+    text.push_str(digits.format(number))?;
+    text.push_str(rest)
+}
+
+fn push_topped(
     alloc: Global,
+    text: &mut String,
     number: u64,
     packet: u64,
     status: Status,
     info: u64,
-) -> Result<String, AllocError>
-    ensures { IfOk result (λ line. string_bytes line ≡ reply_line number (Reply.Topped packet status info)) }
+) -> Result<(), AllocError>
+    ensures { OnOk result (string_bytes text.new ≡ string_bytes text.old ++ reply_line number (Reply.Topped packet status info)) }
 {
     let status = StatusText(status);
-    format!(in alloc; "{number} topped {packet} {status} {info}\n")
+    let line = format!(in alloc; "{number} topped {packet} {status} {info}\n")?;
+    text.push_str(line.as_str())
 }
 
 fn bug_line(alloc: Global, number: u64, bug: Bug) -> Result<String, AllocError>

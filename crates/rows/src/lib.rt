@@ -1,6 +1,9 @@
-//! Tests of the program's library on worked sets and schedules, over devices in memory.
+//! Tests that cross crates: the program's library on worked sets and schedules, over devices in memory, and the
+//! run of an accepted set.
 #![tactic(auto)]
 
+#[cfg(test)]
+mod accepted;
 #[cfg(test)]
 mod case;
 #[cfg(test)]
