@@ -1,5 +1,5 @@
 -- What a step does, as far as the rules on runs look at it.
-use Rattle.std.specs.Prelude.{ℕ}
+use Rattle.std.specs.Prelude.{ℕ, Bool}
 use Rattle.model.specs.declared.event.Lock.{Lock}
 use Rattle.model.specs.declared.event.OfDevice.{OfDevice}
 use Rattle.model.specs.declared.status.Status.{Status}
@@ -22,6 +22,11 @@ pub data Action : Type 0 where
   Ups : (packet : ℕ) → Action
   -- IoCompleteRequest is called for a packet
   Completes : (packet : ℕ) → Action
+  -- a completion routine that held a packet lets its completion go on, or is lent one
+  Continues : (packet : ℕ) → Action
+  Lends : (packet : ℕ) → Action
+  -- a packet's cancel routine is exchanged, for one or for none
+  Exchanges : (packet : ℕ) (stores : Bool) → Action
   -- the current location of a packet is marked pending
   Marks : (packet : ℕ) → Action
   -- completion leaves the current location of a packet

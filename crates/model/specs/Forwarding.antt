@@ -21,4 +21,5 @@ is_under locations stack (Some lower) = nat_lt stack (lower.stack + locations)
 -- a device of the driver has
 abbrev pub is_too_small : Set → ℕ → ℕ → Bool
 is_too_small set driver locations =
-    list_any (λ d. nat_eq d.driver driver && is_under locations d.stack (device_under set d)) set.devices
+    list_any (λ d. nat_eq d.driver driver && is_under locations d.stack (device_under set d))
+    set.devices

@@ -1,8 +1,8 @@
 -- The local rule: what an instruction demands of the state before it, and the state after it. All
 -- conditions of an instruction are weighed, and the one of the least number is the rule broken.
--- Static Driver Verifier has rules of the same names: DoubleCompletion, MarkIrpPending, CancelSpinLock,
--- SpinLock.
-use Rattle.std.specs.Prelude.{ℕ, ◌||◌, not, Bool, true, false, ◌∷◌, Option, None, Some, Result, Ok, Err, replicate, slice_index_or, slice_set, if◌then◌else◌}
+-- Static Driver Verifier has rules of the same names: DoubleCompletion, MarkIrpPending,
+-- CancelSpinLock, SpinLock.
+use Rattle.std.specs.Prelude.{ℕ, ◌||◌, ◌&&◌, ◌-◌, nat_le, not, Bool, true, false, ◌∷◌, Option, None, Some, Result, Ok, Err, replicate, slice_index_or, slice_set, if◌then◌else◌}
 use Rattle.std.specs.List.{list_any}
 use Rattle.model.specs.declared.abs.Abs.{Abs}
 use Rattle.model.specs.declared.abs.Duty.{Duty}
@@ -13,7 +13,7 @@ use Rattle.model.specs.declared.abs.Outs.{Outs}
 use Rattle.model.specs.declared.abs.Settled.{Settled}
 use Rattle.model.specs.declared.abs.Settled.TheVariants.{Open, NeedMark, Settled as SettledMark}
 use Rattle.model.specs.declared.abs.Rule.{Rule}
-use Rattle.model.specs.declared.abs.Rule.TheVariants.{WrongKind, DoubleCompletion, MarkIrpPending, CancelSpinLock, SpinLock, LockHeld, Level, Dropped, Sort as SortRule, Completion, StackTooSmall, NoLower}
+use Rattle.model.specs.declared.abs.Rule.TheVariants.{Malformed, Unreachable, StatesDiffer, WrongKind, DoubleCompletion, MarkIrpPending, CancelSpinLock, SpinLock, LockHeld, Level, Dropped, Sort as SortRule, Completion, StackTooSmall, NoLower, TooLong, Memory}
 use Rattle.model.specs.declared.instr.Instr.{Instr}
 use Rattle.model.specs.declared.instr.Instr.TheVariants.{Const, Move, Clear, Add, Subtract, JumpIfZero, JumpIfLess, Jump, Loop, End, Load, Store, LoadPaged, StorePaged, Get, Put, Mark, Acquire, Release, AcquireCancel, ReleaseCancel, Pass, Call, Complete, IfPending, Ret}
 use Rattle.model.specs.declared.instr.Return.{Return}
@@ -23,15 +23,28 @@ use Rattle.model.specs.declared.set.Sort.TheVariants.{Dispatch, Propagate}
 use Rattle.model.specs.declared.status.Status.{Status}
 use Rattle.model.specs.declared.status.Status.TheVariants.{Pending as PendingStatus}
 use Rattle.model.specs.Forwarding.{lacks_lower, is_too_small}
-use Rattle.model.specs.Set.{Set}
+use Rattle.model.specs.declared.limits.TheConstants.{REGISTERS, SPIN_LOCKS}
+use Rattle.model.specs.Set.{Set, Member, Flow, Onward, Branches, Jumps, Opens, Closes, Leaves, flow_of}
 
--- the state in which a routine is entered, with its packet in the first register and no lock held: a
--- dispatch routine may do anything with it, a completion routine that lets the completion go on may look
-abbrev pub entry_state : Sort → Abs
-entry_state Dispatch =
-    record { kinds = New ∷ replicate 15 Blank; locks = replicate 8 false; cancel = false; duty = Fresh; settled = SettledMark }
-entry_state Propagate =
-    record { kinds = View ∷ replicate 15 Blank; locks = replicate 8 false; cancel = false; duty = NoDuty; settled = Open }
+-- the state in which a routine is entered, if it may be: a dispatch routine may do anything with
+-- the packet in its first register, a completion routine that lets the completion go on may look at
+-- it. No lock is held
+abbrev pub entered_with : Kind → Duty → Settled → Abs
+entered_with first duty carried =
+    record {
+      kinds = first ∷ replicate (REGISTERS - 1) Blank;
+      locks = replicate SPIN_LOCKS false;
+      cancel = false;
+      duty = duty;
+      settled = carried;
+    }
+
+abbrev pub entry_of_sort : Sort → Option Abs
+entry_of_sort Dispatch = Some (entered_with New Fresh SettledMark)
+entry_of_sort Propagate = Some (entered_with View NoDuty Open)
+
+abbrev pub entry_state : Member → Option Abs
+entry_state m = entry_of_sort m.routine.sort
 
 abbrev pub kind_of : Abs → ℕ → Kind
 kind_of s r = slice_index_or s.kinds r Blank
@@ -56,13 +69,38 @@ holds_spin_lock s = list_any (λ held. held) s.locks
 abbrev pub holds_lock : Abs → Bool
 holds_lock s = s.cancel || holds_spin_lock s
 
--- the first of two faults, in the order of their numbers
-abbrev pub first_of_two : Option Rule → Option Rule → Option Rule
-first_of_two (Some rule) later = Some rule
-first_of_two None later = later
+-- the rules in the order of their numbers
+abbrev pub rule_number : Rule → ℕ
+rule_number Malformed = 1
+rule_number Unreachable = 2
+rule_number StatesDiffer = 3
+rule_number WrongKind = 4
+rule_number DoubleCompletion = 5
+rule_number MarkIrpPending = 6
+rule_number CancelSpinLock = 7
+rule_number SpinLock = 8
+rule_number LockHeld = 9
+rule_number Level = 10
+rule_number Dropped = 13
+rule_number SortRule = 15
+rule_number Completion = 16
+rule_number StackTooSmall = 17
+rule_number NoLower = 18
+rule_number TooLong = 19
+rule_number Memory = 20
+
+-- the one of the least number, of two rules that are broken or not
+abbrev pub least_of : Option Rule → Option Rule → Option Rule
+least_of None other = other
+least_of (Some rule) None = Some rule
+least_of (Some rule) (Some other) = if nat_le (rule_number rule) (rule_number other) then Some rule
+    else Some other
 
 abbrev pub broken_if : Bool → Rule → Option Rule
 broken_if b rule = if b then Some rule else None
+
+abbrev pub unless : Bool → Rule → Option Rule
+unless b rule = if b then None else Some rule
 
 -- a packet in a register
 abbrev pub is_packet : Kind → Bool
@@ -74,14 +112,57 @@ is_packet Own = true
 is_packet View = true
 
 abbrev pub is_view : Kind → Bool
+is_view Blank = false
+is_view Num = false
+is_view Lower = false
+is_view New = false
+is_view Own = false
 is_view View = true
-is_view _ = false
 
--- a packet that the routine may not leave behind
-abbrev pub is_owed : Kind → Bool
-is_owed New = true
-is_owed Own = true
-is_owed _ = false
+-- a packet that a routine may not leave behind in a register: any but one on its way up
+abbrev pub is_kept : Kind → Bool
+is_kept kind = is_packet kind && not (is_view kind)
+
+-- a packet that a routine has the right to
+abbrev pub is_right : Kind → Bool
+is_right Blank = false
+is_right Num = false
+is_right Lower = false
+is_right New = true
+is_right Own = true
+is_right View = false
+
+-- the packets that an instruction wants: which kinds it takes
+pub record Wanted : Type 0 where
+  pub new : Bool
+  pub own : Bool
+  pub view : Bool
+
+-- a packet of a wanted kind has to be there. Where there is none the kind is wrong; a packet that
+-- was marked where an unmarked one is wanted, or the other way round, breaks the rule on pending
+-- marks; any other breaks the rule on completion
+abbrev pub demanded : Wanted → Kind → Option Rule
+demanded wanted Blank = Some WrongKind
+demanded wanted Num = Some WrongKind
+demanded wanted Lower = Some WrongKind
+demanded wanted New = unless wanted.new (if wanted.own then MarkIrpPending else Completion)
+demanded wanted Own = unless wanted.own (if wanted.new then MarkIrpPending else Completion)
+demanded wanted View = unless wanted.view Completion
+
+abbrev pub any_packet : Wanted
+any_packet = record { new = true; own = true; view = true }
+
+abbrev pub a_new_one : Wanted
+a_new_one = record { new = true; own = false; view = false }
+
+abbrev pub one_handed_or_owned : Wanted
+one_handed_or_owned = record { new = true; own = true; view = false }
+
+abbrev pub one_to_mark : Wanted
+one_to_mark = record { new = true; own = false; view = true }
+
+abbrev pub one_to_look_at : Wanted
+one_to_look_at = record { new = false; own = false; view = true }
 
 abbrev pub is_completion : Sort → Bool
 is_completion Dispatch = false
@@ -97,106 +178,114 @@ free_kind kind = broken_if (is_packet kind) Dropped
 
 -- an operand that has to be a number
 abbrev pub number_kind : Kind → Option Rule
+number_kind Blank = Some WrongKind
 number_kind Num = None
-number_kind _ = Some WrongKind
+number_kind Lower = Some WrongKind
+number_kind New = Some WrongKind
+number_kind Own = Some WrongKind
+number_kind View = Some WrongKind
 
--- an operand that has to be a packet
-abbrev pub packet_kind : Kind → Option Rule
-packet_kind kind = broken_if (not (is_packet kind)) WrongKind
-
--- paged cells may be touched below DISPATCH_LEVEL alone: dispatch routines run at PASSIVE_LEVEL while
--- their thread holds no lock
+-- paged cells may be touched below DISPATCH_LEVEL alone: dispatch routines run at PASSIVE_LEVEL
+-- while their thread holds no lock
 abbrev pub level_fault : Abs → Sort → Option Rule
 level_fault s Dispatch = broken_if (holds_lock s) Level
-level_fault s _ = Some Level
+level_fault s Propagate = Some Level
 
--- `mark` wants a packet that the routine was handed, or in a completion routine one whose mark has to be
--- carried up
-abbrev pub view_mark_fault : Settled → Option Rule
-view_mark_fault NeedMark = None
-view_mark_fault _ = Some Completion
+-- `mark` wants a packet that the routine was handed, or in a completion routine one whose mark has
+-- to be carried up
+abbrev pub needs_mark : Settled → Bool
+needs_mark Open = false
+needs_mark NeedMark = true
+needs_mark SettledMark = false
 
-abbrev pub mark_kind : Settled → Kind → Option Rule
-mark_kind carried New = None
-mark_kind carried Own = Some MarkIrpPending
-mark_kind carried View = view_mark_fault carried
-mark_kind carried _ = Some WrongKind
+abbrev pub mark_fault : Settled → Kind → Option Rule
+mark_fault carried kind =
+    least_of (demanded one_to_mark kind)
+    (broken_if (is_view kind && not (needs_mark carried)) Completion)
 
 -- `ifpending` wants a packet on its way up that wasn't looked at
-abbrev pub view_look_fault : Settled → Option Rule
-view_look_fault Open = None
-view_look_fault _ = Some Completion
+abbrev pub is_open : Settled → Bool
+is_open Open = true
+is_open NeedMark = false
+is_open SettledMark = false
 
-abbrev pub look_kind : Settled → Kind → Option Rule
-look_kind carried View = view_look_fault carried
-look_kind carried New = Some Completion
-look_kind carried Own = Some Completion
-look_kind carried _ = Some WrongKind
+abbrev pub look_fault : Settled → Kind → Option Rule
+look_fault carried kind =
+    least_of (demanded one_to_look_at kind)
+    (broken_if (is_view kind && not (is_open carried)) Completion)
 
--- `complete` wants a packet that the routine was handed or owns
+-- `complete` wants a packet that the routine was handed or owns; where the register is blank, it
+-- was completed or handed on before
+abbrev pub is_blank : Kind → Bool
+is_blank Blank = true
+is_blank Num = false
+is_blank Lower = false
+is_blank New = false
+is_blank Own = false
+is_blank View = false
+
 abbrev pub complete_kind : Kind → Option Rule
-complete_kind Blank = Some DoubleCompletion
-complete_kind Num = Some WrongKind
-complete_kind Lower = Some WrongKind
-complete_kind _ = None
+complete_kind kind = if is_blank kind then Some DoubleCompletion
+    else demanded one_handed_or_owned kind
 
--- `pass` wants a packet that the routine was handed, `call` one that it was handed or owns
-abbrev pub pass_kind : Kind → Option Rule
-pass_kind New = None
-pass_kind Own = Some MarkIrpPending
-pass_kind View = None
-pass_kind _ = Some WrongKind
-
-abbrev pub call_kind : Kind → Option Rule
-call_kind New = None
-call_kind Own = None
-call_kind View = None
-call_kind _ = Some WrongKind
-
--- a completion routine neither completes nor forwards, and nothing is done so with a packet on its way up
-abbrev pub completion_sort_fault : Kind → Sort → Option Rule
-completion_sort_fault kind sort = broken_if (is_view kind || is_completion sort) Completion
+-- a completion routine neither completes nor forwards
+abbrev pub completion_sort_fault : Sort → Option Rule
+completion_sort_fault sort = broken_if (is_completion sort) Completion
 
 -- a packet is forwarded while no lock is held, from devices that all have a lower one, and stack
 -- locations for it and so many more
-abbrev pub forward_fault : Abs → Kind → Sort → Set → ℕ → ℕ → Option Rule
-forward_fault s kind sort set driver locations =
-    first_of_two (broken_if (holds_lock s) LockHeld)
-    (first_of_two (completion_sort_fault kind sort)
-    (first_of_two (broken_if (is_too_small set driver locations) StackTooSmall) (broken_if (lacks_lower set driver) NoLower)))
+abbrev pub forward_fault : Abs → Sort → Set → ℕ → ℕ → Option Rule
+forward_fault s sort set driver locations =
+    least_of (broken_if (holds_lock s) LockHeld)
+    (least_of (completion_sort_fault sort)
+    (least_of (broken_if (is_too_small set driver locations) StackTooSmall)
+    (broken_if (lacks_lower set driver) NoLower)))
 
--- a status is returned as the duty to the packet says: STATUS_PENDING exactly where it was marked, what
--- the lower driver returned exactly where it was given down without a mark
+-- a status is returned as the duty to the packet says: STATUS_PENDING exactly where it was marked,
+-- what the lower driver returned exactly where it was given down without a mark
 abbrev pub status_fault : Duty → Status → Option Rule
+status_fault Fresh status = broken_if (is_pending status) MarkIrpPending
 status_fault Pending status = broken_if (not (is_pending status)) MarkIrpPending
+status_fault Finished status = broken_if (is_pending status) MarkIrpPending
 status_fault GivenDown status = Some MarkIrpPending
-status_fault _ status = broken_if (is_pending status) MarkIrpPending
+status_fault NoDuty status = broken_if (is_pending status) MarkIrpPending
 
 abbrev pub is_given_down : Duty → Bool
+is_given_down Fresh = false
+is_given_down Pending = false
+is_given_down Finished = false
 is_given_down GivenDown = true
-is_given_down _ = false
+is_given_down NoDuty = false
 
 abbrev pub is_lower : Kind → Bool
+is_lower Blank = false
+is_lower Num = false
 is_lower Lower = true
-is_lower _ = false
+is_lower New = false
+is_lower Own = false
+is_lower View = false
 
 abbrev pub duty_fault : Abs → Return → Option Rule
 duty_fault s (WithStatus status) = status_fault s.duty status
 duty_fault s (LowerStatus r) =
-    first_of_two (broken_if (not (is_lower (kind_of s r))) WrongKind) (broken_if (not (is_given_down s.duty)) MarkIrpPending)
+    least_of (broken_if (not (is_lower (kind_of s r))) WrongKind)
+    (broken_if (not (is_given_down s.duty)) MarkIrpPending)
 duty_fault s Continue = None
 
 -- each sort has its forms of return
 abbrev pub form_fault : Sort → Return → Option Rule
+form_fault Dispatch (WithStatus status) = None
+form_fault Dispatch (LowerStatus r) = None
 form_fault Dispatch Continue = Some SortRule
-form_fault Dispatch _ = None
+form_fault Propagate (WithStatus status) = Some SortRule
+form_fault Propagate (LowerStatus r) = Some SortRule
 form_fault Propagate Continue = None
-form_fault Propagate _ = Some SortRule
 
 -- a completion routine has carried the mark up
 abbrev pub is_settled : Settled → Bool
+is_settled Open = false
+is_settled NeedMark = false
 is_settled SettledMark = true
-is_settled _ = false
 
 abbrev pub settled_fault : Sort → Settled → Option Rule
 settled_fault Dispatch carried = None
@@ -204,110 +293,182 @@ settled_fault Propagate carried = broken_if (not (is_settled carried)) Completio
 
 -- no packet is left in a register, but for one on its way up
 abbrev pub left_packet : Abs → Option Rule
-left_packet s = broken_if (list_any is_owed s.kinds) Dropped
+left_packet s = broken_if (list_any is_kept s.kinds) Dropped
 
 -- no lock is kept, and no packet
 abbrev pub kept_fault : Abs → Option Rule
 kept_fault s =
-    first_of_two (broken_if s.cancel CancelSpinLock) (first_of_two (broken_if (holds_spin_lock s) SpinLock) (left_packet s))
+    least_of (broken_if s.cancel CancelSpinLock)
+    (least_of (broken_if (holds_spin_lock s) SpinLock) (left_packet s))
 
 abbrev pub return_fault : Abs → Return → Sort → Option Rule
 return_fault s form sort =
-    first_of_two (duty_fault s form)
-    (first_of_two (kept_fault s) (first_of_two (form_fault sort form) (settled_fault sort s.settled)))
+    least_of (duty_fault s form)
+    (least_of (kept_fault s) (least_of (form_fault sort form) (settled_fault sort s.settled)))
 
--- a packet isn't completed with STATUS_PENDING, nor while a lock is held, nor in a completion routine
-abbrev pub completion_fault : Abs → Kind → Status → Sort → Option Rule
-completion_fault s kind status sort =
-    first_of_two (broken_if (is_pending status) MarkIrpPending)
-    (first_of_two (broken_if (holds_lock s) LockHeld) (completion_sort_fault kind sort))
+-- a packet isn't completed with STATUS_PENDING, nor while a lock is held, nor in a completion
+-- routine
+abbrev pub completion_fault : Abs → Status → Sort → Option Rule
+completion_fault s status sort =
+    least_of (broken_if (is_pending status) MarkIrpPending)
+    (least_of (broken_if (holds_lock s) LockHeld) (completion_sort_fault sort))
 
--- the least rule that an instruction of a routine of a sort, of a driver of a set, breaks in a state
+-- the least rule that an instruction of a routine of a sort, of a driver of a set, breaks in a
+-- state
 abbrev pub refuses : Abs → Instr → Sort → Set → ℕ → Option Rule
 refuses s (Const r n) sort set driver = free_kind (kind_of s r)
 refuses s (Move r q) sort set driver = free_kind (kind_of s r)
 refuses s (Clear r) sort set driver = free_kind (kind_of s r)
-refuses s (Add r q) sort set driver = first_of_two (number_kind (kind_of s r)) (number_kind (kind_of s q))
-refuses s (Subtract r q) sort set driver = first_of_two (number_kind (kind_of s r)) (number_kind (kind_of s q))
+refuses s (Add r q) sort set driver =
+    least_of (number_kind (kind_of s r)) (number_kind (kind_of s q))
+refuses s (Subtract r q) sort set driver =
+    least_of (number_kind (kind_of s r)) (number_kind (kind_of s q))
 refuses s (JumpIfZero r label) sort set driver = number_kind (kind_of s r)
-refuses s (JumpIfLess r q label) sort set driver = first_of_two (number_kind (kind_of s r)) (number_kind (kind_of s q))
+refuses s (JumpIfLess r q label) sort set driver =
+    least_of (number_kind (kind_of s r)) (number_kind (kind_of s q))
 refuses s (Jump label) sort set driver = None
 refuses s (Loop turns) sort set driver = None
 refuses s End sort set driver = None
 refuses s (Load r c) sort set driver = free_kind (kind_of s r)
 refuses s (Store c r) sort set driver = number_kind (kind_of s r)
-refuses s (LoadPaged r c) sort set driver = first_of_two (level_fault s sort) (free_kind (kind_of s r))
-refuses s (StorePaged c r) sort set driver = first_of_two (number_kind (kind_of s r)) (level_fault s sort)
-refuses s (Get r q field) sort set driver = first_of_two (packet_kind (kind_of s q)) (free_kind (kind_of s r))
-refuses s (Put q r) sort set driver = first_of_two (packet_kind (kind_of s q)) (number_kind (kind_of s r))
-refuses s (Mark r) sort set driver = mark_kind s.settled (kind_of s r)
+refuses s (LoadPaged r c) sort set driver = least_of (level_fault s sort) (free_kind (kind_of s r))
+refuses s (StorePaged c r) sort set driver =
+    least_of (number_kind (kind_of s r)) (level_fault s sort)
+refuses s (Get r q field) sort set driver =
+    least_of (demanded any_packet (kind_of s q)) (free_kind (kind_of s r))
+refuses s (Put q r) sort set driver =
+    least_of (demanded any_packet (kind_of s q)) (number_kind (kind_of s r))
+refuses s (Mark r) sort set driver = mark_fault s.settled (kind_of s r)
 refuses s (Acquire lock) sort set driver = broken_if (is_held s lock) SpinLock
 refuses s (Release lock) sort set driver = broken_if (not (is_held s lock)) SpinLock
 refuses s AcquireCancel sort set driver = broken_if s.cancel CancelSpinLock
 refuses s ReleaseCancel sort set driver = broken_if (not s.cancel) CancelSpinLock
 refuses s (Pass r) sort set driver =
-    first_of_two (pass_kind (kind_of s r)) (forward_fault s (kind_of s r) sort set driver 0)
+    least_of (demanded a_new_one (kind_of s r)) (forward_fault s sort set driver 0)
 refuses s (Call r f) sort set driver =
-    first_of_two (call_kind (kind_of s r)) (forward_fault s (kind_of s r) sort set driver 1)
-refuses s (Complete r status) sort set driver = first_of_two (complete_kind (kind_of s r)) (completion_fault s (kind_of s r) status sort)
-refuses s (IfPending r label) sort set driver = look_kind s.settled (kind_of s r)
+    least_of (demanded one_handed_or_owned (kind_of s r)) (forward_fault s sort set driver 1)
+refuses s (Complete r status) sort set driver =
+    least_of (complete_kind (kind_of s r)) (completion_fault s status sort)
+refuses s (IfPending r label) sort set driver = look_fault s.settled (kind_of s r)
 refuses s (Ret form) sort set driver = return_fault s form sort
 
 -- a completion ends the duty to a packet that wasn't marked
 abbrev pub duty_completed : Kind → Duty → Duty
+duty_completed Blank duty = duty
+duty_completed Num duty = duty
+duty_completed Lower duty = duty
 duty_completed New duty = Finished
-duty_completed _ duty = duty
+duty_completed Own duty = duty
+duty_completed View duty = duty
 
--- a mark: the routine owns the packet, and owes STATUS_PENDING; a completion routine has carried it up
+-- a mark: the routine owns the packet, and owes STATUS_PENDING; a completion routine has carried it
+-- up. Of other kinds nothing is said here and below, since the instruction breaks a rule
 abbrev pub marked : Abs → ℕ → Kind → Abs
+marked s r Blank = s
+marked s r Num = s
+marked s r Lower = s
+marked s r New = record (with_kind s r Own) { duty = Pending }
+marked s r Own = s
 marked s r View = record s { settled = SettledMark }
-marked s r kind = record (with_kind s r Own) { duty = Pending }
 
 -- a packet is given to the lower driver: one that wasn't marked leaves its status in the register
 abbrev pub given_down : Abs → ℕ → Kind → Abs
+given_down s r Blank = s
+given_down s r Num = s
+given_down s r Lower = s
 given_down s r New = record (with_kind s r Lower) { duty = GivenDown }
-given_down s r kind = with_kind s r Blank
+given_down s r Own = with_kind s r Blank
+given_down s r View = s
 
 -- what is moved away leaves its register blank, unless it is a number
 abbrev pub left_behind : Kind → Kind
+left_behind Blank = Blank
 left_behind Num = Num
-left_behind _ = Blank
+left_behind Lower = Blank
+left_behind New = Blank
+left_behind Own = Blank
+left_behind View = Blank
 
 abbrev pub moved : Abs → ℕ → ℕ → Abs
 moved s r q = with_kind (with_kind s r (kind_of s q)) q (left_behind (kind_of s q))
 
--- the state after an instruction, where it breaks no rule
+-- the state at the next position after an instruction that breaks no rule
 abbrev pub handed : Abs → Instr → Abs
 handed s (Const r n) = with_kind s r Num
 handed s (Move r q) = moved s r q
 handed s (Clear r) = with_kind s r Blank
+handed s (Add r q) = s
+handed s (Subtract r q) = s
+handed s (JumpIfZero r label) = s
+handed s (JumpIfLess r q label) = s
+handed s (Jump label) = s
+handed s (Loop turns) = s
+handed s End = s
 handed s (Load r c) = with_kind s r Num
+handed s (Store c r) = s
 handed s (LoadPaged r c) = with_kind s r Num
+handed s (StorePaged c r) = s
 handed s (Get r q field) = with_kind s r Num
+handed s (Put q r) = s
 handed s (Mark r) = marked s r (kind_of s r)
-handed s (Pass r) = given_down s r (kind_of s r)
-handed s (Call r f) = given_down s r (kind_of s r)
 handed s (Acquire lock) = with_lock s lock true
 handed s (Release lock) = with_lock s lock false
 handed s AcquireCancel = with_cancel s true
 handed s ReleaseCancel = with_cancel s false
-handed s (Complete r status) = record (with_kind s r Blank) { duty = duty_completed (kind_of s r) s.duty }
-handed s _ = s
+handed s (Pass r) = given_down s r (kind_of s r)
+handed s (Call r f) = given_down s r (kind_of s r)
+handed s (Complete r status) =
+    record (with_kind s r Blank) { duty = duty_completed (kind_of s r) s.duty }
+handed s (IfPending r label) = record s { settled = SettledMark }
+handed s (Ret form) = s
 
--- the states that it hands on: to the next position, and to its label
+-- and at its label, if it has one
+abbrev pub handed_at_label : Abs → Instr → Abs
+handed_at_label s (Const r n) = s
+handed_at_label s (Move r q) = s
+handed_at_label s (Clear r) = s
+handed_at_label s (Add r q) = s
+handed_at_label s (Subtract r q) = s
+handed_at_label s (JumpIfZero r label) = s
+handed_at_label s (JumpIfLess r q label) = s
+handed_at_label s (Jump label) = s
+handed_at_label s (Loop turns) = s
+handed_at_label s End = s
+handed_at_label s (Load r c) = s
+handed_at_label s (Store c r) = s
+handed_at_label s (LoadPaged r c) = s
+handed_at_label s (StorePaged c r) = s
+handed_at_label s (Get r q field) = s
+handed_at_label s (Put q r) = s
+handed_at_label s (Mark r) = s
+handed_at_label s (Acquire lock) = s
+handed_at_label s (Release lock) = s
+handed_at_label s AcquireCancel = s
+handed_at_label s ReleaseCancel = s
+handed_at_label s (Pass r) = s
+handed_at_label s (Call r f) = s
+handed_at_label s (Complete r status) = s
+handed_at_label s (IfPending r label) = record s { settled = NeedMark }
+handed_at_label s (Ret form) = s
+
+-- the states that it hands on, by where it leads; what opens or closes a loop goes to the next
+-- position
+abbrev pub outs_by : Flow → Abs → Abs → Outs
+outs_by Onward next jump = record { next = Some next; jump = None }
+outs_by (Branches label) next jump = record { next = Some next; jump = Some jump }
+outs_by (Jumps label) next jump = record { next = None; jump = Some jump }
+outs_by (Opens turns) next jump = record { next = Some next; jump = None }
+outs_by Closes next jump = record { next = Some next; jump = None }
+outs_by Leaves next jump = record { next = None; jump = None }
+
 abbrev pub outs : Abs → Instr → Outs
-outs s (JumpIfZero r label) = record { next = Some s; jump = Some s }
-outs s (JumpIfLess r q label) = record { next = Some s; jump = Some s }
-outs s (Jump label) = record { next = None; jump = Some s }
-outs s (IfPending r label) =
-    record { next = Some (record s { settled = SettledMark }); jump = Some (record s { settled = NeedMark }) }
-outs s (Ret form) = record { next = None; jump = None }
-outs s i = record { next = Some (handed s i); jump = None }
+outs s i = outs_by (flow_of i) (handed s i) (handed_at_label s i)
 
 abbrev pub rule_or : Option Rule → Outs → Result Outs Rule
 rule_or None o = Ok o
 rule_or (Some rule) o = Err rule
 
--- the local rule; that a loop's end is reached in the state of its start is weighed for the whole routine
+-- the local rule; that a loop's end is reached in the state of its start is weighed for the whole
+-- routine
 abbrev pub local_rule : Abs → Instr → Sort → Set → ℕ → Result Outs Rule
 local_rule s i sort set driver = rule_or (refuses s i sort set driver) (outs s i)

@@ -25,5 +25,7 @@ reply_to set threads events e = (step set (run set threads events) e).reply
 -- it replies as that run does
 pub record Applies (before : Machine) (e : Event) (after : Machine) (reply : Reply) : Type 0 where
   pub set : after.set ≡ before.set
-  pub shows : (threads : ℕ) (events : List Event) → Shows before threads events → Shows after threads (events ++ e ∷ [])
-  pub replies : (threads : ℕ) (events : List Event) → Shows before threads events → reply ≡ reply_to before.set threads events e
+  pub shows : (threads : ℕ) (events : List Event) → Shows before threads events
+      → Shows after threads (events ++ e ∷ [])
+  pub replies : (threads : ℕ) (events : List Event) → Shows before threads events
+      → reply ≡ reply_to before.set threads events e

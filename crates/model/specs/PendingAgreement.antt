@@ -1,6 +1,7 @@
--- Pending agreement (Driver Kit, IoMarkIrpPending; Static Driver Verifier, MarkIrpPending): a dispatch
--- routine returns STATUS_PENDING exactly where its stack location was marked pending. It is read from the
--- trace, use by use: of a use that a status was returned from, and that completion left.
+-- Pending agreement (Driver Kit, IoMarkIrpPending; Static Driver Verifier, MarkIrpPending): a
+-- dispatch routine returns STATUS_PENDING exactly where its stack location was marked pending. It
+-- is read from the trace, use by use: of a use that a status was returned from, and that completion
+-- left.
 use Rattle.std.specs.Prelude.{ℕ, ◌≡◌, ◌&&◌, ◌||◌, ◌++◌, Bool, false, List, [], ◌∷◌, Option, None, Some, All, nat_eq, option_to_list, if◌then◌else◌}
 use Rattle.model.specs.declared.status.Status.{Status}
 use Rattle.model.specs.Action.{Action, Marks, Leaves, Returns}
@@ -29,7 +30,8 @@ leaves_use _ location u = false
 abbrev pub marks_left : List Entry → Serving → List Bool
 marks_left [] u = []
 marks_left (e ∷ past) u =
-    if leaves_use e.action e.location u then was_marked past u ∷ marks_left past u else marks_left past u
+    if leaves_use e.action e.location u then was_marked past u ∷ marks_left past u
+    else marks_left past u
 
 -- the statuses that the activations of a use returned
 abbrev pub status_in : Action → Option Status
@@ -38,15 +40,17 @@ status_in _ = None
 
 abbrev pub serves : Tag → Serving → Bool
 serves Managing u = false
-serves (Activated g None) u = false
-serves (Activated g (Some v)) u = is_use v.packet (Some v.use) u
+serves (Activated g driver routine None) u = false
+serves (Activated g driver routine (Some v)) u = is_use v.packet (Some v.use) u
 
 abbrev pub statuses_returned : List Entry → Serving → List Status
 statuses_returned [] u = []
 statuses_returned (e ∷ past) u =
-    if serves e.tag u then option_to_list (status_in e.action) ++ statuses_returned past u else statuses_returned past u
+    if serves e.actor.tag u then option_to_list (status_in e.action) ++ statuses_returned past u
+    else statuses_returned past u
 
--- each status that was returned from a use is STATUS_PENDING exactly if the use was marked when it was left
+-- each status that was returned from a use is STATUS_PENDING exactly if the use was marked when it
+-- was left
 abbrev pub Agrees : List Bool → Status → Type 0
 Agrees marks status = All (λ marked. is_pending status ≡ marked) marks
 

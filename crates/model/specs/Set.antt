@@ -1,7 +1,7 @@
 -- Driver sets: drivers and devices, and which routine serves what.
 use Rattle.std.specs.Prelude.{ℕ, List, [], ◌∷◌, Option, None, Some, nat_eq, unwrap_or, option_and_then, slice_get, if◌then◌else◌}
 use Rattle.model.specs.declared.instr.Instr.{Instr}
-use Rattle.model.specs.declared.instr.Instr.TheVariants.{JumpIfZero, JumpIfLess, Jump, IfPending, Complete, Ret}
+use Rattle.model.specs.declared.instr.Instr.TheVariants.{Const, Move, Clear, Add, Subtract, JumpIfZero, JumpIfLess, Jump, Loop, End, Load, Store, LoadPaged, StorePaged, Get, Put, Mark, Acquire, Release, AcquireCancel, ReleaseCancel, Pass, Call, Complete, IfPending, Ret}
 use Rattle.model.specs.declared.instr.Return.TheVariants.{WithStatus}
 use Rattle.model.specs.declared.set.Driver.{Driver}
 use Rattle.model.specs.declared.set.Device.{Device}
@@ -57,23 +57,69 @@ sort_of set driver number = sort_in (routine_of set driver number)
 abbrev pub lower_of : Set → ℕ → Option ℕ
 lower_of set device = option_and_then (λ d. d.lower) (slice_get set.devices device)
 
--- a routine of the driver of a number, of a set
+-- a routine of the driver of a number, of a set, with its own number
 pub record Member : Type 0 where
   pub set : Set
   pub driver : ℕ
+  pub number : ℕ
   pub routine : Routine
 
-abbrev pub member : Set → ℕ → Routine → Member
-member set driver routine = record { set = set; driver = driver; routine = routine }
+abbrev pub member : Set → ℕ → ℕ → Routine → Member
+member set driver number routine =
+    record { set = set; driver = driver; number = number; routine = routine }
+
+-- where an instruction leads: to the next position, to a label or the next position, to a label
+-- alone, into a loop's body, which turns so often, back to its start or out of it, or out of the
+-- routine
+pub data Flow : Type 0 where
+  Onward : Flow
+  Branches : (label : ℕ) → Flow
+  Jumps : (label : ℕ) → Flow
+  Opens : (turns : ℕ) → Flow
+  Closes : Flow
+  Leaves : Flow
+
+abbrev pub flow_of : Instr → Flow
+flow_of (Const r n) = Onward
+flow_of (Move r q) = Onward
+flow_of (Clear r) = Onward
+flow_of (Add r q) = Onward
+flow_of (Subtract r q) = Onward
+flow_of (JumpIfZero r label) = Branches label
+flow_of (JumpIfLess r q label) = Branches label
+flow_of (Jump label) = Jumps label
+flow_of (Loop turns) = Opens turns
+flow_of End = Closes
+flow_of (Load r c) = Onward
+flow_of (Store c r) = Onward
+flow_of (LoadPaged r c) = Onward
+flow_of (StorePaged c r) = Onward
+flow_of (Get r q field) = Onward
+flow_of (Put q r) = Onward
+flow_of (Mark r) = Onward
+flow_of (Acquire lock) = Onward
+flow_of (Release lock) = Onward
+flow_of AcquireCancel = Onward
+flow_of ReleaseCancel = Onward
+flow_of (Pass r) = Onward
+flow_of (Call r f) = Onward
+flow_of (Complete r status) = Onward
+flow_of (IfPending r label) = Branches label
+flow_of (Ret form) = Leaves
 
 -- the label of a jump
+abbrev pub label_in : Flow → Option ℕ
+label_in Onward = None
+label_in (Branches label) = Some label
+label_in (Jumps label) = Some label
+label_in (Opens turns) = None
+label_in Closes = None
+label_in Leaves = None
+
 abbrev pub label_of : Instr → Option ℕ
-label_of (JumpIfZero r label) = Some label
-label_of (JumpIfLess r s label) = Some label
-label_of (Jump label) = Some label
-label_of (IfPending r label) = Some label
-label_of _ = None
+label_of i = label_in (flow_of i)
 
 -- the instruction at a position of a routine
 abbrev pub instruction_at : Set → ℕ → ℕ → ℕ → Option Instr
-instruction_at set driver number position = option_and_then (λ r. slice_get r.code position) (routine_of set driver number)
+instruction_at set driver number position =
+    option_and_then (λ r. slice_get r.code position) (routine_of set driver number)

@@ -1,8 +1,11 @@
 -- What the type of a driver set keeps: counts within their limits, and numbers that name things.
 -- It doesn't keep that a routine ends in a return, nor anything that the verifier decides.
-use Rattle.std.specs.Prelude.{ℕ, suc, ⊤, ◌<◌, ◌≤◌, List, [], ◌∷◌, length, All, IfSome, Option, None, Some, slice_get}
+use Rattle.std.specs.Prelude.{ℕ, suc, ⊤, ◌^◌, ◌<◌, ◌≤◌, List, [], ◌∷◌, length, All, IfSome, Option, None, Some, slice_get}
 use Rattle.model.specs.declared.instr.Instr.{Instr}
-use Rattle.model.specs.declared.instr.Instr.TheVariants.{Move, Loop, Acquire, Release, Call}
+use Rattle.model.specs.declared.instr.Instr.TheVariants.{Const, Move, Clear, Add, Subtract, JumpIfZero, JumpIfLess, Jump, Loop, End, Load, Store, LoadPaged, StorePaged, Get, Put, Mark, Acquire, Release, AcquireCancel, ReleaseCancel, Pass, Call, Complete, IfPending, Ret}
+use Rattle.model.specs.declared.instr.Return.{Return}
+use Rattle.model.specs.declared.instr.Return.TheVariants.{WithStatus, Lower, Continue}
+use Rattle.model.specs.declared.limits.TheConstants.{CELLS, MAX_DEVICES, MAX_DRIVERS, MAX_INSTRUCTIONS, MAX_ROUTINES, MAX_STACK, MAX_TURNS, REGISTERS, SPIN_LOCKS}
 use Rattle.model.specs.declared.set.Driver.{Driver}
 use Rattle.model.specs.declared.set.Device.{Device}
 use Rattle.model.specs.declared.set.Routine.{Routine}
@@ -14,18 +17,56 @@ use Rattle.model.specs.Set.{Set, label_of}
 abbrev pub LabelFits : ℕ → Instr → Type 0
 LabelFits positions i = IfSome (label_of i) (λ label. label < positions)
 
--- a value is moved to one of the sixteen registers, a loop turns, and a spin lock is one of the eight of
--- its device
-abbrev pub OperandFits : Instr → Type 0
-OperandFits (Move r q) = r < 16
-OperandFits (Loop turns) = 1 ≤ turns
-OperandFits (Acquire lock) = lock < 8
-OperandFits (Release lock) = lock < 8
-OperandFits _ = ⊤
+-- a register is one of the sixteen, a cell one of the sixteen of its sort, a spin lock one of the
+-- eight of its device, a constant has 32 bits, and a loop turns 1 to 1,000 times
+abbrev pub IsRegister : ℕ → Type 0
+IsRegister r = r < REGISTERS
 
--- a routine has at most 1,024 instructions, its labels are among its positions, and its operands fit
+abbrev pub IsCell : ℕ → Type 0
+IsCell c = c < CELLS
+
+abbrev pub IsSpinLock : ℕ → Type 0
+IsSpinLock lock = lock < SPIN_LOCKS
+
+abbrev pub FormFits : Return → Type 0
+FormFits (WithStatus status) = ⊤
+FormFits (Lower r) = IsRegister r
+FormFits Continue = ⊤
+
+-- all operands of an instruction are within their limits. A label and a `call`'s routine have to
+-- name something beside
+abbrev pub OperandFits : Instr → Type 0
+OperandFits (Const r n) = IsRegister r × (n < 2 ^ 32)
+OperandFits (Move r q) = IsRegister r × IsRegister q
+OperandFits (Clear r) = IsRegister r
+OperandFits (Add r q) = IsRegister r × IsRegister q
+OperandFits (Subtract r q) = IsRegister r × IsRegister q
+OperandFits (JumpIfZero r label) = IsRegister r
+OperandFits (JumpIfLess r q label) = IsRegister r × IsRegister q
+OperandFits (Jump label) = ⊤
+OperandFits (Loop turns) = (1 ≤ turns) × (turns ≤ MAX_TURNS)
+OperandFits End = ⊤
+OperandFits (Load r c) = IsRegister r × IsCell c
+OperandFits (Store c r) = IsCell c × IsRegister r
+OperandFits (LoadPaged r c) = IsRegister r × IsCell c
+OperandFits (StorePaged c r) = IsCell c × IsRegister r
+OperandFits (Get r q field) = IsRegister r × IsRegister q
+OperandFits (Put q r) = IsRegister q × IsRegister r
+OperandFits (Mark r) = IsRegister r
+OperandFits (Acquire lock) = IsSpinLock lock
+OperandFits (Release lock) = IsSpinLock lock
+OperandFits AcquireCancel = ⊤
+OperandFits ReleaseCancel = ⊤
+OperandFits (Pass r) = IsRegister r
+OperandFits (Call r f) = IsRegister r
+OperandFits (Complete r status) = IsRegister r
+OperandFits (IfPending r label) = IsRegister r
+OperandFits (Ret form) = FormFits form
+
+-- a routine has at most 1,024 instructions, its labels are among its positions, and its operands
+-- fit
 pub record RoutineFits (routine : Routine) : Type 0 where
-  pub few : length routine.code ≤ 1024
+  pub few : length routine.code ≤ MAX_INSTRUCTIONS
   pub labels : All (LabelFits (length routine.code)) routine.code
   pub operands : All OperandFits routine.code
 
@@ -37,49 +78,80 @@ HasSort P (Some routine) = P routine.sort
 -- a handler is the number of a dispatch routine of the driver
 abbrev pub IsDispatch : Sort → Type 0
 IsDispatch Dispatch = ⊤
-IsDispatch _ = ⊥
+IsDispatch Propagate = ⊥
 
 abbrev pub HandlerFits : List Routine → Option ℕ → Type 0
-HandlerFits routines handler = IfSome handler (λ number. HasSort IsDispatch (slice_get routines number))
+HandlerFits routines handler =
+    IfSome handler (λ number. HasSort IsDispatch (slice_get routines number))
 
 -- the routine of a `call` is a completion routine of the driver
 abbrev pub IsCompletion : Sort → Type 0
+IsCompletion Dispatch = ⊥
 IsCompletion Propagate = ⊤
-IsCompletion _ = ⊥
+
+-- the completion routine that an instruction names
+abbrev pub completion_named : Instr → Option ℕ
+completion_named (Const r n) = None
+completion_named (Move r q) = None
+completion_named (Clear r) = None
+completion_named (Add r q) = None
+completion_named (Subtract r q) = None
+completion_named (JumpIfZero r label) = None
+completion_named (JumpIfLess r q label) = None
+completion_named (Jump label) = None
+completion_named (Loop turns) = None
+completion_named End = None
+completion_named (Load r c) = None
+completion_named (Store c r) = None
+completion_named (LoadPaged r c) = None
+completion_named (StorePaged c r) = None
+completion_named (Get r q field) = None
+completion_named (Put q r) = None
+completion_named (Mark r) = None
+completion_named (Acquire lock) = None
+completion_named (Release lock) = None
+completion_named AcquireCancel = None
+completion_named ReleaseCancel = None
+completion_named (Pass r) = None
+completion_named (Call r f) = f
+completion_named (Complete r status) = None
+completion_named (IfPending r label) = None
+completion_named (Ret form) = None
 
 abbrev pub CallFits : List Routine → Instr → Type 0
-CallFits routines (Call r f) = IfSome f (λ number. HasSort IsCompletion (slice_get routines number))
-CallFits routines _ = ⊤
+CallFits routines i =
+    IfSome (completion_named i) (λ number. HasSort IsCompletion (slice_get routines number))
 
 abbrev pub CallsFit : List Routine → Routine → Type 0
 CallsFit routines routine = All (CallFits routines) routine.code
 
--- a driver has at most 32 routines, each of which fits, and its handlers and the routines of its calls
--- are among them
+-- a driver has at most 32 routines, each of which fits, and its handlers and the routines of its
+-- calls are among them
 pub record DriverFits (driver : Driver) : Type 0 where
-  pub few : length driver.routines ≤ 32
+  pub few : length driver.routines ≤ MAX_ROUTINES
   pub routines : All RoutineFits driver.routines
   pub read : HandlerFits driver.routines driver.read
   pub write : HandlerFits driver.routines driver.write
   pub control : HandlerFits driver.routines driver.control
   pub calls : All (CallsFit driver.routines) driver.routines
 
--- a device is of a driver of the set, its stack size is 1 to 16, and it is over an earlier device, if
--- over any
+-- a device is of a driver of the set, its stack size is 1 to 16, and it is over an earlier device,
+-- if over any
 pub record DeviceFits (drivers : ℕ) (number : ℕ) (device : Device) : Type 0 where
   pub driver : device.driver < drivers
   pub low : 1 ≤ device.stack
-  pub high : device.stack ≤ 16
+  pub high : device.stack ≤ MAX_STACK
   pub lower : IfSome device.lower (λ lower. lower < number)
 
 -- the devices from a number on
 abbrev pub DevicesFit : ℕ → ℕ → List Device → Type 0
 DevicesFit drivers number [] = ⊤
-DevicesFit drivers number (device ∷ devices) = DeviceFits drivers number device × DevicesFit drivers (suc number) devices
+DevicesFit drivers number (device ∷ devices) = DeviceFits drivers number device
+    × DevicesFit drivers (suc number) devices
 
 -- a set has at most 8 drivers and 16 devices, and all of them fit
 pub record IsSound (set : Set) : Type 0 where
-  pub few_drivers : length set.drivers ≤ 8
-  pub few_devices : length set.devices ≤ 16
+  pub few_drivers : length set.drivers ≤ MAX_DRIVERS
+  pub few_devices : length set.devices ≤ MAX_DEVICES
   pub drivers : All DriverFits set.drivers
   pub devices : DevicesFit (length set.drivers) 0 set.devices

@@ -1,6 +1,7 @@
 -- The trace of a run: its actions, newest first, each with the thread and the frame that did it.
 -- Activations and uses of stack locations are numbered here, and not in the machines.
 use Rattle.std.specs.Prelude.{ℕ, ◌++◌, ◌+◌, List, [], ◌∷◌, Option, None, Some, nat_eq, drop, option_to_list, slice_get, if◌then◌else◌}
+use Rattle.model.specs.declared.world.Irql.{Irql}
 use Rattle.model.specs.Action.{Action, Issues, Calls, Ups, Marks, Leaves}
 
 -- the use of a packet's location that a dispatch activation serves
@@ -9,15 +10,21 @@ pub record Serving : Type 0 where
   pub «use» : ℕ
 
 -- what the run knows a frame by: the I/O manager's frames have no number, and each routine frame
--- is an activation with a number of its own
+-- is an activation with a number of its own, of a routine of a driver
 pub data Tag : Type 0 where
   Managing : Tag
-  Activated : (activation : ℕ) (serving : Option Serving) → Tag
+  Activated : (activation : ℕ) (driver routine : ℕ) (serving : Option Serving) → Tag
 
--- one action of the trace: a new use for an issue and a call, the location's use for a mark and a leave
-pub record Entry : Type 0 where
+-- who acts: a thread, at the level of its lowest frame, by its top frame
+pub record Actor : Type 0 where
   pub thread : ℕ
+  pub root : Irql
   pub tag : Tag
+
+-- one action of the trace: a new use for an issue and a call, the location's use for a mark and a
+-- leave
+pub record Entry : Type 0 where
+  pub actor : Actor
   pub location : Option ℕ
   pub action : Action
 
@@ -34,7 +41,8 @@ uses_opened (e ∷ past) = opens e.action (uses_opened past)
 -- the uses of a packet's locations down to the current one, the current one first
 abbrev pub uses_after : Action → ℕ → Option ℕ → List ℕ → List ℕ
 uses_after (Issues m stack) n opened before = if nat_eq m n then option_to_list opened else before
-uses_after (Calls m) n opened before = if nat_eq m n then option_to_list opened ++ before else before
+uses_after (Calls m) n opened before = if nat_eq m n then option_to_list opened ++ before
+    else before
 uses_after (Ups m) n opened before = if nat_eq m n then drop 1 before else before
 uses_after _ n opened before = before
 
@@ -53,10 +61,10 @@ use_of past (Marks n) = current_use past n
 use_of past (Leaves n) = current_use past n
 use_of past _ = None
 
-abbrev pub entry : List Entry → ℕ → Tag → Action → Entry
-entry past t tag action = record { thread = t; tag = tag; location = use_of past action; action = action }
+abbrev pub entry : List Entry → Actor → Action → Entry
+entry past actor action = record { actor = actor; location = use_of past action; action = action }
 
 -- the past after the actions of an event, in order
-abbrev pub recorded : List Entry → ℕ → Tag → List Action → List Entry
-recorded past t tag [] = past
-recorded past t tag (action ∷ actions) = recorded (entry past t tag action ∷ past) t tag actions
+abbrev pub recorded : List Entry → Actor → List Action → List Entry
+recorded past actor [] = past
+recorded past actor (action ∷ actions) = recorded (entry past actor action ∷ past) actor actions

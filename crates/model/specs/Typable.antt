@@ -1,19 +1,18 @@
 -- When a driver set is accepted, over all paths, and where and why it is refused else.
-use Rattle.std.specs.Prelude.{ℕ, suc, ⊤, ◌≡◌, ◌≢◌, ◌<◌, ◌≤◌, ◌⊎◌, true, false, length, take, Option, None, Some, All, slice_get}
+use Rattle.std.specs.Prelude.{ℕ, suc, ⊤, ◌≡◌, ◌≢◌, ◌<◌, ◌≤◌, ◌⊎◌, true, false, length, Option, None, Some, slice_get}
 use Rattle.model.specs.declared.abs.Abs.{Abs}
 use Rattle.model.specs.declared.abs.Refusal.{Refusal}
 use Rattle.model.specs.declared.abs.Rule.{Rule}
-use Rattle.model.specs.declared.abs.Rule.TheVariants.{Malformed, Unreachable, StatesDiffer, TooLong}
+use Rattle.model.specs.declared.abs.Rule.TheVariants.{Malformed, Unreachable, StatesDiffer, Sort as SortRule, TooLong}
 use Rattle.model.specs.declared.instr.Instr.{Instr}
-use Rattle.model.specs.declared.instr.Instr.TheVariants.{End}
+use Rattle.model.specs.declared.limits.TheConstants.{MAX_CERTIFICATE}
 use Rattle.model.specs.declared.set.Driver.{Driver}
 use Rattle.model.specs.declared.set.Routine.{Routine}
-use Rattle.model.specs.declared.set.Sort.{Sort}
 use Rattle.model.specs.Certificate.{certificate_to}
-use Rattle.model.specs.LocalRule.{refuses}
+use Rattle.model.specs.LocalRule.{entry_state, refuses}
 use Rattle.model.specs.Loops.{open_at}
 use Rattle.model.specs.Paths.{Arrives, is_malformed}
-use Rattle.model.specs.Set.{Set, Member, member}
+use Rattle.model.specs.Set.{Set, Member, Flow, Onward, Branches, Jumps, Opens, Closes, Leaves, member, flow_of}
 
 -- what an instruction of a routine breaks in a state
 abbrev pub fault_in : Member → Abs → Option Instr → Option Rule
@@ -34,18 +33,30 @@ abbrev pub StartsIn : Member → ℕ → Abs → Type 0
 StartsIn m p s = ReachesLoop m (slice_get (open_at m.routine.code p) 0) s
 
 -- if there is an `end`, it is reached in the state in which its `loop` is
+abbrev pub ClosesAlikeBy : Member → ℕ → Abs → Flow → Type 0
+ClosesAlikeBy m p s Onward = ⊤
+ClosesAlikeBy m p s (Branches label) = ⊤
+ClosesAlikeBy m p s (Jumps label) = ⊤
+ClosesAlikeBy m p s (Opens turns) = ⊤
+ClosesAlikeBy m p s Closes = StartsIn m p s
+ClosesAlikeBy m p s Leaves = ⊤
+
 abbrev pub ClosesAlike : Member → ℕ → Abs → Option Instr → Type 0
-ClosesAlike m p s (Some End) = StartsIn m p s
-ClosesAlike m p s _ = ⊤
+ClosesAlike m p s None = ⊤
+ClosesAlike m p s (Some i) = ClosesAlikeBy m p s (flow_of i)
 
 -- there is an `end`, and its `loop` is reached in another state
-abbrev pub ClosesUnlike : Member → ℕ → Abs → Option Instr → Type 0
-ClosesUnlike m p s (Some End) = (start : Abs) × StartsIn m p start × (start ≢ s)
-ClosesUnlike m p s _ = ⊥
+abbrev pub ClosesUnlikeBy : Member → ℕ → Abs → Flow → Type 0
+ClosesUnlikeBy m p s Onward = ⊥
+ClosesUnlikeBy m p s (Branches label) = ⊥
+ClosesUnlikeBy m p s (Jumps label) = ⊥
+ClosesUnlikeBy m p s (Opens turns) = ⊥
+ClosesUnlikeBy m p s Closes = (start : Abs) × StartsIn m p start × (start ≢ s)
+ClosesUnlikeBy m p s Leaves = ⊥
 
--- the longest that an activation may be: 1,000,000 instructions
-abbrev pub limit : ℕ
-limit = 1000000
+abbrev pub ClosesUnlike : Member → ℕ → Abs → Option Instr → Type 0
+ClosesUnlike m p s None = ⊥
+ClosesUnlike m p s (Some i) = ClosesUnlikeBy m p s (flow_of i)
 
 -- there is no fault at a position
 pub record IsFineAt (m : Member) (p : ℕ) : Type 0 where
@@ -54,30 +65,45 @@ pub record IsFineAt (m : Member) (p : ℕ) : Type 0 where
   pub arrival : ArrivesAlone m p state
   pub closes : ClosesAlike m p state (slice_get m.routine.code p)
   pub keeps : fault_in m state (slice_get m.routine.code p) ≡ None
-  pub short : certificate_to m.routine.code (suc p) ≤ limit
+  pub short : certificate_to m.routine.code (suc p) ≤ MAX_CERTIFICATE
 
 -- a routine is typable if it has an instruction and there is no fault at any position
 pub record IsTypableRoutine (m : Member) : Type 0 where
   pub some : length m.routine.code ≢ 0
   pub each : (p : ℕ) → p < length m.routine.code → IsFineAt m p
 
+-- the routines of a driver before a number are typable, and all of them
+abbrev pub AreTypableRoutines : Set → ℕ → Driver → ℕ → Type 0
+AreTypableRoutines set number driver count =
+    (r : ℕ) (routine : Routine) → r < count → slice_get driver.routines r ≡ Some routine
+    → IsTypableRoutine (member set number r routine)
+
 abbrev pub IsTypableDriver : Set → ℕ → Driver → Type 0
-IsTypableDriver set number driver = All (λ routine. IsTypableRoutine (member set number routine)) driver.routines
+IsTypableDriver set number driver = AreTypableRoutines set number driver (length driver.routines)
 
 -- the drivers before a number are typable
 abbrev pub AreTypable : Set → ℕ → Type 0
 AreTypable set count =
-    (number : ℕ) (driver : Driver) → number < count → slice_get set.drivers number ≡ Some driver → IsTypableDriver set number driver
+    (number : ℕ) (driver : Driver) → number < count → slice_get set.drivers number ≡ Some driver
+    → IsTypableDriver set number driver
 
 -- a set is typable if it has a device and all its routines are typable
 pub record IsTypable (set : Set) : Type 0 where
   pub devices : length set.devices ≢ 0
   pub drivers : AreTypable set (length set.drivers)
 
--- no path leads to a position
+-- a routine can't be entered
+pub record HasNoEntry (m : Member) (p : ℕ) : Type 0 where
+  pub start : p ≡ 0
+  pub formed : is_malformed m.routine.code p ≡ false
+  pub none : entry_state m ≡ None
+
+-- no path leads to a position of a routine that can be entered
 pub record IsUnreachable (m : Member) (p : ℕ) : Type 0 where
   pub within : p < length m.routine.code
   pub formed : is_malformed m.routine.code p ≡ false
+  pub entry : Abs
+  pub entered : entry_state m ≡ Some entry
   pub never : (s : Abs) → Arrives m p s → ⊥
 
 -- states that differ arrive at a position
@@ -107,8 +133,8 @@ pub record IsBroken (m : Member) (p : ℕ) (rule : Rule) : Type 0 where
   pub closes : ClosesAlike m p state (slice_get m.routine.code p)
   pub breaks : fault_in m state (slice_get m.routine.code p) ≡ Some rule
 
--- one state arrives at a position, no rule is broken there, and the sum of the certificate passes the
--- limit
+-- one state arrives at a position, no rule is broken there, and the sum of the certificate passes
+-- the limit
 pub record IsTooLong (m : Member) (p : ℕ) : Type 0 where
   pub within : p < length m.routine.code
   pub formed : is_malformed m.routine.code p ≡ false
@@ -116,7 +142,7 @@ pub record IsTooLong (m : Member) (p : ℕ) : Type 0 where
   pub arrival : ArrivesAlone m p state
   pub closes : ClosesAlike m p state (slice_get m.routine.code p)
   pub keeps : fault_in m state (slice_get m.routine.code p) ≡ None
-  pub long : limit < certificate_to m.routine.code (suc p)
+  pub long : MAX_CERTIFICATE < certificate_to m.routine.code (suc p)
 
 -- the least rule that is broken at a position
 abbrev pub IsFaultAt : Member → ℕ → Rule → Type 0
@@ -124,7 +150,8 @@ IsFaultAt m p rule =
     ((is_malformed m.routine.code p ≡ true) × (rule ≡ Malformed))
     ⊎ ((IsUnreachable m p × (rule ≡ Unreachable))
     ⊎ (((HasSeveral m p ⊎ EndsUnlike m p) × (rule ≡ StatesDiffer))
-    ⊎ (IsBroken m p rule ⊎ (IsTooLong m p × (rule ≡ TooLong)))))
+    ⊎ (IsBroken m p rule
+    ⊎ ((HasNoEntry m p × (rule ≡ SortRule)) ⊎ (IsTooLong m p × (rule ≡ TooLong))))))
 
 -- the first fault of a routine
 pub record IsFirstFaultOf (m : Member) (at : ℕ) (rule : Rule) : Type 0 where
@@ -139,9 +166,9 @@ pub record IsFirstFaultWithin (set : Set) (refusal : Refusal) : Type 0 where
   pub drivers_before : AreTypable set refusal.driver
   pub routine : Routine
   pub routine_at : slice_get driver.routines refusal.routine ≡ Some routine
-  pub routines_before :
-      All (λ routine. IsTypableRoutine (member set refusal.driver routine)) (take refusal.routine driver.routines)
-  pub first : IsFirstFaultOf (member set refusal.driver routine) refusal.at refusal.rule
+  pub routines_before : AreTypableRoutines set refusal.driver driver refusal.routine
+  pub first : IsFirstFaultOf (member set refusal.driver refusal.routine routine) refusal.at
+      refusal.rule
 
 abbrev pub at_start : Rule → Refusal
 at_start rule = record { driver = 0; routine = 0; at = 0; rule = rule }

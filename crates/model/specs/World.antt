@@ -1,6 +1,6 @@
 -- The world of a run: threads with their frames, and packets. A packet that topped out is no longer
 -- in the list of live packets, and its number stays used.
-use Rattle.std.specs.Prelude.{ℕ, Bool, ◌++◌, suc, option_and_then, ◌+◌, ◌-◌, true, false, List, [], ◌∷◌, length, Option, None, Some, nat_eq, nat_lt, take, slice_get, slice_set, slice_index_or, remove, replicate, if◌then◌else◌}
+use Rattle.std.specs.Prelude.{ℕ, Bool, suc, option_and_then, ◌+◌, ◌-◌, true, false, List, [], ◌∷◌, length, Option, None, Some, nat_eq, nat_lt, take, slice_get, slice_set, slice_index_or, remove, replicate, if◌then◌else◌}
 use Rattle.model.specs.declared.world.Value.{Value}
 use Rattle.model.specs.declared.world.Value.TheVariants.{Blank, Num, Ref, Status as StatusValue}
 use Rattle.model.specs.declared.event.Lock.{Lock}
@@ -10,7 +10,9 @@ use Rattle.model.specs.declared.instr.Field.TheVariants.{Major as MajorField, Ar
 use Rattle.model.specs.declared.world.Activation.{Activation}
 use Rattle.model.specs.declared.world.Cells.{Cells}
 use Rattle.model.specs.declared.world.OpenLoop.{OpenLoop}
+use Rattle.model.specs.declared.world.Irql.TheVariants.{Passive}
 use Rattle.model.specs.declared.world.Thread.{Thread}
+use Rattle.model.specs.declared.limits.TheConstants.{CELLS, REGISTERS, SPIN_LOCKS}
 use Rattle.model.specs.declared.world.Completion.{Completion}
 use Rattle.model.specs.declared.world.Location.{Location}
 use Rattle.model.specs.declared.world.Packet.{Packet}
@@ -24,8 +26,8 @@ pub record Locks : Type 0 where
   pub system_cancel : Option ℕ
   pub spin : List (List (Option ℕ))
 
--- what the threads share: the live packets in the order of issue, how many were issued, the locks, and
--- by device its cells
+-- what the threads share: the live packets in the order of issue, how many were issued, the locks,
+-- and by device its cells
 pub record Shared : Type 0 where
   pub packets : List Packet
   pub issued : ℕ
@@ -37,33 +39,46 @@ pub record World : Type 0 where
   pub threads : List Thread
   pub shared : Shared
 
--- before the first event: idle threads, no packet was ever issued, every lock is free, and every cell
--- is 0
+-- before the first event: idle threads, no packet was ever issued, every lock is free, and every
+-- cell is 0
 abbrev pub idle_thread : Thread
-idle_thread = record { frames = record { items = [] } }
+idle_thread = record { root = Passive; frames = record { items = [] } }
 
 abbrev pub free_locks : ℕ → Locks
-free_locks devices = record { system_cancel = None; spin = replicate devices (replicate 8 None) }
+free_locks devices =
+    record { system_cancel = None; spin = replicate devices (replicate SPIN_LOCKS None) }
 
 abbrev pub blank_cells : Cells
-blank_cells = record { plain = replicate 16 0; paged = replicate 16 0 }
+blank_cells = record { plain = replicate CELLS 0; paged = replicate CELLS 0 }
 
 abbrev pub unused : ℕ → Shared
-unused devices = record { packets = []; issued = 0; locks = free_locks devices; cells = replicate devices blank_cells }
+unused devices =
+    record {
+      packets = [];
+      issued = 0;
+      locks = free_locks devices;
+      cells = replicate devices blank_cells;
+    }
 
 abbrev pub opening : ℕ → ℕ → World
-opening devices threads = record { threads = replicate threads idle_thread; shared = unused devices }
+opening devices threads =
+    record { threads = replicate threads idle_thread; shared = unused devices }
 
 -- the owner of a lock, if there is such a lock: none where it is free
 abbrev pub owner_of : Locks → Lock → Option (Option ℕ)
 owner_of locks SystemCancel = Some locks.system_cancel
-owner_of locks (Spin l) = option_and_then (λ owners. slice_get owners l.number) (slice_get locks.spin l.device)
+owner_of locks (Spin l) =
+    option_and_then (λ owners. slice_get owners l.number) (slice_get locks.spin l.device)
 
 -- the same with another owner of one lock
 abbrev pub with_owner : Locks → Lock → Option ℕ → Locks
 with_owner locks SystemCancel owner = record locks { system_cancel = owner }
 with_owner locks (Spin l) owner =
-    record locks { spin = slice_set locks.spin l.device (slice_set (slice_index_or locks.spin l.device []) l.number owner) }
+    record locks {
+      spin =
+          slice_set locks.spin l.device
+          (slice_set (slice_index_or locks.spin l.device []) l.number owner);
+    }
 
 abbrev pub with_locks : Shared → Locks → Shared
 with_locks s locks = record s { locks = locks }
@@ -105,8 +120,10 @@ number_in (StatusValue status) = None
 
 -- the status that a value is
 abbrev pub status_in : Value → Option Status
+status_in Blank = None
+status_in (Num n) = None
+status_in (Ref n) = None
 status_in (StatusValue status) = Some status
-status_in _ = None
 
 -- an activation with its next position, at a label, and with a register changed
 abbrev pub register : Activation → ℕ → Value
@@ -146,8 +163,9 @@ location_field (Some l) ArgumentField = l.argument
 location_field (Some l) InfoField = 0
 
 abbrev pub field_of : Packet → Field → ℕ
+field_of p MajorField = location_field (current_location p) MajorField
+field_of p ArgumentField = location_field (current_location p) ArgumentField
 field_of p InfoField = p.info
-field_of p field = location_field (current_location p) field
 
 abbrev pub with_info : Packet → ℕ → Packet
 with_info p info = record p { info = info }
@@ -160,39 +178,62 @@ marked_location (Some l) locations place = slice_set locations place (record l {
 abbrev pub mark_current : Packet → Packet
 mark_current p =
     let place : ℕ = p.depth - 1 in
-    record p { locations = record { items = marked_location (slice_get p.locations.items place) p.locations.items place } }
+    record p {
+      locations =
+          record {
+            items = marked_location (slice_get p.locations.items place) p.locations.items place;
+          };
+    }
 
 -- a packet that IoCompleteRequest was called for
 abbrev pub completed : Packet → Status → Packet
 completed p status = record p { status = status; completing = true }
 
 -- IoCallDriver with a location of its own (Driver Kit, IoCopyCurrentIrpStackLocationToNext and
--- IoSetCompletionRoutine): the next location asks the lower device the same, with no control bit set
+-- IoSetCompletionRoutine): the next location asks the lower device the same, with no control bit
+-- set
 abbrev pub copied_location : Option Location → ℕ → Option Completion → Location
 copied_location None device completion =
     record { major = None; argument = 0; device = device; marked = false; completion = completion }
 copied_location (Some l) device completion =
-    record { major = l.major; argument = l.argument; device = device; marked = false; completion = completion }
+    record {
+      major = l.major;
+      argument = l.argument;
+      device = device;
+      marked = false;
+      completion = completion;
+    }
 
 abbrev pub sent_down : Packet → ℕ → Option Completion → Packet
 sent_down p device completion =
     record p {
       depth = p.depth + 1;
-      locations = record { items = slice_set p.locations.items p.depth (copied_location (current_location p) device completion) };
+      locations = record {
+        items =
+            slice_set p.locations.items p.depth
+            (copied_location (current_location p) device completion);
+      };
     }
 
 -- IoSkipCurrentIrpStackLocation: the lower device is asked in the current location
 abbrev pub shared_location : Option Location → List Location → ℕ → ℕ → List Location
 shared_location None locations place device = locations
-shared_location (Some l) locations place device = slice_set locations place (record l { device = device })
+shared_location (Some l) locations place device =
+    slice_set locations place (record l { device = device })
 
 abbrev pub shared_with : Packet → ℕ → Packet
 shared_with p device =
     let place : ℕ = p.depth - 1 in
-    record p { locations = record { items = shared_location (slice_get p.locations.items place) p.locations.items place device } }
+    record p {
+      locations =
+          record {
+            items = shared_location (slice_get p.locations.items place) p.locations.items place
+                device;
+          };
+    }
 
--- completion leaves the current location: Irp->PendingReturned becomes its mark, and then the location above
--- it is current
+-- completion leaves the current location: Irp->PendingReturned becomes its mark, and then the
+-- location above it is current
 abbrev pub is_marked : Option Location → Bool
 is_marked None = false
 is_marked (Some l) = l.marked
@@ -220,32 +261,41 @@ asked_of (Some l) = l.major
 -- a location at which a device is asked something, and one at which nothing was asked yet
 abbrev pub asked_location : Major → ℕ → ℕ → Location
 asked_location major argument device =
-    record { major = Some major; argument = argument; device = device; marked = false; completion = None }
+    record {
+      major = Some major;
+      argument = argument;
+      device = device;
+      marked = false;
+      completion = None;
+    }
 
 abbrev pub unused_location : Location
-unused_location = record { major = None; argument = 0; device = 0; marked = false; completion = None }
+unused_location =
+    record { major = None; argument = 0; device = 0; marked = false; completion = None }
 
--- a new packet for a device: as many locations as the device's stack size, the first one asked and current
+-- a new packet for a device: as many locations as the device's stack size, the first one asked and
+-- current
 abbrev pub new_packet : ℕ → ℕ → Major → ℕ → ℕ → Packet
 new_packet number device major argument stack =
     record {
       number = number;
       depth = 1;
-      locations = record { items = asked_location major argument device ∷ replicate (stack - 1) unused_location };
+      locations = record
+          { items = asked_location major argument device ∷ replicate (stack - 1) unused_location };
       status = Success;
       info = 0;
       completing = false;
       pending_returned = false;
     }
 
--- the frame of a routine that begins, handed a packet
-abbrev pub entered : ℕ → ℕ → ℕ → ℕ → Activation
-entered driver routine device packet =
+-- the frame of a routine that begins, with what it is handed in its first register
+abbrev pub entered : ℕ → ℕ → ℕ → Value → Activation
+entered driver routine device first =
     record {
       driver = driver;
       routine = routine;
       device = device;
       position = 0;
       loops = record { items = [] };
-      registers = Ref packet ∷ replicate 15 Blank;
+      registers = first ∷ replicate (REGISTERS - 1) Blank;
     }

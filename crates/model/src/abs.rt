@@ -1,7 +1,9 @@
 //! What the verifier knows before an instruction, and the rules that it enforces.
 
+ghost use Rattle.std.specs.Prelude.{◌≡◌};
+
 /// What a register may be used for.
-#[derive(Clone, Copy, Debug, PartialEq, Eq)]
+#[derive(Clone, Copy, PartialEq, Eq)]
 pub enum Kind {
     /// Nothing.
     Blank,
@@ -18,7 +20,7 @@ pub enum Kind {
 }
 
 /// What a dispatch routine still owes for the packet that it was handed.
-#[derive(Clone, Copy, Debug, PartialEq, Eq)]
+#[derive(Clone, Copy, PartialEq, Eq)]
 pub enum Duty {
     /// It has done nothing with it.
     Fresh,
@@ -26,14 +28,15 @@ pub enum Duty {
     Pending,
     /// It completed it without a mark, so it has to return another status.
     Finished,
-    /// It gave it to the lower driver without a mark, so it has to return what that driver returned.
+    /// It gave it to the lower driver without a mark, so it has to return what that driver
+    /// returned.
     GivenDown,
     /// It has none: no dispatch routine.
     NoDuty,
 }
 
 /// Whether a completion routine has carried the pending mark up.
-#[derive(Clone, Copy, Debug, PartialEq, Eq)]
+#[derive(Clone, Copy, PartialEq, Eq)]
 pub enum Settled {
     /// It hasn't looked.
     Open,
@@ -44,7 +47,7 @@ pub enum Settled {
 }
 
 /// An abstract state: what holds each time a position is reached.
-#[derive(Clone, Copy, Debug, PartialEq, Eq)]
+#[derive(Clone, Copy)]
 pub struct Abs {
     pub kinds: [Kind; 16],
     /// Which of the device's spin locks the thread holds.
@@ -56,7 +59,7 @@ pub struct Abs {
 }
 
 /// The states after an instruction, where it goes on: neither where the routine has returned.
-#[derive(Clone, Copy, Debug, PartialEq, Eq)]
+#[derive(Clone, Copy)]
 pub struct Outs {
     /// At the next position.
     pub next: Option<Abs>,
@@ -65,7 +68,7 @@ pub struct Outs {
 }
 
 /// The rule that a driver set breaks, by its number and name.
-#[derive(Clone, Copy, Debug, PartialEq, Eq)]
+#[derive(Clone, Copy, PartialEq, Eq)]
 pub enum Rule {
     /// V1: the set has no device, or a routine is no routine.
     Malformed = 1,
@@ -104,9 +107,20 @@ pub enum Rule {
     Memory = 20,
 }
 
+impl Rule {
+    ghost use Rattle.model.specs.LocalRule.{rule_number};
+
+    /// Its number. Of the rules that an instruction breaks the one of the least number counts.
+    pub fn number(self) -> u8
+        ensures { result ≡ rule_number self }
+    {
+        self as u8
+    }
+}
+
 /// Why a set is refused: the least driver, routine and position with a fault, and the least rule
 /// that is broken there.
-#[derive(Clone, Copy, Debug, PartialEq, Eq)]
+#[derive(Clone, Copy)]
 pub struct Refusal {
     pub driver: u8,
     pub routine: u8,

@@ -6,7 +6,7 @@ use crate::limits::CELLS;
 use std::marker::Model;
 
 /// The number of a device's number cell, plain or paged, 0 to 15. Contracts see the number.
-#[derive(Clone, Copy, Debug, PartialEq, Eq)]
+#[derive(Clone, Copy)]
 pub struct Cell {
     number: u8,
 }

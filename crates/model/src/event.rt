@@ -3,7 +3,7 @@
 use crate::status::{Major, Status};
 
 /// One event of a run.
-#[derive(Clone, Copy, Debug, PartialEq, Eq)]
+#[derive(Clone, Copy)]
 pub enum Event {
     /// A request arrives: a new packet is sent to the device, on an idle thread.
     Issue {
@@ -19,7 +19,7 @@ pub enum Event {
 }
 
 /// A bug check, by its name in the bug check reference.
-#[derive(Clone, Copy, Debug, PartialEq, Eq)]
+#[derive(Clone, Copy)]
 pub enum BugCheck {
     /// IRQL_NOT_LESS_OR_EQUAL, 0x0A.
     IrqlNotLessOrEqual,
@@ -31,17 +31,19 @@ pub enum BugCheck {
     NoMoreIrpStackLocations,
     /// MULTIPLE_IRP_COMPLETE_REQUESTS, 0x44.
     MultipleIrpCompleteRequests,
+    /// CANCEL_STATE_IN_COMPLETED_IRP, 0x48.
+    CancelStateInCompletedIrp,
 }
 
 /// A spin lock or a paged cell of a device, by its number.
-#[derive(Clone, Copy, Debug, PartialEq, Eq)]
+#[derive(Clone, Copy)]
 pub struct OfDevice {
     pub device: u8,
     pub number: u8,
 }
 
 /// A lock.
-#[derive(Clone, Copy, Debug, PartialEq, Eq)]
+#[derive(Clone, Copy)]
 pub enum Lock {
     /// The system cancel spin lock.
     SystemCancel,
@@ -50,7 +52,7 @@ pub enum Lock {
 }
 
 /// What a bug check is about.
-#[derive(Clone, Copy, Debug, PartialEq, Eq)]
+#[derive(Clone, Copy)]
 pub enum Subject {
     /// The packet of this number.
     Packet(u64),
@@ -61,14 +63,14 @@ pub enum Subject {
 }
 
 /// A bug check and what it is about.
-#[derive(Clone, Copy, Debug, PartialEq, Eq)]
+#[derive(Clone, Copy)]
 pub struct Bug {
     pub check: BugCheck,
     pub subject: Subject,
 }
 
 /// The place of an instruction: driver, routine and position.
-#[derive(Clone, Copy, Debug, PartialEq, Eq)]
+#[derive(Clone, Copy)]
 pub struct Place {
     pub driver: u8,
     pub routine: u8,
@@ -76,7 +78,7 @@ pub struct Place {
 }
 
 /// What the run answers to an event.
-#[derive(Clone, Copy, Debug, PartialEq, Eq)]
+#[derive(Clone, Copy)]
 pub enum Reply {
     /// A root frame stands on the thread, for the packet of this number.
     Started(u64),

@@ -9,7 +9,7 @@ use crate::status::Status;
 pub use crate::turns::Turns;
 
 /// What `get` reads of a packet.
-#[derive(Clone, Copy, Debug, PartialEq, Eq)]
+#[derive(Clone, Copy)]
 pub enum Field {
     /// The major function of the current location, by its IRP_MJ number.
     Major,
@@ -20,7 +20,7 @@ pub enum Field {
 }
 
 /// What a routine returns.
-#[derive(Clone, Copy, Debug, PartialEq, Eq)]
+#[derive(Clone, Copy)]
 pub enum Return {
     /// A status of its own: `ret STATUS`.
     WithStatus(Status),
@@ -31,7 +31,7 @@ pub enum Return {
 }
 
 /// One instruction. A label is a position of the same routine.
-#[derive(Clone, Copy, Debug, PartialEq, Eq)]
+#[derive(Clone, Copy)]
 pub enum Instr {
     /// `const r n`: the register becomes the number.
     Const(Register, u32),
@@ -75,11 +75,11 @@ pub enum Instr {
     AcquireCancel,
     /// `relc`: IoReleaseCancelSpinLock.
     ReleaseCancel,
-    /// `pass r`: IoSkipCurrentIrpStackLocation and IoCallDriver for the lower device, which is asked
-    /// in the caller's own location.
+    /// `pass r`: IoSkipCurrentIrpStackLocation and IoCallDriver for the lower device, which is
+    /// asked in the caller's own location.
     Pass(Register),
-    /// `call r` and `call r f`: IoCopyCurrentIrpStackLocationToNext, IoSetCompletionRoutine with the
-    /// routine of this number where there is one, and IoCallDriver for the lower device.
+    /// `call r` and `call r f`: IoCopyCurrentIrpStackLocationToNext, IoSetCompletionRoutine with
+    /// the routine of this number where there is one, and IoCallDriver for the lower device.
     Call(Register, Option<u8>),
     /// `complete r STATUS`: IoCompleteRequest on the packet in the register.
     Complete(Register, Status),

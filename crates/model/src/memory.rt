@@ -3,7 +3,7 @@
 use std::alloc::AllocError;
 
 /// A growth was refused. What the call was handed is unchanged or handed back.
-#[derive(Clone, Copy, Debug, PartialEq, Eq)]
+#[derive(Clone, Copy)]
 pub struct OutOfMemory;
 
 impl From<AllocError> for OutOfMemory {

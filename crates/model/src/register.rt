@@ -6,7 +6,7 @@ use crate::limits::REGISTERS;
 use std::marker::Model;
 
 /// The number of a register, 0 to 15. Contracts see the number.
-#[derive(Clone, Copy, Debug, PartialEq, Eq)]
+#[derive(Clone, Copy)]
 pub struct Register {
     number: u8,
 }

@@ -7,7 +7,7 @@ use crate::items::Items;
 use crate::status::Major;
 
 /// What a routine is for: it decides how the routine is called and what it may do.
-#[derive(Clone, Copy, Debug, PartialEq, Eq)]
+#[derive(Clone, Copy)]
 pub enum Sort {
     /// A dispatch routine: it is handed a packet at PASSIVE_LEVEL and returns a status.
     Dispatch,
@@ -31,9 +31,9 @@ pub struct Driver {
     pub control: Option<u8>,
 }
 
-/// A device: the number of its driver, how many stack locations a packet needs that is sent to it, 1 to
-/// 16, and the number of the device under it, an earlier one.
-#[derive(Clone, Copy, Debug, PartialEq, Eq)]
+/// A device: the number of its driver, how many stack locations a packet needs that is sent to it,
+/// 1 to 16, and the number of the device under it, an earlier one.
+#[derive(Clone, Copy)]
 pub struct Device {
     pub driver: u8,
     pub stack: u8,

@@ -6,7 +6,7 @@ use crate::limits::SPIN_LOCKS;
 use std::marker::Model;
 
 /// The number of a device's spin lock, 0 to 7. Contracts see the number.
-#[derive(Clone, Copy, Debug, PartialEq, Eq)]
+#[derive(Clone, Copy)]
 pub struct SpinLock {
     number: u8,
 }

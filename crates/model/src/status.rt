@@ -3,7 +3,7 @@
 ghost use Rattle.std.specs.Prelude.{◌≡◌};
 
 /// An NTSTATUS value that a routine may name, by the Driver Kit's constants.
-#[derive(Clone, Copy, Debug, PartialEq, Eq)]
+#[derive(Clone, Copy, PartialEq, Eq)]
 pub enum Status {
     /// STATUS_SUCCESS, 0x00000000.
     Success,
@@ -41,7 +41,7 @@ impl Status {
 }
 
 /// The major function of a request.
-#[derive(Clone, Copy, Debug, PartialEq, Eq)]
+#[derive(Clone, Copy)]
 pub enum Major {
     /// IRP_MJ_READ.
     Read,

@@ -6,7 +6,7 @@ use crate::limits::MAX_TURNS;
 use std::marker::Model;
 
 /// How often a loop's body runs, 1 to 1,000. Contracts see the number.
-#[derive(Clone, Copy, Debug, PartialEq, Eq)]
+#[derive(Clone, Copy)]
 pub struct Turns {
     number: u16,
 }

@@ -1,10 +1,11 @@
 //! The state of a run: threads with their frames, and packets with their stack locations.
 
+use crate::limits::{CELLS, MAX_FRAMES, MAX_LOOPS, MAX_STACK, REGISTERS};
 use crate::status::{Major, Status};
 use arrayvec::ArrayVec;
 
 /// The value of a register.
-#[derive(Clone, Copy, Debug, PartialEq, Eq)]
+#[derive(Clone, Copy)]
 pub enum Value {
     /// Nothing.
     Blank,
@@ -18,7 +19,7 @@ pub enum Value {
 
 /// A loop that a routine has opened: where its body starts, and how many turns are left, the one
 /// that runs among them.
-#[derive(Clone, Copy, Debug, PartialEq, Eq, Default)]
+#[derive(Clone, Copy, Default)]
 pub struct OpenLoop {
     pub start: u16,
     pub turns: u16,
@@ -32,8 +33,8 @@ pub struct Activation {
     pub device: u8,
     pub position: u16,
     /// The loops that are open, the innermost last.
-    pub loops: ArrayVec<OpenLoop, 4>,
-    pub registers: [Value; 16],
+    pub loops: ArrayVec<OpenLoop, MAX_LOOPS>,
+    pub registers: [Value; REGISTERS],
 }
 
 /// One frame of a thread.
@@ -51,21 +52,35 @@ impl Default for Frame {
     }
 }
 
-/// A thread: its frames, the lowest first. A thread without frames is idle.
+/// An interrupt request level (IRQL) that a thread may be at.
+#[derive(Clone, Copy, Default)]
+pub enum Irql {
+    /// PASSIVE_LEVEL, 0.
+    #[default]
+    Passive,
+    /// APC_LEVEL, 1.
+    Apc,
+    /// DISPATCH_LEVEL, 2.
+    Dispatch,
+}
+
+/// A thread: its frames, the lowest first, and the level of the lowest. A thread without frames is
+/// idle, at PASSIVE_LEVEL.
 #[derive(Drop)]
 pub struct Thread {
-    pub frames: ArrayVec<Frame, 32>,
+    pub root: Irql,
+    pub frames: ArrayVec<Frame, MAX_FRAMES>,
 }
 
 /// A completion routine (IoSetCompletionRoutine): its number, and the device whose driver set it.
-#[derive(Clone, Copy, Debug, PartialEq, Eq)]
+#[derive(Clone, Copy)]
 pub struct Completion {
     pub routine: u8,
     pub device: u8,
 }
 
 /// An I/O stack location (IO_STACK_LOCATION): what the driver of its device is asked to do.
-#[derive(Clone, Copy, Debug, PartialEq, Eq, Default)]
+#[derive(Clone, Copy, Default)]
 pub struct Location {
     /// None while nothing was asked here.
     pub major: Option<Major>,
@@ -85,7 +100,7 @@ pub struct Packet {
     /// Which location is current: 1 is the top driver's.
     pub depth: u8,
     /// All its locations, that of the top driver first.
-    pub locations: ArrayVec<Location, 16>,
+    pub locations: ArrayVec<Location, MAX_STACK>,
     pub status: Status,
     /// IoStatus.Information.
     pub info: u64,
@@ -96,9 +111,9 @@ pub struct Packet {
 }
 
 /// The number cells of a device, all 0 at first.
-#[derive(Clone, Copy, Debug, PartialEq, Eq)]
+#[derive(Clone, Copy)]
 pub struct Cells {
-    pub plain: [u64; 16],
+    pub plain: [u64; CELLS],
     /// Those that may be touched below DISPATCH_LEVEL alone.
-    pub paged: [u64; 16],
+    pub paged: [u64; CELLS],
 }
