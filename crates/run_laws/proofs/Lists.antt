@@ -1,11 +1,12 @@
 -- Small facts on lists: from a place on, and at the end.
 use Rattle.std.proofs.Common.{◌≡◌, ◌≢◌, ◌<◌, ◌+◌, ◌-◌, ℕ, zero, suc, List, [], ◌∷◌, ◌++◌, Some, length, take, drop, get_or, refl, ap, sym, ◌∙◌, arith, subst}
-use Rattle.std.specs.Prelude.{⊤, slice_get, slice_set, remove, replicate, All}
+use Rattle.std.specs.Prelude.{⊤, slice_get, slice_index_or, slice_set, remove, replicate, All}
 use Rattle.std.proofs.lemmas.List.{take_all, take_more, take_at, length-append}
 use Rattle.std.proofs.lemmas.Option.{slice_get_within, get_or_from_slice_get}
 
 -- what stands at a place is the first from there on
-pub from_here : {A : Type 0} (xs : List A) (p : ℕ) (x : A) → slice_get xs p ≡ Some x → drop p xs ≡ x ∷ drop (suc p) xs
+pub from_here : {A : Type 0} (xs : List A) (p : ℕ) (x : A) → slice_get xs p ≡ Some x
+    → drop p xs ≡ x ∷ drop (suc p) xs
 from_here [] p x h = cc
 from_here {A = A} (y ∷ xs) zero x h = let same : y ≡ x = cc in rw same refl
 from_here (y ∷ xs) (suc p) x h = from_here xs p x h
@@ -30,47 +31,68 @@ length_more xs x = let long : length (xs ++ x ∷ []) ≡ length xs + length (x 
     length-append xs (x ∷ []) in let one : length (x ∷ []) ≡ 1 = refl in omega arith
 
 -- the last element of a list, and what stands before it
-pub last_of : {A : Type 0} (xs : List A) (x : A) → slice_get (xs ++ x ∷ []) (length (xs ++ x ∷ []) - 1) ≡ Some x
+pub last_of : {A : Type 0} (xs : List A) (x : A)
+    → slice_get (xs ++ x ∷ []) (length (xs ++ x ∷ []) - 1) ≡ Some x
 last_of xs x = rw (length_more xs x) (get_at_length xs x)
 
-pub before_last : {A : Type 0} (xs : List A) (x : A) → take (length (xs ++ x ∷ []) - 1) (xs ++ x ∷ []) ≡ xs
+pub before_last : {A : Type 0} (xs : List A) (x : A)
+    → take (length (xs ++ x ∷ []) - 1) (xs ++ x ∷ []) ≡ xs
 before_last xs x = rw (length_more xs x) (take_at xs (x ∷ []) (length xs) refl)
 
 -- what holds of all elements holds of the one at a place
-pub all_at : {A : Type 0} (P : A → Type 0) (xs : List A) (i : ℕ) (x : A) → All P xs → slice_get xs i ≡ Some x → P x
+pub all_at : {A : Type 0} (P : A → Type 0) (xs : List A) (i : ℕ) (x : A) → All P xs
+    → slice_get xs i ≡ Some x → P x
 all_at {A = A} P xs i x all h =
     subst P (get_or_from_slice_get xs i x x h) (all i x (slice_get_within xs i x h))
 
 -- after a write: at its place, and at another
-pub set_same : {A : Type 0} (xs : List A) (i : ℕ) (x y : A) → slice_get xs i ≡ Some x → slice_get (slice_set xs i y) i
+pub set_same : {A : Type 0} (xs : List A) (i : ℕ) (x y : A) → slice_get xs i ≡ Some x
+    → slice_get (slice_set xs i y) i
     ≡ Some y
 set_same [] i x y h = cc
 set_same (z ∷ xs) zero x y h = refl
 set_same (z ∷ xs) (suc i) x y h = set_same xs i x y h
 
-pub set_other : {A : Type 0} (xs : List A) (i j : ℕ) (y : A) → i ≢ j → slice_get (slice_set xs i y) j ≡ slice_get xs j
+pub set_other : {A : Type 0} (xs : List A) (i j : ℕ) (y : A) → i ≢ j
+    → slice_get (slice_set xs i y) j ≡ slice_get xs j
 set_other [] i j y h = refl
 set_other (z ∷ xs) zero zero y h = absurd (h refl)
 set_other (z ∷ xs) zero (suc j) y h = refl
 set_other (z ∷ xs) (suc i) zero y h = refl
 set_other (z ∷ xs) (suc i) (suc j) y h = set_other xs i j y (λ e. h (ap suc e))
 
+-- what is copied to a place is still where it came from
+copied_as : {A : Type 0} (xs : List A) (r q : ℕ) (d x : A) → slice_index_or xs q d ≡ x
+    → slice_index_or (slice_set xs r x) q d ≡ x
+copied_as [] r q d x h = h
+copied_as (y ∷ xs) zero zero d x h = refl
+copied_as (y ∷ xs) zero (suc q) d x h = h
+copied_as (y ∷ xs) (suc r) zero d x h = h
+copied_as (y ∷ xs) (suc r) (suc q) d x h = copied_as xs r q d x h
+
+pub copied : {A : Type 0} (xs : List A) (r q : ℕ) (d : A)
+    → slice_index_or (slice_set xs r (slice_index_or xs q d)) q d ≡ slice_index_or xs q d
+copied xs r q d = copied_as xs r q d (slice_index_or xs q d) refl
+
 -- what holds of each element
 abbrev pub Each : {A : Type 0} → (A → Type 0) → List A → Type 0
 Each P [] = ⊤
 Each P (x ∷ xs) = P x × Each P xs
 
-pub each_at : {A : Type 0} (P : A → Type 0) (xs : List A) (i : ℕ) (x : A) → Each P xs → slice_get xs i ≡ Some x → P x
+pub each_at : {A : Type 0} (P : A → Type 0) (xs : List A) (i : ℕ) (x : A) → Each P xs
+    → slice_get xs i ≡ Some x → P x
 each_at P [] i x h there = cc
 each_at {A = A} P (y ∷ xs) zero x h there = let same : y ≡ x = cc in subst P same h.0
 each_at P (y ∷ xs) (suc i) x h there = each_at P xs i x h.1 there
 
-pub each_set : {A : Type 0} (P : A → Type 0) (xs : List A) (i : ℕ) (y : A) → Each P xs → P y → Each P (slice_set xs i y)
+pub each_set : {A : Type 0} (P : A → Type 0) (xs : List A) (i : ℕ) (y : A) → Each P xs → P y
+    → Each P (slice_set xs i y)
 each_set P [] i y h one = tt
 each_set P (x ∷ xs) zero y h one = (one, h.1)
 each_set P (x ∷ xs) (suc i) y h one = (h.0, each_set P xs i y h.1 one)
 
-pub each_push : {A : Type 0} (P : A → Type 0) (xs : List A) (y : A) → Each P xs → P y → Each P (xs ++ y ∷ [])
+pub each_push : {A : Type 0} (P : A → Type 0) (xs : List A) (y : A) → Each P xs → P y
+    → Each P (xs ++ y ∷ [])
 each_push P [] y h one = (one, tt)
 each_push P (x ∷ xs) y h one = (h.0, each_push P xs y h.1 one)
 
@@ -83,3 +105,17 @@ each_remove P (x ∷ xs) (suc i) h = (h.0, each_remove P xs i h.1)
 pub each_same : {A : Type 0} (P : A → Type 0) (n : ℕ) (x : A) → P x → Each P (replicate n x)
 each_same P zero x h = tt
 each_same P (suc n) x h = (h, each_same P n x h)
+
+-- what holds of each of two lists
+pub each_append : {A : Type 0} (P : A → Type 0) (xs ys : List A) → Each P xs → Each P ys
+    → Each P (xs ++ ys)
+each_append P [] ys h g = g
+each_append P (x ∷ xs) ys h g = (h.0, each_append P xs ys h.1 g)
+
+pub each_before : {A : Type 0} (P : A → Type 0) (xs ys : List A) → Each P (xs ++ ys) → Each P xs
+each_before P [] ys h = tt
+each_before P (x ∷ xs) ys h = (h.0, each_before P xs ys h.1)
+
+pub each_after : {A : Type 0} (P : A → Type 0) (xs ys : List A) → Each P (xs ++ ys) → Each P ys
+each_after P [] ys h = h
+each_after P (x ∷ xs) ys h = each_after P xs ys h.1

@@ -1,6 +1,6 @@
--- A worked run, as a check of what the definitions on pending marks say: an upper driver calls the lower one,
--- which marks the packet, completes it and returns STATUS_PENDING; the I/O manager carries the mark up, and the
--- upper driver returns what the lower one returned.
+-- A worked run, as a check of what the definitions on pending marks say: an upper driver calls the
+-- lower one, which marks the packet, completes it and returns STATUS_PENDING; the I/O manager
+-- carries the mark up, and the upper driver returns what the lower one returned.
 use Rattle.std.specs.Prelude.{ℕ, ◌≡◌, true, List, [], ◌∷◌, Some, None}
 use Rattle.model.specs.declared.event.Event.{Event}
 use Rattle.model.specs.declared.event.Event.TheVariants.{Issue, Step}
@@ -18,7 +18,12 @@ use Rattle.model.specs.Trace.{Entry, Serving}
 
 abbrev pub driver_of : List Instr → Driver
 driver_of code =
-    record { routines = record { sort = Dispatch; code = code } ∷ []; read = Some 0; write = None; control = None }
+    record {
+      routines = record { sort = Dispatch; code = code } ∷ [];
+      read = Some 0;
+      write = None;
+      control = None;
+    }
 
 -- device 0 is the lower one, device 1 stands over it
 abbrev pub stacked_set : Set
@@ -34,7 +39,8 @@ stacked_set =
           ∷ [];
     }
 
--- the upper driver calls; the lower one marks and completes; the packet goes up twice, and both return
+-- the upper driver calls; the lower one marks and completes; the packet goes up twice, and both
+-- return
 abbrev pub one_request : List Event
 one_request = Issue 0 1 Read 7 ∷ Step 0 ∷ Step 0 ∷ Step 0 ∷ Step 0 ∷ Step 0 ∷ Step 0 ∷ Step 0 ∷ []
 

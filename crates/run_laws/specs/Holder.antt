@@ -1,9 +1,12 @@
--- Who holds a packet: a register that has the right to it, or the I/O manager's frame that completes it.
-use Rattle.std.specs.Prelude.{ℕ, ◌≡◌, ◌<◌, ◌+◌, ◌&&◌, not, Bool, List, [], ◌∷◌, length, Option, None, Some, nat_eq, nat_lt, if◌then◌else◌}
+-- Who holds a packet: a register that has the right to it, or the I/O manager's frame that
+-- completes it.
+use Rattle.std.specs.Prelude.{ℕ, ◌≡◌, ◌<◌, ◌+◌, ◌&&◌, not, Bool, List, [], ◌∷◌, length, Option, None, Some, nat_eq, nat_lt, slice_get, if◌then◌else◌}
 use Rattle.model.specs.declared.abs.Abs.{Abs}
 use Rattle.model.specs.declared.abs.Kind.{Kind}
 use Rattle.model.specs.declared.event.Event.{Event}
+use Rattle.model.specs.declared.limits.TheConstants.{REGISTERS}
 use Rattle.model.specs.declared.set.Routine.{Routine as RoutineOf}
+use Rattle.model.specs.declared.world.Activation.{Activation}
 use Rattle.model.specs.declared.world.Frame.{Frame}
 use Rattle.model.specs.declared.world.Frame.TheVariants.{Routine, Walk}
 use Rattle.model.specs.declared.world.Packet.{Packet}
@@ -11,9 +14,9 @@ use Rattle.model.specs.declared.world.Thread.{Thread}
 use Rattle.model.specs.declared.world.Value.{Value}
 use Rattle.model.specs.declared.world.Value.TheVariants.{Ref}
 use Rattle.model.specs.Fault.{topped}
-use Rattle.model.specs.LocalRule.{is_owed}
+use Rattle.model.specs.LocalRule.{is_right}
 use Rattle.model.specs.Paths.{Arrives}
-use Rattle.model.specs.Run.{Run, run}
+use Rattle.model.specs.Run.{Run, frames_on, run}
 use Rattle.model.specs.Set.{Set, member, routine_of}
 use Rattle.model.specs.Sound.{IsSound}
 use Rattle.model.specs.Typable.{IsTypable}
@@ -26,7 +29,7 @@ names _ n = 0
 
 -- how many registers have a right to a packet: it is theirs by their kind
 abbrev pub right : Kind → Value → ℕ → ℕ
-right k v n = if is_owed k then names v n else 0
+right k v n = if is_right k then names v n else 0
 
 abbrev pub rights : List Kind → List Value → ℕ → ℕ
 rights [] values n = 0
@@ -61,13 +64,25 @@ alive (Some p) = 1
 abbrev pub is_live : Run → ℕ → Bool
 is_live r n = nat_lt n r.world.shared.issued && not (topped r.past n)
 
--- a packet of a run that was issued and hasn't topped out has one holder, and is in the list of live packets;
--- any other one has none, and isn't there. The states are those that arrive at the positions of the routines
+-- a routine's frame stands inside the code of a routine of its driver, with all its registers
+pub record StandsInside (set : Set) (a : Activation) : Type 0 where
+  pub routine : RoutineOf
+  pub is_of : routine_of set a.driver a.routine ≡ Some routine
+  pub inside : a.position < length routine.code
+  pub registers : length a.registers ≡ REGISTERS
+
+-- a packet of a run that was issued and hasn't topped out has one holder, and is in the list of
+-- live packets; any other one has none, and isn't there. The states are those that arrive at the
+-- positions of the routines, and every routine's frame, on top of its thread or below, stands at
+-- one of them
 pub record HasOneHolder (set : Set) (threads : ℕ) (events : List Event) : Type 0 where
   pub states : ℕ → ℕ → ℕ → Abs
   pub arrive : (driver number p : ℕ) (routine : RoutineOf) → routine_of set driver number ≡ Some routine
       → p < length routine.code
-      → Arrives (member set driver routine) p (states driver number p)
+      → Arrives (member set driver number routine) p (states driver number p)
+  pub stand : (t k : ℕ) (a : Activation) → slice_get (frames_on (run set threads events).world t) k
+      ≡ Some (Routine a)
+      → StandsInside set a
   pub one : (n : ℕ) → holders states (run set threads events).world.threads n
       ≡ (if is_live (run set threads events) n then 1 else 0)
   pub listed : (n : ℕ) → alive (packet_of (run set threads events).world.shared n)

@@ -1,10 +1,12 @@
 pub mod NoWrong
-pub mod Lifetime
 pub mod LockOrder
 pub mod Holder
 pub mod TopsOnce
 pub mod NeverStops
 pub mod Rules
 pub mod CarriedMark
+pub mod SharedMark
 pub mod PendingReturns
 pub mod PastTells
+pub mod Lifetime
+pub mod NothingSkipped

@@ -1,12 +1,11 @@
--- How many instructions an activation executes, and which routine each activation is of.
-use Rattle.std.specs.Prelude.{ℕ, ◌≡◌, ◌≤◌, ◌+◌, Bool, false, List, [], ◌∷◌, ◌++◌, length, Option, None, Some, nat_eq, slice_get, if◌then◌else◌}
+-- How many instructions an activation executes, and of which routine it is.
+use Rattle.std.specs.Prelude.{ℕ, ⊤, ◌≡◌, ◌≤◌, ◌+◌, Bool, false, List, [], ◌∷◌, Option, Some, All, nat_eq, slice_get, if◌then◌else◌}
 use Rattle.model.specs.declared.event.Event.{Event}
 use Rattle.model.specs.declared.world.Activation.{Activation}
-use Rattle.model.specs.declared.world.Frame.{Frame}
-use Rattle.model.specs.declared.world.Frame.TheVariants.{Routine, Walk}
+use Rattle.model.specs.declared.world.Frame.TheVariants.{Routine}
 use Rattle.model.specs.Action.{Action, Executes}
 use Rattle.model.specs.Certificate.{certificate_of}
-use Rattle.model.specs.Run.{Run, begun, frames_on, thread_of, tags_on, step, run}
+use Rattle.model.specs.Run.{Run, frames_on, tags_on, run}
 use Rattle.model.specs.Set.{Set}
 use Rattle.model.specs.Sound.{IsSound}
 use Rattle.model.specs.Trace.{Entry, Serving, Tag, Managing, Activated}
@@ -15,7 +14,7 @@ use Rattle.model.specs.Typable.{IsTypable}
 -- what a frame did that is the activation of a number
 abbrev pub is_activation : ℕ → Tag → Bool
 is_activation g Managing = false
-is_activation g (Activated h serving) = nat_eq h g
+is_activation g (Activated h driver routine serving) = nat_eq h g
 
 abbrev pub instructions_in : Action → ℕ
 instructions_in Executes = 1
@@ -24,55 +23,46 @@ instructions_in _ = 0
 -- how many instructions an activation has executed in a trace
 abbrev pub executions : List Entry → ℕ → ℕ
 executions [] g = 0
-executions (e ∷ past) g = (if is_activation g e.tag then instructions_in e.action else 0) + executions past g
+executions (e ∷ past) g =
+    (if is_activation g e.actor.tag then instructions_in e.action else 0) + executions past g
 
--- the routine that an activation is of
-pub record Entered : Type 0 where
-  pub driver : ℕ
-  pub routine : ℕ
+-- an activation has executed at most as many instructions as the certificate of its routine
+abbrev pub KeepsCertificate : Set → List Entry → Tag → Type 0
+KeepsCertificate set past Managing = ⊤
+KeepsCertificate set past (Activated g driver routine serving) =
+    executions past g ≤ certificate_of set driver routine
 
--- the routines that are entered where frames stand in place of others, in the order of their numbers: a
--- routine's frame where none of a routine stood is a new activation
-abbrev pub entered_new : Frame → List Entered
-entered_new (Routine a) = record { driver = a.driver; routine = a.routine } ∷ []
-entered_new (Walk n) = []
+-- one number is of one routine
+abbrev pub AreOneRoutine : Tag → Tag → Type 0
+AreOneRoutine Managing other = ⊤
+AreOneRoutine (Activated g driver routine serving) Managing = ⊤
+AreOneRoutine (Activated g driver routine serving) (Activated h d r s) = g ≡ h → (driver ≡ d)
+    × (routine ≡ r)
 
-abbrev pub entered_kept : Frame → Frame → List Entered
-entered_kept (Routine b) f = []
-entered_kept (Walk m) f = entered_new f
+-- of the actions of a past, those under a tag's number are of its routine
+abbrev pub IsOneRoutine : List Entry → Tag → Type 0
+IsOneRoutine past tag = All (λ (e : Entry). AreOneRoutine tag e.actor.tag) past
 
-abbrev pub entered_on : List Frame → List Frame → List Entered
-entered_on old [] = []
-entered_on [] (f ∷ frames) = entered_new f ++ entered_on [] frames
-entered_on (o ∷ old) (f ∷ frames) = entered_kept o f ++ entered_on old frames
+-- the activation whose frame stands at a place of a thread: it is of that frame's routine, and
+-- keeps its certificate
+pub record StandsWithin (set : Set) (r : Run) (t k : ℕ) (a : Activation) : Type 0 where
+  pub number : ℕ
+  pub serving : Option Serving
+  pub tag : slice_get (tags_on r t) k ≡ Some (Activated number a.driver a.routine serving)
+  pub one : IsOneRoutine r.past (Activated number a.driver a.routine serving)
+  pub kept : executions r.past number ≤ certificate_of set a.driver a.routine
 
--- by an event, and by all events of a run, by number
-abbrev pub entered_by : Set → Run → Event → List Entered
-entered_by set r e = entered_on (frames_on r.world (thread_of e)) (frames_on (step set r e).run.world (thread_of e))
-
-abbrev pub entered_from : Set → Run → List Event → List Entered
-entered_from set r [] = []
-entered_from set r (e ∷ events) = entered_by set r e ++ entered_from set (step set r e).run events
-
-abbrev pub entered : Set → ℕ → List Event → List Entered
-entered set threads events = entered_from set (begun set threads) events
-
--- the certificate of an activation: of its routine, or none where no activation has the number
-abbrev pub certificate_at : Set → Option Entered → ℕ
-certificate_at set None = 0
-certificate_at set (Some e) = certificate_of set e.driver e.routine
-
--- every activation of a run, among them those whose frame is gone, has executed at most as many
--- instructions as the certificate of its routine; and the list of the activations' routines is right:
--- it has as many as there were activations, and names the routine of each frame that stands
+-- every activation that has acted in a run, whether its frame stands or is gone, has executed at
+-- most as many instructions as the certificate of its routine, and so has every one whose frame
+-- stands
 pub record KeepCertificates (set : Set) (threads : ℕ) (events : List Event) : Type 0 where
-  pub kept : (g : ℕ) → executions (run set threads events).past g ≤ certificate_at set
-      (slice_get (entered set threads events) g)
-  pub all : length (entered set threads events) ≡ (run set threads events).activations
-  pub named : (t k g : ℕ) (serving : Option Serving) (a : Activation)
-      → slice_get (tags_on (run set threads events) t) k ≡ Some (Activated g serving)
+  pub kept : All (λ (e : Entry). KeepsCertificate set (run set threads events).past e.actor.tag)
+      (run set threads events).past
+  pub one : All (λ (e : Entry). IsOneRoutine (run set threads events).past e.actor.tag)
+      (run set threads events).past
+  pub standing : (t k : ℕ) (a : Activation)
       → slice_get (frames_on (run set threads events).world t) k ≡ Some (Routine a)
-      → slice_get (entered set threads events) g ≡ Some (record { driver = a.driver; routine = a.routine })
+      → StandsWithin set (run set threads events) t k a
 
 abbrev pub ActivationsKeepTheirCertificate : Type 0
 ActivationsKeepTheirCertificate =

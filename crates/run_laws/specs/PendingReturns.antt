@@ -7,7 +7,8 @@ use Rattle.model.specs.Set.{Set}
 use Rattle.model.specs.Sound.{IsSound}
 use Rattle.model.specs.Typable.{IsTypable}
 
--- what dispatch routines have returned agrees with the marks with which completion left their stack locations
+-- what dispatch routines have returned agrees with the marks with which completion left their stack
+-- locations
 abbrev pub AcceptedRunsAgreeOnPending : Type 0
 AcceptedRunsAgreeOnPending =
     (set : Set) → IsTypable set → IsSound set → (threads : ℕ) (events : List Event)

@@ -11,26 +11,30 @@ use Rattle.model.specs.Typable.{IsTypable}
 use Rattle.run_laws.specs.Holder.{HasOneHolder}
 use Rattle.run_laws.specs.Lifetime.{KeepCertificates}
 use Rattle.run_laws.specs.NeverStops.{NeverStops}
+use Rattle.run_laws.specs.NothingSkipped.{SkipsNothing}
 use Rattle.run_laws.specs.NoWrong.{NeverGoesWrong}
 use Rattle.run_laws.specs.TopsOnce.{times_topped}
 
 -- no action of a trace makes a bug check, looking back over what was before it
 abbrev pub Faultless : List Entry → Type 0
 Faultless [] = ⊤
-Faultless (e ∷ past) = (fault_of past e.thread e.action ≡ None) × Faultless past
+Faultless (e ∷ past) = (fault_of past e.actor e.action ≡ None) × Faultless past
 
--- the run of these events: no bug check and no operand of a wrong kind in its trace, so it hasn't stopped
--- and no step of its threads is refused; each activation is within its certificate, what was returned agrees
--- with the marks, each live packet has one holder, and no packet tops out twice
+-- the run of these events: no bug check and no operand of a wrong kind in its trace, so it hasn't
+-- stopped and no step of its threads is refused; each activation is within its certificate, what
+-- was returned agrees with the marks, nothing that these two go by is missing, each live packet has
+-- one holder, and no packet tops out twice
 pub record KeepsTheRules (set : Set) (threads : ℕ) (events : List Event) : Type 0 where
   pub faultless : Faultless (run set threads events).past
   pub right : NeverGoesWrong set threads events
   pub lasting : NeverStops set threads events
   pub certificates : KeepCertificates set threads events
   pub pending : PendingAgree (run set threads events).past
+  pub complete : SkipsNothing set threads events
   pub holders : HasOneHolder set threads events
   pub topped : (n : ℕ) → times_topped (run set threads events).past n ≤ 1
 
 abbrev pub AcceptedRunsKeepTheRules : Type 0
 AcceptedRunsKeepTheRules =
-    (set : Set) → IsTypable set → IsSound set → (threads : ℕ) (events : List Event) → KeepsTheRules set threads events
+    (set : Set) → IsTypable set → IsSound set → (threads : ℕ) (events : List Event)
+    → KeepsTheRules set threads events

@@ -7,15 +7,17 @@ ghost use Rattle.run_laws.specs.Holder.{PacketsHaveOneHolder};
 ghost use Rattle.run_laws.specs.Lifetime.{ActivationsKeepTheirCertificate};
 ghost use Rattle.run_laws.specs.LockOrder.{LocksAreOrderly};
 ghost use Rattle.run_laws.specs.NeverStops.{AcceptedRunsNeverStop};
+ghost use Rattle.run_laws.specs.NothingSkipped.{NothingIsSkipped};
 ghost use Rattle.run_laws.specs.NoWrong.{AcceptedRunsNeverGoWrong};
 ghost use Rattle.run_laws.specs.PastTells.{PastTellsOfTheWorld};
 ghost use Rattle.run_laws.specs.PendingReturns.{AcceptedRunsAgreeOnPending};
 ghost use Rattle.run_laws.specs.Rules.{AcceptedRunsKeepTheRules};
+ghost use Rattle.run_laws.specs.SharedMark.{SharedByBoth};
 ghost use Rattle.run_laws.specs.TopsOnce.{PacketsTopOutOnce};
 
 /// Of any set, accepted or not, until its run stops: a packet has topped out exactly where it was issued and isn't
-/// live, the live packets are as the trace says, a thread holds a lock exactly where it is its owner, and no thread
-/// has more than 32 frames.
+/// live, the live packets are as the trace says and none has a cancel routine, a thread holds a lock exactly where it
+/// is its owner, and no thread has more than 32 frames.
 pub fn the_past_tells_of_the_world()
     ensures { PastTellsOfTheWorld }
 {}
@@ -39,7 +41,7 @@ pub fn locks_are_orderly()
 {}
 
 /// Each live packet has one holder: a register that has the right to it, or the I/O manager's frame that
-/// completes it. One that has topped out has none.
+/// completes it. One that has topped out has none. Every routine's frame stands inside its code.
 pub fn packets_have_one_holder()
     ensures { PacketsHaveOneHolder }
 {}
@@ -53,6 +55,14 @@ pub fn accepted_runs_never_stop()
 /// No packet tops out twice.
 pub fn packets_top_out_once()
     ensures { PacketsTopOutOnce }
+{}
+
+/// Nothing that counts of instructions and pending agreement go by is missing: each frame has a tag of its own,
+/// and a dispatch routine's names the use that it serves; a live packet has as many uses as it is deep; an entry
+/// of an executed instruction names its activation, of a return its use, and of a mark, a leave, an issue or a
+/// call its location.
+pub fn nothing_is_skipped()
+    ensures { NothingIsSkipped }
 {}
 
 /// Every run of an accepted set keeps all these rules.
@@ -70,4 +80,9 @@ pub fn pending_returns_agree()
 /// and STATUS_PENDING is returned from both.
 pub fn a_mark_is_carried_up()
     ensures { CarriedUp }
+{}
+
+/// A worked run in which two routines share a stack location: it is left marked, and both return STATUS_PENDING.
+pub fn a_mark_is_shared()
+    ensures { SharedByBoth }
 {}

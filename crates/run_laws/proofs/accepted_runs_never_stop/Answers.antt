@@ -1,5 +1,5 @@
-use Rattle.run_laws.proofs.LastingRuns.{runs_last}
+use Rattle.run_laws.proofs.Accepted.Laws.{accepted_go_on}
 use Rattle.run_laws.proofs.accepted_runs_never_stop.Goals as goal
 
 pub returns : goal.returns
-returns c = runs_last
+returns c = accepted_go_on

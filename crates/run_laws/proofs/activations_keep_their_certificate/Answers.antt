@@ -1,5 +1,5 @@
-use Rattle.run_laws.proofs.KeptCertificates.{certificates_kept}
+use Rattle.run_laws.proofs.Accepted.Laws.{accepted_certificates}
 use Rattle.run_laws.proofs.activations_keep_their_certificate.Goals as goal
 
 pub returns : goal.returns
-returns c = certificates_kept
+returns c = accepted_certificates

@@ -1,0 +1,4 @@
+pub mod Trace
+pub mod Keeps
+pub mod Lasts
+pub mod Laws

@@ -1,0 +1,115 @@
+-- What every run of an accepted set keeps, a field a family; no event has a bug check, goes wrong
+-- or passes a bound; and each event keeps it.
+use Rattle.std.proofs.Common.{◌≡◌, ℕ, List, [], length, None, refl, ◌∙◌}
+use Rattle.std.specs.Prelude.{slice_get}
+use Rattle.std.proofs.lemmas.List.{length-replicate}
+use Rattle.model.specs.Effect.{Change}
+use Rattle.model.specs.Run.{begun, root_of}
+use Rattle.model.specs.Set.{Set}
+use Rattle.model.specs.Trace.{Entry, Actor, recorded}
+use Rattle.model.specs.World.{World, idle_thread}
+use Rattle.run_laws.specs.Rules.{Faultless}
+use Rattle.run_laws.proofs.Accepted.Trace.{NoneWrong, recorded_right}
+use Rattle.run_laws.proofs.Depth.Granted.{same_count}
+use Rattle.run_laws.proofs.Depth.Kept.{AllFall, falls_begun, falls_event, within_bounds}
+use Rattle.run_laws.proofs.Holders.Once.{ToppedOnce, once_kept}
+use Rattle.run_laws.proofs.Holders.Runs.{held_kept, completion_faults_none, held_begun, top_holding}
+use Rattle.run_laws.proofs.Live.Kept.{Sees, sees_begun, sees_event, touches_none}
+use Rattle.run_laws.proofs.Uses.Events.{KnownWorld, uses_begun, uses_event}
+use Rattle.run_laws.proofs.Uses.Fates.{UsesTell}
+use Rattle.run_laws.proofs.Holders.Sums.{Held}
+use Rattle.run_laws.proofs.Locks.Runs.{LocksAgree, locks_kept, lock_faults_none, locks_begun}
+use Rattle.run_laws.proofs.Past.Runs.{Telling, telling_begun, telling_happens}
+use Rattle.run_laws.proofs.Room.Runs.{Roomy, roomy_begun, call_faults_none, roomy_kept}
+use Rattle.run_laws.proofs.Runs.Events.{Happens}
+use Rattle.run_laws.proofs.Runs.Faultless.{recorded_faultless}
+use Rattle.run_laws.proofs.Runs.Kept.{GoesOnBy}
+use Rattle.run_laws.proofs.States.Frames.{IsGood}
+use Rattle.run_laws.proofs.States.Rules.{States}
+use Rattle.run_laws.proofs.States.Standing.{Standing, standing_begun, right_event, standing_kept}
+use Rattle.run_laws.proofs.Steps.Faults.{is_touch, fault_among, NoFaults, no_fault}
+
+pub record Keeps (set : Set) (states : States) (threads : ℕ) (w : World) (past : List Entry) : Type
+    0 where
+  pub stands : Standing set states w past
+  pub told : Telling w past
+  pub locks : LocksAgree states w past
+  pub held : Held states w
+  pub sees : Sees set w
+  pub room : Roomy set states w
+  pub falls : AllFall set w
+  pub «uses» : UsesTell w past
+  pub once : ToppedOnce past
+  pub faultless : Faultless past
+  pub right : NoneWrong past
+  pub count : length w.threads ≡ threads
+
+-- before the first event
+pub keeps_begun : (set : Set) (states : States) (threads : ℕ)
+    → Keeps set states threads (begun set threads).world []
+keeps_begun set states threads =
+    record {
+      stands = standing_begun set states threads;
+      told = telling_begun set threads;
+      locks = locks_begun set states threads;
+      held = held_begun set states threads;
+      sees = sees_begun set threads;
+      room = roomy_begun set states threads;
+      falls = falls_begun set threads;
+      «uses» = uses_begun (begun set threads).world refl;
+      once = λ n. refl;
+      faultless = tt;
+      right = tt;
+      count = length-replicate threads idle_thread;
+    }
+
+module _ (set : Set) (states : States) (threads : ℕ) (w : World) (past : List Entry)
+    (good : IsGood set states)
+    (keeps : Keeps set states threads w past) where
+  -- what is known of the world, for what happens to uses
+  pub known_world : KnownWorld set states w past
+  known_world = record { good = good; stands = keeps.stands; kept = keeps.held; sees = keeps.sees }
+
+  -- every event of a run goes on
+  pub goes_on_by : (actor : Actor) (c : Change) → actor.root ≡ root_of (slice_get w.threads actor.thread)
+      → Happens set w actor.thread c → GoesOnBy set w past actor c
+  goes_on_by actor c root happens =
+      let touches : fault_among is_touch past actor c.actions ≡ None =
+      touches_none set states w past good keeps.stands keeps.sees actor c keeps.held
+      (top_holding set states w past keeps.stands keeps.held actor.thread) happens in
+      let none : NoFaults past actor c.actions = record {
+        locks = lock_faults_none set states w past good keeps.stands keeps.locks actor c root happens;
+        touches = touches;
+        calls = call_faults_none set states w past good keeps.stands keeps.held keeps.room actor c
+            happens touches;
+        completions =
+            completion_faults_none set states w past good keeps.stands keeps.held keeps.told.unarmed
+            actor c
+            happens;
+      } in
+      record {
+        happens = happens;
+        root = root;
+        quiet = no_fault past actor c.actions none;
+        within = within_bounds set states w actor.thread keeps.falls c good.sound
+            (falls_event set states w actor.thread keeps.falls past c good keeps.stands happens) happens;
+      }
+
+  pub keeps_event : (actor : Actor) (c : Change) → GoesOnBy set w past actor c
+      → Keeps set states threads c.world (recorded past actor c.actions)
+  keeps_event actor c on =
+      record {
+        stands = standing_kept set states w past good keeps.stands actor c on;
+        told = telling_happens set good.sound w past actor c keeps.told on.happens on.quiet on.within;
+        locks = locks_kept set states w past good keeps.stands keeps.locks actor c on;
+        held = held_kept set states w past good keeps.stands keeps.held actor c on;
+        sees = sees_event set states w past good keeps.stands keeps.sees actor.thread c on.happens;
+        room = roomy_kept set states w past good keeps.stands keeps.held keeps.room actor c on;
+        falls = falls_event set states w actor.thread keeps.falls past c good keeps.stands on.happens;
+        «uses» = uses_event set states w past actor c known_world keeps.«uses» on.happens on.quiet;
+        once = once_kept set past actor keeps.once w c keeps.stands.tells on.happens;
+        faultless = recorded_faultless past actor c.actions keeps.faultless on.quiet;
+        right = recorded_right past actor c.actions keeps.right
+            (right_event set states w past good keeps.stands actor.thread c on.happens).0;
+        count = same_count set w actor.thread c on.happens ∙ keeps.count;
+      }

@@ -1,0 +1,167 @@
+-- The laws of the runs of accepted sets, in their own words.
+use Rattle.std.proofs.Common.{◌≡◌, ◌≢◌, ℕ, ◌<◌, ◌≤◌, length, List, None, true, false, ap, sym, ◌∙◌}
+use Rattle.model.specs.declared.event.Event.{Event}
+use Rattle.model.specs.declared.event.Event.TheVariants.{Step}
+use Rattle.model.specs.declared.event.Reply.{Reply}
+use Rattle.model.specs.declared.event.Reply.TheVariants.{Refused}
+use Rattle.model.specs.Effect.{effect}
+use Rattle.model.specs.Machine.{reply_to}
+use Rattle.model.specs.Run.{Run, Answered, frames_on, tags_on, step, run}
+use Rattle.model.specs.Set.{Set}
+use Rattle.model.specs.Sound.{IsSound}
+use Rattle.model.specs.Typable.{IsTypable}
+use Rattle.run_laws.specs.Holder.{HasOneHolder, PacketsHaveOneHolder}
+use Rattle.run_laws.specs.Lifetime.{KeepCertificates, ActivationsKeepTheirCertificate}
+use Rattle.run_laws.specs.LockOrder.{LocksAreOrderly}
+use Rattle.run_laws.specs.NeverStops.{LetsGoOn, NeverStops, AcceptedRunsNeverStop}
+use Rattle.run_laws.specs.NothingSkipped.{SkipsNothing, NothingIsSkipped}
+use Rattle.run_laws.specs.NoWrong.{NeverGoesWrong, AcceptedRunsNeverGoWrong}
+use Rattle.run_laws.specs.PendingReturns.{AcceptedRunsAgreeOnPending}
+use Rattle.run_laws.specs.Rules.{AcceptedRunsKeepTheRules}
+use Rattle.run_laws.specs.TopsOnce.{times_topped, PacketsTopOutOnce}
+use Rattle.run_laws.proofs.Accepted.Lasts.{Lasts, GoesOn, goes_on_at, lasts}
+use Rattle.run_laws.proofs.Accepted.Trace.{all_right}
+use Rattle.run_laws.proofs.Certificates.Kept.{all_kept, all_one, stands_within}
+use Rattle.run_laws.proofs.Depth.Granted.{is_refused, granted_step}
+use Rattle.run_laws.proofs.Holders.Once.{tops_at_most_once}
+use Rattle.run_laws.proofs.Holders.Runs.{one_holder, live_listed}
+use Rattle.run_laws.proofs.Pending.Entries.{all_say, as_many, has_uses, manager_tag, routine_tag}
+use Rattle.run_laws.proofs.Pending.Returned.{pending_agree}
+use Rattle.run_laws.proofs.Runs.Events.{stops_run, on_thread}
+use Rattle.run_laws.proofs.States.Frames.{IsGood}
+use Rattle.run_laws.proofs.States.Inside.{stands_inside}
+use Rattle.run_laws.proofs.States.Known.{led}
+use Rattle.run_laws.proofs.States.Rules.{States}
+
+-- a reply of a run that goes on
+lets_go : (reply : Reply) → stops_run reply ≡ false → LetsGoOn reply
+lets_go reply right =
+    record {
+      bug = λ bug same. (let no : true ≡ false = sym (ap stops_run same) ∙ right in cc);
+      wrong = λ place same. (let no : true ≡ false = sym (ap stops_run same) ∙ right in cc);
+    }
+
+module _ (set : Set) (typable : IsTypable set) (sound : IsSound set) (threads : ℕ)
+    (events : List Event) where
+  abbrev states : States
+  states = (led set typable sound).0
+
+  good : IsGood set states
+  good = record { sound = sound; led = (led set typable sound).1 }
+
+  abbrev here : Run
+  here = run set threads events
+
+  lasting : Lasts set states good threads here
+  lasting = lasts set states good threads events
+
+  reply_right : (e : Event) → stops_run (reply_to set threads events e) ≡ false
+  reply_right e =
+      let on : GoesOn set states good threads here (on_thread set here.world e).thread
+      (effect set here.world e) (step set here e) =
+      goes_on_at set states good threads here lasting e in
+      ap (λ (a : Answered). stops_run a.reply) on.is ∙ on.right
+
+  granted : (t : ℕ) → t < threads → reply_to set threads events (Step t) ≢ Refused
+  granted t within same =
+      let on : GoesOn set states good threads here (on_thread set here.world (Step t)).thread
+      (effect set here.world (Step t)) (step set here (Step t)) =
+      goes_on_at set states good threads here lasting (Step t) in
+      let there : t < length here.world.threads = rw lasting.keeps.count within in
+      let no : true ≡ false =
+      sym (ap is_refused same) ∙ ap (λ (a : Answered). is_refused a.reply) on.is
+      ∙ granted_step set here.world t there in
+      cc
+
+  never_stops : NeverStops set threads events
+  never_stops = record { on = lasting.on; replies = λ e. lets_go _ (reply_right e); stepped = granted }
+
+  never_wrong : NeverGoesWrong set threads events
+  never_wrong =
+      record {
+        trace = all_right here.past lasting.keeps.right;
+        replies = λ e place. (never_stops.replies e).wrong place;
+      }
+
+  keep_certificates : KeepCertificates set threads events
+  keep_certificates =
+      record {
+        kept = all_kept set here lasting.tally;
+        one = all_one set here lasting.tally;
+        standing = stands_within set here lasting.tally;
+      }
+
+  has_one_holder : HasOneHolder set threads events
+  has_one_holder =
+      record {
+        states = states;
+        arrive = λ driver number p routine there within.
+            (good.led.known driver number routine there).follows.arrives p within;
+        stand = λ t k a there.
+            stands_inside set states here.world.shared.issued (frames_on here.world t) k a
+            (lasting.keeps.stands.frames t) there;
+        one = λ n. one_holder here lasting.keeps.stands.tells n states lasting.keeps.held;
+        listed = λ n. live_listed here lasting.keeps.stands.tells n;
+      }
+
+  at_most_once : (n : ℕ) → times_topped here.past n ≤ 1
+  at_most_once n = tops_at_most_once here.past lasting.keeps.once n
+
+  skips_nothing : SkipsNothing set threads events
+  skips_nothing =
+      record {
+        tagged = λ t. as_many set states here.world here.past None (frames_on here.world t)
+            (tags_on here t)
+            (lasting.attends.serves_all t);
+        routines = λ t k a there. routine_tag set states here.world here.past
+            here.world.shared.issued None
+            (frames_on here.world t) (tags_on here t) k a (lasting.attends.serves_all t)
+            (lasting.keeps.stands.frames t) (λ b first. tt) there;
+        managers = λ t k n there. manager_tag set states here.world here.past None
+            (frames_on here.world t)
+            (tags_on here t) k n (lasting.attends.serves_all t) there;
+        packets = has_uses here.world here.past lasting.keeps.«uses»;
+        entries = all_say here.past lasting.says;
+      }
+
+pub accepted_go_on : AcceptedRunsNeverStop
+accepted_go_on = never_stops
+
+pub accepted_go_right : AcceptedRunsNeverGoWrong
+accepted_go_right = never_wrong
+
+pub accepted_certificates : ActivationsKeepTheirCertificate
+accepted_certificates = keep_certificates
+
+pub accepted_holders : PacketsHaveOneHolder
+accepted_holders = has_one_holder
+
+pub accepted_tops : PacketsTopOutOnce
+accepted_tops = at_most_once
+
+-- no bug check at all is about a lock: a law of its own, as its reader asks for it by itself
+pub accepted_locks : LocksAreOrderly
+accepted_locks set typable sound threads events e bug reply =
+    absurd (((never_stops set typable sound threads events).replies e).bug bug reply)
+
+pub accepted_agree : AcceptedRunsAgreeOnPending
+accepted_agree set typable sound threads events =
+    pending_agree (states set typable sound threads events) (run set threads events).world
+    (run set threads events).past
+    (lasting set typable sound threads events).attends.agree
+
+pub accepted_skip_nothing : NothingIsSkipped
+accepted_skip_nothing = skips_nothing
+
+pub accepted_rules : AcceptedRunsKeepTheRules
+accepted_rules set typable sound threads events =
+    record {
+      faultless = (lasting set typable sound threads events).keeps.faultless;
+      right = never_wrong set typable sound threads events;
+      lasting = never_stops set typable sound threads events;
+      certificates = keep_certificates set typable sound threads events;
+      pending = accepted_agree set typable sound threads events;
+      complete = skips_nothing set typable sound threads events;
+      holders = has_one_holder set typable sound threads events;
+      topped = at_most_once set typable sound threads events;
+    }

@@ -1,0 +1,195 @@
+-- What a step executes is paid for by what its frame had left to execute, and a routine that begins
+-- has its certificate left.
+use Rattle.std.proofs.Common.{◌≡◌, ℕ, ◌+◌, ◌<◌, ◌≤◌, List, [], ◌∷◌, Option, None, Some, true, false, refl, ap, sym, subst, arith, drop, ◌-◌}
+use Rattle.std.specs.Prelude.{slice_set}
+use Rattle.model.specs.declared.event.Lock.{Lock}
+use Rattle.model.specs.declared.instr.Instr.{Instr}
+use Rattle.model.specs.declared.instr.Instr.TheVariants.{Acquire, Release, AcquireCancel, ReleaseCancel, Loop, End, Put, Mark, Pass, Call, Complete, Ret}
+use Rattle.model.specs.declared.set.Routine.{Routine as RoutineOf}
+use Rattle.model.specs.declared.status.Status.{Status}
+use Rattle.model.specs.declared.world.Activation.{Activation}
+use Rattle.model.specs.declared.world.Frame.{Frame}
+use Rattle.model.specs.declared.world.Packet.{Packet}
+use Rattle.model.specs.declared.abs.Abs.{Abs}
+use Rattle.model.specs.declared.instr.Return.TheVariants.{Continue}
+use Rattle.model.specs.declared.world.Frame.TheVariants.{Routine, Walk}
+use Rattle.model.specs.declared.world.Value.{Value}
+use Rattle.model.specs.declared.world.Value.TheVariants.{Status as StatusValue}
+use Rattle.model.specs.Effect.{Outcome, answered_in, asks, turned, operand_of, told_to}
+use Rattle.model.specs.Loops.{open_at}
+use Rattle.model.specs.Set.{Set, routine_of, instruction_at, flow_of, lower_of}
+use Rattle.model.specs.World.{Shared, asked_of, current_location, next, register}
+use Rattle.run_laws.proofs.Past.Packets.{named}
+use Rattle.run_laws.proofs.Certificates.Owed.{executed_in, Alike, AllAlike, self_alike, Pays}
+use Rattle.run_laws.proofs.States.Entering.{begins_lower, begins_back}
+use Rattle.run_laws.proofs.States.Frames.{state_of, due, due_of, due_in, due_is, Moved, Runs}
+use Rattle.run_laws.proofs.States.Lacking.{never_lacks}
+use Rattle.run_laws.proofs.States.LoopEnds.{moved_loop, moved_end}
+use Rattle.run_laws.proofs.States.Moves.{falls_plain, is_plain, onto, moved, plain_open, plain_left, some_due}
+use Rattle.run_laws.proofs.States.OnTop.{OnTop, runs}
+use Rattle.run_laws.proofs.States.Remaining.{rest, summed}
+use Rattle.run_laws.proofs.States.Rules.{States}
+use Rattle.run_laws.proofs.States.Told.{told_frame, told_last, told_is}
+use Rattle.run_laws.proofs.Steps.Comes.{Executing, Comes, errs, awaits_lock, computes, opens_loop, turns_loop, pages, touches_gone, looks_at, writes_info, marks_packet, takes_lock, retakes_lock, frees_lock, completes_packet, completes_gone, passes_down, calls_down, returns_status, lets_go, lets_walk, walks_gone, walks_to, walks_up, carries_up, tops_out}
+use Rattle.run_laws.proofs.Steps.Words.{lock_taken, lock_freed}
+
+-- what a frame has left to execute
+abbrev pub frame_due : Set → Frame → ℕ
+frame_due set (Routine a) = due set a
+frame_due set (Walk n) = 0
+
+-- registers don't matter to it
+due_with : (o : Option RoutineOf) (a : Activation) (values : List Value)
+    → due_of o (record a { registers = values }) ≡ due_of o a
+due_with None a values = refl
+due_with (Some routine) a values = refl
+
+-- so what is told a status owes as much
+module _ (set : Set) where
+  answered_alike : (a : Activation) (status : Status) (r : Option ℕ)
+      → Alike (frame_due set) (Routine a) (Routine (answered_in a status r))
+  answered_alike a status None = (refl, refl, refl)
+  answered_alike a status (Some r) = (
+    refl,
+    refl,
+    due_with (routine_of set a.driver a.routine) a
+        (slice_set a.registers r (StatusValue status)),
+  )
+
+  frame_alike : (told : Option Status) (f : Frame) → Alike (frame_due set) f (told_frame set told f)
+  frame_alike None (Routine a) = (refl, refl, refl)
+  frame_alike None (Walk n) = tt
+  frame_alike (Some status) (Routine a) =
+      answered_alike a status (operand_of (instruction_at set a.driver a.routine (a.position - 1)))
+  frame_alike (Some status) (Walk n) = tt
+
+  last_alike : (told : Option Status) (below : List Frame)
+      → AllAlike (frame_due set) below (told_last set told below)
+  last_alike told [] = tt
+  last_alike told (f ∷ []) = (frame_alike told f, tt)
+  last_alike told (f ∷ g ∷ below) = (self_alike (frame_due set) f, last_alike told (g ∷ below))
+
+  pub told_alike : (told : Option Status) (below : List Frame)
+      → AllAlike (frame_due set) below (told_to set below told)
+  told_alike told below =
+      subst (λ (now : List Frame). AllAlike (frame_due set) below now) (sym (told_is set below told))
+      (last_alike told below)
+
+-- a lock is taken or freed on the way to the next position
+takes_plain : (a : Activation) (i : Instr) (lock : Lock) → lock_taken a i ≡ Some lock
+    → is_plain (flow_of i) ≡ true
+takes_plain a (Acquire l) lock is = refl
+takes_plain a AcquireCancel lock is = refl
+takes_plain a _ lock is = cc
+
+frees_plain : (a : Activation) (i : Instr) (lock : Lock) → lock_freed a i ≡ Some lock
+    → is_plain (flow_of i) ≡ true
+frees_plain a (Release l) lock is = refl
+frees_plain a ReleaseCancel lock is = refl
+frees_plain a _ lock is = cc
+
+module _ (set : Set) (states : States) (s : Shared) where
+  next_due : (a : Activation) (i : Instr) → Runs set states s a i → is_plain (flow_of i) ≡ true
+      → 1 + due set (next a) ≤ due set a
+  next_due a i h plain =
+      let code : List Instr = h.routine.code in
+      let before : due set a ≡ due_in code a = due_is set h.routine a h.stays.is_of in
+      let after : due set (next a) ≡ due_in code (next a) = due_is set h.routine (next a) h.stays.is_of in
+      let same : summed (open_at code (a.position + 1)) (rest (drop (a.position + 1) code))
+      ≡ summed (open_at code a.position) (rest (drop (a.position + 1) code)) =
+      ap (λ (loops : List ℕ). summed loops (rest (drop (a.position + 1) code)))
+      (plain_open set states s a i h plain) in
+      let left : summed (open_at code a.position) (rest (drop a.position code))
+      ≡ 1 + summed (open_at code a.position) (rest (drop (a.position + 1) code)) =
+      plain_left set states s a i h plain in
+      omega arith
+
+  -- it goes on, and what it executed is one instruction
+  onwards : (a b : Activation) (n : ℕ) → n ≡ 1 → (1 + due set b ≤ due set a) × (b.driver ≡ a.driver) ×
+      (b.routine ≡ a.routine)
+      → Pays (frame_due set) set (Routine a) n (Routine b ∷ [])
+  onwards a b n one h = (let less : 1 + due set b ≤ due set a = h.0 in omega arith, h.1, h.2, tt)
+
+  goes_next_on : (a : Activation) (i : Instr) (n : ℕ) → n ≡ 1 → OnTop set states s (Routine a)
+      → Executing set a i
+      → is_plain (flow_of i) ≡ true → Pays (frame_due set) set (Routine a) n (Routine (next a) ∷ [])
+  goes_next_on a i n one h at plain =
+      onwards a (next a) n one (next_due a i (runs set states s a i h at) plain, refl, refl)
+
+  moves_on : (a b : Activation) (to : Abs) (n : ℕ) → n ≡ 1 → Moved set states s.issued a b to
+      → Pays (frame_due set) set (Routine a) n (Routine b ∷ [])
+  moves_on a b to n one m = onwards a b n one (m.less, m.driver, m.routine)
+
+  ends : (a : Activation) (i : Instr) (n : ℕ) → n ≡ 1 → OnTop set states s (Routine a) → Executing set a i
+      → is_plain (flow_of i) ≡ true → n ≤ due set a
+  ends a i n one h at plain =
+      let some : 1 ≤ due set a = some_due set states s a i (runs set states s a i h at) plain
+      in omega arith
+
+  asks_on : (a : Activation) (i : Instr) (lower n : ℕ) (p : Packet) (executed : ℕ) → executed ≡ 1
+      → OnTop set states s (Routine a) → Executing set a i → is_plain (flow_of i) ≡ true → n < s.issued
+      → lower_of set a.device ≡ Some lower
+      → Pays (frame_due set) set (Routine a) executed (asks set a lower p n)
+  asks_on a i lower n p executed one h at plain low below =
+      let here : Pays (frame_due set) set (Routine a) executed (Routine (next a) ∷ []) =
+      goes_next_on a i executed one h at plain in (
+        here.0,
+        refl,
+        refl,
+        (
+          (begins_lower set states h.good s.issued n low a.device lower
+              (asked_of (current_location p)) below).due,
+          tt,
+        ),
+      )
+
+  -- every shape
+  pub pays : (t : ℕ) (under : Option Frame) (f : Frame) (o : Outcome) → OnTop set states s f
+      → Comes set s t under f o → Pays (frame_due set) set f (executed_in o.actions) o.frames
+  pays t under f o h (errs a lacks) = absurd (never_lacks set states s a h lacks)
+  pays t under f o h (awaits_lock a i lock owner at taken owned apart) = (omega arith, refl, refl, tt)
+  pays t under f o h (computes a i b jumped cells at work goes long) =
+      moves_on a b (onto (state_of states a) i jumped) 1 refl
+      (moved set states s a i (runs set states s a i h at) b jumped (rw work refl) goes)
+  pays t under f o h (opens_loop a turns at few) =
+      moves_on a _ (state_of states a) 1 refl
+      (moved_loop set states s a turns (runs set states s a (Loop turns) h at))
+  pays t under f o h (turns_loop a l at inner) =
+      moves_on a (turned a l) (state_of states a) 1 refl
+      (moved_end set states s a (runs set states s a End h at) l inner)
+  pays t under f o h (pages a i b cell cells at work goes long) =
+      moves_on a b (onto (state_of states a) i false) 1 refl
+      (moved set states s a i (runs set states s a i h at) b false (rw work refl) goes)
+  pays t under f o h (touches_gone a i r n at touching on operand reads gone) =
+      goes_next_on a i 1 refl h at (falls_plain (flow_of i) on)
+  pays t under f o h (looks_at a i b jumped r n p at work goes operand reads there jumps) =
+      moves_on a b (onto (state_of states a) i jumped) 1 refl
+      (moved set states s a i (runs set states s a i h at) b jumped (rw work refl) goes)
+  pays t under f o h (writes_info a q r n p info at reads there is) =
+      goes_next_on a (Put q r) 1 refl h at refl
+  pays t under f o h (marks_packet a r n p at reads there) = goes_next_on a (Mark r) 1 refl h at refl
+  pays t under f o h (takes_lock a i lock at taken free) =
+      goes_next_on a i 1 refl h at (takes_plain a i lock taken)
+  pays t under f o h (retakes_lock a i lock at taken owned) =
+      goes_next_on a i 1 refl h at (takes_plain a i lock taken)
+  pays t under f o h (frees_lock a i lock owner at freed owned) =
+      goes_next_on a i 1 refl h at (frees_plain a i lock freed)
+  pays t under f o h (completes_packet a r status n p at reads there) =
+      let here : Pays (frame_due set) set (Routine a) 1 (Routine (next a) ∷ []) =
+      goes_next_on a (Complete r status) 1 refl h at refl in
+      (here.0, refl, refl, (tt, tt))
+  pays t under f o h (completes_gone a r status n at reads gone) =
+      goes_next_on a (Complete r status) 1 refl h at refl
+  pays t under f o h (passes_down a r n p lower at reads there below) =
+      asks_on a (Pass r) lower n p 1 refl h at refl (named s (register a r) n reads) below
+  pays t under f o h (calls_down a r completion n p lower at reads there below) =
+      asks_on a (Call r completion) lower n p 1 refl h at refl (named s (register a r) n reads) below
+  pays t under f o h (returns_status a form status at sort is) = ends a (Ret form) 1 refl h at refl
+  pays t under f o h (lets_go a at sort free) = ends a (Ret Continue) 1 refl h at refl
+  pays t under f o h (lets_walk a n at sort) = ends a (Ret Continue) 1 refl h at refl
+  pays t under f o h (walks_gone n gone) = omega arith
+  pays t under f o h (walks_to n p c there set_there) =
+      (tt, ((begins_back set states s h.good h.fits n p c h.stands there set_there).due, tt))
+  pays t under f o h (walks_up n p there none more unmarked) = (tt, tt)
+  pays t under f o h (carries_up n p there none more marked) = (tt, tt)
+  pays t under f o h (tops_out n p there none last) = omega arith

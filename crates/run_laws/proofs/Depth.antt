@@ -1,0 +1,3 @@
+pub mod Granted
+pub mod Falls
+pub mod Kept

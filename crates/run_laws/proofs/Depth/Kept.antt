@@ -1,0 +1,86 @@
+-- No thread of an accepted set ever has more than 18 frames, so no step of a thread that is there
+-- is refused.
+use Rattle.std.proofs.Common.{◌≡◌, ℕ, ◌+◌, ◌<◌, ◌≤◌, List, [], ◌∷◌, ◌++◌, length, Some, false, refl, sym, ◌∙◌, subst, arith}
+use Rattle.std.specs.Prelude.{slice_get}
+use Rattle.std.proofs.lemmas.Bool.{le-ltb}
+use Rattle.std.proofs.lemmas.Option.{slice_get_within}
+use Rattle.model.specs.declared.limits.TheConstants.{MAX_FRAMES}
+use Rattle.model.specs.declared.world.Frame.{Frame}
+use Rattle.model.specs.declared.world.Irql.TheVariants.{Passive}
+use Rattle.model.specs.declared.world.Thread.{Thread}
+use Rattle.model.specs.Effect.{Change, Outcome, rooted, serves_request, standing, top_of, with_stack, with_thread}
+use Rattle.model.specs.Run.{begun, frames_on}
+use Rattle.model.specs.Set.{Set}
+use Rattle.model.specs.Sound.{IsSound}
+use Rattle.model.specs.Trace.{Entry}
+use Rattle.model.specs.World.{Shared, World}
+use Rattle.run_laws.proofs.Depth.Falls.{Falls, falls_length, falls_after, short}
+use Rattle.run_laws.proofs.Runs.Events.{Happens, nothing, steps, issues}
+use Rattle.run_laws.proofs.Runs.Threads.{frames_there, frames_put, each_frames, idle_frames}
+use Rattle.run_laws.proofs.States.Frames.{IsGood}
+use Rattle.run_laws.proofs.States.Rules.{States}
+use Rattle.run_laws.proofs.States.Standing.{Standing, stands_there, on_top}
+use Rattle.run_laws.proofs.Steps.Below.{standing_is}
+
+-- the frames of every thread stand for lower and lower devices
+abbrev pub AllFall : Set → World → Type 0
+AllFall set w = (t : ℕ) → Falls (length set.devices) (frames_on w t)
+
+pub falls_begun : (set : Set) (threads : ℕ) → AllFall set (begun set threads).world
+falls_begun set threads =
+    λ t. subst (λ (frames : List Frame). Falls (length set.devices) frames)
+    (sym (idle_frames threads t)) tt
+
+-- at most 16 devices, so at most 18 frames
+pub few_frames : (set : Set) (w : World) (t : ℕ) → IsSound set → AllFall set w
+    → length (frames_on w t) ≤ 18
+few_frames set w t sound falls =
+    let few : length set.devices ≤ 16 = sound.few_devices in
+    let all : length (frames_on w t) ≤ length set.devices + 2 =
+    falls_length (length set.devices) (frames_on w t) (falls t) in
+    omega arith
+
+module _ (set : Set) (states : States) (w : World) (t : ℕ) (falls : AllFall set w) where
+  falls_put : (s : Shared) (thread after : Thread) → slice_get w.threads t ≡ Some thread
+      → Falls (length set.devices) after.frames.items → AllFall set (with_thread w t s after)
+  falls_put s thread after found new =
+      each_frames w t s after (λ k frames. Falls (length set.devices) frames) thread found new
+      (λ k apart. falls k)
+
+  -- an event keeps them
+  pub falls_event : (past : List Entry) (c : Change) → IsGood set states → Standing set states w past
+      → Happens set w t c → AllFall set c.world
+  falls_event past c good stands (nothing reply right) = falls
+  falls_event past c good stands (steps h) =
+      let o : Outcome = h.outcome in
+      let before : Falls (length set.devices) (h.below ++ h.frame ∷ []) =
+      subst (λ (frames : List Frame). Falls (length set.devices) frames)
+      (frames_there w t h.thread h.found ∙ h.frames) (falls t) in
+      let after : Falls (length set.devices) (standing set h.below o) =
+      subst (λ (frames : List Frame). Falls (length set.devices) frames)
+      (sym (standing_is set w.shared t (top_of h.below) h.frame o h.below h.comes))
+      (falls_after set states w.shared.issued (length set.devices) h.below h.frame o.told o.frames
+      (stands_there set states w past good stands t h) before
+      (short set states w.shared t (top_of h.below) h.frame o
+      (on_top set states w past good stands t h) h.comes))
+      in
+      falls_put o.shared h.thread (with_stack h.thread (standing set h.below o)) h.found after
+  falls_event past c good stands (issues h) =
+      let within : h.d < length set.devices = slice_get_within set.devices h.d h.device h.there in
+      falls_put c.world.shared h.thread
+      (rooted h.thread Passive (serves_request set h.d h.device h.major w.shared.issued)) h.found
+      (within, tt)
+
+  -- and passes no bound
+  pub within_bounds : (c : Change) → IsSound set → AllFall set c.world → Happens set w t c
+      → c.over ≡ false
+  within_bounds c sound later (nothing reply right) = refl
+  within_bounds c sound later (issues h) = refl
+  within_bounds c sound later (steps h) =
+      let few : length (frames_on c.world t) ≤ 18 = few_frames set c.world t sound later in
+      let same : frames_on c.world t ≡ standing set h.below h.outcome =
+      frames_put w t h.outcome.shared (with_stack h.thread (standing set h.below h.outcome))
+      h.thread h.found in
+      let less : length (standing set h.below h.outcome) ≤ 18 =
+      subst (λ (frames : List Frame). length frames ≤ 18) same few in
+      le-ltb MAX_FRAMES (length (standing set h.below h.outcome)) (omega arith)

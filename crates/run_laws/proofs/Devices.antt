@@ -1,0 +1,25 @@
+-- The devices of a sound set: each fits at its place.
+use Rattle.std.proofs.Common.{◌≡◌, ◌+◌, ℕ, zero, suc, List, [], ◌∷◌, length, Some, arith, subst}
+use Rattle.std.specs.Prelude.{slice_get}
+use Rattle.model.specs.declared.set.Device.{Device}
+use Rattle.model.specs.Set.{Set}
+use Rattle.model.specs.Sound.{IsSound, DeviceFits, DevicesFit}
+
+fits_from : (drivers first : ℕ) (devices : List Device) (i : ℕ) (d : Device)
+    → DevicesFit drivers first devices
+    → slice_get devices i ≡ Some d → DeviceFits drivers (first + i) d
+fits_from drivers first [] i d fit there = cc
+fits_from drivers first (e ∷ devices) zero d fit there =
+    let same : e ≡ d = cc in
+    let here : first + zero ≡ first = omega arith in
+    subst (λ (x : Device). DeviceFits drivers (first + zero) x) same (rw here fit.0)
+fits_from drivers first (e ∷ devices) (suc i) d fit there =
+    let here : first + suc i ≡ suc first + i = omega arith in
+    rw here (fits_from drivers (suc first) devices i d fit.1 there)
+
+pub device_fits : (set : Set) (i : ℕ) (d : Device) → IsSound set → slice_get set.devices i ≡ Some d
+    → DeviceFits (length set.drivers) i d
+device_fits set i d sound there =
+    let same : 0 + i ≡ i = omega arith in
+    subst (λ (x : ℕ). DeviceFits (length set.drivers) x d) same
+    (fits_from (length set.drivers) 0 set.devices i d sound.devices there)

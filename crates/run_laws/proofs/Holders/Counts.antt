@@ -1,0 +1,181 @@
+-- What a change of one packet does to the counts of packets that a register holds and that the I/O
+-- manager has; and the packet that a register has a right to.
+use Rattle.std.proofs.Common.{◌≡◌, ℕ, ◌+◌, ◌≤◌, List, [], ◌∷◌, ◌++◌, Option, None, Some, true, false, refl, ap, sym, ◌∙◌, inl, inr, arith}
+use Rattle.std.specs.Prelude.{nat_eq, nat_lt, remove, slice_set, if◌then◌else◌}
+use Rattle.std.proofs.lemmas.Bool.{cases_Bool, eq-eqb}
+use Rattle.std.proofs.lemmas.Bool.Decides.{eqb_tells}
+use Rattle.model.specs.declared.world.Activation.{Activation}
+use Rattle.model.specs.declared.world.Frame.{Frame}
+use Rattle.model.specs.declared.world.Frame.TheVariants.{Routine, Walk}
+use Rattle.model.specs.declared.world.Packet.{Packet}
+use Rattle.model.specs.declared.world.Value.{Value}
+use Rattle.model.specs.declared.world.Value.TheVariants.{Blank, Num, Ref, Status as StatusValue}
+use Rattle.model.specs.LocalRule.{is_right, kind_of}
+use Rattle.model.specs.Trace.{Entry}
+use Rattle.model.specs.World.{Shared, place_of, packet_of, packet_in, register}
+use Rattle.run_laws.specs.Holder.{right, rights, frame_rights, frame_walks}
+use Rattle.run_laws.proofs.Holders.Rights.{one_right, right_le}
+use Rattle.run_laws.proofs.Holders.Sums.{unheld, held, own_if, walked_if}
+use Rattle.run_laws.proofs.Past.LivePackets.{Rises, find, find_above, find_set, find_remove, find_push}
+use Rattle.run_laws.proofs.Past.Packets.{Tells, found}
+use Rattle.run_laws.proofs.States.Frames.{state_of}
+use Rattle.run_laws.proofs.States.Kinds.{HasKinds}
+use Rattle.run_laws.proofs.States.Rules.{States}
+use Rattle.run_laws.proofs.Steps.Comes.{Reads}
+
+-- where one packet is found otherwise: it counts as before, or for less, or for more
+module _ (count : Option Packet → ℕ) (before after : ℕ → Option Packet) (n : ℕ) (o : Option Packet)
+    (finds : (m : ℕ) → after m ≡ (if nat_eq n m then o else before m)) where
+  kept_count : count o ≡ count (before n) → (m : ℕ) → count (after m) ≡ count (before m)
+  kept_count same m =
+      rw (finds m) (elim (eqb_tells n m) [
+        | inl here ↦ rw (here.0, ← here.1) same
+        | inr other ↦ rw other.0 refl
+      ])
+
+  lost_count : count o + 1 ≡ count (before n) → (m : ℕ)
+      → count (after m) + (if nat_eq n m then 1 else 0) ≡ count (before m)
+  lost_count less m =
+      rw (finds m) (elim (eqb_tells n m) [
+        | inl here ↦ rw (here.0, ← here.1) less
+        | inr other ↦ rw other.0 (omega arith)
+      ])
+
+  won_count : count o ≡ 1 + count (before n) → (m : ℕ)
+      → count (after m) ≡ (if nat_eq n m then 1 else 0) + count (before m)
+  won_count more m =
+      rw (finds m) (elim (eqb_tells n m) [
+        | inl here ↦ rw (here.0, ← here.1) more
+        | inr other ↦ rw other.0 (omega arith)
+      ])
+
+module _ (s : Shared) (n : ℕ) (p : Packet) (there : find s.packets n ≡ Some p) where
+  module _ (q : Packet) (number : q.number ≡ n) where
+    abbrev found_after : ℕ → Option Packet
+    found_after m = find (slice_set s.packets (place_of s.packets n) q) m
+
+    pub unheld_set : q.completing ≡ p.completing → (m : ℕ)
+        → unheld (found_after m) ≡ unheld (find s.packets m)
+    unheld_set same =
+        kept_count unheld (find s.packets) found_after n (Some q) (find_set s.packets n p q there number)
+        (rw (there, same) refl)
+
+    pub held_set : q.completing ≡ p.completing → (m : ℕ) → held (found_after m) ≡ held (find s.packets m)
+    held_set same =
+        kept_count held (find s.packets) found_after n (Some q) (find_set s.packets n p q there number)
+        (rw (there, same) refl)
+
+    pub unheld_taken : p.completing ≡ false → q.completing ≡ true → (m : ℕ)
+        → unheld (found_after m) + (if nat_eq n m then 1 else 0) ≡ unheld (find s.packets m)
+    unheld_taken free done =
+        lost_count unheld (find s.packets) found_after n (Some q) (find_set s.packets n p q there number)
+        (rw (there, free, done) refl)
+
+    pub held_taken : p.completing ≡ false → q.completing ≡ true → (m : ℕ)
+        → held (found_after m) ≡ (if nat_eq n m then 1 else 0) + held (find s.packets m)
+    held_taken free done =
+        won_count held (find s.packets) found_after n (Some q) (find_set s.packets n p q there number)
+        (rw (there, free, done) refl)
+
+  module _ (rises : Rises 0 s.packets s.issued) (done : p.completing ≡ true) where
+    pub unheld_removed : (m : ℕ)
+        → unheld (find (remove s.packets (place_of s.packets n)) m) ≡ unheld (find s.packets m)
+    unheld_removed =
+        kept_count unheld (find s.packets) (find (remove s.packets (place_of s.packets n))) n None
+        (find_remove 0 s.packets s.issued n rises) (rw (there, done) refl)
+
+    pub held_removed : (m : ℕ)
+        → held (find (remove s.packets (place_of s.packets n)) m) + (if nat_eq n m then 1 else 0)
+        ≡ held (find s.packets m)
+    held_removed =
+        lost_count held (find s.packets) (find (remove s.packets (place_of s.packets n))) n None
+        (find_remove 0 s.packets s.issued n rises) (rw (there, done) refl)
+
+-- a packet is issued
+module _ (s : Shared) (p : Packet) (rises : Rises 0 s.packets s.issued) (number : p.number ≡ s.issued)
+    (free : p.completing ≡ false) where
+  new_none : find s.packets s.issued ≡ None
+  new_none = find_above 0 s.packets s.issued s.issued rises (omega arith)
+
+  pub new_unheld : (m : ℕ)
+      → unheld (find (s.packets ++ p ∷ []) m) ≡ (if nat_eq s.issued m then 1 else 0) + unheld
+      (find s.packets m)
+  new_unheld =
+      won_count unheld (find s.packets) (find (s.packets ++ p ∷ [])) s.issued (Some p)
+      (find_push 0 s.packets s.issued p rises number) (rw (new_none, free) refl)
+
+  pub new_held : (m : ℕ) → held (find (s.packets ++ p ∷ []) m) ≡ held (find s.packets m)
+  new_held =
+      kept_count held (find s.packets) (find (s.packets ++ p ∷ [])) s.issued (Some p)
+      (find_push 0 s.packets s.issued p rises number) (rw (new_none, free) refl)
+
+-- a frame's rights are to live packets
+pub record Holding (states : States) (s : Shared) (past : List Entry) (f : Frame) : Type 0 where
+  pub tells : Tells s past
+  pub rights : (n : ℕ) → frame_rights states f n ≤ unheld (find s.packets n)
+  pub walks : (n : ℕ) → frame_walks f n ≤ held (find s.packets n)
+
+-- what a register refers to
+pub reads_ref : (s : Shared) (v : Value) (n : ℕ) → packet_in s v ≡ Some n → v ≡ Ref n
+reads_ref s Blank n h = cc
+reads_ref s (Num k) n h = cc
+reads_ref s (StatusValue status) n h = cc
+reads_ref s (Ref k) n h =
+    elim (cases_Bool (nat_lt k s.issued)) [
+      | inl low ↦ let same : Some k ≡ Some n = rw low at h in let one : k ≡ n =
+          cc in ap (λ (x : ℕ). Ref x) one
+      | inr high ↦ let no : None ≡ Some n = rw high at h in cc
+    ]
+
+-- a packet that a register has a right to is live, and isn't completing
+module _ (states : States) (s : Shared) (past : List Entry) (a : Activation)
+    (h : Holding states s past (Routine a))
+    (kinds : HasKinds s.issued (state_of states a).kinds a.registers) (r n : ℕ)
+    (is : is_right (kind_of (state_of states a) r) ≡ true) (reads : Reads s a r n) where
+  right_unheld : 1 ≤ unheld (find s.packets n)
+  right_unheld =
+      let one : right (kind_of (state_of states a) r) (register a r) n ≡ 1 =
+      one_right (kind_of (state_of states a) r) (register a r) n is
+      (reads_ref s (register a r) n reads) in
+      let le : right (kind_of (state_of states a) r) (register a r) n
+      ≤ rights (state_of states a).kinds a.registers n =
+      right_le s.issued (state_of states a).kinds a.registers r n kinds in
+      let all : rights (state_of states a).kinds a.registers n ≤ unheld (find s.packets n) = h.rights n in
+      omega arith
+
+  pub right_free : (p : Packet) → packet_of s n ≡ Some p → p.completing ≡ false
+  right_free p there =
+      let own : (q : Packet) × (find s.packets n ≡ Some q) × (q.completing ≡ false) =
+      own_if (find s.packets n) right_unheld in
+      let both : Some own.0 ≡ Some p = sym own.1 ∙ found s n (Some p) there in
+      let same : own.0 ≡ p = cc in
+      ap (λ (x : Packet). x.completing) (sym same) ∙ own.2
+
+  pub right_lives : packet_of s n ≡ None → ⊥
+  right_lives none =
+      let own : (q : Packet) × (find s.packets n ≡ Some q) × (q.completing ≡ false) =
+      own_if (find s.packets n) right_unheld in
+      let no : None ≡ Some own.0 = sym (found s n None none) ∙ own.1 in
+      cc
+
+-- and so is the one that the I/O manager's frame completes
+module _ (states : States) (s : Shared) (past : List Entry) (n : ℕ)
+    (h : Holding states s past (Walk n)) where
+  pub walk_held : 1 ≤ held (find s.packets n)
+  walk_held = let one : frame_walks (Walk n) n ≤ held (find s.packets n) =
+      h.walks n in rw (eq-eqb n n refl) at one
+
+  pub walk_taken : (p : Packet) → packet_of s n ≡ Some p → p.completing ≡ true
+  walk_taken p there =
+      let its : (q : Packet) × (find s.packets n ≡ Some q) × (q.completing ≡ true) =
+      walked_if (find s.packets n) walk_held in
+      let both : Some its.0 ≡ Some p = sym its.1 ∙ found s n (Some p) there in
+      let same : its.0 ≡ p = cc in
+      ap (λ (x : Packet). x.completing) (sym same) ∙ its.2
+
+  pub walk_lives : packet_of s n ≡ None → ⊥
+  walk_lives none =
+      let its : (q : Packet) × (find s.packets n ≡ Some q) × (q.completing ≡ true) =
+      walked_if (find s.packets n) walk_held in
+      let no : None ≡ Some its.0 = sym (found s n None none) ∙ its.1 in
+      cc

@@ -1,0 +1,50 @@
+-- No packet tops out twice: one that tops out is live, so it hasn't topped out.
+use Rattle.std.proofs.Common.{◌≡◌, ℕ, ◌≤◌, List, Option, Some, Bool, true, false, refl, subst, inl, inr, arith}
+use Rattle.std.specs.Prelude.{if◌then◌else◌}
+use Rattle.std.proofs.lemmas.Bool.Decides.{eqb_tells}
+use Rattle.model.specs.declared.world.Frame.{Frame}
+use Rattle.model.specs.Effect.{Change, Outcome, top_of as top_frame}
+use Rattle.model.specs.Fault.{topped}
+use Rattle.model.specs.Set.{Set}
+use Rattle.model.specs.Trace.{Entry, Actor, recorded}
+use Rattle.model.specs.World.{Shared, World}
+use Rattle.run_laws.specs.TopsOnce.{times_topped}
+use Rattle.run_laws.proofs.Past.Packets.{Tells, found, untopped}
+use Rattle.run_laws.proofs.Runs.Events.{Happens, nothing, steps, issues}
+use Rattle.run_laws.proofs.Steps.Comes.{Comes, tops_out}
+
+-- a packet that hasn't topped out has done so no time, and one that has, once
+abbrev pub ToppedOnce : List Entry → Type 0
+ToppedOnce past = (n : ℕ) → times_topped past n ≡ (if topped past n then 1 else 0)
+
+module _ (set : Set) (past : List Entry) (actor : Actor) (once : ToppedOnce past) where
+  once_step : (s : Shared) (under : Option Frame) (f : Frame) (o : Outcome) → Tells s past
+      → Comes set s actor.thread under f o → ToppedOnce (recorded past actor o.actions)
+  once_step s under f o tells (tops_out n p there without first) m =
+      elim (eqb_tells n m) [
+        | inl same ↦
+            let free : topped past n ≡ false = untopped s past n p tells (found s n (Some p) there) in
+            let here : topped past m ≡ false = subst (λ (x : ℕ). topped past x ≡ false) same.1 free in
+            let zero_times : times_topped past m ≡ 0 = rw here at (once m) in
+            rw (same.0, zero_times) refl
+        | inr apart ↦
+            let before : times_topped past m ≡ (if topped past m then 1 else 0) = once m in
+            rw apart.0 (omega arith)
+      ]
+  once_step s under f o tells _ m =
+      let before : times_topped past m ≡ (if topped past m then 1 else 0) = once m in
+      omega arith
+
+  pub once_kept : (w : World) (c : Change) → Tells w.shared past → Happens set w actor.thread c
+      → ToppedOnce (recorded past actor c.actions)
+  once_kept w c tells (nothing reply right) = once
+  once_kept w c tells (steps h) = once_step w.shared (top_frame h.below) h.frame h.outcome tells h.comes
+  once_kept w c tells (issues h) =
+      λ m. (let before : times_topped past m ≡ (if topped past m then 1 else 0) = once m in omega arith)
+
+pub tops_at_most_once : (past : List Entry) → ToppedOnce past → (n : ℕ) → times_topped past n ≤ 1
+tops_at_most_once past once n = at_most_one (topped past n) (times_topped past n) (once n)
+  where
+    at_most_one : (b : Bool) (n : ℕ) → n ≡ (if b then 1 else 0) → n ≤ 1
+    at_most_one true n h = omega arith
+    at_most_one false n h = omega arith

@@ -1,0 +1,301 @@
+-- In every run of an accepted set each live packet has one holder, and no packet tops out twice.
+use Rattle.std.proofs.Common.{◌≡◌, ℕ, zero, suc, ◌+◌, ◌-◌, ◌≤◌, List, [], ◌∷◌, ◌++◌, Option, None, Some, Bool, true, false, refl, ap, ◌∙◌, arith}
+use Rattle.std.specs.Prelude.{◌&&◌, not, is_none, nat_eq, nat_lt, replicate, slice_get, slice_set, if◌then◌else◌}
+use Rattle.std.proofs.lemmas.Bool.{ltb-false}
+use Rattle.model.specs.declared.set.Sort.TheVariants.{Dispatch}
+use Rattle.model.specs.declared.status.Status.{Status}
+use Rattle.model.specs.declared.world.Activation.{Activation}
+use Rattle.model.specs.declared.world.Frame.{Frame}
+use Rattle.model.specs.declared.world.Frame.TheVariants.{Routine, Walk}
+use Rattle.model.specs.declared.world.Irql.TheVariants.{Passive}
+use Rattle.model.specs.declared.world.Packet.{Packet}
+use Rattle.model.specs.declared.world.Thread.{Thread}
+use Rattle.model.specs.Effect.{Change, Outcome, operand_of, answered_in, top_of, standing, with_stack, rooted, serves_request}
+use Rattle.model.specs.Fault.{armed, first_fault, topped}
+use Rattle.model.specs.Run.{Run, begun}
+use Rattle.model.specs.Set.{Set, instruction_at}
+use Rattle.model.specs.Trace.{Entry, Actor}
+use Rattle.model.specs.World.{World, idle_thread, new_packet, packet_of}
+use Rattle.run_laws.specs.Holder.{frame_rights, frame_walks, stack_sum, thread_sum, holders, alive, is_live}
+use Rattle.run_laws.proofs.Holders.Counts.{Holding, new_unheld, new_held}
+use Rattle.run_laws.proofs.Holders.Rights.{begun_rights, rights_told}
+use Rattle.run_laws.proofs.Holders.Steps.{HoldStep, hold, completion_faults}
+use Rattle.run_laws.proofs.Holders.Sums.{Held, unheld, held, stack_append, thread_set, top_le}
+use Rattle.run_laws.proofs.Past.LivePackets.{find, find_place, find_above}
+use Rattle.run_laws.proofs.Past.Packets.{Tells}
+use Rattle.run_laws.proofs.Runs.Events.{StepsFrame, Happens, nothing, steps, issues}
+use Rattle.run_laws.proofs.Runs.Kept.{GoesOnBy}
+use Rattle.run_laws.proofs.States.Entering.{begins_request}
+use Rattle.run_laws.proofs.States.Fine.{StepLeaves, leaves_fine}
+use Rattle.run_laws.proofs.States.Frames.{IsGood, Ready, state_of}
+use Rattle.run_laws.proofs.States.Rules.{States}
+use Rattle.run_laws.proofs.States.Stacks.{Stands, Stacked, Replaces}
+use Rattle.run_laws.proofs.States.Standing.{Standing, stands_there, on_top}
+use Rattle.run_laws.proofs.States.Told.{told_frame, told_last, last_same, standing_last}
+use Rattle.run_laws.proofs.Steps.Faults.{is_completion, is_touch, fault_among, quiet_among}
+
+-- a frame that is told a status has the same rights, and is the I/O manager's where it was
+module _ (set : Set) (states : States) (issued n : ℕ) where
+  answered_rights : (a : Activation) (status : Status) (r : Option ℕ)
+      → Ready set states issued (answered_in a status r)
+      → frame_rights states (Routine (answered_in a status r)) n ≡ frame_rights states (Routine a) n
+  answered_rights a status None h = refl
+  answered_rights a status (Some r) h =
+      rights_told issued (state_of states a).kinds a.registers r status n h.1.kinds
+
+  pub frame_told_rights : (told : Option Status) (g : Frame)
+      → Stands set states issued None (told_frame set told g)
+      → frame_rights states (told_frame set told g) n ≡ frame_rights states g n
+  frame_told_rights None (Routine a) h = refl
+  frame_told_rights None (Walk m) h = refl
+  frame_told_rights (Some status) (Walk m) h = refl
+  frame_told_rights (Some status) (Routine a) h =
+      answered_rights a status (operand_of (instruction_at set a.driver a.routine (a.position - 1))) h
+
+  last_rights : (below : List Frame) (f : Frame) (told : Option Status)
+      → Stacked set states issued (below ++ f ∷ [])
+      → Replaces set states issued f told []
+      → stack_sum (λ g. frame_rights states g n) (told_last set told below)
+      ≡ stack_sum (λ g. frame_rights states g n) below
+  last_rights [] f told h to = refl
+  last_rights (g ∷ []) f told h to =
+      let same : frame_rights states (told_frame set told g) n ≡ frame_rights states g n =
+      frame_told_rights told g (to g h.0) in
+      omega arith
+  last_rights (g ∷ e ∷ below) f told h to =
+      ap (λ (sum : ℕ). frame_rights states g n + sum) (last_rights (e ∷ below) f told h.1 to)
+
+  frame_told_walks : (told : Option Status) (g : Frame)
+      → frame_walks (told_frame set told g) n ≡ frame_walks g n
+  frame_told_walks None (Routine a) = refl
+  frame_told_walks None (Walk m) = refl
+  frame_told_walks (Some status) (Walk m) = refl
+  frame_told_walks (Some status) (Routine a) = refl
+
+  last_walks : (below : List Frame) (told : Option Status)
+      → stack_sum (λ g. frame_walks g n) (told_last set told below)
+      ≡ stack_sum (λ g. frame_walks g n) below
+  last_walks [] told = refl
+  last_walks (g ∷ []) told =
+      let same : frame_walks (told_frame set told g) n ≡ frame_walks g n =
+      frame_told_walks told g in omega arith
+  last_walks (g ∷ e ∷ below) told = ap (λ (sum : ℕ). frame_walks g n + sum) (last_walks (e ∷ below) told)
+
+  -- where frames stand in place of the top one, nothing is told or they return
+  last_after : (below : List Frame) (f : Frame) (told : Option Status) (frames : List Frame)
+      → Stacked set states issued (below ++ f ∷ []) → Replaces set states issued f told frames
+      → stack_sum (λ g. frame_rights states g n) (told_last set told below)
+      ≡ stack_sum (λ g. frame_rights states g n) below
+  last_after below f told [] h to = last_rights below f told h to
+  last_after below f None (e ∷ frames) h to =
+      ap (stack_sum (λ g. frame_rights states g n)) (last_same set below)
+  last_after below f (Some status) (e ∷ frames) h to = let no : Some status ≡ None = to.0 in cc
+
+-- frames in place of the top one
+top_replaced : (count : Frame → ℕ) (threads : List Thread) (t : ℕ) (thread after : Thread)
+    (below lower : List Frame)
+    (f : Frame) (frames : List Frame) (before now : ℕ)
+    → slice_get threads t ≡ Some thread → thread.frames.items ≡ below ++ f ∷ []
+    → thread_sum count threads ≡ before
+    → after.frames.items ≡ lower ++ frames → stack_sum count lower ≡ stack_sum count below
+    → stack_sum count frames + before ≡ count f + now → thread_sum count (slice_set threads t after) ≡ now
+top_replaced count threads t thread after below lower f frames before now found items sum new same even =
+    let set : thread_sum count (slice_set threads t after) + stack_sum count thread.frames.items
+    ≡ thread_sum count threads + stack_sum count after.frames.items =
+    thread_set count threads t thread after found in
+    let old : stack_sum count thread.frames.items ≡ stack_sum count below + stack_sum count (f ∷ []) =
+    ap (stack_sum count) items ∙ stack_append count below (f ∷ []) in
+    let later : stack_sum count after.frames.items ≡ stack_sum count lower + stack_sum count frames =
+    ap (stack_sum count) new ∙ stack_append count lower frames in
+    omega arith
+
+-- the rights of a frame that steps are to live packets
+pub top_holding : (set : Set) (states : States) (w : World) (past : List Entry)
+    → Standing set states w past
+    → Held states w → (t : ℕ) (h : StepsFrame set w t) → Holding states w.shared past h.frame
+top_holding set states w past stands kept t h =
+    record {
+      tells = stands.tells;
+      rights = λ n.
+          let le : frame_rights states h.frame n ≤ thread_sum (λ f. frame_rights states f n) w.threads =
+          top_le (λ f. frame_rights states f n) w.threads t h.thread h.below h.frame h.found h.frames in
+          let all : thread_sum (λ f. frame_rights states f n) w.threads
+          ≡ unheld (find w.shared.packets n) =
+          kept.rights n in
+          omega arith;
+      walks = λ n.
+          let le : frame_walks h.frame n ≤ thread_sum (λ f. frame_walks f n) w.threads =
+          top_le (λ f. frame_walks f n) w.threads t h.thread h.below h.frame h.found h.frames in
+          let all : thread_sum (λ f. frame_walks f n) w.threads ≡ held (find w.shared.packets n) =
+          kept.walks n in
+          omega arith;
+    }
+
+-- what an event does to the rights
+module _ (set : Set) (states : States) (w : World) (past : List Entry) (good : IsGood set states)
+    (stands : Standing set states w past) (kept : Held states w) where
+  -- a routine begins on an idle thread
+  begun_on : (count : Frame → ℕ) (t : ℕ) (thread after : Thread) (f : Frame)
+      → slice_get w.threads t ≡ Some thread
+      → thread.frames.items ≡ [] → after.frames.items ≡ f ∷ [] → (before now : ℕ)
+      → thread_sum count w.threads ≡ before
+      → now ≡ count f + before → thread_sum count (slice_set w.threads t after) ≡ now
+  begun_on count t thread after f found idle items before now sum even =
+      let set_one : thread_sum count (slice_set w.threads t after) + stack_sum count thread.frames.items
+      ≡ thread_sum count w.threads + stack_sum count after.frames.items =
+      thread_set count w.threads t thread after found in
+      let none : stack_sum count thread.frames.items ≡ 0 = ap (stack_sum count) idle in
+      let one : stack_sum count after.frames.items ≡ count f + 0 = ap (stack_sum count) items in
+      omega arith
+
+  held_happens : (actor : Actor) (c : Change) → Happens set w actor.thread c
+      → first_fault past actor c.actions ≡ None → Held states c.world
+  held_happens actor c (nothing reply right) quiet = kept
+  held_happens actor c (steps h) quiet =
+      let o : Outcome = h.outcome in
+      let t : ℕ = actor.thread in
+      let under : Option Frame = top_of h.below in
+      let on_thread : Stacked set states w.shared.issued (h.below ++ h.frame ∷ []) =
+      stands_there set states w past good stands t h in
+      let leaves : StepLeaves set states w.shared h.frame o =
+      leaves_fine set states w.shared past actor stands.tells under h.frame o
+      (on_top set states w past good stands t h)
+      quiet h.comes in
+      let step : HoldStep states w.shared h.frame o =
+      hold set states w.shared past actor under h.frame o (on_top set states w past good stands t h)
+      (top_holding set states w past stands kept t h) h.comes
+      (quiet_among is_touch past actor o.actions quiet) in
+      let after : Thread = with_stack h.thread (standing set h.below o) in
+      let lower : List Frame = told_last set o.told h.below in
+      let new : standing set h.below o ≡ lower ++ o.frames =
+      standing_last set w.shared t under h.frame o h.below h.comes in
+      record {
+        rights = λ n. top_replaced (λ f. frame_rights states f n) w.threads t h.thread after h.below
+            lower h.frame
+            o.frames (unheld (find w.shared.packets n)) (unheld (find o.shared.packets n)) h.found
+            h.frames
+            (kept.rights n) new
+            (last_after set states w.shared.issued n h.below h.frame o.told o.frames on_thread
+            leaves.stands) (step.rights n);
+        walks = λ n. top_replaced (λ f. frame_walks f n) w.threads t h.thread after h.below lower
+            h.frame o.frames
+            (held (find w.shared.packets n)) (held (find o.shared.packets n)) h.found h.frames
+            (kept.walks n) new
+            (last_walks set states w.shared.issued n h.below o.told) (step.walks n);
+      }
+  held_happens actor c (issues h) quiet =
+      let m : ℕ = w.shared.issued in
+      let a : Activation = serves_request set h.d h.device h.major m in
+      let p : Packet = new_packet m h.d h.major h.argument h.device.stack in
+      let after : Thread = rooted h.thread Passive a in
+      record {
+        rights = λ n.
+            let one : frame_rights states (Routine a) n ≡ (if nat_eq m n then 1 else 0) =
+            begun_rights set states (m + 1) a Dispatch m n
+            (begins_request set states good (m + 1) m (omega arith) h.d h.device h.major h.there) in
+            let packets : unheld (find (w.shared.packets ++ p ∷ []) n)
+            ≡ (if nat_eq m n then 1 else 0) + unheld (find w.shared.packets n) =
+            new_unheld w.shared p stands.tells.rises refl refl n in
+            begun_on (λ f. frame_rights states f n) actor.thread h.thread after (Routine a) h.found
+            h.idle refl
+            (unheld (find w.shared.packets n)) (unheld (find (w.shared.packets ++ p ∷ []) n))
+            (kept.rights n)
+            (omega arith);
+        walks = λ n.
+            let packets : held (find (w.shared.packets ++ p ∷ []) n) ≡ held (find w.shared.packets n) =
+            new_held w.shared p stands.tells.rises refl refl n in
+            begun_on (λ f. frame_walks f n) actor.thread h.thread after (Routine a) h.found h.idle refl
+            (held (find w.shared.packets n)) (held (find (w.shared.packets ++ p ∷ []) n))
+            (kept.walks n) (omega arith);
+      }
+
+  pub held_kept : (actor : Actor) (c : Change) → GoesOnBy set w past actor c → Held states c.world
+  held_kept actor c on = held_happens actor c on.happens on.quiet
+
+  pub completion_faults_none : ((n : ℕ) → armed past n ≡ false) → (actor : Actor) (c : Change)
+      → Happens set w actor.thread c → fault_among is_completion past actor c.actions ≡ None
+  completion_faults_none unarmed actor c (nothing reply right) = refl
+  completion_faults_none unarmed actor c (steps h) =
+      completion_faults set states w.shared past actor (top_of h.below) h.frame h.outcome unarmed
+      (on_top set states w past good stands actor.thread h)
+      (top_holding set states w past stands kept actor.thread h) h.comes
+  completion_faults_none unarmed actor c (issues h) = refl
+
+-- before the first event
+idle_sum : (count : Frame → ℕ) (threads : ℕ) → thread_sum count (replicate threads idle_thread) ≡ 0
+idle_sum count zero = refl
+idle_sum count (suc threads) =
+    let others : thread_sum count (replicate threads idle_thread) ≡ 0 =
+    idle_sum count threads in omega arith
+
+pub held_begun : (set : Set) (states : States) (threads : ℕ) → Held states (begun set threads).world
+held_begun set states threads =
+    record {
+      rights = λ n. idle_sum (λ f. frame_rights states f n) threads;
+      walks = λ n. idle_sum (λ f. frame_walks f n) threads;
+    }
+
+-- in the words of the law
+stack_both : (one other : Frame → ℕ) (frames : List Frame)
+    → stack_sum (λ f. one f + other f) frames ≡ stack_sum one frames + stack_sum other frames
+stack_both one other [] = refl
+stack_both one other (f ∷ frames) =
+    let others : stack_sum (λ g. one g + other g) frames ≡ stack_sum one frames + stack_sum other frames =
+    stack_both one other frames in
+    omega arith
+
+thread_both : (one other : Frame → ℕ) (threads : List Thread)
+    → thread_sum (λ f. one f + other f) threads ≡ thread_sum one threads + thread_sum other threads
+thread_both one other [] = refl
+thread_both one other (thread ∷ threads) =
+    let here : stack_sum (λ f. one f + other f) thread.frames.items
+    ≡ stack_sum one thread.frames.items + stack_sum other thread.frames.items =
+    stack_both one other thread.frames.items in
+    let others : thread_sum (λ f. one f + other f) threads ≡ thread_sum one threads + thread_sum
+    other threads =
+    thread_both one other threads in
+    omega arith
+
+alive_bit : (b : Bool) → (if b then 0 else 1) + (if b then 1 else 0) ≡ 1
+alive_bit true = refl
+alive_bit false = refl
+
+alive_parts : (o : Option Packet) → unheld o + held o ≡ alive o
+alive_parts None = refl
+alive_parts (Some p) = alive_bit p.completing
+
+-- where the past tells that what is gone has topped out, what is there is what lives
+alive_told : (is_issued : Bool) (o : Option Packet) (gone : Bool) → gone ≡ (is_issued && is_none o)
+    → (is_issued ≡ false → o ≡ None) → alive o ≡ (if is_issued && not gone then 1 else 0)
+alive_told true None gone h later = rw h refl
+alive_told true (Some p) gone h later = rw h refl
+alive_told false None gone h later = refl
+alive_told false (Some p) gone h later = let no : Some p ≡ None = later refl in cc
+
+module _ (r : Run) (tells : Tells r.world.shared r.past) (n : ℕ) where
+  pub live_listed : alive (packet_of r.world.shared n) ≡ (if is_live r n then 1 else 0)
+  live_listed =
+      ap alive (find_place r.world.shared.packets n)
+      ∙ alive_told (nat_lt n r.world.shared.issued) (find r.world.shared.packets n)
+      (topped r.past n) (tells.gone n)
+      (λ late. find_above 0 r.world.shared.packets r.world.shared.issued n tells.rises
+      (ltb-false n r.world.shared.issued late))
+
+  pub one_holder : (states : States) → Held states r.world
+      → holders states r.world.threads n ≡ (if is_live r n then 1 else 0)
+  one_holder states kept =
+      let both : holders states r.world.threads n
+      ≡ thread_sum (λ f. frame_rights states f n) r.world.threads
+      + thread_sum (λ f. frame_walks f n) r.world.threads =
+      thread_both (λ f. frame_rights states f n) (λ f. frame_walks f n) r.world.threads in
+      let rights_are : thread_sum (λ f. frame_rights states f n) r.world.threads
+      ≡ unheld (find r.world.shared.packets n) = kept.rights n in
+      let walks_are : thread_sum (λ f. frame_walks f n) r.world.threads
+      ≡ held (find r.world.shared.packets n) =
+      kept.walks n in
+      let parts : unheld (find r.world.shared.packets n) + held (find r.world.shared.packets n)
+      ≡ alive (find r.world.shared.packets n) = alive_parts (find r.world.shared.packets n) in
+      let same : alive (packet_of r.world.shared n) ≡ alive (find r.world.shared.packets n) =
+      ap alive (find_place r.world.shared.packets n) in
+      let listed : alive (packet_of r.world.shared n) ≡ (if is_live r n then 1 else 0) = live_listed in
+      omega arith

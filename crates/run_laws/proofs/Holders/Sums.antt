@@ -1,0 +1,130 @@
+-- Sums of rights and of the I/O manager's frames over threads, and what they are by the packet:
+-- each live packet has one right, or one frame of the I/O manager.
+use Rattle.std.proofs.Common.{◌≡◌, ◌≢◌, ℕ, zero, suc, ◌+◌, ◌≤◌, List, [], ◌∷◌, ◌++◌, Option, None, Some, Bool, true, false, cond, refl, ap, ◌∙◌, arith}
+use Rattle.std.specs.Prelude.{slice_get, slice_set, if◌then◌else◌}
+use Rattle.model.specs.declared.world.Frame.{Frame}
+use Rattle.model.specs.declared.world.Packet.{Packet}
+use Rattle.model.specs.declared.world.Thread.{Thread}
+use Rattle.model.specs.World.{World}
+use Rattle.run_laws.specs.Holder.{frame_rights, frame_walks, stack_sum, thread_sum}
+use Rattle.run_laws.proofs.Past.LivePackets.{find}
+use Rattle.run_laws.proofs.States.Rules.{States}
+
+-- a live packet that isn't completing, and one that is
+abbrev pub unheld : Option Packet → ℕ
+unheld None = 0
+unheld (Some p) = if p.completing then 0 else 1
+
+abbrev pub held : Option Packet → ℕ
+held None = 0
+held (Some p) = if p.completing then 1 else 0
+
+-- the packets that are held by no one but a register, and those that the I/O manager has
+pub record Held (states : States) (w : World) : Type 0 where
+  pub rights : (n : ℕ) → thread_sum (λ f. frame_rights states f n) w.threads
+      ≡ unheld (find w.shared.packets n)
+  pub walks : (n : ℕ) → thread_sum (λ f. frame_walks f n) w.threads ≡ held (find w.shared.packets n)
+
+-- sums over frames and threads
+pub stack_append : (count : Frame → ℕ) (xs ys : List Frame) → stack_sum count (xs ++ ys)
+    ≡ stack_sum count xs + stack_sum count ys
+stack_append count [] ys = omega arith
+stack_append count (f ∷ xs) ys =
+    let others : stack_sum count (xs ++ ys) ≡ stack_sum count xs + stack_sum count ys =
+    stack_append count xs ys in omega arith
+
+pub thread_set : (count : Frame → ℕ) (threads : List Thread) (t : ℕ) (thread after : Thread)
+    → slice_get threads t
+    ≡ Some thread
+    → thread_sum count (slice_set threads t after) + stack_sum count thread.frames.items
+    ≡ thread_sum count threads + stack_sum count after.frames.items
+thread_set count [] t thread after found = cc
+thread_set count (x ∷ threads) zero thread after found = let one : x ≡ thread = cc in rw one (omega arith)
+thread_set count (x ∷ threads) (suc t) thread after found =
+    let others : thread_sum count (slice_set threads t after) + stack_sum count thread.frames.items
+    ≡ thread_sum count threads + stack_sum count after.frames.items =
+    thread_set count threads t thread after found
+    in
+    omega arith
+
+pub stack_le : (count : Frame → ℕ) (threads : List Thread) (t : ℕ) (thread : Thread)
+    → slice_get threads t ≡ Some thread
+    → stack_sum count thread.frames.items ≤ thread_sum count threads
+stack_le count [] t thread found = cc
+stack_le count (x ∷ threads) zero thread found = let one : x ≡ thread = cc in rw one (omega arith)
+stack_le count (x ∷ threads) (suc t) thread found =
+    let others : stack_sum count thread.frames.items ≤ thread_sum count threads =
+    stack_le count threads t thread found in
+    omega arith
+
+pub top_le : (count : Frame → ℕ) (threads : List Thread) (t : ℕ) (thread : Thread)
+    (below : List Frame) (f : Frame)
+    → slice_get threads t ≡ Some thread
+    → thread.frames.items ≡ below ++ f ∷ [] → count f ≤ thread_sum count threads
+top_le count threads t thread below f found frames =
+    let all : stack_sum count thread.frames.items ≤ thread_sum count threads =
+    stack_le count threads t thread found in
+    let parts : stack_sum count thread.frames.items ≡ stack_sum count below + stack_sum count (f ∷ []) =
+    ap (stack_sum count) frames ∙ stack_append count below (f ∷ [])
+    in
+    omega arith
+
+-- at most one right to a packet, and none where the I/O manager has it
+free_one : (b : Bool) → (if b then 0 else 1) ≤ 1
+free_one true = omega arith
+free_one false = omega arith
+
+pub unheld_one : (o : Option Packet) → unheld o ≤ 1
+unheld_one None = omega arith
+unheld_one (Some p) = free_one p.completing
+
+bit_apart : (b : Bool) → 1 ≤ (if b then 1 else 0) → cond {A = ℕ} b 0 1 ≡ 0
+bit_apart true h = refl
+bit_apart false h = absurd (omega arith)
+
+pub held_apart : (o : Option Packet) → 1 ≤ held o → unheld o ≡ 0
+held_apart None h = absurd (omega arith)
+held_apart (Some p) h = bit_apart p.completing h
+
+-- two threads
+pub two_le : (count : Frame → ℕ) (threads : List Thread) (t k : ℕ) (one other : Thread)
+    → slice_get threads t
+    ≡ Some one → slice_get threads k ≡ Some other → t ≢ k
+    → stack_sum count one.frames.items + stack_sum count other.frames.items ≤ thread_sum count threads
+two_le count [] t k one other found there apart = cc
+two_le count (x ∷ threads) zero zero one other found there apart = absurd (apart refl)
+two_le count (x ∷ threads) zero (suc k) one other found there apart =
+    let same : x ≡ one = cc in
+    let le : stack_sum count other.frames.items ≤ thread_sum count threads =
+    stack_le count threads k other there in
+    rw same (omega arith)
+two_le count (x ∷ threads) (suc t) zero one other found there apart =
+    let same : x ≡ other = cc in
+    let le : stack_sum count one.frames.items ≤ thread_sum count threads =
+    stack_le count threads t one found in
+    rw same (omega arith)
+two_le count (x ∷ threads) (suc t) (suc k) one other found there apart =
+    let le : stack_sum count one.frames.items + stack_sum count other.frames.items
+    ≤ thread_sum count threads =
+    two_le count threads t k one other found there (λ e. apart (ap suc e)) in
+    omega arith
+
+-- the packet that a right is to, and the one that is on its way up
+own_bit : (p : Packet) (b : Bool) → p.completing ≡ b → 1 ≤ (if b then 0 else 1) → (q : Packet)
+    × (Some p ≡ Some q) ×
+    (q.completing ≡ false)
+own_bit p true is h = absurd (omega arith)
+own_bit p false is h = (p, refl, is)
+
+walked_bit : (p : Packet) (b : Bool) → p.completing ≡ b → 1 ≤ (if b then 1 else 0)
+    → (q : Packet) × (Some p ≡ Some q) × (q.completing ≡ true)
+walked_bit p true is h = (p, refl, is)
+walked_bit p false is h = absurd (omega arith)
+
+pub own_if : (o : Option Packet) → 1 ≤ unheld o → (p : Packet) × (o ≡ Some p) × (p.completing ≡ false)
+own_if None h = absurd (omega arith)
+own_if (Some p) h = own_bit p p.completing refl h
+
+pub walked_if : (o : Option Packet) → 1 ≤ held o → (p : Packet) × (o ≡ Some p) × (p.completing ≡ true)
+walked_if None h = absurd (omega arith)
+walked_if (Some p) h = walked_bit p p.completing refl h

@@ -1,0 +1,3 @@
+pub mod Sees
+pub mod Steps
+pub mod Kept

@@ -1,0 +1,249 @@
+-- Each step keeps what frames see, and touches live packets alone: a register that has a packet has
+-- the right to it, or refers to the packet of the I/O manager's frame below, and that frame holds
+-- its packet.
+use Rattle.std.proofs.Common.{◌≡◌, ℕ, ◌-◌, ◌<◌, List, [], ◌∷◌, ◌++◌, Option, None, Some, Bool, true, false, refl, ap, sym, ◌∙◌, subst}
+use Rattle.std.specs.Prelude.{⊤, nat_lt}
+use Rattle.std.proofs.lemmas.Bool.{cond_both}
+use Rattle.model.specs.declared.abs.Kind.{Kind}
+use Rattle.model.specs.declared.abs.Kind.TheVariants.{Blank as BlankKind, Num as NumKind, Lower as LowerKind, New, Own, View}
+use Rattle.model.specs.declared.instr.Instr.{Instr}
+use Rattle.model.specs.declared.set.Sort.TheVariants.{Dispatch}
+use Rattle.model.specs.declared.world.Activation.{Activation}
+use Rattle.model.specs.declared.world.Frame.{Frame}
+use Rattle.model.specs.declared.world.Frame.TheVariants.{Routine, Walk}
+use Rattle.model.specs.declared.world.OpenLoop.{OpenLoop}
+use Rattle.model.specs.declared.world.Packet.{Packet}
+use Rattle.model.specs.declared.world.Value.{Value}
+use Rattle.model.specs.declared.world.Value.TheVariants.{Ref}
+use Rattle.model.specs.declared.event.Bug.{Bug}
+use Rattle.model.specs.declared.event.BugCheck.TheVariants.{IrqlNotLessOrEqual}
+use Rattle.model.specs.declared.event.Subject.TheVariants.{Packet as PacketSubject}
+use Rattle.model.specs.Action.{Touches}
+use Rattle.model.specs.Effect.{Outcome, asks, turned}
+use Rattle.model.specs.Fault.{bug_if, fault_of, first_or}
+use Rattle.model.specs.LocalRule.{is_packet, is_right, is_view, kind_of}
+use Rattle.model.specs.Set.{Set, lower_of, member}
+use Rattle.model.specs.Trace.{Entry, Actor}
+use Rattle.model.specs.World.{Shared, asked_of, at_label, current_location, next, outer_loops, packet_of, packet_in, register, with_loops}
+use Rattle.run_laws.proofs.Holders.Counts.{Holding, right_lives, walk_lives}
+use Rattle.run_laws.proofs.Live.Sees.{Refers, RefersTo, refers_at, entered_refers, goes_refers, Seen, AllSeen}
+use Rattle.run_laws.proofs.States.NoViews.{HasNoView, no_view_at, dispatch_no_view}
+use Rattle.run_laws.proofs.Past.Packets.{Tells, found, named, untopped}
+use Rattle.run_laws.proofs.States.Entering.{IsOfSort, begins_lower, sort_there}
+use Rattle.run_laws.proofs.States.Frames.{Runs, state_of}
+use Rattle.run_laws.proofs.States.Kinds.{packet_ref, packet_wanted}
+use Rattle.run_laws.proofs.States.Lacking.{never_lacks}
+use Rattle.run_laws.proofs.States.OnTop.{OnTop, runs, value_suits}
+use Rattle.run_laws.proofs.States.Rules.{States}
+use Rattle.run_laws.proofs.Steps.Comes.{GoesTo, onward, jumping, Executing, Reads, Comes, errs, awaits_lock, computes, opens_loop, turns_loop, pages, touches_gone, looks_at, writes_info, marks_packet, takes_lock, retakes_lock, frees_lock, completes_packet, completes_gone, passes_down, calls_down, returns_status, lets_go, lets_walk, walks_gone, walks_to, walks_up, carries_up, tops_out}
+use Rattle.run_laws.proofs.Steps.Faults.{fault_among, is_touch}
+use Rattle.run_laws.proofs.Steps.Words.{packet_operand}
+
+-- a routine that goes on sees what it saw
+goes_seen : (set : Set) (under : Option Frame) (a b : Activation) → b.driver ≡ a.driver
+    → b.routine ≡ a.routine
+    → ((m : ℕ) → Refers m a → Refers m b) → Seen set under (Routine a) → Seen set under (Routine b)
+goes_seen set None a b driver routine refers h = rw (driver, routine) h
+goes_seen set (Some (Routine c)) a b driver routine refers h = rw (driver, routine) h
+goes_seen set (Some (Walk m)) a b driver routine refers h = refers m h
+
+walk_seen : (set : Set) (under : Option Frame) (n : ℕ) → Seen set under (Walk n)
+walk_seen set None n = tt
+walk_seen set (Some (Routine a)) n = tt
+walk_seen set (Some (Walk m)) n = tt
+
+goes_same : (a : Activation) (i : Instr) (b : Activation) (jumped : Bool) → GoesTo a i b jumped
+    → (b.driver ≡ a.driver) × (b.routine ≡ a.routine)
+goes_same a i b jumped (onward values on written) = (refl, refl)
+goes_same a i b jumped (jumping label labelled) = (refl, refl)
+
+record Turns (a b : Activation) : Type 0 where
+  driver : b.driver ≡ a.driver
+  routine : b.routine ≡ a.routine
+  registers : b.registers ≡ a.registers
+
+turned_same : (a : Activation) (l : OpenLoop) → Turns a (turned a l)
+turned_same a l =
+    cond_both (nat_lt 1 l.turns)
+    (at_label (with_loops a (outer_loops a ++ record { start = l.start; turns = l.turns - 1 } ∷ []))
+    l.start)
+    (next (with_loops a (outer_loops a))) (Turns a)
+    (λ more. record { driver = refl; routine = refl; registers = refl })
+    (λ last. record { driver = refl; routine = refl; registers = refl })
+
+module _ (set : Set) (states : States) (s : Shared) where
+  next_seen : (under : Option Frame) (a : Activation) → Seen set under (Routine a)
+      → Seen set under (Routine (next a))
+  next_seen under a h = goes_seen set under a (next a) refl refl (λ m refers. refers) h
+
+  moves_seen : (under : Option Frame) (a : Activation) (i : Instr) (b : Activation) (jumped : Bool)
+      → GoesTo a i b jumped
+      → Seen set under (Routine a) → Seen set under (Routine b)
+  moves_seen under a i b jumped goes h =
+      let same : (b.driver ≡ a.driver) × (b.routine ≡ a.routine) = goes_same a i b jumped goes in
+      goes_seen set under a b same.0 same.1 (λ m refers. goes_refers m a i b jumped goes refers) h
+
+  asks_seen : (under : Option Frame) (a : Activation) (lower n : ℕ) (p : Packet)
+      → OnTop set states s (Routine a)
+      → n < s.issued → lower_of set a.device ≡ Some lower → Seen set under (Routine a)
+      → AllSeen set under (asks set a lower p n)
+  asks_seen under a lower n p h low below seen = (
+    next_seen under a seen,
+    (
+      (begins_lower set states h.good s.issued n low a.device lower (asked_of (current_location p))
+          below).of_sort,
+      tt,
+    ),
+  )
+
+  -- every shape
+  pub seen : (t : ℕ) (under top : Option Frame) (f : Frame) (o : Outcome) → OnTop set states s f
+      → Seen set under f
+      → Comes set s t top f o → AllSeen set under o.frames
+  seen t under top f o h sees (errs a lacks) = absurd (never_lacks set states s a h lacks)
+  seen t under top f o h sees (awaits_lock a i lock owner at taken owned apart) = (sees, tt)
+  seen t under top f o h sees (computes a i b jumped cells at work goes long) =
+      (moves_seen under a i b jumped goes sees, tt)
+  seen t under top f o h sees (opens_loop a turns at few) =
+      (goes_seen set under a _ refl refl (λ m refers. refers) sees, tt)
+  seen t under top f o h sees (turns_loop a l at inner) =
+      let same : Turns a (turned a l) = turned_same a l in (
+        goes_seen set under a (turned a l) same.driver same.routine
+            (λ m refers. rw same.registers refers) sees,
+        tt,
+      )
+  seen t under top f o h sees (pages a i b cell cells at work goes long) =
+      (moves_seen under a i b false goes sees, tt)
+  seen t under top f o h sees (looks_at a i b jumped r n p at work goes operand reads there jumps) =
+      (moves_seen under a i b jumped goes sees, tt)
+  seen t under top f o h sees (touches_gone a i r n at touching on operand reads gone) =
+      (next_seen under a sees, tt)
+  seen t under top f o h sees (writes_info a q r n p info at reads there is) =
+      (next_seen under a sees, tt)
+  seen t under top f o h sees (marks_packet a r n p at reads there) = (next_seen under a sees, tt)
+  seen t under top f o h sees (takes_lock a i lock at taken free) = (next_seen under a sees, tt)
+  seen t under top f o h sees (retakes_lock a i lock at taken owned) = (next_seen under a sees, tt)
+  seen t under top f o h sees (frees_lock a i lock owner at freed owned) = (next_seen under a sees, tt)
+  seen t under top f o h sees (completes_packet a r status n p at reads there) =
+      (next_seen under a sees, (tt, tt))
+  seen t under top f o h sees (completes_gone a r status n at reads gone) = (next_seen under a sees, tt)
+  seen t under top f o h sees (passes_down a r n p lower at reads there below) =
+      asks_seen under a lower n p h (named s (register a r) n reads) below sees
+  seen t under top f o h sees (calls_down a r completion n p lower at reads there below) =
+      asks_seen under a lower n p h (named s (register a r) n reads) below sees
+  seen t under top f o h sees (returns_status a form status at sort is) = tt
+  seen t under top f o h sees (lets_go a at sort free) = tt
+  seen t under top f o h sees (lets_walk a n at sort) = tt
+  seen t under top f o h sees (walks_gone n gone) = tt
+  seen t under top f o h sees (walks_to n p c there set_there) =
+      (walk_seen set under n, (entered_refers n, tt))
+  seen t under top f o h sees (walks_up n p there none more unmarked) = (walk_seen set under n, tt)
+  seen t under top f o h sees (carries_up n p there none more marked) = (walk_seen set under n, tt)
+  seen t under top f o h sees (tops_out n p there none last) = tt
+
+-- a packet in a register that has no right to it is on its way up
+only_view : (k : Kind) → is_packet k ≡ true → is_right k ≡ false → is_view k ≡ true
+only_view View is free = refl
+only_view New is free = cc
+only_view Own is free = cc
+only_view BlankKind is free = cc
+only_view NumKind is free = cc
+only_view LowerKind is free = cc
+
+-- the packet of the I/O manager's frame below, if it is one, is live
+abbrev pub UnderLives : Shared → Option Frame → Type 0
+UnderLives s None = ⊤
+UnderLives s (Some (Routine b)) = ⊤
+UnderLives s (Some (Walk n)) = packet_of s n ≡ None → ⊥
+
+module _ (set : Set) (states : States) (s : Shared) (past : List Entry) where
+  dispatch_views : (a : Activation) (i : Instr) (r : ℕ) → Runs set states s a i → IsOfSort set a Dispatch
+      → is_view (kind_of (state_of states a) r) ≡ true → ⊥
+  dispatch_views a i r h is view =
+      let none : HasNoView (state_of states a) =
+      dispatch_no_view (member set a.driver a.routine h.routine) a.position (state_of states a)
+      (sym (sort_there set a.driver a.routine h.routine h.stays.is_of) ∙ is)
+      (h.known.follows.arrives a.position h.stays.within)
+      in
+      let no : true ≡ false = sym view ∙ no_view_at (state_of states a).kinds r none in
+      cc
+
+  refers_same : (m n : ℕ) (v : Value) → v ≡ Ref n → RefersTo m v → n ≡ m
+  refers_same m n v is refers = subst (λ (x : Value). RefersTo m x) is refers
+
+  view_lives : (under : Option Frame) (a : Activation) (i : Instr) (r n : ℕ) → Runs set states s a i
+      → Seen set under (Routine a) → UnderLives s under → is_view (kind_of (state_of states a) r) ≡ true
+      → register a r ≡ Ref n → packet_of s n ≡ None → ⊥
+  view_lives None a i r n h seen live view refers gone = dispatch_views a i r h seen view
+  view_lives (Some (Routine b)) a i r n h seen live view refers gone = dispatch_views a i r h seen view
+  view_lives (Some (Walk m)) a i r n h seen live view refers gone =
+      let same : n ≡ m = refers_same m n (register a r) refers (refers_at m a.registers r seen) in
+      live (ap (packet_of s) (sym same) ∙ gone)
+
+  -- the packet that an instruction works on
+  operand_lives : (under : Option Frame) (a : Activation) (i : Instr) (r n : ℕ) (b : Bool)
+      → OnTop set states s (Routine a) → Holding states s past (Routine a) → Executing set a i
+      → Seen set under (Routine a) → UnderLives s under → packet_operand i ≡ Some r → Reads s a r n
+      → is_right (kind_of (state_of states a) r) ≡ b → packet_of s n ≡ None → ⊥
+  operand_lives under a i r n true h holding at seen live operand reads right gone =
+      right_lives states s past a holding (runs set states s a i h at).stays.kinds r n right reads gone
+  operand_lives under a i r n false h holding at seen live operand reads right gone =
+      let run : Runs set states s a i = runs set states s a i h at in
+      let packet : is_packet (kind_of (state_of states a) r) ≡ true =
+      packet_wanted (state_of states a) _ set a.driver i r run.obeys operand in
+      let ref : (m : ℕ) × (register a r ≡ Ref m) × (packet_in s (register a r) ≡ Some m) =
+      packet_ref s (kind_of (state_of states a) r) (register a r) packet
+      (value_suits set states s a i r run) in
+      let both : Some ref.0 ≡ Some n = sym ref.2 ∙ reads in
+      let same : ref.0 ≡ n = cc in
+      view_lives under a i r n run seen live (only_view (kind_of (state_of states a) r) packet right)
+      (ref.1 ∙ ap (λ (m : ℕ). Ref m) same) gone
+
+  -- a packet that is there hasn't topped out
+  touched_one : (actor : Actor) (n : ℕ) (p : Packet) → Tells s past → packet_of s n ≡ Some p
+      → fault_of past actor (Touches n) ≡ None
+  touched_one actor n p tells there =
+      ap (λ (gone : Bool). bug_if gone IrqlNotLessOrEqual (PacketSubject n))
+      (untopped s past n p tells (found s n (Some p) there))
+
+  under_one : (actor : Actor) (n : ℕ) (o : Option Packet) → Tells s past → packet_of s n ≡ o
+      → (packet_of s n ≡ None → ⊥) → fault_of past actor (Touches n) ≡ None
+  under_one actor n None tells there lives = absurd (lives there)
+  under_one actor n (Some p) tells there lives = touched_one actor n p tells there
+
+  first_only : (bug : Option Bug) → bug ≡ None → first_or bug None ≡ None
+  first_only bug h = rw h refl
+
+  -- so no step touches one that has
+  pub touch_faults : (actor : Actor) (under : Option Frame) (f : Frame) (o : Outcome) → Tells s past
+      → OnTop set states s f → Holding states s past f → Seen set under f → UnderLives s under
+      → Comes set s actor.thread under f o → fault_among is_touch past actor o.actions ≡ None
+  touch_faults actor under f o tells h holding seen live
+      (touches_gone a i r n at touching on operand reads gone) =
+      absurd (operand_lives under a i r n _ h holding at seen live operand reads refl gone)
+  touch_faults actor under f o tells h holding seen live
+      (looks_at a i b jumped r n p at work goes operand reads there jumps) =
+      first_only _ (touched_one actor n p tells there)
+  touch_faults actor under f o tells h holding seen live (writes_info a q r n p info at reads there is) =
+      first_only _ (touched_one actor n p tells there)
+  touch_faults actor under f o tells h holding seen live (marks_packet a r n p at reads there) =
+      first_only _ (touched_one actor n p tells there)
+  touch_faults actor under f o tells h holding seen live
+      (passes_down a r n p lower at reads there below) =
+      first_only _ (touched_one actor n p tells there)
+  touch_faults actor under f o tells h holding seen live
+      (calls_down a r completion n p lower at reads there below) =
+      first_only _ (touched_one actor n p tells there)
+  touch_faults actor under f o tells h holding seen live (lets_walk a n at sort) =
+      first_only _ (under_one actor n (packet_of s n) tells refl live)
+  touch_faults actor under f o tells h holding seen live (walks_gone n gone) =
+      absurd (walk_lives states s past n holding gone)
+  touch_faults actor under f o tells h holding seen live (walks_to n p c there set_there) =
+      first_only _ (touched_one actor n p tells there)
+  touch_faults actor under f o tells h holding seen live (walks_up n p there none more unmarked) =
+      first_only _ (touched_one actor n p tells there)
+  touch_faults actor under f o tells h holding seen live (carries_up n p there none more marked) =
+      first_only _ (touched_one actor n p tells there)
+  touch_faults actor under f o tells h holding seen live (tops_out n p there none last) =
+      first_only _ (touched_one actor n p tells there)
+  touch_faults actor under f o tells h holding seen live _ = refl

@@ -1,0 +1,3 @@
+pub mod Says
+pub mod Steps
+pub mod Runs

@@ -1,0 +1,167 @@
+-- Locks and levels are kept in every run of an accepted set: every thread holds the locks that the
+-- state of its top frame says.
+use Rattle.std.proofs.Common.{◌≡◌, ◌≢◌, ◌+◌, ◌-◌, ℕ, List, [], ◌∷◌, ◌++◌, Option, None, Some, Bool, false, refl, ap, sym, ◌∙◌, arith}
+use Rattle.std.specs.Prelude.{slice_get}
+use Rattle.std.proofs.lemmas.Bool.{ne_eqb}
+use Rattle.std.proofs.lemmas.List.{append-nil}
+use Rattle.model.specs.declared.event.Lock.{Lock}
+use Rattle.model.specs.declared.status.Status.{Status}
+use Rattle.model.specs.declared.set.Sort.TheVariants.{Dispatch}
+use Rattle.model.specs.declared.world.Activation.{Activation}
+use Rattle.model.specs.declared.world.Frame.{Frame}
+use Rattle.model.specs.declared.world.Frame.TheVariants.{Routine, Walk}
+use Rattle.model.specs.declared.world.Irql.TheVariants.{Passive}
+use Rattle.model.specs.declared.world.Thread.{Thread}
+use Rattle.model.specs.Action.{Action, Acquires, Releases, Issues}
+use Rattle.model.specs.Effect.{Change, Outcome, operand_of, answered_in, top_of, standing, with_thread, with_stack, rooted, with_new_packet, serves_request}
+use Rattle.model.specs.Fault.{holds_after, holds, is_dispatch_level}
+use Rattle.model.specs.Run.{begun, root_of, frames_on}
+use Rattle.model.specs.Set.{Set, instruction_at}
+use Rattle.model.specs.Trace.{Entry, Actor, entry, recorded}
+use Rattle.model.specs.World.{Shared, World}
+use Rattle.run_laws.proofs.Locks.Says.{frame_says, top_says, free_says}
+use Rattle.run_laws.proofs.Locks.Steps.{begun_says, own, lock_faults}
+use Rattle.run_laws.proofs.Runs.Events.{StepsFrame, Happens, nothing, steps, issues}
+use Rattle.run_laws.proofs.Runs.Kept.{GoesOnBy}
+use Rattle.run_laws.proofs.Runs.Threads.{frames_there, each_frames, idle_frames}
+use Rattle.run_laws.proofs.States.Entering.{begins_request}
+use Rattle.run_laws.proofs.States.Frames.{state_of, IsGood}
+use Rattle.run_laws.proofs.States.Rules.{States}
+use Rattle.run_laws.proofs.States.Stacks.{Stands, Stacked}
+use Rattle.run_laws.proofs.States.Standing.{Standing, stands_there, on_top}
+use Rattle.run_laws.proofs.States.Told.{told_frame, told_last, standing_last}
+use Rattle.run_laws.proofs.Steps.Faults.{is_of_locks, fault_among}
+
+-- every thread holds the locks that the state of its top frame says
+abbrev pub LocksAgree : States → World → List Entry → Type 0
+LocksAgree states w past = (t : ℕ) (l : Lock) → holds past t l ≡ top_says states (frames_on w t) l
+
+-- actions of one thread leave the locks of others
+other_holds : (action : Action) (l : Lock) (before : Bool) → holds_after action false l before ≡ before
+other_holds (Acquires m) l before = refl
+other_holds (Releases m) l before = refl
+other_holds _ l before = refl
+
+other_threads : (past : List Entry) (actor : Actor) (k : ℕ) (actions : List Action) (l : Lock)
+    → actor.thread ≢ k
+    → holds (recorded past actor actions) k l ≡ holds past k l
+other_threads past actor k [] l apart = refl
+other_threads past actor k (action ∷ actions) l apart =
+    let one : holds (entry past actor action ∷ past) k l ≡ holds past k l =
+    rw (ne_eqb actor.thread k apart) (other_holds action l (holds past k l)) in
+    other_threads (entry past actor action ∷ past) actor k actions l apart ∙ one
+
+module _ (set : Set) (states : States) (issued : ℕ) (l : Lock) where
+  -- of frames on frames only the top one says locks
+  says_top : (below : List Frame) (f : Frame) (frames : List Frame)
+      → top_says states (below ++ f ∷ frames) l ≡ top_says states (f ∷ frames) l
+  says_top [] f frames = refl
+  says_top (g ∷ []) f frames = refl
+  says_top (g ∷ e ∷ below) f frames = says_top (e ∷ below) f frames
+
+  below_says : (f g : Frame) → Stands set states issued (Some f) g → frame_says states g l ≡ false
+  below_says (Walk n) (Routine a) h = free_says (state_of states a) a.device l h.1
+  below_says (Routine b) (Routine a) h = free_says (state_of states a) a.device l h.1
+  below_says (Routine b) (Walk m) h = refl
+  below_says (Walk n) (Walk m) h = absurd h
+
+  says_below : (below : List Frame) (f : Frame) → Stacked set states issued (below ++ f ∷ [])
+      → top_says states below l ≡ false
+  says_below [] f h = refl
+  says_below (g ∷ []) f h = below_says f g h.0
+  says_below (g ∷ e ∷ below) f h = says_below (e ∷ below) f h.1
+
+  -- a frame that is told something says the same
+  answered_says : (a : Activation) (status : Status) (r : Option ℕ)
+      → frame_says states (Routine (answered_in a status r)) l ≡ frame_says states (Routine a) l
+  answered_says a status None = refl
+  answered_says a status (Some r) = refl
+
+  frame_told : (told : Option Status) (f : Frame) → frame_says states (told_frame set told f) l
+      ≡ frame_says states f l
+  frame_told None (Routine a) = refl
+  frame_told None (Walk n) = refl
+  frame_told (Some status) (Walk n) = refl
+  frame_told (Some status) (Routine a) =
+      answered_says a status (operand_of (instruction_at set a.driver a.routine (a.position - 1)))
+
+  last_says : (told : Option Status) (below : List Frame)
+      → top_says states (told_last set told below) l ≡ top_says states below l
+  last_says told [] = refl
+  last_says told (f ∷ []) = frame_told told f
+  last_says told (f ∷ g ∷ []) = last_says told (g ∷ [])
+  last_says told (f ∷ g ∷ e ∷ below) = last_says told (g ∷ e ∷ below)
+
+  says_after : (below : List Frame) (f : Frame) (told : Option Status) (frames : List Frame)
+      → Stacked set states issued (below ++ f ∷ [])
+      → top_says states (told_last set told below ++ frames) l ≡ top_says states frames l
+  says_after below f told [] h = rw append-nil (last_says told below ∙ says_below below f h)
+  says_after below f told (g ∷ frames) h = says_top (told_last set told below) g frames
+
+-- every event keeps that, and has no bug check about locks
+module _ (set : Set) (states : States) (w : World) (past : List Entry) (good : IsGood set states)
+    (stands : Standing set states w past) (agree : LocksAgree states w past) where
+  own_top : (t : ℕ) (h : StepsFrame set w t) (l : Lock) → holds past t l ≡ frame_says states h.frame l
+  own_top t h l =
+      agree t l
+      ∙ ap (λ (frames : List Frame). top_says states frames l) (frames_there w t h.thread h.found
+      ∙ h.frames)
+      ∙ says_top set states w.shared.issued l h.below h.frame []
+
+  -- the threads after another stands in place of one
+  agree_after : (actor : Actor) (actions : List Action) (s : Shared) (thread after : Thread)
+      → slice_get w.threads actor.thread ≡ Some thread
+      → ((l : Lock) → holds (recorded past actor actions) actor.thread l ≡ top_says states
+      after.frames.items l)
+      → LocksAgree states (with_thread w actor.thread s after) (recorded past actor actions)
+  agree_after actor actions s thread after found own =
+      each_frames w actor.thread s after
+      (λ k frames. (l : Lock) → holds (recorded past actor actions) k l ≡ top_says states frames l)
+      thread found own
+      (λ k apart l. other_threads past actor k actions l apart ∙ agree k l)
+
+  locks_happen : (actor : Actor) (c : Change) → Happens set w actor.thread c
+      → LocksAgree states c.world (recorded past actor c.actions)
+  locks_happen actor c (nothing reply right) = agree
+  locks_happen actor c (steps h) =
+      let o : Outcome = h.outcome in
+      let under : Option Frame = top_of h.below in
+      agree_after actor o.actions o.shared h.thread (with_stack h.thread (standing set h.below o)) h.found
+      (λ l. own set states w.shared past actor under h.frame o
+      (on_top set states w past good stands actor.thread h)
+      (own_top actor.thread h) h.comes l
+      ∙ sym (says_after set states w.shared.issued l h.below h.frame o.told o.frames
+      (stands_there set states w past good stands actor.thread h))
+      ∙ ap (λ (frames : List Frame). top_says states frames l)
+      (sym (standing_last set w.shared actor.thread under h.frame o h.below h.comes)))
+  locks_happen actor c (issues h) =
+      let n : ℕ = w.shared.issued in
+      let a : Activation = serves_request set h.d h.device h.major n in
+      agree_after actor (Issues n h.device.stack ∷ [])
+      (with_new_packet w.shared h.d h.device h.major h.argument)
+      h.thread (rooted h.thread Passive a) h.found
+      (λ l. agree actor.thread l
+      ∙ ap (λ (frames : List Frame). top_says states frames l)
+      (frames_there w actor.thread h.thread h.found ∙ h.idle)
+      ∙ sym (begun_says set states (n + 1) a Dispatch n l
+      (begins_request set states good (n + 1) n (omega arith) h.d h.device h.major h.there)))
+
+  pub locks_kept : (actor : Actor) (c : Change) → GoesOnBy set w past actor c
+      → LocksAgree states c.world (recorded past actor c.actions)
+  locks_kept actor c on = locks_happen actor c on.happens
+
+  pub lock_faults_none : (actor : Actor) (c : Change)
+      → actor.root ≡ root_of (slice_get w.threads actor.thread)
+      → Happens set w actor.thread c → fault_among is_of_locks past actor c.actions ≡ None
+  lock_faults_none actor c root (nothing reply right) = refl
+  lock_faults_none actor c root (steps h) =
+      lock_faults set states w.shared past actor (top_of h.below) h.frame h.outcome
+      (ap is_dispatch_level (root ∙ stands.roots actor.thread))
+      (on_top set states w past good stands actor.thread h) (own_top actor.thread h) h.comes
+  lock_faults_none actor c root (issues h) = refl
+
+-- before the first event
+pub locks_begun : (set : Set) (states : States) (threads : ℕ)
+    → LocksAgree states (begun set threads).world []
+locks_begun set states threads t l =
+    ap (λ (frames : List Frame). top_says states frames l) (sym (idle_frames threads t))

@@ -1,0 +1,267 @@
+-- A thread holds the locks that the state of its top frame says, and every step of that frame keeps
+-- that; so no step has a bug check about locks or paged cells.
+use Rattle.std.proofs.Common.{◌≡◌, ℕ, List, [], ◌∷◌, Option, None, Some, Bool, true, false, refl, ap, sym, ◌∙◌}
+use Rattle.std.specs.Prelude.{◌&&◌, not, nat_eq, slice_get, if◌then◌else◌}
+use Rattle.std.specs.List.{list_any}
+use Rattle.std.proofs.lemmas.Bool.{eq-eqb}
+use Rattle.model.specs.declared.abs.Abs.{Abs}
+use Rattle.model.specs.declared.event.BugCheck.{BugCheck}
+use Rattle.model.specs.declared.event.BugCheck.TheVariants.{IrqlNotLessOrEqual, SpinLockAlreadyOwned, SpinLockNotOwned}
+use Rattle.model.specs.declared.event.Lock.{Lock}
+use Rattle.model.specs.declared.event.Subject.{Subject}
+use Rattle.model.specs.declared.event.Subject.TheVariants.{Lock as LockSubject, Cell}
+use Rattle.model.specs.declared.instr.Instr.{Instr}
+use Rattle.model.specs.declared.instr.Instr.TheVariants.{Loop, End, LoadPaged, StorePaged, Put, Mark, Pass, Call, Complete, Ret}
+use Rattle.model.specs.declared.instr.Return.{Return}
+use Rattle.model.specs.declared.instr.Return.TheVariants.{Continue}
+use Rattle.model.specs.declared.set.Sort.{Sort}
+use Rattle.model.specs.declared.set.Sort.TheVariants.{Dispatch, Propagate}
+use Rattle.model.specs.declared.world.Activation.{Activation}
+use Rattle.model.specs.declared.world.Frame.{Frame}
+use Rattle.model.specs.declared.world.Frame.TheVariants.{Routine}
+use Rattle.model.specs.declared.world.Packet.{Packet}
+use Rattle.model.specs.Effect.{Outcome, turned, dispatched, completes_with}
+use Rattle.model.specs.Fault.{is_lock, holds, acquired, is_dispatch_level, at_dispatch, bug_if, first_or}
+use Rattle.model.specs.LocalRule.{holds_lock, handed, level_fault, refuses}
+use Rattle.model.specs.Set.{Set, flow_of, sort_of, lower_of}
+use Rattle.model.specs.Sound.{OperandFits}
+use Rattle.model.specs.Trace.{Entry, Actor, recorded}
+use Rattle.model.specs.World.{Shared, register, next, current_location, asked_of}
+use Rattle.run_laws.proofs.Lists.{all_at}
+use Rattle.run_laws.proofs.Locks.Says.{state_says, frame_says, top_says, free_says, is_locking, handed_says, label_says, Locks, taken, freed}
+use Rattle.run_laws.proofs.Past.Packets.{named}
+use Rattle.run_laws.proofs.States.Entering.{first_state, Begins, begins_lower, begins_back}
+use Rattle.run_laws.proofs.States.Frames.{state_of, Moved, Runs}
+use Rattle.run_laws.proofs.States.LoopEnds.{moved_end}
+use Rattle.run_laws.proofs.States.Moves.{has_next, falls_next, arrives, arrives_next}
+use Rattle.run_laws.proofs.States.Obeyed.{sends_down, completes_one, returns_by}
+use Rattle.run_laws.proofs.States.OnTop.{OnTop, runs}
+use Rattle.run_laws.proofs.States.Rules.{States, first_none, second_none, unbroken}
+use Rattle.run_laws.proofs.Steps.Comes.{Reads, GoesTo, onward, jumping, Comes, computes, opens_loop, turns_loop, pages, touches_gone, looks_at, writes_info, marks_packet, takes_lock, retakes_lock, frees_lock, completes_packet, completes_gone, passes_down, calls_down, returns_status, lets_go, lets_walk, walks_to}
+use Rattle.run_laws.proofs.Steps.Faults.{is_of_locks, fault_among}
+use Rattle.run_laws.proofs.Steps.Locking.{taken_word, freed_word}
+use Rattle.run_laws.proofs.Steps.Words.{Work, Locking, Paging, Forwarding, work_of, is_touching, packet_operand, lock_taken, lock_freed}
+
+-- where an activation goes on after an instruction that is about no lock, the same locks are said
+module _ (set : Set) (states : States) (s : Shared) (a : Activation) (i : Instr)
+    (h : Runs set states s a i) where
+  abbrev Quiet : Activation → Type 0
+  Quiet b = (l : Lock) → frame_says states (Routine b) l ≡ frame_says states (Routine a) l
+
+  quiet_goes : (b : Activation) (jumped : Bool) → is_locking (work_of i) ≡ false
+      → GoesTo a i b jumped → Quiet b
+  quiet_goes b jumped quiet (onward registers on written) l =
+      ap (λ state. state_says state a.device l)
+      (arrives set states s a i h _ false (onward registers on written))
+      ∙ handed_says (state_of states a) i a.device l quiet
+  quiet_goes b jumped quiet (jumping label labelled) l =
+      ap (λ state. state_says state a.device l)
+      (arrives set states s a i h _ true (jumping label labelled))
+      ∙ label_says (state_of states a) i a.device l
+
+  quiet_next : is_locking (work_of i) ≡ false → has_next (flow_of i) ≡ true → Quiet (next a)
+  quiet_next quiet on l =
+      ap (λ state. state_says state a.device l) (arrives_next set states s a i h on)
+      ∙ handed_says (state_of states a) i a.device l quiet
+
+-- a routine that begins says no lock
+module _ (set : Set) (states : States) where
+  first_says : (sort : Sort) (d : ℕ) (l : Lock) → state_says (first_state sort) d l ≡ false
+  first_says Dispatch d l = free_says (first_state Dispatch) d l refl
+  first_says Propagate d l = free_says (first_state Propagate) d l refl
+
+  pub begun_says : (issued : ℕ) (a : Activation) (sort : Sort) (n : ℕ) (l : Lock)
+      → Begins set states issued a sort n
+      → frame_says states (Routine a) l ≡ false
+  begun_says issued a sort n l begins =
+      ap (λ state. state_says state a.device l) begins.start ∙ first_says sort a.device l
+
+-- no lock is held where a paged cell is touched
+level_free : (s : Abs) (sort : Sort) → level_fault s sort ≡ None → holds_lock s ≡ false
+level_free s Dispatch rule = unbroken _ _ rule
+level_free s Propagate rule = cc
+
+paged_free : (s : Abs) (i : Instr) (sort : Sort) (set : Set) (driver : ℕ) → work_of i ≡ Paging
+    → refuses s i sort set driver ≡ None → holds_lock s ≡ false
+paged_free s (LoadPaged r c) sort set driver is rule = level_free s sort (first_none _ _ rule)
+paged_free s (StorePaged c r) sort set driver is rule = level_free s sort (second_none _ _ rule)
+paged_free s _ sort set driver is rule = cc
+
+-- what touches a packet is about no lock
+touch_quiet : (w : Work) → is_touching w ≡ true → is_locking w ≡ false
+touch_quiet Locking is = cc
+touch_quiet _ is = refl
+
+-- where a packet is sent down the caller holds no lock, nor does the routine that begins
+sends : (set : Set) (states : States) (s : Shared) (a : Activation) (i : Instr) → Runs set states s a i
+    → (r lower n : ℕ) (p : Packet) → work_of i ≡ Forwarding → packet_operand i ≡ Some r → Reads s a r n
+    → lower_of set a.device ≡ Some lower → (l : Lock)
+    → frame_says states (Routine a) l
+    ≡ frame_says states
+    (Routine (dispatched set lower (slice_get set.devices lower) (asked_of (current_location p)) n)) l
+sends set states s a i h r lower n p is operand reads below l =
+    free_says (state_of states a) a.device l
+    (sends_down (state_of states a) (sort_of set a.driver a.routine) set a.driver i r h.obeys is
+    operand).free
+    ∙ sym (begun_says set states s.issued
+    (dispatched set lower (slice_get set.devices lower) (asked_of (current_location p)) n) Dispatch n l
+    (begins_lower set states h.good s.issued n (named s (register a r) n reads) a.device lower
+    (asked_of (current_location p)) below))
+
+-- and none is held where a routine returns
+returns : (set : Set) (states : States) (s : Shared) (a : Activation) (form : Return)
+    → Runs set states s a (Ret form)
+    → (l : Lock) → frame_says states (Routine a) l ≡ false
+returns set states s a form h l =
+    free_says (state_of states a) a.device l
+    (returns_by (state_of states a) (sort_of set a.driver a.routine) set a.driver form h.obeys).free
+
+-- the operand of a lock
+operand : (set : Set) (states : States) (s : Shared) (a : Activation) (i : Instr)
+    → Runs set states s a i → OperandFits i
+operand set states s a i h = all_at OperandFits h.routine.code a.position i h.known.operands h.here
+
+-- a lock is held from now on by one of the threads, or not
+now_held : (t : ℕ) (same said before b : Bool) → before ≡ said
+    → (if nat_eq t t && same then b else before) ≡ (if same then b else said)
+now_held t same said before b h = rw (eq-eqb t t refl, h) refl
+
+module _ (set : Set) (states : States) (s : Shared) (past : List Entry) (actor : Actor) where
+  abbrev pub Agrees : Frame → Type 0
+  Agrees f = (l : Lock) → holds past actor.thread l ≡ frame_says states f l
+
+  module _ (a : Activation) (i : Instr) (h : Runs set states s a i) (agrees : Agrees (Routine a)) where
+    locks_taken : (lock : Lock) → lock_taken a i ≡ Some lock
+        → Locks (state_of states a) (handed (state_of states a) i) a.device lock false
+    locks_taken lock takes =
+        taken (state_of states a) a (sort_of set a.driver a.routine) set h.stays.eight i lock takes
+        (operand set states s a i h) h.obeys
+
+    locks_freed : (lock : Lock) → lock_freed a i ≡ Some lock
+        → Locks (state_of states a) (handed (state_of states a) i) a.device lock true
+    locks_freed lock frees =
+        freed (state_of states a) a (sort_of set a.driver a.routine) set h.stays.eight i lock frees
+        (operand set states s a i h) h.obeys
+
+    own_now : (lock : Lock) (held b : Bool) → has_next (flow_of i) ≡ true
+        → ((l : Lock) → state_says (handed (state_of states a) i) a.device l
+        ≡ (if is_lock lock l then b else state_says (state_of states a) a.device l)) → (l : Lock)
+        → (if nat_eq actor.thread actor.thread && is_lock lock l then b else holds past actor.thread l)
+        ≡ frame_says states (Routine (next a)) l
+    own_now lock held b on now l =
+        now_held actor.thread (is_lock lock l) (state_says (state_of states a) a.device l)
+        (holds past actor.thread l) b
+        (agrees l)
+        ∙ sym (now l)
+        ∙ ap (λ state. state_says state a.device l) (sym (arrives_next set states s a i h on))
+
+  -- the locks after a step
+  pub own : (under : Option Frame) (f : Frame) (o : Outcome) → OnTop set states s f → Agrees f
+      → Comes set s actor.thread under f o → (l : Lock)
+      → holds (recorded past actor o.actions) actor.thread l ≡ top_says states o.frames l
+  own under f o top agrees (computes a i b jumped cells at is goes long) l =
+      agrees l ∙ sym
+      (quiet_goes set states s a i (runs set states s a i top at) b jumped (rw is refl) goes l)
+  own under f o top agrees (opens_loop a turns at room) l =
+      agrees l ∙ sym
+      (quiet_next set states s a (Loop turns) (runs set states s a (Loop turns) top at) refl
+      refl l)
+  own under f o top agrees (turns_loop a loop at there) l =
+      let moved : Moved set states s.issued a (turned a loop) (state_of states a) =
+      moved_end set states s a (runs set states s a End top at) loop there in
+      agrees l ∙ ap (λ state. state_says state a.device l) (sym moved.arrives)
+      ∙ ap (λ d. state_says (state_of states (turned a loop)) d l) (sym moved.device)
+  own under f o top agrees (pages a i b cell cells at is goes long) l =
+      agrees l ∙ sym
+      (quiet_goes set states s a i (runs set states s a i top at) b false (rw is refl) goes l)
+  own under f o top agrees (touches_gone a i r n at is on operand reads gone) l =
+      agrees l ∙ sym
+      (quiet_next set states s a i (runs set states s a i top at) (touch_quiet (work_of i) is)
+      (falls_next (flow_of i) on) l)
+  own under f o top agrees (looks_at a i b jumped r n p at is goes operand reads there jumps) l =
+      agrees l ∙ sym
+      (quiet_goes set states s a i (runs set states s a i top at) b jumped (rw is refl) goes l)
+  own under f o top agrees (writes_info a q r n p info at reads there number) l =
+      agrees l ∙ sym
+      (quiet_next set states s a (Put q r) (runs set states s a (Put q r) top at) refl refl l)
+  own under f o top agrees (marks_packet a r n p at reads there) l =
+      agrees l ∙ sym
+      (quiet_next set states s a (Mark r) (runs set states s a (Mark r) top at) refl refl l)
+  own under f o top agrees (takes_lock a i lock at takes free) l =
+      let h : Runs set states s a i = runs set states s a i top at in
+      own_now a i h agrees lock false true (falls_next (flow_of i) (taken_word a i lock takes).on)
+      (locks_taken a i h agrees lock takes).now l
+  own under f o top agrees (retakes_lock a i lock at takes its) l =
+      let h : Runs set states s a i = runs set states s a i top at in
+      own_now a i h agrees lock false true (falls_next (flow_of i) (taken_word a i lock takes).on)
+      (locks_taken a i h agrees lock takes).now l
+  own under f o top agrees (frees_lock a i lock owner at frees there) l =
+      let h : Runs set states s a i = runs set states s a i top at in
+      own_now a i h agrees lock true false (falls_next (flow_of i) (freed_word a i lock frees).on)
+      (locks_freed a i h agrees lock frees).now l
+  own under f o top agrees (completes_packet a r status n p at reads there) l =
+      let h : Runs set states s a (Complete r status) = runs set states s a (Complete r status) top at in
+      agrees l ∙ free_says (state_of states a) a.device l
+      (completes_one (state_of states a) (sort_of set a.driver a.routine) set a.driver r status
+      h.obeys).free
+  own under f o top agrees (completes_gone a r status n at reads gone) l =
+      agrees l ∙ sym
+      (quiet_next set states s a (Complete r status)
+      (runs set states s a (Complete r status) top at)
+      refl refl l)
+  own under f o top agrees (passes_down a r n p lower at reads there below) l =
+      let h : Runs set states s a (Pass r) = runs set states s a (Pass r) top at in
+      agrees l ∙ sends set states s a (Pass r) h r lower n p refl refl reads below l
+  own under f o top agrees (calls_down a r g n p lower at reads there below) l =
+      let h : Runs set states s a (Call r g) = runs set states s a (Call r g) top at in
+      agrees l ∙ sends set states s a (Call r g) h r lower n p refl refl reads below l
+  own under f o top agrees (returns_status a form status at is told) l =
+      agrees l ∙ returns set states s a form (runs set states s a (Ret form) top at) l
+  own under f o top agrees (lets_go a at is walk) l =
+      agrees l ∙ returns set states s a Continue (runs set states s a (Ret Continue) top at) l
+  own under f o top agrees (lets_walk a n at is) l =
+      agrees l ∙ returns set states s a Continue (runs set states s a (Ret Continue) top at) l
+  own under f o top agrees (walks_to n p c there set_there) l =
+      agrees l ∙ sym (begun_says set states s.issued (completes_with set c n) Propagate n l
+      (begins_back set states s top.good top.fits n p c top.stands there set_there))
+  own under f o top agrees _ l = agrees l
+
+  -- so there is no bug check about locks, nor about a paged cell where no thread begins at
+  -- DISPATCH_LEVEL
+  none_held : (locks : List Lock) → ((l : Lock) → holds past actor.thread l ≡ false)
+      → list_any (λ l. holds past actor.thread l) locks ≡ false
+  none_held [] none = refl
+  none_held (l ∷ locks) none = rw (none l) (none_held locks none)
+
+  low_level : is_dispatch_level actor.root ≡ false → ((l : Lock) → holds past actor.thread l ≡ false)
+      → at_dispatch past actor ≡ false
+  low_level low none = rw low (none_held (acquired past) none)
+
+  no_bug : (b : Bool) (check : BugCheck) (subject : Subject) → b ≡ false
+      → first_or (bug_if b check subject) None ≡ None
+  no_bug true check subject h = cc
+  no_bug false check subject h = refl
+
+  pub lock_faults : (under : Option Frame) (f : Frame) (o : Outcome)
+      → is_dispatch_level actor.root ≡ false
+      → OnTop set states s f → Agrees f → Comes set s actor.thread under f o
+      → fault_among is_of_locks past actor o.actions ≡ None
+  lock_faults under f o low top agrees (pages a i b cell cells at is goes long) =
+      let h : Runs set states s a i = runs set states s a i top at in
+      let free : holds_lock (state_of states a) ≡ false =
+      paged_free (state_of states a) i (sort_of set a.driver a.routine) set a.driver is h.obeys in
+      no_bug (at_dispatch past actor) IrqlNotLessOrEqual (Cell cell)
+      (low_level low (λ l. agrees l ∙ free_says (state_of states a) a.device l free))
+  lock_faults under f o low top agrees (takes_lock a i lock at takes free) =
+      let h : Runs set states s a i = runs set states s a i top at in
+      no_bug (holds past actor.thread lock) SpinLockAlreadyOwned (LockSubject lock)
+      (agrees lock ∙ (locks_taken a i h agrees lock takes).before)
+  lock_faults under f o low top agrees (retakes_lock a i lock at takes its) =
+      let h : Runs set states s a i = runs set states s a i top at in
+      no_bug (holds past actor.thread lock) SpinLockAlreadyOwned (LockSubject lock)
+      (agrees lock ∙ (locks_taken a i h agrees lock takes).before)
+  lock_faults under f o low top agrees (frees_lock a i lock owner at frees there) =
+      let h : Runs set states s a i = runs set states s a i top at in
+      no_bug (not (holds past actor.thread lock)) SpinLockNotOwned (LockSubject lock)
+      (ap not (agrees lock ∙ (locks_freed a i h agrees lock frees).before))
+  lock_faults under f o low top agrees _ = refl

@@ -1,0 +1,7 @@
+pub mod LivePackets
+pub mod Stacks
+pub mod Packets
+pub mod Owners
+pub mod Levels
+pub mod Steps
+pub mod Runs

@@ -1,0 +1,65 @@
+-- A thread that holds a lock by the past holds one of those that were acquired.
+use Rattle.std.proofs.Common.{◌≡◌, ℕ, List, [], ◌∷◌, Bool, true, false, cond, sym, ◌∙◌, inl, inr, refl}
+use Rattle.std.specs.Prelude.{◌||◌, ◌&&◌, nat_eq}
+use Rattle.std.specs.List.{list_any}
+use Rattle.std.proofs.lemmas.Bool.{cases_Bool}
+use Rattle.model.specs.declared.event.Lock.{Lock}
+use Rattle.model.specs.Action.{Action, Acquires, Releases}
+use Rattle.model.specs.Fault.{is_lock, holds_after, holds, holds_any, with_acquired, acquired}
+use Rattle.model.specs.Trace.{Entry}
+use Rattle.run_laws.proofs.Past.Owners.{lock_tells}
+
+or_first : (a b : Bool) → a ≡ true → (a || b) ≡ true
+or_first true b h = refl
+or_first false b h = cc
+
+or_second : (a b : Bool) → b ≡ true → (a || b) ≡ true
+or_second true b h = refl
+or_second false b h = h
+
+-- a lock that is held was acquired
+module _ (test : Lock → Bool) (l : Lock) (p : test l ≡ true) where
+  acquired_one : (m : Lock) (locks : List Lock) (b c held : Bool) → is_lock m l ≡ c
+      → cond (b && c) true held ≡ true
+      → (held ≡ true → list_any test locks ≡ true) → (test m || list_any test locks) ≡ true
+  acquired_one m locks true true held same h more =
+      elim (lock_tells m l) [
+        | inl it ↦ or_first (test m) (list_any test locks) (rw it.1 p)
+        | inr other ↦ let no : false ≡ true = sym other ∙ same in cc
+      ]
+  acquired_one m locks false c held same h more = or_second (test m) (list_any test locks) (more h)
+  acquired_one m locks true false held same h more = or_second (test m) (list_any test locks) (more h)
+
+  still_held : (b held : Bool) → cond b false held ≡ true → held ≡ true
+  still_held true held h = cc
+  still_held false held h = h
+
+  acquired_more : (a : Action) (b held : Bool) (locks : List Lock) → holds_after a b l held ≡ true
+      → (held ≡ true → list_any test locks ≡ true) → list_any test (with_acquired a locks) ≡ true
+  acquired_more (Acquires m) b held locks h more = acquired_one m locks b (is_lock m l) held refl h more
+  acquired_more (Releases m) b held locks h more = more (still_held (b && is_lock m l) held h)
+  acquired_more _ b held locks h more = more h
+
+  acquired_held : (past : List Entry) (t : ℕ) → holds past t l ≡ true
+      → list_any test (acquired past) ≡ true
+  acquired_held [] t h = cc
+  acquired_held (e ∷ past) t h =
+      acquired_more e.action (nat_eq e.actor.thread t) (holds past t l) (acquired past) h
+      (acquired_held past t)
+
+pub holds_some : (past : List Entry) (t : ℕ) (l : Lock) → holds past t l ≡ true → holds_any past t ≡ true
+holds_some past t l held = acquired_held (λ m. holds past t m) l held past t held
+
+-- a lock among these that passes a test
+held_among : (test : Lock → Bool) (locks : List Lock) → list_any test locks ≡ true → (l : Lock)
+    × (test l ≡ true)
+held_among test [] h = cc
+held_among test (m ∷ locks) h =
+    elim (cases_Bool (test m)) [
+      | inl p ↦ (m, p)
+      | inr n ↦ let later : list_any test locks ≡ true = rw n at h in held_among test locks later
+    ]
+
+pub lock_held : (past : List Entry) (t : ℕ) → holds_any past t ≡ true → (l : Lock)
+    × (holds past t l ≡ true)
+lock_held past t h = held_among (λ m. holds past t m) (acquired past) h

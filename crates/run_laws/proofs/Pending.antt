@@ -1,0 +1,13 @@
+pub mod Duties
+pub mod LowerStatuses
+pub mod Serving
+pub mod Returned
+pub mod UsesServed
+pub mod DispatchServes
+pub mod Threads
+pub mod CompletionSteps
+pub mod DispatchSteps
+pub mod TopDispatch
+pub mod FramesServe
+pub mod Events
+pub mod Entries

@@ -1,0 +1,338 @@
+-- What a step of a dispatch routine does with the packet that it serves: nothing, or it marks it,
+-- completes it, passes it on, sends it down in a location of its own, or returns a status. What it
+-- leaves serves on.
+use Rattle.std.proofs.Common.{◌≡◌, Bool, List, None, Option, Some, [], ap, arith, false, inl, inr, refl, subst, sym, true, ℕ, ◌+◌, ◌∙◌, ◌∷◌, ◌≤◌, ◌⊎◌}
+use Rattle.std.specs.Prelude.{if◌then◌else◌, nat_eq, ⊤}
+use Rattle.std.specs.List.{list_any}
+use Rattle.std.proofs.lemmas.Bool.{eq-eqb}
+use Rattle.std.proofs.lemmas.Bool.Decides.{eqb_tells}
+use Rattle.model.specs.declared.abs.Duty.{Duty}
+use Rattle.model.specs.declared.abs.Duty.TheVariants.{Finished, Fresh, GivenDown, NoDuty, Pending}
+use Rattle.model.specs.declared.abs.Kind.{Kind}
+use Rattle.model.specs.declared.event.Reply.{Reply}
+use Rattle.model.specs.declared.status.Status.{Status}
+use Rattle.model.specs.declared.world.Activation.{Activation}
+use Rattle.model.specs.declared.world.Frame.{Frame}
+use Rattle.model.specs.declared.world.Frame.TheVariants.{Routine, Walk}
+use Rattle.model.specs.declared.world.Packet.{Packet}
+use Rattle.model.specs.declared.world.Value.{Value}
+use Rattle.model.specs.Action.{Action, Calls, Completes, Executes, Marks, Touches}
+use Rattle.model.specs.Effect.{Outcome, goes_on, leaves, returned}
+use Rattle.model.specs.LocalRule.{is_pending}
+use Rattle.model.specs.Run.{new_tag, tags_after}
+use Rattle.model.specs.Set.{Set}
+use Rattle.model.specs.Trace.{Activated, Actor, Entry, Serving, Tag, recorded, uses_opened}
+use Rattle.model.specs.World.{Shared, World, next}
+use Rattle.run_laws.specs.Holder.{frame_rights, stack_sum}
+use Rattle.run_laws.proofs.Past.LivePackets.{find}
+use Rattle.run_laws.proofs.Pending.LowerStatuses.{Lowers}
+use Rattle.run_laws.proofs.Pending.Returned.{AllAgree, agree_kept, agree_returned, is_telling, silent_about, silent_returns}
+use Rattle.run_laws.proofs.Pending.Serving.{AllServe, Current, FrameServes, Says, ServesUse, TagNames, UnderServes, first_served, served}
+use Rattle.run_laws.proofs.Pending.UsesServed.{BeginsServing, Called, Completed, GivesDown, Settles, begun_serves, called_current, called_says, done_serves, mark_serves, new_serving, passed_serves, plain_serves, refers_still}
+use Rattle.run_laws.proofs.States.Frames.{state_of}
+use Rattle.run_laws.proofs.States.Rules.{States}
+use Rattle.run_laws.proofs.Uses.Fates.{Agreed, late_marks}
+use Rattle.run_laws.proofs.Uses.Traced.{SameUses, is_about, same_recorded}
+
+-- it returns a status as its duty says
+abbrev pub AsDuty : Duty → Bool → List Kind → List Value → Type 0
+AsDuty Fresh b kinds values = ⊥
+AsDuty Pending b kinds values = b ≡ true
+AsDuty Finished b kinds values = b ≡ false
+AsDuty GivenDown b kinds values = (x : Bool) → Lowers x kinds values → b ≡ x
+AsDuty NoDuty b kinds values = ⊥
+
+-- a routine goes on as another activation of itself
+pub record GoesOnAs (states : States) (a b : Activation) : Type 0 where
+  pub driver : b.driver ≡ a.driver
+  pub routine : b.routine ≡ a.routine
+  pub duty : (state_of states b).duty ≡ (state_of states a).duty
+  pub lowers : (x : Bool) → Lowers x (state_of states a).kinds a.registers
+      → Lowers x (state_of states b).kinds b.registers
+
+pub data Does (set : Set) (states : States) (a : Activation) : Outcome → Type 0 where
+  -- one frame goes on, and nothing is told
+  stays_quiet : (after : Shared) (b : Activation) (actions : List Action) (reply : Reply)
+      → GoesOnAs states a b
+      → list_any is_telling actions ≡ false
+      → Does set states a (record (leaves after (Routine b ∷ []) actions) { reply = reply })
+  -- a packet that it was handed is marked
+  marks_own : (after : Shared) (n : ℕ) (p : Packet) → find after.packets n ≡ Some p
+      → 1 ≤ frame_rights states (Routine a) n → (state_of states (next a)).duty ≡ Pending
+      → Does set states a (goes_on after (next a) (Touches n ∷ Marks n ∷ []))
+  -- a packet that it was handed or owns is completed
+  completes_own : (after : Shared) (n : ℕ) (p : Packet) → find after.packets n ≡ Some p
+      → p.completing ≡ true
+      → 1 ≤ frame_rights states (Routine a) n
+      → Completed (state_of states a).duty (state_of states (next a)).duty
+      → Does set states a (leaves after (Routine (next a) ∷ Walk n ∷ []) (Executes ∷ Completes n ∷ []))
+  -- a packet that it was handed is passed on, or one that it has is sent down in a location of its
+  -- own
+  passes_own : (after : Shared) (n : ℕ) (c : Activation) → BeginsServing set states c n
+      → 1 ≤ frame_rights states (Routine a) n → GivesDown set states a (next a)
+      → Does set states a (leaves after (Routine (next a) ∷ Routine c ∷ []) (Executes ∷ Touches n ∷ []))
+  calls_own : (after : Shared) (n : ℕ) (p : Packet) (c : Activation) → find after.packets n ≡ Some p
+      → BeginsServing set states c n → 1 ≤ frame_rights states (Routine a) n
+      → Called set states a (next a)
+      → Does set states a
+      (leaves after (Routine (next a) ∷ Routine c ∷ []) (Executes ∷ Touches n ∷ Calls n ∷ []))
+  -- it returns a status
+  returns_own : (after : Shared) (status : Status)
+      → AsDuty (state_of states a).duty (is_pending status) (state_of states a).kinds a.registers
+      → Does set states a (returned after status)
+
+-- it leaves packets alone that it has no right to
+owned_apart : (states : States) (a : Activation) (m n : ℕ) → 1 ≤ frame_rights states (Routine a) m
+    → frame_rights states (Routine a) n ≡ 0 → nat_eq m n ≡ false
+owned_apart states a m n owned none =
+    elim (eqb_tells m n) [
+      | inl e ↦
+          let same : frame_rights states (Routine a) m ≡ frame_rights states (Routine a) n =
+          ap (λ (k : ℕ). frame_rights states (Routine a) k) e.1 in
+          absurd (omega arith)
+      | inr e ↦ e.0
+    ]
+
+pub does_spare : (set : Set) (states : States) (a : Activation) (o : Outcome) → Does set states a o
+    → (n : ℕ)
+    → frame_rights states (Routine a) n ≡ 0 → list_any (is_about n) o.actions ≡ false
+does_spare set states a o (stays_quiet after b actions reply same silent) n none =
+    silent_about n actions silent
+does_spare set states a o (marks_own after m p there owned duty) n none =
+    let apart : nat_eq m n ≡ false = owned_apart states a m n owned none in rw apart refl
+does_spare set states a o (calls_own after m p c there begins owned gives) n none =
+    let apart : nat_eq m n ≡ false = owned_apart states a m n owned none in rw apart refl
+does_spare set states a o _ n none = refl
+
+-- a frame that isn't a completion routine's
+abbrev pub OnRoutine : Option Frame → Type 0
+OnRoutine None = ⊤
+OnRoutine (Some (Routine b)) = ⊤
+OnRoutine (Some (Walk m)) = ⊥
+
+-- what is agreed on is returned
+returned_agreed : (set : Set) (states : States) (w : World) (past : List Entry) (v : Serving)
+    (a : Activation)
+    (d : Duty) (b : Bool) → AsDuty d b (state_of states a).kinds a.registers
+    → Says set states w past v a None d
+    → Agreed states w past v b
+returned_agreed set states w past v a Fresh b duty h = absurd duty
+returned_agreed set states w past v a Pending b duty h =
+    subst (λ (x : Bool). Agreed states w past v x) (sym duty) h
+returned_agreed set states w past v a Finished b duty h =
+    subst (λ (x : Bool). Agreed states w past v x) (sym duty) h
+returned_agreed set states w past v a GivenDown b duty h =
+    subst (λ (x : Bool). Agreed states w past v x) (sym (duty h.pending h.lowers)) h.agreed
+returned_agreed set states w past v a NoDuty b duty h = absurd duty
+
+module _ (set : Set) (states : States) (w later_w : World) (past : List Entry) (actor : Actor)
+    (number : ℕ)
+    (under : Option Frame) (v : Serving) (a : Activation) where
+  -- what is known when a dispatch routine takes a step
+  pub record Stepping (o : Outcome) : Type 0 where
+    pub on : OnRoutine under
+    pub names : TagNames a.driver a.routine actor.tag
+    pub tagged : served actor.tag ≡ Some v
+    pub shared : later_w.shared ≡ o.shared
+    pub serves_use : ServesUse set states w past v a None
+    pub settles : Settles states w past later_w (recorded past actor o.actions)
+    pub agree : AllAgree states w past
+    pub less : (n : ℕ) → stack_sum (λ g. frame_rights states g n) o.frames ≤ frame_rights states
+        (Routine a) n
+    pub one : (n : ℕ) → frame_rights states (Routine a) n ≤ 1
+    pub late : (b : Activation) (n : ℕ) → o.frames ≡ Routine b ∷ Walk n ∷ [] → (returned : Bool)
+        → late_marks states returned n later_w.threads ≡ 0
+
+  abbrev pub tags_for : Outcome → List Tag
+  tags_for o = tags_after set (recorded past actor o.actions) number (Routine a ∷ [])
+      (actor.tag ∷ []) o.frames
+
+  -- the routine goes on serving its use, or a status is returned from it
+  pub record ReturnsFrom (o : Outcome) : Type 0 where
+    pub status : Status
+    pub is : o.told ≡ Some status
+    pub none : o.frames ≡ []
+    pub agreed : Agreed states later_w (recorded past actor o.actions) v (is_pending status)
+
+  pub record StepServes (o : Outcome) : Type 0 where
+    pub serve : AllServe set states later_w (recorded past actor o.actions) under o.frames (tags_for o)
+    pub goes : ((o.told ≡ None) × (first_served (tags_for o) ≡ Some v)) ⊎ ReturnsFrom o
+    pub agree : AllAgree states later_w (recorded past actor o.actions)
+
+  serve_put : (later : List Entry) (over : Option Serving) (b : Activation) → OnRoutine under
+      → (b.driver ≡ a.driver) × (b.routine ≡ a.routine) → TagNames a.driver a.routine actor.tag
+      → served actor.tag ≡ Some v → ServesUse set states later_w later v b over
+      → FrameServes set states later_w later under over (Routine b) actor.tag
+  serve_put later over b on same names tagged h = (
+    rw (same.0, same.1) names,
+    subst (λ (x : Option Serving). UnderServes set states later_w later under b over x) (sym tagged)
+        (under_put under on),
+  )
+    where
+      under_put : (u : Option Frame) → OnRoutine u
+          → UnderServes set states later_w later u b over (Some v)
+      under_put None on = h
+      under_put (Some (Routine c)) on = h
+      under_put (Some (Walk m)) on = absurd on
+
+  -- the first of the frames that it leaves has no other right
+  first_less : (o : Outcome) (b : Activation) (rest : List Frame) → Stepping o
+      → o.frames ≡ Routine b ∷ rest → (n : ℕ)
+      → frame_rights states (Routine b) n ≤ frame_rights states (Routine a) n
+  first_less o b rest h is n =
+      let all : stack_sum (λ g. frame_rights states g n) o.frames
+      ≡ frame_rights states (Routine b) n + stack_sum (λ g. frame_rights states g n) rest =
+      ap (stack_sum (λ g. frame_rights states g n)) is in
+      let le : stack_sum (λ g. frame_rights states g n) o.frames ≤ frame_rights states (Routine a) n
+      = h.less n in
+      omega arith
+
+  -- after a call it has none
+  none_left : (o : Outcome) (n : ℕ) (b c : Activation) → BeginsServing set states c n → Stepping o
+      → o.frames ≡ Routine b ∷ Routine c ∷ [] → 1 ≤ frame_rights states (Routine b) n → ⊥
+  none_left o n b c begins h is some =
+      let all : stack_sum (λ g. frame_rights states g n) o.frames
+      ≡ frame_rights states (Routine b) n + (frame_rights states (Routine c) n + 0) =
+      ap (stack_sum (λ g. frame_rights states g n)) is in
+      let le : stack_sum (λ g. frame_rights states g n) o.frames ≤ frame_rights states (Routine a) n
+      = h.less n in
+      let one : frame_rights states (Routine a) n ≤ 1 = h.one n in
+      let own : frame_rights states (Routine c) n ≡ (if nat_eq n n then 1 else 0) = begins.rights n in
+      let same : nat_eq n n ≡ true = eq-eqb n n refl in
+      let new : frame_rights states (Routine c) n ≡ 1 = rw same at own in
+      omega arith
+
+  silent_uses : (o : Outcome) → list_any is_telling o.actions ≡ false → (n : ℕ)
+      → SameUses past (recorded past actor o.actions) n
+  silent_uses o silent n = same_recorded past actor o.actions n (silent_about n o.actions silent)
+
+  there_then : (o : Outcome) (n : ℕ) (p : Packet) → Stepping o → find o.shared.packets n ≡ Some p
+      → find later_w.shared.packets n ≡ Some p
+  there_then o n p h there = ap (λ (s : Shared). find s.packets n) h.shared ∙ there
+
+  -- the routine that is asked is given its tag
+  asked_serve : (later : List Entry) (b c : Activation) (lower : Serving) (tag : Tag)
+      → tag ≡ Activated number c.driver c.routine (Some lower) → OnRoutine under
+      → (b.driver ≡ a.driver) × (b.routine ≡ a.routine) → TagNames a.driver a.routine actor.tag
+      → served actor.tag ≡ Some v → ServesUse set states later_w later v b (Some lower)
+      → ServesUse set states later_w later lower c None
+      → AllServe set states later_w later under (Routine b ∷ Routine c ∷ []) (actor.tag ∷ tag ∷ [])
+  asked_serve later b c lower tag is on same names tagged one other =
+      subst (λ (x : Tag). AllServe set states later_w later under (Routine b ∷ Routine c ∷ [])
+      (actor.tag ∷ x ∷ []))
+      (sym is) (serve_put later (Some lower) b on same names tagged one, (((refl, refl), other), tt))
+
+  -- of the packet of its own use
+  calls_serves : (after : Shared) (p : Packet) (c : Activation) → find after.packets v.packet ≡ Some p
+      → BeginsServing set states c v.packet → 1 ≤ frame_rights states (Routine a) v.packet
+      → Called set states a (next a)
+      → Stepping (leaves after (Routine (next a) ∷ Routine c ∷ [])
+      (Executes ∷ Touches v.packet ∷ Calls v.packet ∷ []))
+      → StepServes (leaves after (Routine (next a) ∷ Routine c ∷ [])
+      (Executes ∷ Touches v.packet ∷ Calls v.packet ∷ []))
+  calls_serves after p c there begins owned gives h =
+      let n : ℕ = v.packet in
+      let o : Outcome =
+      leaves after (Routine (next a) ∷ Routine c ∷ []) (Executes ∷ Touches n ∷ Calls n ∷ []) in
+      let later : List Entry = recorded past actor o.actions in
+      let lower : Serving = record { packet = n; «use» = uses_opened past } in
+      let less : (m : ℕ) → frame_rights states (Routine (next a)) m ≤ frame_rights states (Routine a) m =
+      first_less o (next a) (Routine c ∷ []) h refl in
+      let current : Current later lower false = called_current states w later_w past actor n h.settles in
+      record {
+        serve = asked_serve later (next a) c lower (new_tag set later number (Routine c))
+            (new_serving set states later number c n lower begins refl current.0) h.on (refl, refl)
+            h.names h.tagged
+            (record {
+              refers = refers_still set states w later_w past later v a (next a) h.serves_use less;
+              current = λ some. absurd (none_left o n (next a) c begins h refl some);
+              says = called_says set states w later_w past actor v a (next a) h.serves_use less p
+                  h.settles
+                  (there_then o n p h there) (h.serves_use.current owned) gives;
+            })
+            (begun_serves set states later_w later lower c n begins refl current);
+        goes = inl (refl, h.tagged);
+        agree = agree_kept states w later_w past actor o.actions h.settles.keeps refl h.agree;
+      }
+
+  -- every step of a dispatch routine
+  pub dispatch_serves : (o : Outcome) → Does set states a o → Stepping o → StepServes o
+  dispatch_serves o (stays_quiet after b actions reply same silent) h =
+      let o : Outcome = record (leaves after (Routine b ∷ []) actions) { reply = reply } in
+      let later : List Entry = recorded past actor actions in
+      record {
+        serve = (
+          serve_put later None b h.on (same.driver, same.routine) h.names h.tagged
+              (plain_serves set states w later_w past later v a b h.serves_use (first_less o b [] h refl)
+              h.settles.keeps (silent_uses o silent v.packet) same.duty same.lowers),
+          tt,
+        );
+        goes = inl (refl, h.tagged);
+        agree = agree_kept states w later_w past actor actions h.settles.keeps
+            (silent_returns actions silent) h.agree;
+      }
+  dispatch_serves o (marks_own after n p there owned duty) h =
+      let o : Outcome = goes_on after (next a) (Touches n ∷ Marks n ∷ []) in
+      record {
+        serve = (
+          serve_put (recorded past actor o.actions) None (next a) h.on (refl, refl) h.names h.tagged
+              (mark_serves set states w later_w past actor v a (next a) h.serves_use
+              (first_less o (next a) [] h refl)
+              n p h.settles (there_then o n p h there) owned duty),
+          tt,
+        );
+        goes = inl (refl, h.tagged);
+        agree = agree_kept states w later_w past actor o.actions h.settles.keeps refl h.agree;
+      }
+  dispatch_serves o (completes_own after n p there done owned duty) h =
+      let o : Outcome = leaves after (Routine (next a) ∷ Walk n ∷ []) (Executes ∷ Completes n ∷ []) in
+      let later : List Entry = recorded past actor o.actions in
+      record {
+        serve = (
+          serve_put later None (next a) h.on (refl, refl) h.names h.tagged
+              (done_serves set states w later_w past later v a (next a) h.serves_use
+              (first_less o (next a) (Walk n ∷ []) h refl) n p h.settles (silent_uses o refl)
+              (there_then o n p h there) done (h.late (next a) n refl p.pending_returned) owned duty),
+          (refl, tt),
+        );
+        goes = inl (refl, h.tagged);
+        agree = agree_kept states w later_w past actor o.actions h.settles.keeps refl h.agree;
+      }
+  dispatch_serves o (passes_own after n c begins owned gives) h =
+      let o : Outcome = leaves after (Routine (next a) ∷ Routine c ∷ []) (Executes ∷ Touches n ∷ []) in
+      let later : List Entry = recorded past actor o.actions in
+      let packet : n ≡ v.packet = h.serves_use.refers n owned in
+      let both : Current later v false × ServesUse set states later_w later v (next a) (Some v) =
+      passed_serves set states w later_w past later v a (next a) h.serves_use
+      (first_less o (next a) (Routine c ∷ []) h refl) n (silent_uses o refl v.packet) owned gives
+      in
+      record {
+        serve = asked_serve later (next a) c v (new_tag set later number (Routine c))
+            (new_serving set states later number c n v begins packet both.0.0) h.on (refl, refl)
+            h.names h.tagged both.1
+            (begun_serves set states later_w later v c n begins packet both.0);
+        goes = inl (refl, h.tagged);
+        agree = agree_kept states w later_w past actor o.actions h.settles.keeps refl h.agree;
+      }
+  dispatch_serves o (calls_own after n p c there begins owned gives) h =
+      subst (λ (m : ℕ). find after.packets m ≡ Some p → BeginsServing set states c m
+      → 1 ≤ frame_rights states (Routine a) m
+      → Stepping (leaves after (Routine (next a) ∷ Routine c ∷ []) (Executes ∷ Touches m ∷ Calls m ∷ []))
+      → StepServes (leaves after (Routine (next a) ∷ Routine c ∷ [])
+      (Executes ∷ Touches m ∷ Calls m ∷ [])))
+      (sym (h.serves_use.refers n owned)) (λ t b own. calls_serves after p c t b own gives) there
+      begins owned h
+  dispatch_serves o (returns_own after status duty) h =
+      let o : Outcome = returned after status in
+      let later : List Entry = recorded past actor o.actions in
+      let agreed : Agreed states later_w later v (is_pending status) =
+      h.settles.keeps.agreed v (is_pending status)
+      (returned_agreed set states w past v a (state_of states a).duty (is_pending status) duty
+      h.serves_use.says)
+      in
+      record {
+        serve = tt;
+        goes = inr (record { status = status; is = refl; none = refl; agreed = agreed });
+        agree = agree_returned states w later_w past actor v status h.tagged h.settles.keeps agreed
+            h.agree;
+      }

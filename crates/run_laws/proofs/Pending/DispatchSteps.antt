@@ -1,0 +1,400 @@
+-- Every step of a dispatch routine, by what it does with the packet that it serves.
+use Rattle.std.proofs.Common.{◌≡◌, Bool, List, None, Option, Some, [], ap, arith, false, inl, inr, refl, subst, sym, true, ℕ, ◌+◌, ◌<◌, ◌∙◌, ◌∷◌, ◌++◌, ◌⊎◌}
+use Rattle.std.specs.Prelude.{slice_get, slice_index_or, slice_set}
+use Rattle.std.specs.List.{list_any}
+use Rattle.model.specs.declared.abs.Abs.{Abs}
+use Rattle.model.specs.declared.abs.Duty.{Duty}
+use Rattle.model.specs.declared.abs.Duty.TheVariants.{Finished, Fresh, GivenDown, NoDuty, Pending}
+use Rattle.model.specs.declared.abs.Kind.{Kind}
+use Rattle.model.specs.declared.abs.Kind.TheVariants.{Blank as BlankKind, Num as NumKind, Lower as LowerKind, New, Own, View}
+use Rattle.model.specs.declared.abs.Settled.{Settled}
+use Rattle.model.specs.declared.event.Reply.TheVariants.{Stepped, Waited}
+use Rattle.model.specs.declared.instr.Instr.{Instr}
+use Rattle.model.specs.declared.instr.Instr.TheVariants.{Call, Complete, Loop, Mark, Pass, Put, Ret}
+use Rattle.model.specs.declared.instr.Return.{Return}
+use Rattle.model.specs.declared.instr.Return.TheVariants.{Continue, Lower as LowerStatus, WithStatus}
+use Rattle.model.specs.declared.set.Sort.TheVariants.{Dispatch, Propagate}
+use Rattle.model.specs.declared.status.Status.{Status}
+use Rattle.model.specs.declared.world.Activation.{Activation}
+use Rattle.model.specs.declared.world.Frame.{Frame}
+use Rattle.model.specs.declared.world.Frame.TheVariants.{Routine}
+use Rattle.model.specs.declared.world.Packet.{Packet}
+use Rattle.model.specs.declared.world.Value.{Value}
+use Rattle.model.specs.declared.world.Value.TheVariants.{Blank, Num, Ref, Status as StatusValue}
+use Rattle.model.specs.Action.{Acquires, Executes, Releases, Touches, TouchesPaged}
+use Rattle.model.specs.Effect.{Outcome, answered, dispatched, operand_of, set_by, turned}
+use Rattle.model.specs.Fault.{first_fault}
+use Rattle.model.specs.LocalRule.{complete_kind, demanded, duty_completed, given_down, handed, is_given_down, is_kept, is_lower, is_pending, is_right, is_view, kind_of, mark_fault, marked, one_handed_or_owned, status_fault, with_kind}
+use Rattle.model.specs.Set.{Set, flow_of, lower_of, sort_of}
+use Rattle.model.specs.Trace.{Actor, Entry}
+use Rattle.model.specs.World.{Shared, asked_of, completed, current_location, mark_current, next, packet_of, register, sent_down, shared_with, status_in, with_info, with_locks, with_loops, with_owner, with_packet}
+use Rattle.run_laws.proofs.Past.LivePackets.{find}
+use Rattle.run_laws.proofs.Past.Packets.{found, named, numbered}
+use Rattle.run_laws.proofs.Pending.CompletionSteps.{goes_same, turned_same}
+use Rattle.run_laws.proofs.Pending.DispatchServes.{AsDuty, Does, GoesOnAs, calls_own, completes_own, marks_own, passes_own, returns_own, stays_quiet}
+use Rattle.run_laws.proofs.Pending.Duties.{Arrived, Dutied, Dutiful, counted, is_new, kinds_that, new_fresh, own_pending, passes_new}
+use Rattle.run_laws.proofs.Pending.LowerStatuses.{LowerIs, Lowers, lowers_get, lowers_move, lowers_none, lowers_set}
+use Rattle.run_laws.proofs.Pending.UsesServed.{BeginsServing, Called, Completed, GivesDown}
+use Rattle.run_laws.proofs.States.Fine.{completion_top, not_gone, touch_top}
+use Rattle.run_laws.proofs.States.Frames.{Runs, state_of}
+use Rattle.run_laws.proofs.States.Kinds.{still_kinds, label_kinds, number_kinds}
+use Rattle.run_laws.proofs.States.Lacking.{down}
+use Rattle.run_laws.proofs.States.Moves.{arrives, arrives_next, falls_next, has_next, onto}
+use Rattle.run_laws.proofs.States.Obeyed.{ReturnsBy, completes_one, returns_by}
+use Rattle.run_laws.proofs.Steps.Locking.{LockWord, freed_word, taken_word}
+use Rattle.run_laws.proofs.States.Rules.{States, first_none, second_none, unbroken}
+use Rattle.run_laws.proofs.Steps.Comes.{Comes, Executing, GoesTo, Lacks, Written, awaits_lock, calls_down, completes_gone, completes_packet, computes, errs, frees_lock, jumping, lets_go, lets_walk, looks_at, keeps_all, makes_blank, makes_number, marks_packet, moves_over, onward, opens_loop, pages, passes_down, retakes_lock, returns_status, takes_lock, touches_gone, turns_loop, writes_info}
+use Rattle.run_laws.proofs.Steps.Words.{is_giving, keeps_registers, status_returned, work_of}
+use Rattle.run_laws.proofs.Tests.{not_false, or_left, or_right}
+use Rattle.run_laws.proofs.Uses.Steps.{found_put}
+use Rattle.run_laws.proofs.Uses.RoutineSteps.{StepsRoutine}
+
+-- what leaves the packets with who has them leaves the duty
+onto_duty : (s : Abs) (i : Instr) (jumped : Bool) → is_giving (work_of i) ≡ false
+    → (onto s i jumped).duty ≡ s.duty
+onto_duty s (Mark r) jumped h = cc
+onto_duty s (Pass r) jumped h = cc
+onto_duty s (Call r f) jumped h = cc
+onto_duty s (Complete r status) jumped h = cc
+onto_duty s _ true h = refl
+onto_duty s _ false h = refl
+
+-- kinds of packets that a dispatch routine marks, completes and sends down
+mark_new : (carried : Settled) (k : Kind) → mark_fault carried k ≡ None → is_view k ≡ false → k ≡ New
+mark_new carried New h seen = refl
+mark_new carried View h seen = cc
+mark_new carried Own h seen = cc
+mark_new carried BlankKind h seen = cc
+mark_new carried NumKind h seen = cc
+mark_new carried LowerKind h seen = cc
+
+marked_pending : (s : Abs) (r : ℕ) (k : Kind) → k ≡ New → (marked s r k).duty ≡ Pending
+marked_pending s r New is = refl
+marked_pending s r _ is = cc
+
+complete_duty : (s : Abs) (r : ℕ) (k : Kind) → Dutiful s → complete_kind k ≡ None → kind_of s r ≡ k
+    → Completed s.duty (duty_completed k s.duty)
+complete_duty s r New h rule is = inl (new_fresh s r h is, refl)
+complete_duty s r Own h rule is = inr (own_pending s r h is, own_pending s r h is)
+complete_duty s r View h rule is = cc
+complete_duty s r BlankKind h rule is = cc
+complete_duty s r NumKind h rule is = cc
+complete_duty s r LowerKind h rule is = cc
+
+call_owned : (k : Kind) → demanded one_handed_or_owned k ≡ None → (k ≡ New) ⊎ (k ≡ Own)
+call_owned New h = inl refl
+call_owned Own h = inr refl
+call_owned View h = cc
+call_owned BlankKind h = cc
+call_owned NumKind h = cc
+call_owned LowerKind h = cc
+
+given_new : (s : Abs) (r : ℕ) (k : Kind) → k ≡ New
+    → given_down s r k ≡ record (with_kind s r LowerKind) { duty = GivenDown }
+given_new s r New is = refl
+given_new s r _ is = cc
+
+given_own : (s : Abs) (r : ℕ) (k : Kind) → k ≡ Own → (given_down s r k).duty ≡ s.duty
+given_own s r Own is = refl
+given_own s r _ is = cc
+
+-- no lower status is left in a state in which a packet is handed over
+no_lowers : (s : Abs) (r : ℕ) → Dutiful s → kind_of s r ≡ New → kinds_that is_lower s.kinds ≡ 0
+no_lowers s r h is =
+    let fresh : Dutied Fresh s.kinds = subst (λ (d : Duty). Dutied d s.kinds) (new_fresh s r h is) h in
+    fresh.2
+
+-- a status of its own is returned
+new_kept : (k : Kind) (b : Bool) → is_new k ≡ b → is_kept k ≡ false → counted is_new k ≡ 0
+new_kept k false is none = rw is refl
+new_kept New true is none = cc
+new_kept View true is none = cc
+new_kept Own true is none = cc
+new_kept BlankKind true is none = cc
+new_kept NumKind true is none = cc
+new_kept LowerKind true is none = cc
+
+no_new : (kinds : List Kind) → list_any is_kept kinds ≡ false → kinds_that is_new kinds ≡ 0
+no_new [] none = refl
+no_new (k ∷ kinds) none =
+    let others : kinds_that is_new kinds ≡ 0 =
+    no_new kinds (or_right (is_kept k) (list_any is_kept kinds) none) in
+    let one : counted is_new k ≡ 0 =
+    new_kept k (is_new k) refl (or_left (is_kept k) (list_any is_kept kinds) none) in
+    omega arith
+
+with_status : (d : Duty) (kinds : List Kind) (values : List Value) (status : Status) → Dutied d kinds
+    → status_fault d status ≡ None → kinds_that is_new kinds ≡ 0
+    → AsDuty d (is_pending status) kinds values
+with_status Fresh kinds values status h rule none = let one : kinds_that is_new kinds ≡ 1 =
+    h.0 in absurd (omega arith)
+with_status Pending kinds values status h rule none = not_false _ (unbroken _ _ rule)
+with_status Finished kinds values status h rule none = unbroken _ _ rule
+with_status GivenDown kinds values status h rule none = cc
+with_status NoDuty kinds values status h rule none = absurd h
+
+-- a lower driver's
+given_is : (d : Duty) → is_given_down d ≡ true → d ≡ GivenDown
+given_is GivenDown h = refl
+given_is _ h = cc
+
+lower_is : (k : Kind) → is_lower k ≡ true → k ≡ LowerKind
+lower_is LowerKind h = refl
+lower_is _ h = cc
+
+status_value : (v : Value) (status : Status) → status_in v ≡ Some status → v ≡ StatusValue status
+status_value (StatusValue other) status h = let same : other ≡ status = cc in ap StatusValue same
+status_value Blank status h = cc
+status_value (Num n) status h = cc
+status_value (Ref n) status h = cc
+
+lower_told : (x : Bool) (k : Kind) (v : Value) (status : Status) → k ≡ LowerKind → v ≡ StatusValue status
+    → LowerIs x k v → is_pending status ≡ x
+lower_told x k v status kind value h = rw (kind, value) at h
+
+with_lower : (d : Duty) (kinds : List Kind) (values : List Value) (r : ℕ) (status : Status)
+    → d ≡ GivenDown
+    → slice_index_or kinds r BlankKind ≡ LowerKind → slice_index_or values r Blank ≡ StatusValue status
+    → AsDuty d (is_pending status) kinds values
+with_lower GivenDown kinds values r status is kind value =
+    λ x lowers. lower_told x (slice_index_or kinds r BlankKind) (slice_index_or values r Blank)
+    status kind value
+    (lowers_get x kinds values r lowers)
+with_lower _ kinds values r status is kind value = cc
+
+-- what is known of a dispatch routine's frame that steps
+pub record StepsDispatch (set : Set) (states : States) (s : Shared) (past : List Entry)
+    (under : Option Frame)
+    (a : Activation) : Type 0 where
+  pub routine : StepsRoutine set states s past under a
+  pub lacks : Lacks set s a → ⊥
+  pub is : sort_of set a.driver a.routine ≡ Dispatch
+  pub arrived : Arrived (state_of states a)
+  pub unseen : (r : ℕ) → is_view (kind_of (state_of states a) r) ≡ false
+  pub answers : (r : ℕ) (i : Instr) (status : Status) → Executing set a i → operand_of (Some i) ≡ Some r
+      → (answered set (next a) status).registers ≡ slice_set a.registers r (StatusValue status)
+  pub begins : (lower n : ℕ) (p : Packet) → lower_of set a.device ≡ Some lower → n < s.issued
+      → BeginsServing set states
+      (dispatched set lower (slice_get set.devices lower) (asked_of (current_location p)) n) n
+
+module _ (set : Set) (states : States) (s : Shared) (past : List Entry) (actor : Actor) (t : ℕ)
+    (under : Option Frame) (a : Activation) (h : StepsDispatch set states s past under a) where
+  abbrev now : Abs
+  now = state_of states a
+
+  -- the statuses of lower drivers that are left
+  lowers_on : (x : Bool) (i : Instr) (registers : List Value) → Runs set states s a i
+      → is_giving (work_of i) ≡ false → Written a i registers → Lowers x now.kinds a.registers
+      → Lowers x (handed now i).kinds registers
+  lowers_on x i registers run duty (keeps_all _ same) left =
+      subst (λ (kinds : List Kind). Lowers x kinds a.registers) (sym (still_kinds now i same duty)) left
+  lowers_on x i registers run duty (makes_number _ r n is) left =
+      subst (λ (kinds : List Kind). Lowers x kinds (slice_set a.registers r (Num n)))
+      (sym (number_kinds now (sort_of set a.driver a.routine) set a.driver i r run.obeys is))
+      (lowers_set x now.kinds a.registers r NumKind (Num n) left tt)
+  lowers_on x i registers run duty (moves_over r q) left = lowers_move x now.kinds a.registers r q left
+  lowers_on x i registers run duty (makes_blank r) left =
+      lowers_set x now.kinds a.registers r BlankKind Blank left tt
+
+  lowers_to : (x : Bool) (i : Instr) (b : Activation) (jumped : Bool) → Runs set states s a i
+      → is_giving (work_of i) ≡ false → GoesTo a i b jumped → Lowers x now.kinds a.registers
+      → Lowers x (onto now i jumped).kinds b.registers
+  lowers_to x i b jumped run duty (onward registers on written) left =
+      lowers_on x i registers run duty written left
+  lowers_to x i b jumped run duty (jumping label labelled) left =
+      subst (λ (kinds : List Kind). Lowers x kinds a.registers) (sym (label_kinds now i)) left
+
+  goes_as : (i : Instr) (b : Activation) (jumped : Bool) → Executing set a i
+      → is_giving (work_of i) ≡ false
+      → GoesTo a i b jumped → GoesOnAs states a b
+  goes_as i b jumped at duty goes =
+      let run : Runs set states s a i = h.routine.runs i at in
+      let there : state_of states b ≡ onto now i jumped = arrives set states s a i run b jumped goes in
+      record {
+        driver = (goes_same a i b jumped goes).0;
+        routine = (goes_same a i b jumped goes).1;
+        duty = ap (λ (state : Abs). state.duty) there ∙ onto_duty now i jumped duty;
+        lowers = λ x left. subst (λ (state : Abs). Lowers x state.kinds b.registers) (sym there)
+            (lowers_to x i b jumped run duty goes left);
+      }
+
+  -- the next position, with the same registers
+  next_as : (i : Instr) (b : Activation) → Executing set a i → has_next (flow_of i) ≡ true
+      → is_giving (work_of i) ≡ false → keeps_registers i ≡ true → b.driver ≡ a.driver
+      → b.routine ≡ a.routine → b.registers ≡ a.registers
+      → state_of states b ≡ states a.driver a.routine (a.position + 1) → GoesOnAs states a b
+  next_as i b at leads duty keeps driver routine registers position =
+      let there : state_of states b ≡ handed now i =
+      position ∙ arrives_next set states s a i (h.routine.runs i at) leads in
+      record {
+        driver = driver;
+        routine = routine;
+        duty = ap (λ (state : Abs). state.duty) there ∙ onto_duty now i false duty;
+        lowers = λ x left.
+            subst (λ (values : List Value). Lowers x (state_of states b).kinds values)
+            (sym registers)
+            (subst (λ (kinds : List Kind). Lowers x kinds a.registers)
+            (sym (ap (λ (state : Abs). state.kinds) there ∙ still_kinds now i keeps duty)) left);
+      }
+
+  locks_as : (i : Instr) → Executing set a i → LockWord i → GoesOnAs states a (next a)
+  locks_as i at word =
+      next_as i (next a) at (falls_next (flow_of i) word.on) (ap is_giving word.work) word.keeps
+      refl refl refl refl
+
+  put_there : (n : ℕ) (p q : Packet) → packet_of s n ≡ Some p → q.number ≡ p.number
+      → find (with_packet s n q).packets n ≡ Some q
+  put_there n p q there same = found_put s n p q (found s n (Some p) there) (same ∙ numbered s n p there)
+
+  -- a packet is given down
+  gives_down : (i : Instr) (r : ℕ) → Executing set a i → has_next (flow_of i) ≡ true
+      → operand_of (Some i) ≡ Some r
+      → handed now i ≡ given_down now r (kind_of now r) → kind_of now r ≡ New
+      → GivesDown set states a (next a)
+  gives_down i r at leads operand given is =
+      let there : state_of states (next a) ≡ record (with_kind now r LowerKind) { duty = GivenDown } =
+      arrives_next set states s a i (h.routine.runs i at) leads ∙ given
+      ∙ given_new now r (kind_of now r) is in
+      record {
+        before = new_fresh now r h.arrived.dutiful is;
+        after = ap (λ (state : Abs). state.duty) there;
+        answer = λ status.
+            subst (λ (values : List Value). Lowers (is_pending status)
+            (state_of states (next a)).kinds values)
+            (sym (h.answers r i status at operand))
+            (subst (λ (state : Abs). Lowers (is_pending status) state.kinds
+            (slice_set a.registers r (StatusValue status))) (sym there)
+            (lowers_set (is_pending status) now.kinds a.registers r LowerKind (StatusValue status)
+            (lowers_none (is_pending status) now.kinds a.registers
+            (no_lowers now r h.arrived.dutiful is)) refl));
+      }
+
+  called_down : (r : ℕ) (f : Option ℕ) → Executing set a (Call r f)
+      → (kind_of now r ≡ New) ⊎ (kind_of now r ≡ Own) → Called set states a (next a)
+  called_down r f at (inl is) = inl (gives_down (Call r f) r at refl refl refl is)
+  called_down r f at (inr is) =
+      let before : now.duty ≡ Pending = own_pending now r h.arrived.dutiful is in
+      inr (
+        before,
+        ap (λ (state : Abs). state.duty)
+            (arrives_next set states s a (Call r f) (h.routine.runs (Call r f) at) refl)
+            ∙ given_own now r (kind_of now r) is ∙ before,
+      )
+
+  -- a return
+  returns_as : (form : Return) (status : Status)
+      → ReturnsBy now (sort_of set a.driver a.routine) set a.driver form
+      → status_returned a form ≡ Some status → AsDuty now.duty (is_pending status) now.kinds a.registers
+  returns_as (WithStatus own) status by there =
+      let same : own ≡ status = cc in
+      subst (λ (x : Status). AsDuty now.duty (is_pending x) now.kinds a.registers) same
+      (with_status now.duty now.kinds a.registers own h.arrived.dutiful by.duty
+      (no_new now.kinds by.nothing_left))
+  returns_as (LowerStatus r) status by there =
+      with_lower now.duty now.kinds a.registers r status
+      (given_is now.duty (not_false _ (unbroken _ _ (second_none _ _ by.duty))))
+      (lower_is (kind_of now r) (not_false _ (unbroken _ _ (first_none _ _ by.duty))))
+      (status_value (register a r) status there)
+  returns_as Continue status by there = cc
+
+  never_propagates : sort_of set a.driver a.routine ≡ Propagate → ⊥
+  never_propagates is = let no : Dispatch ≡ Propagate = sym h.is ∙ is in cc
+
+  -- every step
+  pub dispatch_does : (below : Option Frame) (o : Outcome) → Comes set s t below (Routine a) o
+      → first_fault past actor o.actions ≡ None → Does set states a o
+  dispatch_does below o (errs b lacks) quiet = absurd (h.lacks lacks)
+  dispatch_does below o (awaits_lock b i lock owner at taken owned other) quiet =
+      stays_quiet s a [] Waited
+      (record { driver = refl; routine = refl; duty = refl; lowers = λ x left. left }) refl
+  dispatch_does below o (computes b i c jumped cells at work goes long) quiet =
+      stays_quiet (record s { cells = cells }) c (Executes ∷ []) Stepped
+      (goes_as i c jumped at (ap is_giving work) goes) refl
+  dispatch_does below o (opens_loop b turns at room) quiet =
+      stays_quiet s
+      (next (with_loops a
+      (a.loops.items ++ record { start = a.position + 1; turns = turns } ∷ [])))
+      (Executes ∷ []) Stepped
+      (next_as (Loop turns)
+      (next (with_loops a (a.loops.items ++ record { start = a.position + 1; turns = turns } ∷ []))) at
+      refl refl refl refl refl refl refl) refl
+  dispatch_does below o (turns_loop b l at there) quiet =
+      let same : ((turned a l).driver ≡ a.driver) × ((turned a l).routine ≡ a.routine)
+      × ((turned a l).registers ≡ a.registers) = turned_same a l in
+      let back : state_of states (turned a l) ≡ now = h.routine.ends l at there in
+      stays_quiet s (turned a l) (Executes ∷ []) Stepped
+      (record {
+        driver = same.0;
+        routine = same.1;
+        duty = ap (λ (state : Abs). state.duty) back;
+        lowers = λ x left. subst (λ (state : Abs). Lowers x state.kinds (turned a l).registers) (sym back)
+            (subst (λ (values : List Value). Lowers x now.kinds values) (sym same.2) left);
+      }) refl
+  dispatch_does below o (pages b i c cell cells at work goes long) quiet =
+      stays_quiet (record s { cells = cells }) c (Executes ∷ TouchesPaged cell ∷ []) Stepped
+      (goes_as i c false at (ap is_giving work) goes) refl
+  dispatch_does below o (touches_gone b i r n at touching on operand reads gone) quiet =
+      absurd (not_gone s past n h.routine.tells (touch_top past actor n quiet) (named s _ n reads) gone)
+  dispatch_does below o (looks_at b i c jumped r n p at work goes operand reads there jumps) quiet =
+      stays_quiet s c (Executes ∷ Touches n ∷ []) Stepped
+      (goes_as i c jumped at (ap is_giving work) goes) refl
+  dispatch_does below o (writes_info b q r n p info at reads there number) quiet =
+      stays_quiet (with_packet s n (with_info p info)) (next a) (Executes ∷ Touches n ∷ []) Stepped
+      (next_as (Put q r) (next a) at refl refl refl refl refl refl refl) refl
+  dispatch_does below o (marks_packet b r n p at reads there) quiet =
+      let run : Runs set states s a (Mark r) = h.routine.runs (Mark r) at in
+      let is : kind_of now r ≡ New = mark_new now.settled (kind_of now r) run.obeys (h.unseen r) in
+      marks_own (with_packet s n (mark_current p)) n (mark_current p)
+      (put_there n p (mark_current p) there refl)
+      (h.routine.owns r n (ap is_right is) reads)
+      (ap (λ (state : Abs). state.duty) (arrives_next set states s a (Mark r) run refl)
+      ∙ marked_pending now r (kind_of now r) is)
+  dispatch_does below o (takes_lock b i lock at taken free) quiet =
+      stays_quiet (with_locks s (with_owner s.locks lock (Some t))) (next a)
+      (Executes ∷ Acquires lock ∷ []) Stepped
+      (locks_as i at (taken_word a i lock taken)) refl
+  dispatch_does below o (retakes_lock b i lock at taken own) quiet =
+      stays_quiet s (next a) (Executes ∷ Acquires lock ∷ []) Stepped
+      (locks_as i at (taken_word a i lock taken)) refl
+  dispatch_does below o (frees_lock b i lock owner at freed owned) quiet =
+      stays_quiet (with_locks s (with_owner s.locks lock None)) (next a)
+      (Executes ∷ Releases lock ∷ []) Stepped
+      (locks_as i at (freed_word a i lock freed)) refl
+  dispatch_does below o (completes_packet b r status n p at reads there) quiet =
+      let run : Runs set states s a (Complete r status) = h.routine.runs (Complete r status) at in
+      let rule : complete_kind (kind_of now r) ≡ None = first_none _ _ run.obeys in
+      let right : is_right (kind_of now r) ≡ true =
+      (completes_one now (sort_of set a.driver a.routine) set a.driver r status run.obeys).right in
+      completes_own (with_packet s n (completed p status)) n (completed p status)
+      (put_there n p (completed p status) there refl) refl
+      (h.routine.owns r n right reads)
+      (subst (λ (state : Abs). Completed now.duty state.duty)
+      (sym (arrives_next set states s a (Complete r status) run refl))
+      (complete_duty now r (kind_of now r) h.arrived.dutiful rule refl))
+  dispatch_does below o (completes_gone b r status n at reads gone) quiet =
+      absurd (not_gone s past n h.routine.tells (completion_top past actor n quiet)
+      (named s _ n reads) gone)
+  dispatch_does below o (passes_down b r n p lower at reads there under_it) quiet =
+      let is : kind_of now r ≡ New =
+      passes_new (kind_of now r) (first_none _ _ (h.routine.runs (Pass r) at).obeys) in
+      passes_own (with_packet s n (shared_with p lower)) n
+      (dispatched set lower (slice_get set.devices lower) (asked_of (current_location p)) n)
+      (h.begins lower n p under_it (named s _ n reads)) (h.routine.owns r n (ap is_right is) reads)
+      (gives_down (Pass r) r at refl refl refl is)
+  dispatch_does below o (calls_down b r f n p lower at reads there under_it) quiet =
+      let is : (kind_of now r ≡ New) ⊎ (kind_of now r ≡ Own) =
+      call_owned (kind_of now r) (first_none _ _ (h.routine.runs (Call r f) at).obeys) in
+      calls_own (with_packet s n (sent_down p lower (set_by a f))) n (sent_down p lower (set_by a f))
+      (dispatched set lower (slice_get set.devices lower) (asked_of (current_location p)) n)
+      (put_there n p (sent_down p lower (set_by a f)) there refl)
+      (h.begins lower n p under_it (named s _ n reads))
+      (h.routine.owns r n
+      (down set states s a (Call r f) r (h.routine.runs (Call r f) at) refl refl).right reads)
+      (called_down r f at is)
+  dispatch_does below o (returns_status b form status at sort there) quiet =
+      returns_own s status
+      (returns_as form status
+      (returns_by now (sort_of set a.driver a.routine) set a.driver form
+      (h.routine.runs (Ret form) at).obeys) there)
+  dispatch_does below o (lets_go b at sort bare) quiet = absurd (never_propagates sort)
+  dispatch_does below o (lets_walk b n at sort) quiet = absurd (never_propagates sort)

@@ -1,0 +1,424 @@
+-- Every event keeps that the dispatch routines serve their uses, and that what they return is as
+-- agreed on.
+use Rattle.std.proofs.Common.{◌≡◌, ◌≢◌, ℕ, suc, ◌+◌, ◌-◌, ◌<◌, ◌≤◌, inl, inr, List, [], ◌∷◌, ◌++◌, length, Option, None, Some, false, refl, ap, sym, ◌∙◌, subst, arith}
+use Rattle.std.specs.Prelude.{nat_eq, slice_get, slice_index_or, slice_set}
+use Rattle.std.proofs.lemmas.List.{append-nil, append_assoc, get_or-set_other, get_or-set_same, length-replicate, length-set, set-get_or}
+use Rattle.std.proofs.lemmas.Bool.{ne_eqb, cases_eq, eq-eqb}
+use Rattle.std.proofs.lemmas.Option.{slice_get_within}
+use Rattle.model.specs.declared.status.Status.{Status}
+use Rattle.model.specs.declared.world.Activation.{Activation}
+use Rattle.model.specs.declared.world.Frame.{Frame}
+use Rattle.model.specs.declared.world.Frame.TheVariants.{Routine, Walk}
+use Rattle.model.specs.declared.world.Irql.TheVariants.{Passive}
+use Rattle.model.specs.declared.world.Packet.{Packet}
+use Rattle.model.specs.declared.world.Thread.{Thread}
+use Rattle.model.specs.Action.{Issues}
+use Rattle.model.specs.Effect.{Change, Outcome, issued, rooted, serves_request, standing, told_to, top_of, with_stack, with_thread}
+use Rattle.model.specs.Fault.{first_fault}
+use Rattle.model.specs.PendingAgreement.{was_marked}
+use Rattle.model.specs.Run.{begun, frames_on, new_tag, tags_after, top_tag}
+use Rattle.model.specs.Set.{Set}
+use Rattle.model.specs.Trace.{Activated, Actor, Entry, Serving, Tag, current_use, recorded, uses, uses_opened}
+use Rattle.model.specs.World.{Shared, World, current_location, idle_thread, is_marked}
+use Rattle.run_laws.specs.Holder.{frame_rights, frame_walks, stack_sum, thread_sum}
+use Rattle.run_laws.proofs.Certificates.Kept.{top_is}
+use Rattle.run_laws.proofs.Certificates.Tally.{no_row, no_tags}
+use Rattle.run_laws.proofs.Holders.Apart.{IsApart, apart_below, apart_other, not_yet}
+use Rattle.run_laws.proofs.Holders.Counts.{Holding, walk_held}
+use Rattle.run_laws.proofs.Holders.Runs.{frame_told_rights, top_holding}
+use Rattle.run_laws.proofs.Holders.Steps.{hold, rights_less}
+use Rattle.run_laws.proofs.Holders.Sums.{Held, held}
+use Rattle.run_laws.proofs.Live.Kept.{last_is_top, walk_counts}
+use Rattle.run_laws.proofs.Past.LivePackets.{find}
+use Rattle.run_laws.proofs.Pending.FramesServe.{Turned, frame_turned}
+use Rattle.run_laws.proofs.Pending.Returned.{AllAgree, agree_begun, agree_kept}
+use Rattle.run_laws.proofs.Pending.Serving.{AllServe, Current, FrameServes, KeepsAgreed, all_kept}
+use Rattle.run_laws.proofs.Pending.Threads.{Tagged, TopServes, all_on, all_told, row_same, tagged_all, tags_kept, top_serves}
+use Rattle.run_laws.proofs.Pending.TopDispatch.{begins_serving}
+use Rattle.run_laws.proofs.Pending.UsesServed.{BeginsServing, Settles, begun_serves, new_serving}
+use Rattle.run_laws.proofs.Runs.Events.{Happens, IssuesPacket, StepsFrame, issues, nothing, steps}
+use Rattle.run_laws.proofs.Runs.Threads.{frames_put, frames_there, idle_frames, others_put, thread_put}
+use Rattle.run_laws.proofs.States.Entering.{begins_request}
+use Rattle.run_laws.proofs.States.Fine.{StepLeaves, leaves_fine}
+use Rattle.run_laws.proofs.States.Rules.{States}
+use Rattle.run_laws.proofs.States.Stacks.{Replaces, Stacked, Stands}
+use Rattle.run_laws.proofs.States.Standing.{on_top, stands_there}
+use Rattle.run_laws.proofs.States.Told.{last_same, last_under, standing_last, told_last}
+use Rattle.run_laws.proofs.Steps.Below.{standing_is}
+use Rattle.run_laws.proofs.Steps.Faults.{is_touch, quiet_among}
+use Rattle.run_laws.proofs.Uses.CurrentUses.{Others, agreed_finished, agreed_marked, current_others, linked_agrees, linked_waits}
+use Rattle.run_laws.proofs.Uses.Events.{KnownWorld, agreed_by, event_turns, known_top, linked_by}
+use Rattle.run_laws.proofs.Uses.Fates.{MarksTell, PacketUses, UsesTell}
+use Rattle.run_laws.proofs.Uses.LateMarks.{no_late_walk}
+use Rattle.run_laws.proofs.Uses.Traced.{SameUses, same_recorded}
+
+-- the frames of all threads, with their tags, serve, and every status that was returned is as
+-- agreed on
+pub record Attends (set : Set) (states : States) (w : World) (past : List Entry)
+    (tags : List (List Tag)) : Type 0 where
+  pub rows : length tags ≡ length w.threads
+  pub serves_all : (t : ℕ) → AllServe set states w past None (frames_on w t) (slice_index_or tags t [])
+  pub agree : AllAgree states w past
+
+-- a current location is marked as the trace says of its use, and the location above it of the use
+-- above
+located : (w : World) (past : List Entry) (n : ℕ) (p : Packet) (u : ℕ) → UsesTell w past
+    → find w.shared.packets n ≡ Some p → current_use past n ≡ Some u
+    → is_marked (current_location p) ≡ was_marked past (record { packet = n; «use» = u })
+located w past n p u told there current =
+    let others : Others past n u = current_others past n u current in
+    let used : PacketUses past n p = told.live n p there in
+    let marks : MarksTell past n (u ∷ others.0) p.locations.items =
+    subst (λ (all : List ℕ). MarksTell past n all p.locations.items) others.1 used.marks in
+    let long : length (uses past n) ≡ suc (length others.0) = ap length others.1 in
+    let deep : length (uses past n) ≡ p.depth = used.deep in
+    let place : p.depth - 1 ≡ length others.0 = omega arith in
+    ap (λ (k : ℕ). is_marked (slice_get p.locations.items k)) place ∙ marks.0
+
+located_above : (w : World) (past : List Entry) (n x u : ℕ) (upper : List ℕ) (p : Packet)
+    → UsesTell w past
+    → find w.shared.packets n ≡ Some p → uses past n ≡ x ∷ u ∷ upper
+    → is_marked (slice_get p.locations.items (length upper)) ≡ was_marked past
+    (record { packet = n; «use» = u })
+located_above w past n x u upper p told there used =
+    let marks : MarksTell past n (x ∷ u ∷ upper) p.locations.items =
+    subst (λ (all : List ℕ). MarksTell past n all p.locations.items) used (told.live n p there).marks in
+    marks.1.0
+
+-- what an event does to uses, from what packets tell before it and after it
+settles_of : (states : States) (w later_w : World) (past later : List Entry)
+    → KeepsAgreed states w past later_w later → UsesTell w past → UsesTell later_w later
+    → Settles states w past later_w later
+settles_of states w later_w past later keeps told told_later =
+    record {
+      keeps = keeps;
+      marked = λ v p there current marked.
+          agreed_marked states later_w later v.packet p v.«use» told_later there current
+          (located later_w later v.packet p v.«use» told_later there current ∙ marked);
+      finished = λ v p there current unmarked done late.
+          agreed_finished states later_w later v.packet p v.«use» told_later there current
+          (located later_w later v.packet p v.«use» told_later there current ∙ unmarked) done late;
+      called = λ n u x upper p there used unmarked.
+          linked_waits states later_w later n u x upper p there used
+          (located_above later_w later n x u upper p told_later there used ∙ unmarked);
+      follows = λ v lower b linked agreed. linked_agrees states later_w later v lower b told_later
+          linked agreed;
+      unmarked = λ v l. told.traced.never_marked v l;
+    }
+
+-- the frame below the one that steps
+stands_last : (set : Set) (states : States) (number : ℕ) (under : Option Frame) (below : List Frame)
+    (f g : Frame)
+    → Stacked set states number (below ++ f ∷ []) → last_under under below ≡ Some g → under ≡ None
+    → Stands set states number (Some f) g
+stands_last set states number under [] f g h is none = let no : None ≡ Some g = sym none ∙ is in cc
+stands_last set states number under (e ∷ []) f g h is none =
+    let same : e ≡ g = cc in subst (λ (x : Frame). Stands set states number (Some f) x) same h.0
+stands_last set states number under (e ∷ c ∷ below) f g h is none =
+    stands_last set states number None (c ∷ below) f g h.1 (over is) refl
+  where
+    over : last_under (Some c) below ≡ Some g → last_under None (c ∷ below) ≡ Some g
+    over there = there
+
+module _ (set : Set) (states : States) (w : World) (past : List Entry) (tags : List (List Tag))
+    (number : ℕ)
+    (actor : Actor) (known : KnownWorld set states w past)
+    (attends : Attends set states w past tags) where
+  abbrev row : List Tag
+  row = slice_index_or tags actor.thread []
+
+  -- other frames on the thread
+  attend_put : (later : List Entry) (s : Shared) (thread after : Thread) (new : List Tag)
+      → slice_get w.threads actor.thread ≡ Some thread
+      → KeepsAgreed states w past (with_thread w actor.thread s after) later
+      → AllServe set states (with_thread w actor.thread s after) later None after.frames.items new
+      → ((k : ℕ) → actor.thread ≢ k → (n : ℕ)
+      → 1 ≤ stack_sum (λ g. frame_rights states g n) (frames_on w k)
+      → SameUses past later n) → AllAgree states (with_thread w actor.thread s after) later
+      → Attends set states (with_thread w actor.thread s after) later (slice_set tags actor.thread new)
+  attend_put later s thread after new found keeps serve others agree =
+      let t : ℕ = actor.thread in
+      let now : World = with_thread w t s after in
+      let long : length tags ≡ length w.threads = attends.rows in
+      let inside : t < length w.threads = slice_get_within w.threads t thread found in
+      let within : t < length tags = omega arith in
+      record {
+        rows = length-set tags t new ∙ attends.rows ∙ sym (length-set w.threads t after);
+        serves_all = λ k. elim (cases_eq t k) [
+          | inl same ↦
+              subst (λ (j : ℕ). AllServe set states now later None (frames_on now j)
+              (slice_index_or (slice_set tags t new) j [])) same
+              (subst (λ (x : List Tag). AllServe set states now later None (frames_on now t) x)
+              (sym (get_or-set_same tags t new [] within))
+              (subst (λ (items : List Frame). AllServe set states now later None items new)
+              (sym (frames_put w t s after thread found)) serve))
+          | inr apart ↦
+              subst (λ (x : List Tag). AllServe set states now later None (frames_on now k) x)
+              (sym (get_or-set_other tags t k new [] (λ same. apart (sym same))))
+              (subst (λ (items : List Frame). AllServe set states now later None items
+              (slice_index_or tags k []))
+              (sym (others_put w t s after k apart))
+              (all_kept set states w now past later keeps None (frames_on w k) (slice_index_or tags k [])
+              (others k apart) (attends.serves_all k)))
+        ];
+        agree = agree;
+      }
+
+  -- the tags of all threads after an event
+  abbrev pub tags_by : Change → List (List Tag)
+  tags_by c =
+      slice_set tags actor.thread
+      (tags_after set (recorded past actor c.actions) number (frames_on w actor.thread) row
+      (frames_on c.world actor.thread))
+
+  -- a step of the thread's top frame
+  module _ (h : StepsFrame set w actor.thread) (acts : actor.tag ≡ top_tag row)
+      (quiet : first_fault past actor h.outcome.actions ≡ None) where
+    abbrev o : Outcome
+    o = h.outcome
+
+    abbrev later : List Entry
+    later = recorded past actor o.actions
+
+    abbrev after : Thread
+    after = with_stack h.thread (standing set h.below o)
+
+    abbrev later_w : World
+    later_w = with_thread w actor.thread o.shared after
+
+    module _ (kept_later : Held states later_w) (settles : Settles states w past later_w later) where
+      step_leaves : StepLeaves set states w.shared h.frame o
+      step_leaves =
+          leaves_fine set states w.shared past actor known.stands.tells (top_of h.below) h.frame o
+          (on_top set states w past known.good known.stands actor.thread h) quiet h.comes
+
+      stacked : Stacked set states w.shared.issued (h.below ++ h.frame ∷ [])
+      stacked = stands_there set states w past known.good known.stands actor.thread h
+
+      step_turned : FrameServes set states w past (last_under None h.below) None h.frame actor.tag
+          → Turned set states w later_w past actor number (last_under None h.below) o h.frame
+      step_turned serves =
+          let under : Option Frame = last_under None h.below in
+          frame_turned set states w later_w past actor number under o (top_of h.below) h.frame
+          serves h.comes
+          (record {
+            known = known_top set states w past known actor.thread h;
+            quiet = quiet;
+            less = λ n.
+                rights_less states w.shared h.frame o
+                (hold set states w.shared past actor (top_of h.below) h.frame o
+                (on_top set states w past known.good known.stands actor.thread h)
+                (top_holding set states w past known.stands known.kept actor.thread h) h.comes
+                (quiet_among is_touch past actor o.actions quiet)) n;
+            walked = λ m is.
+                let some : 1 ≤ thread_sum (λ g. frame_walks g m) w.threads =
+                walk_counts w.threads actor.thread h.thread h.below h.frame m h.found h.frames
+                (sym (last_is_top h.below) ∙ is) in
+                let all : thread_sum (λ g. frame_walks g m) w.threads ≡ held (find w.shared.packets m) =
+                known.kept.walks m in
+                omega arith;
+            own = λ m is.
+                walk_held states w.shared past m
+                (subst (λ (f : Frame). Holding states w.shared past f) is
+                (top_holding set states w past known.stands known.kept actor.thread h));
+            shared = refl;
+            settles = settles;
+            agree = attends.agree;
+            late = λ b n is returned.
+                no_late_walk states later_w actor.thread n after
+                (told_to set h.below o.told ++ Routine b ∷ []) returned
+                kept_later (thread_put w actor.thread o.shared after h.thread h.found)
+                (standing_is set w.shared actor.thread (top_of h.below) h.frame o h.below h.comes
+                ∙ ap (λ (frames : List Frame). told_to set h.below o.told ++ frames) is
+                ∙ sym (append_assoc (told_to set h.below o.told) (Routine b ∷ []) (Walk n ∷ [])));
+          })
+
+      -- the frames of the thread, with their tags
+      thread_serves : (below_tags : List Tag) → Tagged h.below below_tags
+          → AllServe set states w past None (h.below ++ h.frame ∷ []) (below_tags ++ actor.tag ∷ [])
+          → Turned set states w later_w past actor number (last_under None h.below) o h.frame
+          → AllServe set states later_w later None (told_last set o.told h.below ++ o.frames)
+          (below_tags ++ tags_after set later number (h.frame ∷ []) (actor.tag ∷ []) o.frames)
+      thread_serves below_tags tagged serves turn =
+          let new : List Tag = tags_after set later number (h.frame ∷ []) (actor.tag ∷ []) o.frames in
+          let same : (n : ℕ) → 1 ≤ stack_sum (λ g. frame_rights states g n) h.below
+          → SameUses past later n =
+          λ n some.
+          (let apart : IsApart states w.shared h.frame n =
+          apart_below set states w past known.stands known.kept actor.thread h n some in
+          turn.spares n apart.some apart.right) in
+          elim turn.goes [
+            | inl on ↦
+                subst (λ (told : Option Status). AllServe set states later_w later None
+                (told_last set told h.below ++ o.frames) (below_tags ++ new)) (sym on.0)
+                (subst (λ (frames : List Frame). AllServe set states later_w later None
+                (frames ++ o.frames)
+                (below_tags ++ new)) (sym (last_same set h.below))
+                (all_on set states w later_w past later settles.keeps None h.below below_tags
+                h.frame actor.tag o.frames
+                new same tagged serves on.1 turn.serve))
+            | inr told ↦
+                subst (λ (frames : List Frame). AllServe set states later_w later None
+                (told_last set o.told h.below ++ frames)
+                (below_tags ++ tags_after set later number (h.frame ∷ []) (actor.tag ∷ []) frames))
+                (sym told.2)
+                (subst (λ (x : Option Status). AllServe set states later_w later None
+                (told_last set x h.below ++ [])
+                (below_tags ++ [])) (sym told.1)
+                (subst (λ (frames : List Frame). AllServe set states later_w later None frames
+                (below_tags ++ []))
+                (sym (append-nil (told_last set (Some told.0) h.below)))
+                (subst (λ (ts : List Tag). AllServe set states later_w later None
+                (told_last set (Some told.0) h.below) ts) (sym (append-nil below_tags))
+                (all_told set states w later_w past later settles.keeps None h.below below_tags
+                h.frame actor.tag told.0
+                settles.follows same tagged
+                (λ g is n.
+                let replaces : Replaces set states w.shared.issued h.frame (Some told.0) [] =
+                subst (λ (x : Option Status). Replaces set states w.shared.issued h.frame x []) told.1
+                (subst (λ (x : List Frame). Replaces set states w.shared.issued h.frame o.told x) told.2
+                step_leaves.stands) in
+                frame_told_rights set states w.shared.issued n (Some told.0) g
+                (replaces g (stands_last set states w.shared.issued None h.below h.frame g stacked
+                is refl)))
+                serves told.3))))
+          ]
+
+      step_attends : Attends set states later_w later
+          (slice_set tags actor.thread
+          (tags_after set later number (frames_on w actor.thread) row (frames_on later_w actor.thread)))
+      step_attends =
+          let items : frames_on w actor.thread ≡ h.below ++ h.frame ∷ [] =
+          frames_there w actor.thread h.thread h.found ∙ h.frames in
+          let top : TopServes set states w past None h.below h.frame row =
+          top_serves set states w past None h.below h.frame row
+          (subst (λ (all : List Frame). AllServe set states w past None all row) items
+          (attends.serves_all actor.thread)) in
+          let tag_is : actor.tag ≡ top.tag = acts ∙ top_is row top.tags top.tag top.is in
+          let row_is : row ≡ top.tags ++ actor.tag ∷ [] =
+          top.is ∙ ap (λ (tag : Tag). top.tags ++ tag ∷ []) (sym tag_is) in
+          let turn : Turned set states w later_w past actor number (last_under None h.below) o h.frame =
+          step_turned (subst
+          (λ (tag : Tag). FrameServes set states w past (last_under None h.below) None h.frame
+          tag)
+          (sym tag_is) top.top) in
+          let now : frames_on later_w actor.thread ≡ told_last set o.told h.below ++ o.frames =
+          frames_put w actor.thread o.shared after h.thread h.found
+          ∙ standing_last set w.shared actor.thread (top_of h.below) h.frame o h.below h.comes in
+          let kept : tags_after set later number (frames_on w actor.thread) row
+          (frames_on later_w actor.thread)
+          ≡ top.tags ++ tags_after set later number (h.frame ∷ []) (actor.tag ∷ []) o.frames =
+          ap (λ (all : List Frame). tags_after set later number all row
+          (frames_on later_w actor.thread)) items
+          ∙ ap (λ (ts : List Tag). tags_after set later number (h.below ++ h.frame ∷ []) ts
+          (frames_on later_w actor.thread)) row_is
+          ∙ ap (λ (all : List Frame). tags_after set later number (h.below ++ h.frame ∷ [])
+          (top.tags ++ actor.tag ∷ []) all) now
+          ∙ tags_kept set later number o.told h.below (h.frame ∷ []) o.frames top.tags
+          (actor.tag ∷ []) top.tagged in
+          let serves : AllServe set states w past None (h.below ++ h.frame ∷ [])
+          (top.tags ++ actor.tag ∷ []) =
+          subst (λ (ts : List Tag). AllServe set states w past None (h.below ++ h.frame ∷ []) ts) row_is
+          (subst (λ (all : List Frame). AllServe set states w past None all row) items
+          (attends.serves_all actor.thread)) in
+          attend_put later o.shared h.thread after
+          (tags_after set later number (frames_on w actor.thread) row
+          (frames_on later_w actor.thread)) h.found
+          settles.keeps
+          (subst (λ (ts : List Tag). AllServe set states later_w later None (standing set h.below o)
+          ts) (sym kept)
+          (subst (λ (frames : List Frame). AllServe set states later_w later None frames
+          (top.tags ++ tags_after set later number (h.frame ∷ []) (actor.tag ∷ []) o.frames))
+          (sym (standing_last set w.shared actor.thread (top_of h.below) h.frame o h.below h.comes))
+          (thread_serves top.tags top.tagged serves turn)))
+          (λ k apart n some.
+          let other : IsApart states w.shared h.frame n =
+          apart_other set states w past known.stands known.kept actor.thread h n k apart some in
+          turn.spares n other.some other.right)
+          turn.agree
+
+  -- a packet is issued: the routine that is entered serves its first use
+  issued_use : (n stack : ℕ) → current_use (recorded past actor (Issues n stack ∷ [])) n
+      ≡ Some (uses_opened past)
+  issued_use n stack = rw (eq-eqb n n refl) refl
+
+  issue_attends : (h : IssuesPacket set w actor.thread)
+      → Settles states w past (issued set w actor.thread h.d h.thread h.device h.major h.argument).world
+      (recorded past actor (Issues w.shared.issued h.device.stack ∷ []))
+      → Attends set states (issued set w actor.thread h.d h.thread h.device h.major h.argument).world
+      (recorded past actor (Issues w.shared.issued h.device.stack ∷ []))
+      (tags_by (issued set w actor.thread h.d h.thread h.device h.major h.argument))
+  issue_attends h settles =
+      let n : ℕ = w.shared.issued in
+      let a : Activation = serves_request set h.d h.device h.major n in
+      let c : Change = issued set w actor.thread h.d h.thread h.device h.major h.argument in
+      let later : List Entry = recorded past actor c.actions in
+      let after : Thread = rooted h.thread Passive a in
+      let beginning : BeginsServing set states a n =
+      begins_serving set states (n + 1) a n
+      (begins_request set states known.good (n + 1) n (omega arith) h.d h.device h.major h.there) in
+      let v : Serving = record { packet = n; «use» = uses_opened past } in
+      let current : Current later v false =
+      (issued_use n h.device.stack, settles.unmarked v (omega arith)) in
+      let tagged : new_tag set later number (Routine a) ≡ Activated number a.driver a.routine (Some v) =
+      new_serving set states later number a n v beginning refl current.0 in
+      let before : frames_on w actor.thread ≡ [] = frames_there w actor.thread h.thread h.found
+      ∙ h.idle in
+      let now : frames_on c.world actor.thread ≡ Routine a ∷ [] =
+      frames_put w actor.thread c.world.shared after h.thread h.found in
+      subst (λ (all : List Frame). Attends set states c.world later
+      (slice_set tags actor.thread
+      (tags_after set later number all row (frames_on c.world actor.thread)))) (sym before)
+      (subst (λ (all : List Frame). Attends set states c.world later
+      (slice_set tags actor.thread (tags_after set later number [] row all))) (sym now)
+      (attend_put later c.world.shared h.thread after (new_tag set later number (Routine a) ∷ [])
+      h.found settles.keeps
+      (subst (λ (tag : Tag). AllServe set states c.world later None (Routine a ∷ []) (tag ∷ []))
+      (sym tagged)
+      (((refl, refl), begun_serves set states c.world later v a n beginning refl current), tt))
+      (λ k apart m some. same_recorded past actor (Issues n h.device.stack ∷ []) m
+      (let other : nat_eq n m ≡ false =
+      ne_eqb n m (not_yet set states w past known.stands known.kept k m some) in rw other refl))
+      (agree_kept states w c.world past actor (Issues n h.device.stack ∷ []) settles.keeps refl
+      attends.agree)))
+
+  -- every event
+  pub attend_event : (c : Change) → Happens set w actor.thread c → actor.tag ≡ top_tag row
+      → first_fault past actor c.actions ≡ None → Held states c.world → UsesTell w past
+      → UsesTell c.world (recorded past actor c.actions)
+      → Attends set states c.world (recorded past actor c.actions) (tags_by c)
+  attend_event c happens acts quiet kept told told_later =
+      attends_by c happens quiet kept
+      (settles_of states w c.world past (recorded past actor c.actions)
+      (record {
+        agreed = agreed_by states w c.world past (recorded past actor c.actions) told
+            (event_turns set states w past known actor c happens quiet);
+        linked = linked_by states w c.world past (recorded past actor c.actions) told
+            (event_turns set states w past known actor c happens quiet);
+      }) told told_later)
+    where
+      attends_by : (c : Change) → Happens set w actor.thread c → first_fault past actor c.actions ≡ None
+          → Held states c.world → Settles states w past c.world (recorded past actor c.actions)
+          → Attends set states c.world (recorded past actor c.actions) (tags_by c)
+      attends_by c (nothing reply right) quiet kept settles =
+          let same : tags_after set past number (frames_on w actor.thread) row
+          (frames_on w actor.thread) ≡ row =
+          row_same set past number (frames_on w actor.thread) row
+          (tagged_all set states w past None (frames_on w actor.thread) row
+          (attends.serves_all actor.thread)) in
+          subst (λ (ts : List Tag). Attends set states w past (slice_set tags actor.thread ts)) (sym same)
+          (subst (λ (ts : List (List Tag)). Attends set states w past ts)
+          (sym (set-get_or tags actor.thread []))
+          attends)
+      attends_by c (steps h) quiet kept settles = step_attends h acts quiet kept settles
+      attends_by c (issues h) quiet kept settles = issue_attends h settles
+
+-- before the first event
+pub attends_begun : (set : Set) (states : States) (threads : ℕ)
+    → Attends set states (begun set threads).world (begun set threads).past (begun set threads).tags
+attends_begun set states threads =
+    record {
+      rows = length-replicate threads no_tags ∙ sym (length-replicate threads idle_thread);
+      serves_all = λ t. rw (idle_frames threads t, no_row threads t) tt;
+      agree = agree_begun states (begun set threads).world;
+    }

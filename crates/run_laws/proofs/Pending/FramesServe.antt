@@ -1,0 +1,231 @@
+-- The step of a thread's top frame, whatever it is: what it leaves serves on, and what it tells is
+-- of a packet that no other frame has.
+use Rattle.std.proofs.Common.{◌≡◌, Bool, List, None, Option, Some, [], ap, arith, false, inl, inr, refl, subst, sym, true, ℕ, ◌∷◌, ◌≤◌, ◌⊎◌, ◌∙◌}
+use Rattle.std.specs.List.{list_any}
+use Rattle.std.proofs.lemmas.Bool.Decides.{eqb_tells}
+use Rattle.model.specs.declared.status.Status.{Status}
+use Rattle.model.specs.declared.world.Activation.{Activation}
+use Rattle.model.specs.declared.world.Frame.{Frame}
+use Rattle.model.specs.declared.world.Frame.TheVariants.{Routine, Walk}
+use Rattle.model.specs.Effect.{Outcome}
+use Rattle.model.specs.Fault.{first_fault}
+use Rattle.model.specs.Run.{tags_after}
+use Rattle.model.specs.Set.{Set}
+use Rattle.model.specs.Trace.{Actor, Entry, Managing, Serving, Tag, recorded}
+use Rattle.model.specs.World.{World}
+use Rattle.run_laws.specs.Holder.{frame_rights, stack_sum}
+use Rattle.run_laws.proofs.Holders.Sums.{held, held_apart, unheld, unheld_one}
+use Rattle.run_laws.proofs.Past.LivePackets.{find}
+use Rattle.run_laws.proofs.Pending.CompletionSteps.{Looks, Manages, completion_looks, IsAlone, is_managing, walk_manages}
+use Rattle.run_laws.proofs.Pending.DispatchSteps.{dispatch_does}
+use Rattle.run_laws.proofs.Pending.DispatchServes.{Does, OnRoutine, ReturnsFrom, StepServes, does_spare, dispatch_serves}
+use Rattle.run_laws.proofs.Pending.Returned.{AllAgree, agree_kept, beyond_returns, beyond_uses, tells_beyond}
+use Rattle.run_laws.proofs.Pending.Serving.{Agreeing, AllServe, FrameServes, MustServe, TagNames, UnderServes, first_served, served}
+use Rattle.run_laws.proofs.Pending.Threads.{SameOver}
+use Rattle.run_laws.proofs.Pending.TopDispatch.{steps_dispatch}
+use Rattle.run_laws.proofs.Pending.UsesServed.{Settles}
+use Rattle.run_laws.proofs.States.OnTop.{runs}
+use Rattle.run_laws.proofs.States.Rules.{States}
+use Rattle.run_laws.proofs.Steps.Comes.{Comes}
+use Rattle.run_laws.proofs.Live.Sees.{Seen, reads_own}
+use Rattle.run_laws.proofs.Uses.Fates.{late_marks}
+use Rattle.run_laws.proofs.Uses.RoutineSteps.{OnWalk}
+use Rattle.run_laws.proofs.Uses.TopFrames.{KnownTop}
+use Rattle.run_laws.proofs.Uses.Traced.{SameUses, same_recorded}
+
+same_over : (under : Option Frame) (x y : Option Serving) → x ≡ y → SameOver under x y
+same_over None x y h = tt
+same_over (Some (Routine b)) x y h = h
+same_over (Some (Walk m)) x y h = tt
+
+module _ (set : Set) (states : States) (w later_w : World) (past : List Entry) (actor : Actor)
+    (number : ℕ)
+    (under : Option Frame) (o : Outcome) where
+  abbrev later : List Entry
+  later = recorded past actor o.actions
+
+  abbrev new_tags : Frame → List Tag
+  new_tags f = tags_after set later number (f ∷ []) (actor.tag ∷ []) o.frames
+
+  -- the step of a frame that stands on another one, or on none
+  pub record Turned (f : Frame) : Type 0 where
+    pub serve : AllServe set states later_w later under o.frames (new_tags f)
+    pub goes : ((o.told ≡ None) × SameOver under (served actor.tag) (first_served (new_tags f)))
+        ⊎ ((status : Status) × (o.told ≡ Some status) × (o.frames ≡ [])
+        × Agreeing states later_w later under (served actor.tag) status)
+    pub agree : AllAgree states later_w later
+    pub spares : (n : ℕ) → 1 ≤ unheld (find w.shared.packets n) → frame_rights states f n ≡ 0
+        → SameUses past later n
+
+  -- what is known when the top frame of a thread takes a step
+  pub record Turning (f : Frame) : Type 0 where
+    pub known : KnownTop set states w.shared past under f
+    pub quiet : first_fault past actor o.actions ≡ None
+    pub less : (n : ℕ) → stack_sum (λ g. frame_rights states g n) o.frames ≤ frame_rights states f n
+    pub walked : (m : ℕ) → under ≡ Some (Walk m) → 1 ≤ held (find w.shared.packets m)
+    pub own : (m : ℕ) → f ≡ Walk m → 1 ≤ held (find w.shared.packets m)
+    pub shared : later_w.shared ≡ o.shared
+    pub settles : Settles states w past later_w later
+    pub agree : AllAgree states w past
+    pub late : (b : Activation) (n : ℕ) → o.frames ≡ Routine b ∷ Walk n ∷ [] → (returned : Bool)
+        → late_marks states returned n later_w.threads ≡ 0
+
+  -- a step that tells of the packet on its way up alone
+  beyond_spares : (m : ℕ) → list_any (tells_beyond m) o.actions ≡ false
+      → 1 ≤ held (find w.shared.packets m)
+      → (n : ℕ) → 1 ≤ unheld (find w.shared.packets n) → SameUses past later n
+  beyond_spares m silent has n some =
+      beyond_uses past actor o.actions m n silent
+      (elim (eqb_tells m n) [
+        | inl e ↦
+            let none : unheld (find w.shared.packets m) ≡ 0 = held_apart (find w.shared.packets m) has in
+            let same : unheld (find w.shared.packets n) ≡ 0 = rw e.1 at none in
+            absurd (omega arith)
+        | inr e ↦ e.0
+      ])
+
+  -- the I/O manager's frame
+  managing_serves : (n : ℕ) (frames : List Frame) → is_managing frames ≡ true
+      → AllServe set states later_w later under frames
+      (tags_after set later number (Walk n ∷ []) (actor.tag ∷ []) frames)
+  managing_serves n [] h = tt
+  managing_serves n (Walk m ∷ []) h = (refl, tt)
+  managing_serves n (Walk m ∷ Routine b ∷ []) h = (refl, (((refl, refl), tt), tt))
+  managing_serves n (Walk m ∷ Walk k ∷ frames) h = cc
+  managing_serves n (Walk m ∷ Routine b ∷ f ∷ frames) h = cc
+  managing_serves n (Routine b ∷ frames) h = cc
+
+  managing_over : (n : ℕ) (frames : List Frame) → is_managing frames ≡ true
+      → None ≡ first_served (tags_after set later number (Walk n ∷ []) (actor.tag ∷ []) frames)
+  managing_over n [] h = refl
+  managing_over n (Walk m ∷ frames) h = refl
+  managing_over n (Routine b ∷ frames) h = cc
+
+  walk_turned : (n : ℕ) → actor.tag ≡ Managing → Manages n o → Turning (Walk n) → Turned (Walk n)
+  walk_turned n tag manages h =
+      record {
+        serve = managing_serves n o.frames manages.managing;
+        goes = inl (
+          manages.told,
+          same_over under (served actor.tag) (first_served (new_tags (Walk n)))
+              (ap served tag ∙ managing_over n o.frames manages.managing),
+        );
+        agree = agree_kept states w later_w past actor o.actions h.settles.keeps
+            (beyond_returns n o.actions manages.silent) h.agree;
+        spares = λ m some none. beyond_spares n manages.silent (h.own n refl) m some;
+      }
+
+  -- a completion routine
+  alone_serves : (m : ℕ) (a : Activation) (frames : List Frame) → IsAlone a frames
+      → TagNames a.driver a.routine actor.tag
+      → AllServe set states later_w later (Some (Walk m)) frames
+      (tags_after set later number (Routine a ∷ []) (actor.tag ∷ []) frames)
+  alone_serves m a [] same names = tt
+  alone_serves m a (Routine b ∷ []) same names = ((rw (same.0, same.1) names, tt), tt)
+  alone_serves m a (Routine b ∷ f ∷ frames) same names = absurd same
+  alone_serves m a (Walk n ∷ frames) same names = absurd same
+
+  completion_turned : (m : ℕ) (a : Activation) → under ≡ Some (Walk m)
+      → TagNames a.driver a.routine actor.tag
+      → Looks m a o → Turning (Routine a) → Turned (Routine a)
+  completion_turned m a on names looks h =
+      record {
+        serve = subst
+            (λ (u : Option Frame). AllServe set states later_w later u o.frames
+            (new_tags (Routine a))) (sym on)
+            (alone_serves m a o.frames looks.alone names);
+        goes = inl (
+          looks.told,
+          subst (λ (u : Option Frame). SameOver u (served actor.tag)
+              (first_served (new_tags (Routine a)))) (sym on) tt,
+        );
+        agree = agree_kept states w later_w past actor o.actions h.settles.keeps
+            (beyond_returns m o.actions looks.silent) h.agree;
+        spares = λ n some none. beyond_spares m looks.silent (h.walked m on) n some;
+      }
+
+  -- a dispatch routine: what it leaves, by its tag
+  dispatch_goes : (u : Option Frame) (v : Serving) (a : Activation) → OnRoutine u
+      → served actor.tag ≡ Some v
+      → ((o.told ≡ None) × (first_served (new_tags (Routine a)) ≡ Some v))
+      ⊎ ReturnsFrom set states w later_w past actor number u v a o
+      → ((o.told ≡ None) × SameOver u (served actor.tag) (first_served (new_tags (Routine a))))
+      ⊎ ((status : Status) × (o.told ≡ Some status) × (o.frames ≡ [])
+      × Agreeing states later_w later u (served actor.tag) status)
+  dispatch_goes u v a on tagged (inl still) =
+      inl (
+        still.0,
+        same_over u (served actor.tag) (first_served (new_tags (Routine a)))
+            (tagged ∙ sym still.1),
+      )
+  dispatch_goes None v a on tagged (inr returns) = inr (returns.status, returns.is, returns.none, tt)
+  dispatch_goes (Some (Routine b)) v a on tagged (inr returns) =
+      inr (
+        returns.status,
+        returns.is,
+        returns.none,
+        subst (λ (x : Option Serving). Agreeing states later_w later (Some (Routine b)) x
+            returns.status) (sym tagged)
+            returns.agreed,
+      )
+  dispatch_goes (Some (Walk m)) v a on tagged (inr returns) = absurd on
+
+  dispatch_turned : (a : Activation) (x : Option Serving) → served actor.tag ≡ x → OnRoutine under
+      → TagNames a.driver a.routine actor.tag → MustServe set states w past a None x → Does set states a o
+      → Turning (Routine a) → Turned (Routine a)
+  dispatch_turned a None tagged on names serves does h = absurd serves
+  dispatch_turned a (Some v) tagged on names serves does h =
+      let step : StepServes set states w later_w past actor number under v a o =
+      dispatch_serves set states w later_w past actor number under v a o does
+      (record {
+        on = on;
+        names = names;
+        tagged = tagged;
+        shared = h.shared;
+        serves_use = serves;
+        settles = h.settles;
+        agree = h.agree;
+        less = h.less;
+        one = λ n.
+            let le : frame_rights states (Routine a) n ≤ unheld (find w.shared.packets n) =
+            h.known.holding.rights n in
+            let one : unheld (find w.shared.packets n) ≤ 1 = unheld_one (find w.shared.packets n) in
+            omega arith;
+        late = h.late;
+      })
+      in
+      record {
+        serve = step.serve;
+        goes = dispatch_goes under v a on tagged step.goes;
+        agree = step.agree;
+        spares = λ n some none. same_recorded past actor o.actions n
+            (does_spare set states a o does n none);
+      }
+
+  -- by what a routine stands on
+  routine_turned : (u below : Option Frame) (a : Activation) → under ≡ u → Seen set u (Routine a)
+      → OnWalk set u a
+      → UnderServes set states w past u a None (served actor.tag) → TagNames a.driver a.routine actor.tag
+      → Comes set w.shared actor.thread below (Routine a) o → Turning (Routine a) → Turned (Routine a)
+  routine_turned None below a is seen on serves names comes h =
+      dispatch_turned a (served actor.tag) refl (rw is tt) names serves
+      (dispatch_does set states w.shared past actor actor.thread under a
+      (steps_dispatch set states w.shared past under a h.known seen) below o comes h.quiet) h
+  routine_turned (Some (Routine b)) below a is seen on serves names comes h =
+      dispatch_turned a (served actor.tag) refl (rw is tt) names serves
+      (dispatch_does set states w.shared past actor actor.thread under a
+      (steps_dispatch set states w.shared past under a h.known seen) below o comes h.quiet) h
+  routine_turned (Some (Walk m)) below a is seen on serves names comes h =
+      completion_turned m a is names
+      (completion_looks m set states w.shared actor.thread below a o
+      (λ i at. (runs set states w.shared a i h.known.top at).obeys) on (reads_own m w.shared a seen)
+      comes) h
+
+  -- every frame
+  pub frame_turned : (below : Option Frame) (f : Frame)
+      → FrameServes set states w past under None f actor.tag
+      → Comes set w.shared actor.thread below f o → Turning f → Turned f
+  frame_turned below (Routine a) serves comes h =
+      routine_turned under below a refl h.known.seen h.known.on serves.1 serves.0 comes h
+  frame_turned below (Walk n) serves comes h =
+      walk_turned n serves (walk_manages set w.shared actor.thread below n o comes) h

@@ -1,0 +1,91 @@
+-- The statuses of lower drivers in a routine's registers: all STATUS_PENDING, or none.
+use Rattle.std.proofs.Common.{◌≡◌, ℕ, zero, suc, Bool, List, [], ◌∷◌, arith}
+use Rattle.std.specs.Prelude.{⊤, slice_set, slice_index_or}
+use Rattle.model.specs.declared.abs.Kind.{Kind}
+use Rattle.model.specs.declared.abs.Kind.TheVariants.{Blank as BlankKind, Num as NumKind, Lower, New, Own, View}
+use Rattle.model.specs.declared.world.Value.{Value}
+use Rattle.model.specs.declared.world.Value.TheVariants.{Blank, Status as StatusValue}
+use Rattle.model.specs.LocalRule.{is_lower, is_pending, left_behind}
+use Rattle.run_laws.proofs.Pending.Duties.{counted, kinds_that}
+
+-- a status is STATUS_PENDING, or it isn't
+abbrev pub StatusIs : Bool → Value → Type 0
+StatusIs b (StatusValue status) = is_pending status ≡ b
+StatusIs b _ = ⊤
+
+abbrev pub LowerIs : Bool → Kind → Value → Type 0
+LowerIs b Lower v = StatusIs b v
+LowerIs b _ v = ⊤
+
+abbrev pub Lowers : Bool → List Kind → List Value → Type 0
+Lowers b [] values = ⊤
+Lowers b (k ∷ kinds) [] = ⊤
+Lowers b (k ∷ kinds) (v ∷ values) = LowerIs b k v × Lowers b kinds values
+
+-- what is no status says nothing
+pub lower_blank : (b : Bool) (k : Kind) → LowerIs b k Blank
+lower_blank b Lower = tt
+lower_blank b _ = tt
+
+-- one register
+pub lowers_get : (b : Bool) (kinds : List Kind) (values : List Value) (r : ℕ) → Lowers b kinds values
+    → LowerIs b (slice_index_or kinds r BlankKind) (slice_index_or values r Blank)
+lowers_get b [] values r h = tt
+lowers_get b (k ∷ kinds) [] r h = lower_blank b (slice_index_or (k ∷ kinds) r BlankKind)
+lowers_get b (k ∷ kinds) (v ∷ values) zero h = h.0
+lowers_get b (k ∷ kinds) (v ∷ values) (suc r) h = lowers_get b kinds values r h.1
+
+pub lowers_set : (b : Bool) (kinds : List Kind) (values : List Value) (r : ℕ) (k : Kind) (v : Value)
+    → Lowers b kinds values → LowerIs b k v → Lowers b (slice_set kinds r k) (slice_set values r v)
+lowers_set b [] values r k v h is = tt
+lowers_set b (j ∷ kinds) [] zero k v h is = tt
+lowers_set b (j ∷ kinds) [] (suc r) k v h is = tt
+lowers_set b (j ∷ kinds) (w ∷ values) zero k v h is = (is, h.1)
+lowers_set b (j ∷ kinds) (w ∷ values) (suc r) k v h is = (h.0, lowers_set b kinds values r k v h.1 is)
+
+pub lowers_turn : (b : Bool) (kinds : List Kind) (values : List Value) (r : ℕ) (k : Kind)
+    → Lowers b kinds values
+    → LowerIs b k (slice_index_or values r Blank) → Lowers b (slice_set kinds r k) values
+lowers_turn b [] values r k h is = tt
+lowers_turn b (j ∷ kinds) [] zero k h is = tt
+lowers_turn b (j ∷ kinds) [] (suc r) k h is = tt
+lowers_turn b (j ∷ kinds) (w ∷ values) zero k h is = (is, h.1)
+lowers_turn b (j ∷ kinds) (w ∷ values) (suc r) k h is = (h.0, lowers_turn b kinds values r k h.1 is)
+
+left_lower : (b : Bool) (k : Kind) (v : Value) → LowerIs b (left_behind k) v
+left_lower b BlankKind v = tt
+left_lower b NumKind v = tt
+left_lower b Lower v = tt
+left_lower b New v = tt
+left_lower b Own v = tt
+left_lower b View v = tt
+
+pub lowers_move : (b : Bool) (kinds : List Kind) (values : List Value) (r q : ℕ) → Lowers b kinds values
+    → Lowers b
+    (slice_set (slice_set kinds r (slice_index_or kinds q BlankKind)) q
+    (left_behind (slice_index_or kinds q BlankKind)))
+    (slice_set values r (slice_index_or values q Blank))
+lowers_move b kinds values r q h =
+    lowers_turn b (slice_set kinds r (slice_index_or kinds q BlankKind))
+    (slice_set values r (slice_index_or values q Blank)) q
+    (left_behind (slice_index_or kinds q BlankKind))
+    (lowers_set b kinds values r (slice_index_or kinds q BlankKind) (slice_index_or values q Blank) h
+    (lowers_get b kinds values q h))
+    (left_lower b (slice_index_or kinds q BlankKind)
+    (slice_index_or (slice_set values r (slice_index_or values q Blank)) q Blank))
+
+none_here : (b : Bool) (k : Kind) (v : Value) → counted is_lower k ≡ 0 → LowerIs b k v
+none_here b Lower v h = cc
+none_here b BlankKind v h = tt
+none_here b NumKind v h = tt
+none_here b New v h = tt
+none_here b Own v h = tt
+none_here b View v h = tt
+
+-- where no register holds one
+pub lowers_none : (b : Bool) (kinds : List Kind) (values : List Value) → kinds_that is_lower kinds ≡ 0
+    → Lowers b kinds values
+lowers_none b [] values h = tt
+lowers_none b (k ∷ kinds) [] h = tt
+lowers_none b (k ∷ kinds) (v ∷ values) h =
+    (none_here b k v (omega arith), lowers_none b kinds values (omega arith))

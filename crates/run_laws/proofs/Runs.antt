@@ -1,0 +1,4 @@
+pub mod Events
+pub mod Kept
+pub mod Threads
+pub mod Faultless

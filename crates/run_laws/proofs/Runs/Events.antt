@@ -1,0 +1,174 @@
+-- What an event can be: nothing happens, the top frame of a thread steps, or a packet is issued;
+-- and what a run answers to it.
+use Rattle.std.proofs.Common.{◌≡◌, ℕ, ◌-◌, List, [], ◌∷◌, ◌++◌, length, Option, None, Some, Bool, true, false, take, refl}
+use Rattle.std.specs.Prelude.{◌&&◌, nat_eq, slice_get, if◌then◌else◌}
+use Rattle.std.proofs.lemmas.Bool.{eqb-true}
+use Rattle.model.specs.declared.event.Bug.{Bug}
+use Rattle.model.specs.declared.event.Event.{Event}
+use Rattle.model.specs.declared.event.Event.TheVariants.{Issue, Step}
+use Rattle.model.specs.declared.event.Place.{Place}
+use Rattle.model.specs.declared.event.Reply.{Reply}
+use Rattle.model.specs.declared.event.Reply.TheVariants.{Idle, Refused, Bug as BugCheckReply, Wrong}
+use Rattle.model.specs.declared.set.Device.{Device}
+use Rattle.model.specs.declared.status.Major.{Major}
+use Rattle.model.specs.declared.world.Frame.{Frame}
+use Rattle.model.specs.declared.world.Thread.{Thread}
+use Rattle.model.specs.Effect.{Change, Outcome, frame_effect, top_of, settled, top_effect, step_thread, unchanged, issued, issue_on, is_idle, can_issue, effect}
+use Rattle.model.specs.Fault.{first_fault}
+use Rattle.model.specs.Run.{Run, Answered, actor_on, goes, refused, stops, unless_wrong, unless_fault, thread_of, answered_on, step}
+use Rattle.model.specs.Set.{Set}
+use Rattle.model.specs.Trace.{Entry, recorded}
+use Rattle.model.specs.World.{World}
+use Rattle.run_laws.proofs.Lists.{last_split}
+use Rattle.run_laws.proofs.Steps.Comes.{Comes}
+use Rattle.run_laws.proofs.Steps.Walk.{comes}
+use Rattle.run_laws.proofs.Tests.{and_left}
+
+-- a reply with which a run stops
+abbrev pub stops_run : Reply → Bool
+stops_run (BugCheckReply bug) = true
+stops_run (Wrong place) = true
+stops_run _ = false
+
+-- the top frame of a thread does a step
+pub record StepsFrame (set : Set) (w : World) (t : ℕ) : Type 0 where
+  pub thread : Thread
+  pub below : List Frame
+  pub frame : Frame
+  pub outcome : Outcome
+  pub found : slice_get w.threads t ≡ Some thread
+  pub frames : thread.frames.items ≡ below ++ frame ∷ []
+  pub comes : Comes set w.shared t (top_of below) frame outcome
+
+-- a packet is issued on an idle thread
+pub record IssuesPacket (set : Set) (w : World) (t : ℕ) : Type 0 where
+  pub thread : Thread
+  pub d : ℕ
+  pub device : Device
+  pub major : Major
+  pub argument : ℕ
+  pub found : slice_get w.threads t ≡ Some thread
+  pub idle : thread.frames.items ≡ []
+  pub there : slice_get set.devices d ≡ Some device
+
+-- what an event on a thread can be, with the change that it makes
+pub data Happens (set : Set) (w : World) (t : ℕ) : Change → Type 0 where
+  nothing : (reply : Reply) → stops_run reply ≡ false → Happens set w t (unchanged w reply)
+  steps : (h : StepsFrame set w t) → Happens set w t (settled set w t h.thread h.below h.outcome)
+  issues : (h : IssuesPacket set w t)
+      → Happens set w t (issued set w t h.d h.thread h.device h.major h.argument)
+
+-- an event is about a thread
+pub record OnThread (set : Set) (w : World) (e : Event) : Type 0 where
+  pub thread : ℕ
+  pub is : thread_of e ≡ Some thread
+  pub happens : Happens set w thread (effect set w e)
+
+module _ (set : Set) (w : World) (t : ℕ) where
+  happens_top : (thread : Thread) (o : Option Frame) → slice_get w.threads t ≡ Some thread
+      → slice_get thread.frames.items (length thread.frames.items - 1) ≡ o
+      → Happens set w t
+      (top_effect set w t thread (take (length thread.frames.items - 1) thread.frames.items) o)
+  happens_top thread None found there = nothing Idle refl
+  happens_top thread (Some f) found there =
+      steps (record {
+        thread = thread;
+        below = take (length thread.frames.items - 1) thread.frames.items;
+        frame = f;
+        outcome = frame_effect set w.shared t
+            (top_of (take (length thread.frames.items - 1) thread.frames.items)) f;
+        found = found;
+        frames = last_split thread.frames.items f there;
+        comes = comes set w.shared t
+            (top_of (take (length thread.frames.items - 1) thread.frames.items)) f;
+      })
+
+  happens_step : (o : Option Thread) → slice_get w.threads t ≡ o → Happens set w t (step_thread set w t o)
+  happens_step None found = nothing Refused refl
+  happens_step (Some thread) found =
+      happens_top thread (slice_get thread.frames.items (length thread.frames.items - 1)) found refl
+
+  none_of_length : (frames : List Frame) → nat_eq (length frames) 0 ≡ true → frames ≡ []
+  none_of_length [] h = refl
+  none_of_length (f ∷ frames) h = let no : length (f ∷ frames) ≡ 0 =
+      eqb-true (length (f ∷ frames)) 0 h in cc
+
+  happens_if : (d : ℕ) (major : Major) (argument : ℕ) (thread : Thread) (device : Device) (b : Bool)
+      → (is_idle thread && can_issue w.shared) ≡ b → slice_get w.threads t ≡ Some thread
+      → slice_get set.devices d ≡ Some device
+      → Happens set w t (if b then issued set w t d thread device major argument else unchanged w Refused)
+  happens_if d major argument thread device false may found there = nothing Refused refl
+  happens_if d major argument thread device true may found there =
+      issues (record {
+        thread = thread;
+        d = d;
+        device = device;
+        major = major;
+        argument = argument;
+        found = found;
+        idle = none_of_length thread.frames.items (and_left _ _ may);
+        there = there;
+      })
+
+  happens_issue : (d : ℕ) (major : Major) (argument : ℕ) (o : Option Thread) (device : Option Device)
+      → slice_get w.threads t ≡ o → slice_get set.devices d ≡ device
+      → Happens set w t (issue_on set w t d major argument o device)
+  happens_issue d major argument None device found there = nothing Refused refl
+  happens_issue d major argument (Some thread) None found there = nothing Refused refl
+  happens_issue d major argument (Some thread) (Some device) found there =
+      happens_if d major argument thread device (is_idle thread && can_issue w.shared) refl found there
+
+pub on_thread : (set : Set) (w : World) (e : Event) → OnThread set w e
+on_thread set w (Issue t d major argument) =
+    record {
+      thread = t;
+      is = refl;
+      happens = happens_issue set w t d major argument (slice_get w.threads t)
+          (slice_get set.devices d) refl refl;
+    }
+on_thread set w (Step t) =
+    record { thread = t; is = refl; happens = happens_step set w t (slice_get w.threads t) refl }
+
+-- what a run does with a change that an event would make on a thread
+abbrev pub past_with : Run → ℕ → Change → List Entry
+past_with r t c = recorded r.past (actor_on r t) c.actions
+
+abbrev pub fault_with : Run → ℕ → Change → Option Bug
+fault_with r t c = first_fault r.past (actor_on r t) c.actions
+
+-- it refuses it, it goes on, or a bug check or a wrong operand stops it
+pub data Answers (set : Set) (r : Run) (t : ℕ) (c : Change) : Answered → Type 0 where
+  refuses_stopped : r.stopped ≡ true → Answers set r t c (refused r)
+  refuses_over : r.stopped ≡ false → fault_with r t c ≡ None → c.over ≡ true
+      → Answers set r t c (refused r)
+  goes_on_with : r.stopped ≡ false → fault_with r t c ≡ None → c.over ≡ false
+      → Answers set r t c (goes set r t (past_with r t c) c)
+  stops_for : (bug : Bug) → r.stopped ≡ false → fault_with r t c ≡ Some bug
+      → Answers set r t c (stops r (past_with r t c) (BugCheckReply bug))
+  stops_wrong : (place : Place) → r.stopped ≡ false → c.reply ≡ Wrong place
+      → Answers set r t c (stops r (past_with r t c) (Wrong place))
+
+module _ (set : Set) (r : Run) (t : ℕ) (c : Change) where
+  answers_if : (over : Bool) → r.stopped ≡ false → fault_with r t c ≡ None → c.over ≡ over
+      → Answers set r t c (if over then refused r else goes set r t (past_with r t c) c)
+  answers_if true on quiet over = refuses_over on quiet over
+  answers_if false on quiet over = goes_on_with on quiet over
+
+  answers_wrong : (reply : Reply) → r.stopped ≡ false → fault_with r t c ≡ None → c.reply ≡ reply
+      → Answers set r t c (unless_wrong set r t (past_with r t c) c reply)
+  answers_wrong (Wrong place) on quiet h = stops_wrong place on h
+  answers_wrong _ on quiet h = answers_if c.over on quiet refl
+
+  answers_fault : (o : Option Bug) → r.stopped ≡ false → fault_with r t c ≡ o
+      → Answers set r t c (unless_fault set r t (past_with r t c) c o)
+  answers_fault (Some bug) on fault = stops_for bug on fault
+  answers_fault None on quiet = answers_wrong c.reply on quiet refl
+
+  answers_unless : (o : Option ℕ) (stopped : Bool) → o ≡ Some t → r.stopped ≡ stopped
+      → Answers set r t c (if stopped then refused r else answered_on set r c o)
+  answers_unless o true on_it on = refuses_stopped on
+  answers_unless o false on_it on = rw on_it (answers_fault (fault_with r t c) on refl)
+
+pub answers : (set : Set) (r : Run) (e : Event) (h : OnThread set r.world e)
+    → Answers set r h.thread (effect set r.world e) (step set r e)
+answers set r e h = answers_unless set r h.thread (effect set r.world e) (thread_of e) r.stopped h.is refl

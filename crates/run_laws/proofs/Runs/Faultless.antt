@@ -1,0 +1,15 @@
+-- The trace of a run whose events have no bug check has no fault.
+use Rattle.std.proofs.Common.{◌≡◌, List, [], ◌∷◌, None}
+use Rattle.model.specs.Action.{Action}
+use Rattle.model.specs.Fault.{fault_of, first_fault}
+use Rattle.model.specs.Trace.{Entry, Actor, entry, recorded}
+use Rattle.run_laws.specs.Rules.{Faultless}
+use Rattle.run_laws.proofs.Steps.Faults.{none_first, none_later}
+
+pub recorded_faultless : (past : List Entry) (actor : Actor) (actions : List Action) → Faultless past
+    → first_fault past actor actions ≡ None → Faultless (recorded past actor actions)
+recorded_faultless past actor [] h quiet = h
+recorded_faultless past actor (action ∷ actions) h quiet =
+    recorded_faultless (entry past actor action ∷ past) actor actions
+    (none_first (fault_of past actor action) _ quiet, h)
+    (none_later (fault_of past actor action) _ quiet)

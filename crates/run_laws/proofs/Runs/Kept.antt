@@ -1,0 +1,56 @@
+-- The induction over runs: what holds before the first event, and of the run after any event on a
+-- run of which it holds, holds of every run. What is said of a world and its past is kept by the
+-- events with which a run goes on.
+use Rattle.std.proofs.Common.{◌≡◌, ℕ, List, [], ◌∷◌, None, false, refl}
+use Rattle.std.specs.Prelude.{slice_get}
+use Rattle.model.specs.declared.event.Event.{Event}
+use Rattle.model.specs.Effect.{Change, effect}
+use Rattle.model.specs.Fault.{first_fault}
+use Rattle.model.specs.Run.{Run, Answered, actor_on, begun, root_of, step, run_from, run}
+use Rattle.model.specs.Set.{Set}
+use Rattle.model.specs.Trace.{Entry, Actor, recorded}
+use Rattle.model.specs.World.{World}
+use Rattle.run_laws.proofs.Runs.Events.{Happens, OnThread, on_thread, Answers, refuses_stopped, refuses_over, goes_on_with, stops_for, stops_wrong, answers}
+
+module _ (P : Run → Type 0) (set : Set) (kept : (r : Run) (e : Event) → P r → P (step set r e).run) where
+  kept_from : (r : Run) (events : List Event) → P r → P (run_from set r events)
+  kept_from r [] h = h
+  kept_from r (e ∷ events) h = kept_from (step set r e).run events (kept r e h)
+
+  pub kept_run : (threads : ℕ) (events : List Event) → P (begun set threads) → P (run set threads events)
+  kept_run threads events h = kept_from (begun set threads) events h
+
+-- an event with which a run goes on: there is no bug check, and it passes no bound
+pub record GoesOnBy (set : Set) (w : World) (past : List Entry) (actor : Actor) (c : Change) : Type
+    0 where
+  pub happens : Happens set w actor.thread c
+  pub root : actor.root ≡ root_of (slice_get w.threads actor.thread)
+  pub quiet : first_fault past actor c.actions ≡ None
+  pub within : c.over ≡ false
+
+-- what is said of the world and the past of a run that hasn't stopped
+abbrev pub Until : (World → List Entry → Type 0) → Run → Type 0
+Until P r = r.stopped ≡ false → P r.world r.past
+
+module _ (P : World → List Entry → Type 0) (set : Set)
+    (kept : (w : World) (past : List Entry) (actor : Actor) (c : Change) → P w past
+    → GoesOnBy set w past actor c
+    → P c.world (recorded past actor c.actions)) where
+  until_answered : (r : Run) (t : ℕ) (c : Change) (a : Answered) → Until P r → Happens set r.world t c
+      → Answers set r t c a → Until P a.run
+  until_answered r t c a h happens (refuses_stopped on) = h
+  until_answered r t c a h happens (refuses_over on quiet over) = h
+  until_answered r t c a h happens (goes_on_with on quiet within) =
+      λ still. kept r.world r.past (actor_on r t) c (h on)
+      (record { happens = happens; root = refl; quiet = quiet; within = within })
+  until_answered r t c a h happens (stops_for bug on fault) = λ still. cc
+  until_answered r t c a h happens (stops_wrong place on reply) = λ still. cc
+
+  until_step : (r : Run) (e : Event) → Until P r → Until P (step set r e).run
+  until_step r e h =
+      let on : OnThread set r.world e = on_thread set r.world e in
+      until_answered r on.thread (effect set r.world e) (step set r e) h on.happens (answers set r e on)
+
+  pub kept_until : (threads : ℕ) (events : List Event)
+      → P (begun set threads).world [] → Until P (run set threads events)
+  kept_until threads events h = kept_run (Until P) set until_step threads events (λ on. h)

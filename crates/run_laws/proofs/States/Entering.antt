@@ -1,0 +1,266 @@
+-- Routines that begin: those that serve a request of a device, and those that completion calls.
+use Rattle.std.proofs.Common.{◌≡◌, ℕ, zero, suc, ◌+◌, ◌-◌, ◌<◌, ◌≤◌, Bool, true, false, List, [], ◌∷◌, length, Option, None, Some, refl, ap, sym, ◌∙◌, subst, arith, nat_eq}
+use Rattle.std.specs.Prelude.{◌&&◌, slice_get, slice_index_or, replicate, unwrap_or, option_and_then, is_none, IfSome}
+use Rattle.std.specs.List.{list_any}
+use Rattle.std.proofs.lemmas.Bool.{eq-eqb}
+use Rattle.std.proofs.lemmas.Option.{slice_get_within, slice_get-get_or}
+use Rattle.model.specs.declared.abs.Abs.{Abs}
+use Rattle.model.specs.declared.abs.Duty.TheVariants.{Fresh, NoDuty}
+use Rattle.model.specs.declared.abs.Kind.TheVariants.{Blank as BlankKind, New, View}
+use Rattle.model.specs.declared.abs.Settled.TheVariants.{Open, Settled as SettledMark}
+use Rattle.model.specs.declared.limits.TheConstants.{MAX_ROUTINES, REGISTERS, SPIN_LOCKS}
+use Rattle.model.specs.declared.set.Device.{Device}
+use Rattle.model.specs.declared.set.Driver.{Driver}
+use Rattle.model.specs.declared.set.Routine.{Routine as RoutineOf}
+use Rattle.model.specs.declared.set.Sort.{Sort}
+use Rattle.model.specs.declared.set.Sort.TheVariants.{Dispatch, Propagate}
+use Rattle.model.specs.declared.status.Major.{Major}
+use Rattle.model.specs.declared.status.Major.TheVariants.{Read, Write, Control}
+use Rattle.model.specs.declared.world.Activation.{Activation}
+use Rattle.model.specs.declared.world.Completion.{Completion}
+use Rattle.model.specs.declared.world.Packet.{Packet}
+use Rattle.model.specs.declared.world.Value.TheVariants.{Blank, Ref}
+use Rattle.model.specs.Certificate.{certificate, certificate_in, certificate_of}
+use Rattle.model.specs.Effect.{serving_for, dispatched, routine_of_device, completes_with, serves_request}
+use Rattle.model.specs.Forwarding.{lacks_lower}
+use Rattle.model.specs.LocalRule.{entered_with, entry_of_sort}
+use Rattle.model.specs.Set.{Set, member, handler_of, serving, routine_of, sort_in, sort_of, lower_of, default_number, default_routine}
+use Rattle.model.specs.Sound.{IsSound, DriverFits, DeviceFits, HandlerFits, HasSort, IsDispatch}
+use Rattle.model.specs.World.{Shared, completion_of, current_location, packet_of, entered}
+use Rattle.run_laws.proofs.Devices.{device_fits}
+use Rattle.run_laws.proofs.Lists.{all_at}
+use Rattle.run_laws.proofs.States.Fits.{CompletionLeads, Fits, completion_leads, packet_leads}
+use Rattle.run_laws.proofs.States.Frames.{IsGood, Ready, Serves, state_of, due, due_in, due_is}
+use Rattle.run_laws.proofs.States.Kinds.{HasKinds}
+use Rattle.run_laws.proofs.States.Known.{IsKnown, routine_found}
+use Rattle.run_laws.proofs.States.Remaining.{rest, certified}
+use Rattle.run_laws.proofs.States.Rules.{States}
+use Rattle.run_laws.proofs.Tests.{or_left, or_right}
+
+-- a routine of a sort
+abbrev pub IsOfSort : Set → Activation → Sort → Type 0
+IsOfSort set a sort = sort_of set a.driver a.routine ≡ sort
+
+-- the routine that serves a request is there, and is a dispatch routine
+abbrev pub Serving : Set → ℕ → ℕ → Type 0
+Serving set driver number =
+    (routine : RoutineOf) × (routine_of set driver number ≡ Some routine) × (routine.sort ≡ Dispatch)
+
+dispatch_sort : (sort : Sort) → IsDispatch sort → sort ≡ Dispatch
+dispatch_sort Dispatch h = refl
+dispatch_sort Propagate h = absurd h
+
+handler_fits : (driver : Driver) (major : Major) → DriverFits driver
+    → HandlerFits driver.routines (handler_of driver major)
+handler_fits driver Read fits = fits.read
+handler_fits driver Write fits = fits.write
+handler_fits driver Control fits = fits.control
+
+module _ (set : Set) (sound : IsSound set) (driver : ℕ) where
+  served_in : (number : ℕ) (d : Driver) (o : Option RoutineOf) → slice_get set.drivers driver ≡ Some d
+      → length d.routines ≤ MAX_ROUTINES → slice_get d.routines number ≡ o → HasSort IsDispatch o
+      → Serving set driver number
+  served_in number d None there few found h = absurd h
+  served_in number d (Some routine) there few found h =
+      (routine, routine_found set driver d there few number routine found, dispatch_sort routine.sort h)
+
+  served_by : (d : Driver) (handler : Option ℕ) → slice_get set.drivers driver ≡ Some d
+      → length d.routines ≤ MAX_ROUTINES → HandlerFits d.routines handler
+      → Serving set driver (unwrap_or handler default_number)
+  served_by d None there few fits = (default_routine, refl, refl)
+  served_by d (Some number) there few fits =
+      served_in number d (slice_get d.routines number) there few refl fits
+
+  serves_in : (o : Option Driver) (major : Major) → slice_get set.drivers driver ≡ o
+      → Serving set driver (serving o major)
+  serves_in None major there = (default_routine, refl, refl)
+  serves_in (Some d) major there =
+      let fits : DriverFits d = all_at DriverFits set.drivers driver d sound.drivers there in
+      served_by d (handler_of d major) there fits.few (handler_fits d major fits)
+
+  pub serves : (major : Major) → Serving set driver (serving (slice_get set.drivers driver) major)
+  serves major = serves_in (slice_get set.drivers driver) major refl
+
+  serves_for : (major : Option Major) → Serving set driver (serving_for set driver major)
+  serves_for None = (default_routine, refl, refl)
+  serves_for (Some major) = serves major
+
+-- a routine begins in the state of its sort
+abbrev pub first_state : Sort → Abs
+first_state Dispatch = entered_with New Fresh SettledMark
+first_state Propagate = entered_with View NoDuty Open
+
+started : (sort : Sort) (s : Abs) → entry_of_sort sort ≡ Some s → s ≡ first_state sort
+started Dispatch s h = cc
+started Propagate s h = cc
+
+blank_kinds : (issued count : ℕ) → HasKinds issued (replicate count BlankKind) (replicate count Blank)
+blank_kinds issued zero = tt
+blank_kinds issued (suc count) = (tt, blank_kinds issued count)
+
+first_kinds : (issued n : ℕ) (sort : Sort) → n < issued
+    → HasKinds issued (first_state sort).kinds (Ref n ∷ replicate (REGISTERS - 1) Blank)
+first_kinds issued n Dispatch l = ((n, refl, l), blank_kinds issued (REGISTERS - 1))
+first_kinds issued n Propagate l = ((n, refl, l), blank_kinds issued (REGISTERS - 1))
+
+first_sixteen : (sort : Sort) → length (first_state sort).kinds ≡ REGISTERS
+first_sixteen Dispatch = refl
+first_sixteen Propagate = refl
+
+first_eight : (sort : Sort) → length (first_state sort).locks ≡ SPIN_LOCKS
+first_eight Dispatch = refl
+first_eight Propagate = refl
+
+pub sort_there : (set : Set) (driver number : ℕ) (routine : RoutineOf)
+    → routine_of set driver number ≡ Some routine
+    → sort_of set driver number ≡ routine.sort
+sort_there set driver number routine there = ap sort_in there
+
+-- a routine that begins, handed a packet: of a sort, ready, with its certificate left
+pub record Begins (set : Set) (states : States) (issued : ℕ) (a : Activation) (sort : Sort) (n : ℕ)
+    : Type 0 where
+  pub ready : Ready set states issued a
+  pub of_sort : IsOfSort set a sort
+  pub due : due set a ≤ certificate_of set a.driver a.routine
+  pub start : state_of states a ≡ first_state sort
+  pub registers : a.registers ≡ Ref n ∷ replicate (REGISTERS - 1) Blank
+
+module _ (set : Set) (states : States) (good : IsGood set states) (issued n : ℕ) (low : n < issued) where
+  begins_with : (driver number device : ℕ) (routine : RoutineOf) (sort : Sort)
+      → routine_of set driver number ≡ Some routine → routine.sort ≡ sort → Serves set device driver
+      → Begins set states issued (entered driver number device (Ref n)) sort n
+  begins_with driver number device routine sort there is served =
+      let a : Activation = entered driver number device (Ref n) in
+      let known : IsKnown (member set driver number routine) (states driver number) =
+      good.led.known driver number routine there in
+      let start : states driver number 0 ≡ first_state sort =
+      started sort (states driver number 0) (ap entry_of_sort (sym is) ∙ known.follows.start) in
+      let left : due set a ≡ due_in routine.code a = due_is set routine a there in
+      let whole : rest routine.code 0 ≡ certificate routine.code =
+      certified routine.code known.follows.formed in
+      let all : certificate_of set driver number ≡ certificate routine.code =
+      ap (λ (o : Option RoutineOf). certificate_in o) there in
+      let zero_more : due_in routine.code a ≡ rest routine.code 0 + 0 = refl in
+      record {
+        ready = (
+          routine,
+          record {
+            is_of = there;
+            serves = served;
+            within = known.follows.some;
+            nested = refl;
+            kinds = rw start (first_kinds issued n sort low);
+            eight = rw start (first_eight sort);
+            sixteen = rw start (first_sixteen sort);
+          },
+        );
+        of_sort = sort_there set driver number routine there ∙ is;
+        due = omega arith;
+        start = start;
+        registers = refl;
+      }
+
+  -- the dispatch routine of a device, for what a packet asks
+  pub begins_dispatch : (device : ℕ) (d : Device) (o : Option Device) (major : Option Major)
+      → slice_get set.devices device ≡ Some d → slice_get set.devices device ≡ o
+      → Begins set states issued (dispatched set device o major n) Dispatch n
+  begins_dispatch device d None major there is = let no : None ≡ Some d = sym is ∙ there in cc
+  begins_dispatch device d (Some e) major there is =
+      let served : Serving set e.driver (serving_for set e.driver major) =
+      serves_for set good.sound e.driver major in
+      begins_with e.driver (serving_for set e.driver major) device served.0 Dispatch served.1
+      served.2 (e, is, refl)
+
+  begins_below : (device lower : ℕ) (o : Option Device) (major : Option Major)
+      → slice_get set.devices device ≡ o
+      → option_and_then (λ d. d.lower) o ≡ Some lower
+      → Begins set states issued (dispatched set lower (slice_get set.devices lower) major n) Dispatch n
+  begins_below device lower None major there below = cc
+  begins_below device lower (Some d) major there below =
+      let fits : DeviceFits (length set.drivers) device d = device_fits set device d good.sound there in
+      let earlier : lower < device =
+      subst (λ (x : Option ℕ). IfSome x (λ l. l < device)) below fits.lower in
+      let within : device < length set.devices = slice_get_within set.devices device d there in
+      begins_dispatch lower (slice_index_or set.devices lower d) (slice_get set.devices lower) major
+      (slice_get-get_or set.devices lower d (omega arith)) refl
+
+  -- of the device under another
+  pub begins_lower : (device lower : ℕ) (major : Option Major) → lower_of set device ≡ Some lower
+      → Begins set states issued (dispatched set lower (slice_get set.devices lower) major n) Dispatch n
+  begins_lower device lower major below =
+      begins_below device lower (slice_get set.devices device) major refl below
+
+  -- and for a request that is issued
+  pub begins_request : (device : ℕ) (d : Device) (major : Major) → slice_get set.devices device ≡ Some d
+      → Begins set states issued (serves_request set device d major n) Dispatch n
+  begins_request device d major there =
+      let served : Serving set d.driver (serving (slice_get set.drivers d.driver) major) =
+      serves set good.sound d.driver major in
+      begins_with d.driver (serving (slice_get set.drivers d.driver) major) device served.0 Dispatch
+      served.1 served.2
+      (d, there, refl)
+
+  -- the completion routine that is set in a location
+  pub begins_completion : (c : Completion) → CompletionLeads set (Some c)
+      → Begins set states issued (completes_with set c n) Propagate n
+  begins_completion c h =
+      let d : Device = h.0 in
+      let is : routine_of_device (slice_get set.devices c.device) ≡ d.driver = ap routine_of_device h.1 in
+      subst (λ (driver : ℕ). Begins set states issued (entered driver c.routine c.device (Ref n))
+      Propagate n) (sym is)
+      (begins_with d.driver c.routine c.device h.2.0 Propagate h.2.1 h.2.2 (d, h.1, refl))
+
+-- the one that is set in the location that a packet leaves
+pub begins_back : (set : Set) (states : States) (s : Shared) → IsGood set states → Fits set s
+    → (n : ℕ) (p : Packet) (c : Completion) → n < s.issued → packet_of s n ≡ Some p
+    → completion_of (current_location p) ≡ Some c
+    → Begins set states s.issued (completes_with set c n) Propagate n
+begins_back set states s good fits n p c low there is =
+    begins_completion set states good s.issued n low c
+    (subst (CompletionLeads set) is
+    (completion_leads set p (current_location p) refl (packet_leads set s fits n p there)))
+
+-- a device of a driver whose devices all have lower ones has one
+pub any_false : {A : Type 0} (f : A → Bool) (xs : List A) (i : ℕ) (x : A) → list_any f xs ≡ false
+    → slice_get xs i ≡ Some x → f x ≡ false
+any_false f [] i x none there = cc
+any_false {A = A} f (y ∷ xs) zero x none there =
+    let same : y ≡ x = cc in
+    subst (λ (z : A). f z ≡ false) same (or_left (f y) _ none)
+any_false f (y ∷ xs) (suc i) x none there = any_false f xs i x (or_right (f y) _ none) there
+
+pub not_none : (b c : Bool) → b ≡ true → (b && c) ≡ false → c ≡ false
+not_none true c is h = h
+not_none false c is h = cc
+
+-- the device under a device: it is there, and an earlier one
+abbrev pub LowerThere : Set → ℕ → Type 0
+LowerThere set device =
+    (lower : ℕ) × (lower_of set device ≡ Some lower) × (d : Device)
+    × (slice_get set.devices lower ≡ Some d)
+
+lower_in : (set : Set) (device : ℕ) (o : Option ℕ) → device < length set.devices → lower_of set device ≡ o
+    → is_none o ≡ false → IfSome o (λ lower. lower < device) → LowerThere set device
+lower_in set device None within is some fits = cc
+lower_in set device (Some lower) within is some fits =
+    let l : lower < device = fits in
+    let d : Device = slice_index_or set.devices lower (record { driver = 0; stack = 0; lower = None }) in (
+      lower,
+      is,
+      d,
+      slice_get-get_or set.devices lower (record { driver = 0; stack = 0; lower = None })
+          (omega arith),
+    )
+
+pub lower_there : (set : Set) (device driver : ℕ) → IsSound set → Serves set device driver
+    → lacks_lower set driver ≡ false → LowerThere set device
+lower_there set device driver sound served none =
+    let d : Device = served.0 in
+    let fits : DeviceFits (length set.drivers) device d = device_fits set device d sound served.1 in
+    let own : (nat_eq d.driver driver && is_none d.lower) ≡ false =
+    any_false (λ e. nat_eq e.driver driver && is_none e.lower) set.devices device d none served.1 in
+    let some : is_none d.lower ≡ false =
+    not_none (nat_eq d.driver driver) (is_none d.lower) (eq-eqb d.driver driver served.2) own in
+    let is : lower_of set device ≡ d.lower =
+    ap (λ (o : Option Device). option_and_then (λ e. e.lower) o) served.1 in
+    lower_in set device d.lower (slice_get_within set.devices device d served.1) is some fits.lower

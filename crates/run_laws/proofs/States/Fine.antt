@@ -1,0 +1,372 @@
+-- A step of a frame that stands as it should, and touches no packet that has topped out: it isn't
+-- wrong, and what it leaves stands as it should.
+use Rattle.std.proofs.Common.{◌≡◌, ℕ, ◌+◌, ◌-◌, ◌<◌, Bool, true, false, List, [], ◌∷◌, Option, None, Some, refl, arith, sym, subst, ◌∙◌, ap}
+use Rattle.std.specs.Prelude.{slice_get, slice_set, nat_lt, ◌||◌}
+use Rattle.std.specs.List.{list_any}
+use Rattle.model.specs.declared.abs.Abs.{Abs}
+use Rattle.model.specs.declared.abs.Kind.{Kind}
+use Rattle.model.specs.declared.abs.Kind.TheVariants.{New}
+use Rattle.model.specs.declared.event.BugCheck.{BugCheck}
+use Rattle.model.specs.declared.event.BugCheck.TheVariants.{IrqlNotLessOrEqual, MultipleIrpCompleteRequests}
+use Rattle.model.specs.declared.event.Subject.{Subject}
+use Rattle.model.specs.declared.event.Subject.TheVariants.{Packet as PacketSubject}
+use Rattle.model.specs.declared.instr.Instr.{Instr}
+use Rattle.model.specs.declared.instr.Instr.TheVariants.{Loop, End, Mark, Put, Pass, Call, Complete}
+use Rattle.model.specs.declared.set.Sort.{Sort}
+use Rattle.model.specs.declared.set.Sort.TheVariants.{Dispatch, Propagate}
+use Rattle.model.specs.declared.status.Status.{Status}
+use Rattle.model.specs.declared.world.Activation.{Activation}
+use Rattle.model.specs.declared.world.Frame.{Frame}
+use Rattle.model.specs.declared.world.Frame.TheVariants.{Routine, Walk}
+use Rattle.model.specs.declared.world.Packet.{Packet}
+use Rattle.model.specs.declared.world.Value.TheVariants.{Status as StatusValue}
+use Rattle.model.specs.Action.{Action, Executes, Acquires, Releases, TouchesPaged, Touches, Completes, Marks, GoesWrong}
+use Rattle.model.specs.Effect.{Outcome, told_in, operand_of, answered_in, answered, goes_on, dispatched, set_by, completes_with, asks}
+use Rattle.model.specs.Fault.{bug_if, first_fault, topped, completing}
+use Rattle.model.specs.LocalRule.{holds_lock, kind_of, given_down, handed}
+use Rattle.model.specs.Set.{Set, instruction_at, sort_of, lower_of, flow_of}
+use Rattle.model.specs.Trace.{Entry, Actor}
+use Rattle.model.specs.World.{Shared, with_info, mark_current, current_location, sent_down, shared_with, left_location, moved_up, asked_of, with_locks, with_owner, completed, place_of, packet_of, with_packet, register, next}
+use Rattle.run_laws.proofs.Lists.{all_at, each_remove}
+use Rattle.run_laws.proofs.Past.LivePackets.{find}
+use Rattle.run_laws.proofs.Past.Packets.{Tells, found, named, lt_true}
+use Rattle.run_laws.proofs.Runs.Events.{stops_run}
+use Rattle.run_laws.proofs.States.Entering.{IsOfSort, Begins, begins_lower, begins_back}
+use Rattle.run_laws.proofs.States.Fits.{CompletionLeads, PacketLeads, Fits, mark_leads, shared_leads, sent_leads, packet_leads, with_packet_fits, with_cells_fits, with_owner_fits}
+use Rattle.run_laws.proofs.States.Frames.{state_of, Serves, Ready, Moved, Runs}
+use Rattle.run_laws.proofs.States.Kinds.{given_kinds}
+use Rattle.run_laws.proofs.States.Known.{Continues, SetBy, CallLeads}
+use Rattle.run_laws.proofs.States.Lacking.{never_lacks, taken_there, freed_there, down}
+use Rattle.run_laws.proofs.States.LoopEnds.{moved_loop, moved_end}
+use Rattle.run_laws.proofs.States.Moves.{falls_next, moved, moved_next, arrives_next}
+use Rattle.run_laws.proofs.States.Obeyed.{SendsDown, CompletesOne, completes_one}
+use Rattle.run_laws.proofs.States.OnTop.{OnTop, at_routine, runs}
+use Rattle.run_laws.proofs.States.Rules.{States}
+use Rattle.run_laws.proofs.States.Stacks.{Stands, Replaces}
+use Rattle.run_laws.proofs.States.Told.{told_frame}
+use Rattle.run_laws.proofs.Steps.Comes.{onward, keeps_all, Comes, errs, awaits_lock, computes, opens_loop, turns_loop, pages, touches_gone, looks_at, writes_info, marks_packet, takes_lock, retakes_lock, frees_lock, completes_packet, completes_gone, passes_down, calls_down, returns_status, lets_go, lets_walk, walks_gone, walks_to, walks_up, carries_up, tops_out}
+use Rattle.run_laws.proofs.Steps.Locking.{freed_word, taken_word}
+use Rattle.run_laws.proofs.Steps.Faults.{none_first}
+use Rattle.run_laws.proofs.Steps.Words.{Forwarding, is_forwarding, work_of, goes_next, keeps_registers, packet_operand}
+use Rattle.run_laws.proofs.Tests.{or_left}
+
+abbrev pub is_wrong : Action → Bool
+is_wrong GoesWrong = true
+is_wrong _ = false
+
+-- nothing goes wrong
+pub record IsRight (o : Outcome) : Type 0 where
+  pub silent : list_any is_wrong o.actions ≡ false
+  pub right : stops_run o.reply ≡ false
+
+pub is_right_step : (set : Set) (states : States) (s : Shared) (t : ℕ) (under : Option Frame)
+    (f : Frame) (o : Outcome)
+    → OnTop set states s f → Comes set s t under f o → IsRight o
+is_right_step set states s t under f o h (errs a lacks) = absurd (never_lacks set states s a h lacks)
+is_right_step set states s t under f o h _ = record { silent = refl; right = refl }
+
+-- a packet that was issued and hasn't topped out is live
+pub not_gone : (s : Shared) (past : List Entry) (n : ℕ) → Tells s past → topped past n ≡ false
+    → n < s.issued
+    → packet_of s n ≡ None → ⊥
+not_gone s past n tells not_topped low gone =
+    let none : find s.packets n ≡ None = found s n None gone in
+    let issued : nat_lt n s.issued ≡ true = lt_true n s.issued low in
+    let no : false ≡ true = sym not_topped ∙ tells.gone n ∙ rw (issued, none) refl in
+    cc
+
+-- a frame that goes on, of the same routine, stands on what it stood on
+same_sort : (set : Set) (a b : Activation) (sort : Sort) → b.driver ≡ a.driver → b.routine ≡ a.routine
+    → IsOfSort set a sort → IsOfSort set b sort
+same_sort set a b sort driver routine h =
+    ap (λ (x : ℕ). sort_of set x b.routine) driver ∙ ap (λ (x : ℕ). sort_of set a.driver x) routine ∙ h
+
+-- the frame below, where the one on it is gone
+module _ (set : Set) (states : States) (issued : ℕ) where
+  pub same_above : (a b : Activation) (g : Frame) → b.driver ≡ a.driver → b.routine ≡ a.routine
+      → Stands set states issued (Some (Routine a)) g → Stands set states issued (Some (Routine b)) g
+  same_above a b (Routine c) driver routine h = (same_sort set a b Dispatch driver routine h.0, h.1, h.2)
+  same_above a b (Walk n) driver routine h = (same_sort set a b Propagate driver routine h.0, h.1)
+
+  below_dispatch : (a : Activation) (status : Status) (g : Frame)
+      → Stands set states issued (Some (Routine a)) g
+      → Stands set states issued None (told_frame set (Some status) g)
+  below_dispatch a status (Routine b) h = h.2 status
+  below_dispatch a status (Walk n) h = h.1
+
+  below_propagate : (a : Activation) → IsOfSort set a Propagate → (g : Frame)
+      → Stands set states issued (Some (Routine a)) g
+      → Stands set states issued None (told_frame set None g)
+  below_propagate a sort (Routine b) h = let no : Propagate ≡ Dispatch = sym sort ∙ h.0 in cc
+  below_propagate a sort (Walk n) h = h.1
+
+  below_walk : (n : ℕ) (g : Frame) → Stands set states issued (Some (Walk n)) g
+      → Stands set states issued None (told_frame set None g)
+  below_walk n (Routine a) h = h.0
+  below_walk n (Walk m) h = absurd h
+
+-- what a frame's step leaves
+pub record StepLeaves (set : Set) (states : States) (s : Shared) (f : Frame) (o : Outcome) : Type 0 where
+  pub fits : Fits set o.shared
+  pub issued : o.shared.issued ≡ s.issued
+  pub stands : Replaces set states s.issued f o.told o.frames
+
+set_leads : (set : Set) (a : Activation) (f : Option ℕ) → Serves set a.device a.driver
+    → SetBy set a.driver f
+    → CompletionLeads set (set_by a f)
+set_leads set a None served h = tt
+set_leads set a (Some number) served h =
+    (served.0, served.1, subst (λ (driver : ℕ). Continues set driver number) (sym served.2) h)
+
+told_operand : (i : Instr) → work_of i ≡ Forwarding → told_in i ≡ packet_operand i
+told_operand (Pass r) is = refl
+told_operand (Call r f) is = refl
+told_operand _ is = cc
+
+down_next : (i : Instr) → work_of i ≡ Forwarding → goes_next i ≡ true
+down_next (Pass r) is = refl
+down_next (Call r f) is = refl
+down_next _ is = cc
+
+given_free : (s : Abs) (r : ℕ) (k : Kind) → holds_lock (given_down s r k) ≡ holds_lock s
+given_free s r New = refl
+given_free s r _ = refl
+
+pub bug_none : (b : Bool) (check : BugCheck) (subject : Subject) → bug_if b check subject ≡ None
+    → b ≡ false
+bug_none false check subject h = refl
+bug_none true check subject h = cc
+
+-- where there is no bug check, what is touched or completed hasn't topped out
+module _ (past : List Entry) (actor : Actor) (n : ℕ) where
+  pub touch_top : first_fault past actor (Executes ∷ Touches n ∷ []) ≡ None → topped past n ≡ false
+  touch_top quiet =
+      bug_none (topped past n) IrqlNotLessOrEqual (PacketSubject n) (none_first _ None quiet)
+
+  pub completion_top : first_fault past actor (Executes ∷ Completes n ∷ []) ≡ None → topped past n ≡ false
+  completion_top quiet =
+      or_left (topped past n) (completing past n)
+      (bug_none (topped past n || completing past n) MultipleIrpCompleteRequests (PacketSubject n)
+      (none_first _ _ (none_first _ None quiet)))
+
+module _ (set : Set) (states : States) (s : Shared) (a : Activation) (i : Instr)
+    (h : Runs set states s a i) where
+  -- an instruction that leaves the registers alone and goes on
+  pub moved_on : goes_next i ≡ true → keeps_registers i ≡ true → is_forwarding (work_of i) ≡ false
+      → Moved set states s.issued a (next a) (handed (state_of states a) i)
+  moved_on on keeps stays =
+      moved set states s a i h (next a) false stays (onward a.registers on (keeps_all i keeps))
+
+  -- a routine that sends a packet down goes on whatever status it is told
+  pub moved_told : (r : ℕ) → work_of i ≡ Forwarding → packet_operand i ≡ Some r → (status : Status)
+      → Moved set states s.issued a
+      (record a { position = a.position + 1; registers = slice_set a.registers r (StatusValue status) })
+      (handed (state_of states a) i)
+  moved_told r is operand status =
+      let rule : SendsDown (state_of states a) (sort_of set a.driver a.routine) set a.driver i r =
+      down set states s a i r h is operand in
+      moved_next set states s a i h (down_next i is) (slice_set a.registers r (StatusValue status))
+      (rw rule.after
+      (given_kinds (state_of states a) (sort_of set a.driver a.routine) set a.driver s.issued
+      a.registers r
+      (kind_of (state_of states a) r) status rule.right h.stays.kinds))
+
+  pub answered_is : (r : ℕ) → work_of i ≡ Forwarding → packet_operand i ≡ Some r → (status : Status)
+      → answered set (next a) status
+      ≡ record a { position = a.position + 1; registers = slice_set a.registers r (StatusValue status) }
+  answered_is r is operand status =
+      let back : a.position + 1 - 1 ≡ a.position = omega arith in
+      let there : instruction_at set a.driver a.routine (a.position + 1 - 1) ≡ Some i =
+      ap (λ (p : ℕ). instruction_at set a.driver a.routine p) back
+      ∙ at_routine set h.routine a h.stays.is_of ∙ h.here
+      in
+      ap (λ (o : Option ℕ). answered_in (next a) status o)
+      (ap operand_of there ∙ told_operand i is ∙ operand)
+
+  pub told_ready : (r : ℕ) → work_of i ≡ Forwarding → packet_operand i ≡ Some r → (status : Status)
+      → Ready set states s.issued (answered set (next a) status)
+  told_ready r is operand status =
+      subst (λ (b : Activation). Ready set states s.issued b) (sym (answered_is r is operand status))
+      (moved_told r is operand status).ready
+
+  -- frames in place of the routine's
+  pub asks_fine : (r lower n : ℕ) (p : Packet) → work_of i ≡ Forwarding → packet_operand i ≡ Some r
+      → lower_of set a.device ≡ Some lower → n < s.issued
+      → Replaces set states s.issued (Routine a) None (asks set a lower p n)
+  asks_fine r lower n p is operand there low =
+      let rule : SendsDown (state_of states a) (sort_of set a.driver a.routine) set a.driver i r =
+      down set states s a i r h is operand in
+      let begins : Begins set states s.issued
+      (dispatched set lower (slice_get set.devices lower) (asked_of (current_location p)) n) Dispatch n =
+      begins_lower set states h.good s.issued n low a.device lower (asked_of (current_location p))
+      there in
+      let here : states a.driver a.routine (a.position + 1)
+      ≡ given_down (state_of states a) r (kind_of (state_of states a) r) =
+      arrives_next set states s a i h (falls_next (flow_of i) (down_next i is)) ∙ rule.after in (
+        refl,
+        (
+          (
+            begins.of_sort,
+            ap holds_lock here ∙ given_free (state_of states a) r (kind_of (state_of states a) r)
+                ∙ rule.free,
+            told_ready r is operand,
+          ),
+          begins.ready,
+        ),
+        λ g below. same_above set states s.issued a (next a) g refl refl below,
+      )
+
+module _ (set : Set) (states : States) (s : Shared) (past : List Entry) (actor : Actor)
+    (tells : Tells s past) where
+  same_fine : (a b : Activation) (to : Abs) (after : Shared) (actions : List Action)
+      → Moved set states s.issued a b to
+      → Fits set after → after.issued ≡ s.issued
+      → StepLeaves set states s (Routine a) (goes_on after b actions)
+  same_fine a b to after actions m fits issued =
+      record {
+        fits = fits;
+        issued = issued;
+        stands = (
+          refl,
+          m.ready,
+          λ g below. same_above set states s.issued a b g m.driver m.routine
+              below,
+        );
+      }
+
+  pub leaves_fine : (under : Option Frame) (f : Frame) (o : Outcome) → OnTop set states s f
+      → first_fault past actor o.actions ≡ None → Comes set s actor.thread under f o
+      → StepLeaves set states s f o
+  leaves_fine under f o h quiet (errs a lacks) = absurd (never_lacks set states s a h lacks)
+  leaves_fine under f o h quiet (awaits_lock a i lock owner at takes owned other) =
+      record { fits = h.fits; issued = refl; stands = (refl, h.stands, λ g below. below) }
+  leaves_fine under f o h quiet (computes a i b jumped cells at work to long) =
+      same_fine a b _ (record s { cells = cells }) []
+      (moved set states s a i (runs set states s a i h at) b jumped (rw work refl) to)
+      (with_cells_fits set s h.fits cells long) refl
+  leaves_fine under f o h quiet (opens_loop a turns at room) =
+      same_fine a _ _ s [] (moved_loop set states s a turns (runs set states s a (Loop turns) h at))
+      h.fits refl
+  leaves_fine under f o h quiet (turns_loop a l at inner) =
+      same_fine a _ _ s [] (moved_end set states s a (runs set states s a End h at) l inner) h.fits refl
+  leaves_fine under f o h quiet (pages a i b cell cells at work to long) =
+      same_fine a b _ (record s { cells = cells }) (TouchesPaged cell ∷ [])
+      (moved set states s a i (runs set states s a i h at) b false (rw work refl) to)
+      (with_cells_fits set s h.fits cells long) refl
+  leaves_fine under f o h quiet (touches_gone a i r n at touches on operand reads gone) =
+      absurd (not_gone s past n tells (touch_top past actor n quiet)
+      (named s (register a r) n reads) gone)
+  leaves_fine under f o h quiet (looks_at a i b jumped r n p at work to operand reads there branch) =
+      same_fine a b _ s (Touches n ∷ [])
+      (moved set states s a i (runs set states s a i h at) b jumped (rw work refl) to) h.fits refl
+  leaves_fine under f o h quiet (writes_info a q r n p info at reads there number) =
+      same_fine a (next a) _ (with_packet s n (with_info p info)) (Touches n ∷ [])
+      (moved_on set states s a (Put q r) (runs set states s a (Put q r) h at) refl refl refl)
+      (with_packet_fits set s h.fits n (with_info p info) (packet_leads set s h.fits n p there)) refl
+  leaves_fine under f o h quiet (marks_packet a r n p at reads there) =
+      same_fine a (next a) _ (with_packet s n (mark_current p)) (Touches n ∷ Marks n ∷ [])
+      (moved_on set states s a (Mark r) (runs set states s a (Mark r) h at) refl refl refl)
+      (with_packet_fits set s h.fits n (mark_current p)
+      (mark_leads set p (packet_leads set s h.fits n p there))) refl
+  leaves_fine under f o h quiet (takes_lock a i lock at takes free) =
+      let run : Runs set states s a i = runs set states s a i h at in
+      same_fine a (next a) _ (with_locks s (with_owner s.locks lock (Some actor.thread)))
+      (Acquires lock ∷ [])
+      (moved_on set states s a i run (taken_word a i lock takes).on (taken_word a i lock takes).keeps
+      (ap is_forwarding (taken_word a i lock takes).work))
+      (with_owner_fits set s h.fits lock (Some actor.thread)
+      (taken_there set states s a i lock run takes)) refl
+  leaves_fine under f o h quiet (retakes_lock a i lock at takes its) =
+      same_fine a (next a) _ s (Acquires lock ∷ [])
+      (moved_on set states s a i (runs set states s a i h at) (taken_word a i lock takes).on
+      (taken_word a i lock takes).keeps
+      (ap is_forwarding (taken_word a i lock takes).work)) h.fits refl
+  leaves_fine under f o h quiet (frees_lock a i lock owner at frees owned) =
+      let run : Runs set states s a i = runs set states s a i h at in
+      same_fine a (next a) _ (with_locks s (with_owner s.locks lock None)) (Releases lock ∷ [])
+      (moved_on set states s a i run (freed_word a i lock frees).on (freed_word a i lock frees).keeps
+      (ap is_forwarding (freed_word a i lock frees).work))
+      (with_owner_fits set s h.fits lock None (freed_there set states s a i lock run frees)) refl
+  leaves_fine under f o h quiet (completes_packet a r status n p at reads there) =
+      let run : Runs set states s a (Complete r status) = runs set states s a (Complete r status) h at in
+      let m : Moved set states s.issued a (next a) (handed (state_of states a) (Complete r status)) =
+      moved_on set states s a (Complete r status) run refl refl refl in
+      let rule : CompletesOne (state_of states a) (sort_of set a.driver a.routine) set a.driver r status =
+      completes_one (state_of states a) (sort_of set a.driver a.routine) set a.driver r status
+      run.obeys in
+      record {
+        fits = with_packet_fits set s h.fits n (completed p status) (packet_leads set s h.fits n p there);
+        issued = refl;
+        stands = (
+          refl,
+          ((m.ready, ap holds_lock m.arrives ∙ rule.free), named s (register a r) n reads),
+          λ g below. same_above set states s.issued a (next a) g refl refl below,
+        );
+      }
+  leaves_fine under f o h quiet (completes_gone a r status n at reads gone) =
+      absurd (not_gone s past n tells (completion_top past actor n quiet)
+      (named s (register a r) n reads) gone)
+  leaves_fine under f o h quiet (passes_down a r n p lower at reads there below) =
+      record {
+        fits = with_packet_fits set s h.fits n (shared_with p lower)
+            (shared_leads set p lower (packet_leads set s h.fits n p there));
+        issued = refl;
+        stands = asks_fine set states s a (Pass r) (runs set states s a (Pass r) h at) r lower n p
+            refl refl below
+            (named s (register a r) n reads);
+      }
+  leaves_fine under f o h quiet (calls_down a r g n p lower at reads there below) =
+      let run : Runs set states s a (Call r g) = runs set states s a (Call r g) h at in
+      record {
+        fits = with_packet_fits set s h.fits n (sent_down p lower (set_by a g))
+            (sent_leads set p lower (set_by a g)
+            (set_leads set a g run.stays.serves
+            (all_at (CallLeads set a.driver) run.routine.code a.position (Call r g) run.known.calls
+            run.here))
+            (packet_leads set s h.fits n p there));
+        issued = refl;
+        stands = asks_fine set states s a (Call r g) run r lower n p refl refl below
+            (named s (register a r) n reads);
+      }
+  leaves_fine under f o h quiet (returns_status a form status at sort is) =
+      record { fits = h.fits; issued = refl; stands = below_dispatch set states s.issued a status }
+  leaves_fine under f o h quiet (lets_go a at sort isnt) =
+      record { fits = h.fits; issued = refl; stands = below_propagate set states s.issued a sort }
+  leaves_fine under f o h quiet (lets_walk a n at sort) =
+      record { fits = h.fits; issued = refl; stands = below_propagate set states s.issued a sort }
+  leaves_fine under f o h quiet (walks_gone n gone) =
+      record { fits = h.fits; issued = refl; stands = below_walk set states s.issued n }
+  leaves_fine under f o h quiet (walks_to n p c there with) =
+      let begins : Begins set states s.issued (completes_with set c n) Propagate n =
+      begins_back set states s h.good h.fits n p c h.stands there with in
+      record {
+        fits = with_packet_fits set s h.fits n (moved_up (left_location p))
+            (packet_leads set s h.fits n p there);
+        issued = refl;
+        stands = (refl, ((begins.of_sort, h.stands), begins.ready), λ g below. below);
+      }
+  leaves_fine under f o h quiet (walks_up n p there without deep unmarked) =
+      record {
+        fits = with_packet_fits set s h.fits n (moved_up (left_location p))
+            (packet_leads set s h.fits n p there);
+        issued = refl;
+        stands = (refl, h.stands, λ g below. below);
+      }
+  leaves_fine under f o h quiet (carries_up n p there without deep marked) =
+      record {
+        fits = with_packet_fits set s h.fits n (mark_current (moved_up (left_location p)))
+            (mark_leads set (moved_up (left_location p)) (packet_leads set s h.fits n p there));
+        issued = refl;
+        stands = (refl, h.stands, λ g below. below);
+      }
+  leaves_fine under f o h quiet (tops_out n p there without last) =
+      record {
+        fits = record {
+          cells = h.fits.cells;
+          spin = h.fits.spin;
+          rows = h.fits.rows;
+          completions = each_remove (PacketLeads set) s.packets (place_of s.packets n) h.fits.completions;
+        };
+        issued = refl;
+        stands = below_walk set states s.issued n;
+      }

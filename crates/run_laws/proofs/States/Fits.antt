@@ -1,0 +1,199 @@
+-- What the threads share fits its set: it has cells and locks for each device, and each completion
+-- routine that is set in a location of a packet is one of its device's driver.
+use Rattle.std.proofs.Common.{◌≡◌, ℕ, zero, suc, ◌-◌, ◌<◌, ◌⊎◌, inl, inr, true, List, [], length, Option, None, Some, refl, arith, sym, subst, ◌∙◌, ap}
+use Rattle.std.specs.Prelude.{⊤, slice_get, slice_set, slice_index_or, replicate}
+use Rattle.std.proofs.lemmas.Bool.{cases_eq}
+use Rattle.std.proofs.lemmas.List.{length-set, length-replicate}
+use Rattle.std.proofs.lemmas.Option.{slice_get-get_or}
+use Rattle.model.specs.declared.event.Lock.{Lock}
+use Rattle.model.specs.declared.event.Lock.TheVariants.{SystemCancel, Spin}
+use Rattle.model.specs.declared.limits.TheConstants.{SPIN_LOCKS}
+use Rattle.model.specs.declared.set.Device.{Device}
+use Rattle.model.specs.declared.status.Major.{Major}
+use Rattle.model.specs.declared.world.Cells.{Cells}
+use Rattle.model.specs.declared.world.Completion.{Completion}
+use Rattle.model.specs.declared.world.Location.{Location}
+use Rattle.model.specs.declared.world.Packet.{Packet}
+use Rattle.model.specs.Set.{Set}
+use Rattle.model.specs.World.{Shared, blank_cells, unused, owner_of, with_owner, with_locks, place_of, packet_of, with_packet, current_location, marked_location, mark_current, copied_location, sent_down, shared_location, shared_with, completion_of, new_packet, unused_location}
+use Rattle.run_laws.proofs.Lists.{Each, each_at, each_set, each_same, set_same, set_other}
+use Rattle.run_laws.proofs.States.Known.{Continues}
+
+-- a completion routine of the driver of a device
+abbrev pub CompletionLeads : Set → Option Completion → Type 0
+CompletionLeads set None = ⊤
+CompletionLeads set (Some c) =
+    (d : Device) × (slice_get set.devices c.device ≡ Some d) × Continues set d.driver c.routine
+
+abbrev pub LocationLeads : Set → Location → Type 0
+LocationLeads set l = CompletionLeads set l.completion
+
+abbrev pub PacketLeads : Set → Packet → Type 0
+PacketLeads set p = Each (LocationLeads set) p.locations.items
+
+-- each device has its cells and its eight spin locks
+pub record Fits (set : Set) (s : Shared) : Type 0 where
+  pub cells : length s.cells ≡ length set.devices
+  pub spin : length s.locks.spin ≡ length set.devices
+  pub rows : (d : ℕ) (owners : List (Option ℕ)) → slice_get s.locks.spin d ≡ Some owners
+      → length owners ≡ SPIN_LOCKS
+  pub completions : Each (PacketLeads set) s.packets
+
+module _ (set : Set) where
+  -- what is set in the current location
+  pub completion_leads : (p : Packet) (o : Option Location) → current_location p ≡ o → PacketLeads set p
+      → CompletionLeads set (completion_of o)
+  completion_leads p None there h = tt
+  completion_leads p (Some l) there h =
+      each_at (LocationLeads set) p.locations.items (p.depth - 1) l h there
+
+  marked_leads : (locations : List Location) (place : ℕ) (o : Option Location)
+      → slice_get locations place ≡ o
+      → Each (LocationLeads set) locations → Each (LocationLeads set) (marked_location o locations place)
+  marked_leads locations place None there h = h
+  marked_leads locations place (Some l) there h =
+      each_set (LocationLeads set) locations place (record l { marked = true }) h
+      (each_at (LocationLeads set) locations place l h there)
+
+  pub mark_leads : (p : Packet) → PacketLeads set p → PacketLeads set (mark_current p)
+  mark_leads p h =
+      marked_leads p.locations.items (p.depth - 1) (slice_get p.locations.items (p.depth - 1)) refl
+      h
+
+  shared_in : (locations : List Location) (place device : ℕ) (o : Option Location)
+      → slice_get locations place ≡ o
+      → Each (LocationLeads set) locations
+      → Each (LocationLeads set) (shared_location o locations place device)
+  shared_in locations place device None there h = h
+  shared_in locations place device (Some l) there h =
+      each_set (LocationLeads set) locations place (record l { device = device }) h
+      (each_at (LocationLeads set) locations place l h there)
+
+  pub shared_leads : (p : Packet) (device : ℕ) → PacketLeads set p
+      → PacketLeads set (shared_with p device)
+  shared_leads p device h =
+      shared_in p.locations.items (p.depth - 1) device (slice_get p.locations.items (p.depth - 1)) refl h
+
+  copied_leads : (o : Option Location) (device : ℕ) (completion : Option Completion)
+      → CompletionLeads set completion
+      → LocationLeads set (copied_location o device completion)
+  copied_leads None device completion h = h
+  copied_leads (Some l) device completion h = h
+
+  pub sent_leads : (p : Packet) (device : ℕ) (completion : Option Completion)
+      → CompletionLeads set completion
+      → PacketLeads set p → PacketLeads set (sent_down p device completion)
+  sent_leads p device completion new h =
+      each_set (LocationLeads set) p.locations.items p.depth
+      (copied_location (current_location p) device completion) h
+      (copied_leads (current_location p) device completion new)
+
+  pub new_leads : (number device : ℕ) (major : Major) (argument stack : ℕ)
+      → PacketLeads set (new_packet number device major argument stack)
+  new_leads number device major argument stack =
+      (tt, each_same (LocationLeads set) (stack - 1) unused_location tt)
+
+  -- before the first event
+  free_row : (devices d : ℕ) (owners : List (Option ℕ))
+      → slice_get (replicate devices (replicate SPIN_LOCKS None)) d ≡ Some owners
+      → length owners ≡ SPIN_LOCKS
+  free_row zero d owners h = cc
+  free_row (suc devices) zero owners h =
+      let same : replicate SPIN_LOCKS None ≡ owners = cc in
+      rw (← same) refl
+  free_row (suc devices) (suc d) owners h = free_row devices d owners h
+
+  pub unused_fits : Fits set (unused (length set.devices))
+  unused_fits =
+      record {
+        cells = length-replicate (length set.devices) blank_cells;
+        spin = length-replicate (length set.devices) (replicate SPIN_LOCKS None);
+        rows = free_row (length set.devices);
+        completions = tt;
+      }
+
+  -- a lock of the system or of a device
+  abbrev pub IsThere : Lock → Type 0
+  IsThere SystemCancel = ⊤
+  IsThere (Spin l) = (l.device < length set.devices) × (l.number < SPIN_LOCKS)
+
+  module _ (s : Shared) (fits : Fits set s) where
+    pub packet_leads : (n : ℕ) (p : Packet) → packet_of s n ≡ Some p → PacketLeads set p
+    packet_leads n p there =
+        each_at (PacketLeads set) s.packets (place_of s.packets n) p fits.completions there
+
+    pub with_packet_fits : (n : ℕ) (p : Packet) → PacketLeads set p → Fits set (with_packet s n p)
+    with_packet_fits n p leads =
+        record {
+          cells = fits.cells;
+          spin = fits.spin;
+          rows = fits.rows;
+          completions =
+              each_set (PacketLeads set) s.packets (place_of s.packets n) p fits.completions leads;
+        }
+
+    pub with_cells_fits : (cells : List Cells) → length cells ≡ length s.cells
+        → Fits set (record s { cells = cells })
+    with_cells_fits cells long =
+        record {
+          cells = long ∙ fits.cells;
+          spin = fits.spin;
+          rows = fits.rows;
+          completions = fits.completions;
+        }
+
+    row : (d : ℕ) → d < length set.devices
+        → slice_get s.locks.spin d ≡ Some (slice_index_or s.locks.spin d [])
+    row d within =
+        let long : length s.locks.spin ≡ length set.devices = fits.spin in
+        slice_get-get_or s.locks.spin d [] (omega arith)
+
+    pub owner_there : (lock : Lock) → IsThere lock → owner_of s.locks lock ≡ None → ⊥
+    owner_there SystemCancel there h = cc
+    owner_there (Spin l) there h =
+        let owners : List (Option ℕ) = slice_index_or s.locks.spin l.device [] in
+        let found : slice_get s.locks.spin l.device ≡ Some owners = row l.device there.0 in
+        let eight : length owners ≡ SPIN_LOCKS = fits.rows l.device owners found in
+        let small : l.number < SPIN_LOCKS = there.1 in
+        let owner : slice_get owners l.number ≡ Some (slice_index_or owners l.number None) =
+        slice_get-get_or owners l.number None (omega arith) in
+        let none : slice_get owners l.number ≡ None = rw found at h in
+        let no : None ≡ Some (slice_index_or owners l.number None) = sym none ∙ owner in
+        cc
+
+    rows_after : (d number : ℕ) (owner : Option ℕ) (e : ℕ) (owners : List (Option ℕ))
+        → d < length set.devices
+        → (d ≡ e) ⊎ (d ≡ e → ⊥)
+        → slice_get (slice_set s.locks.spin d
+        (slice_set (slice_index_or s.locks.spin d []) number owner)) e ≡ Some owners
+        → length owners ≡ SPIN_LOCKS
+    rows_after d number owner e owners within (inl same) h =
+        let before : List (Option ℕ) = slice_index_or s.locks.spin d [] in
+        let after : slice_get (slice_set s.locks.spin d (slice_set before number owner)) e
+        ≡ Some (slice_set before number owner) =
+        subst (λ (x : ℕ). slice_get (slice_set s.locks.spin d (slice_set before number owner)) x
+        ≡ Some (slice_set before number owner)) same
+        (set_same s.locks.spin d before (slice_set before number owner) (row d within))
+        in
+        let found : Some owners ≡ Some (slice_set before number owner) = sym h ∙ after in
+        let is : owners ≡ slice_set before number owner = cc in
+        ap length is ∙ length-set before number owner ∙ fits.rows d before (row d within)
+    rows_after d number owner e owners within (inr apart) h =
+        fits.rows e owners
+        (sym (set_other s.locks.spin d e (slice_set (slice_index_or s.locks.spin d []) number owner)
+        apart) ∙ h)
+
+    pub with_owner_fits : (lock : Lock) (owner : Option ℕ) → IsThere lock
+        → Fits set (with_locks s (with_owner s.locks lock owner))
+    with_owner_fits SystemCancel owner there =
+        record { cells = fits.cells; spin = fits.spin; rows = fits.rows; completions = fits.completions }
+    with_owner_fits (Spin l) owner there =
+        record {
+          cells = fits.cells;
+          spin = length-set s.locks.spin l.device
+              (slice_set (slice_index_or s.locks.spin l.device []) l.number owner)
+              ∙ fits.spin;
+          rows = λ e owners h. rows_after l.device l.number owner e owners there.0
+              (cases_eq l.device e) h;
+          completions = fits.completions;
+        }

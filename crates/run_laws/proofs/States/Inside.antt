@@ -1,0 +1,72 @@
+-- Every routine's frame of a thread stands inside the code of its routine, with all its registers,
+-- on top or below.
+use Rattle.std.proofs.Common.{◌≡◌, ℕ, zero, suc, ◌-◌, List, [], ◌∷◌, length, Option, None, Some, refl, ap, sym, ◌∙◌, subst}
+use Rattle.std.specs.Prelude.{slice_get}
+use Rattle.std.proofs.lemmas.List.{length-set}
+use Rattle.model.specs.declared.abs.Kind.{Kind}
+use Rattle.model.specs.declared.status.Status.{Status}
+use Rattle.model.specs.declared.status.Status.TheVariants.{Success}
+use Rattle.model.specs.declared.world.Activation.{Activation}
+use Rattle.model.specs.declared.world.Frame.{Frame}
+use Rattle.model.specs.declared.world.Frame.TheVariants.{Routine, Walk}
+use Rattle.model.specs.declared.world.Value.{Value}
+use Rattle.model.specs.declared.world.Value.TheVariants.{Status as StatusValue}
+use Rattle.model.specs.Effect.{operand_of, answered_in, answered}
+use Rattle.model.specs.Set.{Set, instruction_at}
+use Rattle.run_laws.specs.Holder.{StandsInside}
+use Rattle.run_laws.proofs.States.Frames.{Ready, state_of}
+use Rattle.run_laws.proofs.States.Kinds.{HasKinds}
+use Rattle.run_laws.proofs.States.Rules.{States}
+use Rattle.run_laws.proofs.States.Stacks.{Stands, Stacked}
+
+kinds_long : (issued : ℕ) (kinds : List Kind) (values : List Value) → HasKinds issued kinds values
+    → length values ≡ length kinds
+kinds_long issued [] [] h = refl
+kinds_long issued [] (v ∷ values) h = absurd h
+kinds_long issued (k ∷ kinds) [] h = absurd h
+kinds_long issued (k ∷ kinds) (v ∷ values) h = ap suc (kinds_long issued kinds values h.1)
+
+told_inside : (set : Set) (a : Activation) (status : Status) (r : Option ℕ)
+    → StandsInside set (answered_in a status r)
+    → StandsInside set a
+told_inside set a status None h = h
+told_inside set a status (Some r) h =
+    record {
+      routine = h.routine;
+      is_of = h.is_of;
+      inside = h.inside;
+      registers = sym (length-set a.registers r (StatusValue status)) ∙ h.registers;
+    }
+
+module _ (set : Set) (states : States) (issued : ℕ) where
+  ready_inside : (a : Activation) → Ready set states issued a → StandsInside set a
+  ready_inside a h =
+      record {
+        routine = h.0;
+        is_of = h.1.is_of;
+        inside = h.1.within;
+        registers = kinds_long issued (state_of states a).kinds a.registers h.1.kinds ∙ h.1.sixteen;
+      }
+
+  inside_under : (above : Option Frame) (a : Activation) → Stands set states issued above (Routine a)
+      → StandsInside set a
+  inside_under None a h = ready_inside a h
+  inside_under (Some (Walk n)) a h = ready_inside a h.0
+  inside_under (Some (Routine b)) a h =
+      told_inside set a Success (operand_of (instruction_at set a.driver a.routine (a.position - 1)))
+      (ready_inside (answered set a Success) (h.2 Success))
+
+  inside_top : (above : Option Frame) (f : Frame) (a : Activation) → f ≡ Routine a
+      → Stands set states issued above f
+      → StandsInside set a
+  inside_top above f a same h =
+      inside_under above a (subst (λ (g : Frame). Stands set states issued above g) same h)
+
+  pub stands_inside : (frames : List Frame) (k : ℕ) (a : Activation) → Stacked set states issued frames
+      → slice_get frames k ≡ Some (Routine a) → StandsInside set a
+  stands_inside [] k a h there = cc
+  stands_inside (f ∷ []) zero a h there = let same : f ≡ Routine a = cc in inside_top None f a same h
+  stands_inside (f ∷ []) (suc k) a h there = cc
+  stands_inside (f ∷ g ∷ frames) zero a h there = let same : f ≡ Routine a =
+      cc in inside_top (Some g) f a same h.0
+  stands_inside (f ∷ g ∷ frames) (suc k) a h there = stands_inside (g ∷ frames) k a h.1 there

@@ -1,0 +1,176 @@
+-- A state for every position of every routine of an accepted set, the default routine included.
+use Rattle.std.proofs.Common.{◌≡◌, ℕ, zero, suc, ◌<◌, ◌≤◌, inl, inr, List, [], ◌∷◌, length, Option, None, Some, refl, arith, subst}
+use Rattle.std.specs.Prelude.{⊤, All, IfSome, slice_get, slice_index_or, option_and_then}
+use Rattle.std.proofs.lemmas.Bool.Decides.{eqb_tells}
+use Rattle.std.proofs.lemmas.Option.{slice_get_within}
+use Rattle.model.specs.declared.abs.Abs.{Abs}
+use Rattle.model.specs.declared.abs.Duty.TheVariants.{NoDuty}
+use Rattle.model.specs.declared.abs.Kind.TheVariants.{Blank}
+use Rattle.model.specs.declared.abs.Settled.TheVariants.{Open}
+use Rattle.model.specs.declared.instr.Instr.{Instr}
+use Rattle.model.specs.declared.limits.TheConstants.{MAX_ROUTINES}
+use Rattle.model.specs.declared.set.Driver.{Driver}
+use Rattle.model.specs.declared.set.Routine.{Routine}
+use Rattle.model.specs.declared.set.Sort.{Sort}
+use Rattle.model.specs.declared.set.Sort.TheVariants.{Dispatch, Propagate}
+use Rattle.model.specs.LocalRule.{entered_with}
+use Rattle.model.specs.Loops.{open_at}
+use Rattle.model.specs.Set.{Set, Member, member, routine_of, default_routine, default_number, default_code}
+use Rattle.model.specs.Sound.{IsSound, DriverFits, RoutineFits, OperandFits, HasSort, IsCompletion, CallsFit, completion_named}
+use Rattle.model.specs.Typable.{IsTypableRoutine, IsTypableDriver, IsTypable}
+use Rattle.run_laws.proofs.Lists.{all_at}
+use Rattle.run_laws.proofs.States.Follows.{Follows, Typed, LoopsBefore, typed, default_typed}
+use Rattle.run_laws.proofs.States.Remaining.{Chain, chain}
+use Rattle.run_laws.proofs.States.Rules.{States}
+
+-- the innermost loop at a position is one of the routine's
+innermost_within : (code : List Instr) (p q : ℕ) (loops : List ℕ) → Chain code p loops
+    → slice_get loops 0 ≡ Some q
+    → q < length code
+innermost_within code p q [] h there = cc
+innermost_within code p q (r ∷ loops) h there =
+    let same : r ≡ q = cc in subst (λ (x : ℕ). x < length code) same h.0.within
+
+loops_before : (m : Member) → LoopsBefore m
+loops_before m p q le there =
+    innermost_within m.routine.code p q (open_at m.routine.code p) (chain m.routine.code p le) there
+
+-- a completion routine of a driver
+abbrev pub Continues : Set → ℕ → ℕ → Type 0
+Continues set driver number =
+    (routine : Routine) × (routine_of set driver number ≡ Some routine) × (routine.sort ≡ Propagate)
+
+-- the routine of a call is one
+abbrev pub SetBy : Set → ℕ → Option ℕ → Type 0
+SetBy set driver None = ⊤
+SetBy set driver (Some f) = Continues set driver f
+
+abbrev pub CallLeads : Set → ℕ → Instr → Type 0
+CallLeads set driver i = SetBy set driver (completion_named i)
+
+abbrev pub RoutineOperandsFit : Routine → Type 0
+RoutineOperandsFit routine = All OperandFits routine.code
+
+-- what is known of a routine of an accepted set
+pub record IsKnown (m : Member) (state : ℕ → Abs) : Type 0 where
+  pub follows : Follows m state
+  pub operands : RoutineOperandsFit m.routine
+  pub calls : All (CallLeads m.set m.driver) m.routine.code
+
+abbrev Knows : Member → Type 0
+Knows m = (state : ℕ → Abs) × IsKnown m state
+
+completion_sort : (sort : Sort) → IsCompletion sort → sort ≡ Propagate
+completion_sort Propagate h = refl
+completion_sort Dispatch h = absurd h
+
+-- a routine in the list of a driver is the one of its number
+module _ (set : Set) (driver : ℕ) (d : Driver) (there : slice_get set.drivers driver ≡ Some d)
+    (few : length d.routines ≤ MAX_ROUTINES) where
+  pub routine_found : (number : ℕ) (routine : Routine) → slice_get d.routines number ≡ Some routine
+      → routine_of set driver number ≡ Some routine
+  routine_found number routine found =
+      let within : number < length d.routines = slice_get_within d.routines number routine found in
+      elim (eqb_tells number default_number) [
+        | inl e ↦ let same : number ≡ default_number = e.1 in absurd (omega arith)
+        | inr e ↦ rw (e.0, there) found
+      ]
+
+  continues : (number : ℕ) (o : Option Routine) → slice_get d.routines number ≡ o → HasSort IsCompletion o
+      → Continues set driver number
+  continues number None found h = absurd h
+  continues number (Some routine) found h =
+      (routine, routine_found number routine found, completion_sort routine.sort h)
+
+  set_by : (f : Option ℕ) → IfSome f (λ number. HasSort IsCompletion (slice_get d.routines number))
+      → SetBy set driver f
+  set_by None h = tt
+  set_by (Some f) h = continues f (slice_get d.routines f) refl h
+
+  calls_lead : (routine : Routine) → CallsFit d.routines routine → All (CallLeads set driver) routine.code
+  calls_lead routine h =
+      λ p i within. set_by (completion_named (slice_index_or routine.code p i)) (h p i within)
+
+-- the default routine
+default_operands : (p : ℕ) (d : Instr) → p < 2 → OperandFits (slice_index_or default_code p d)
+default_operands zero d h = omega arith
+default_operands (suc zero) d h = tt
+default_operands (suc (suc p)) d h = absurd (omega arith)
+
+default_calls : (set : Set) (driver p : ℕ) (d : Instr) → p < 2
+    → CallLeads set driver (slice_index_or default_code p d)
+default_calls set driver zero d h = tt
+default_calls set driver (suc zero) d h = tt
+default_calls set driver (suc (suc p)) d h = absurd (omega arith)
+
+knows_default : (set : Set) (driver : ℕ) → Knows (member set driver default_number default_routine)
+knows_default set driver = (
+  (default_typed set driver).0,
+  record {
+    follows = (default_typed set driver).1;
+    operands = default_operands;
+    calls = default_calls set driver;
+  },
+)
+
+knows : (m : Member) → IsTypableRoutine m → RoutineOperandsFit m.routine
+    → All (CallLeads m.set m.driver) m.routine.code
+    → Knows m
+knows m typable operands calls =
+    let all : Typed m = typed m typable (loops_before m) in
+    (all.0, record { follows = all.1; operands = operands; calls = calls })
+
+-- every routine of an accepted set
+module _ (set : Set) (typable : IsTypable set) (sound : IsSound set) (driver number : ℕ) where
+  knows_of : (o : Option Driver) → slice_get set.drivers driver ≡ o → (routine : Routine)
+      → option_and_then (λ d. slice_get d.routines number) o ≡ Some routine
+      → Knows (member set driver number routine)
+  knows_of None there routine h = cc
+  knows_of (Some d) there routine h =
+      let fits : DriverFits d = all_at DriverFits set.drivers driver d sound.drivers there in
+      let within : number < length d.routines = slice_get_within d.routines number routine h in
+      let right : IsTypableDriver set driver d =
+      typable.drivers driver d (slice_get_within set.drivers driver d there) there in
+      knows (member set driver number routine) (right number routine within h)
+      (all_at RoutineFits d.routines number routine fits.routines h).operands
+      (calls_lead set driver d there fits.few routine
+      (all_at (CallsFit d.routines) d.routines number routine fits.calls h))
+
+  knows_routine : (routine : Routine) → routine_of set driver number ≡ Some routine
+      → Knows (member set driver number routine)
+  knows_routine routine there =
+      elim (eqb_tells number default_number) [
+        | inl e ↦
+            let same : Some default_routine ≡ Some routine = rw e.0 at there in
+            let one : default_routine ≡ routine = cc in
+            rw (e.1, ← one) (knows_default set driver)
+        | inr e ↦ knows_of (slice_get set.drivers driver) refl routine (rw e.0 at there)
+      ]
+
+pub record IsLed (set : Set) (states : States) : Type 0 where
+  pub known : (driver number : ℕ) (routine : Routine) → routine_of set driver number ≡ Some routine
+      → IsKnown (member set driver number routine) (states driver number)
+
+abbrev states_in : (set : Set) (driver number : ℕ) (o : Option Routine)
+    → ((routine : Routine) → o ≡ Some routine → Knows (member set driver number routine)) → ℕ → Abs
+states_in set driver number None h = λ p. entered_with Blank NoDuty Open
+states_in set driver number (Some routine) h = (h routine refl).0
+
+known_in : (set : Set) (driver number : ℕ) (o : Option Routine)
+    (h : (routine : Routine) → o ≡ Some routine → Knows (member set driver number routine))
+    (routine : Routine)
+    → o ≡ Some routine → IsKnown (member set driver number routine) (states_in set driver number o h)
+known_in set driver number None h routine there = cc
+known_in set driver number (Some other) h routine there =
+    let same : other ≡ routine = cc in
+    subst (λ (r : Routine). IsKnown (member set driver number r) (h other refl).0) same (h other refl).1
+
+pub led : (set : Set) → IsTypable set → IsSound set → (states : States) × IsLed set states
+led set typable sound = (
+  λ driver number. states_in set driver number (routine_of set driver number)
+      (knows_routine set typable sound driver number),
+  record {
+    known = λ driver number routine there. known_in set driver number (routine_of set driver number)
+        (knows_routine set typable sound driver number) routine there;
+  },
+)

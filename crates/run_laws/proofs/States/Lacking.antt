@@ -1,0 +1,146 @@
+-- No step of an accepted set is wrong: the frame on top lacks nothing that its instruction wants.
+use Rattle.std.proofs.Common.{◌≡◌, ℕ, ◌<◌, Bool, true, false, length, None, Some, refl, arith, sym, ◌∙◌}
+use Rattle.std.specs.Prelude.{slice_get, slice_index_or, nat_lt, not}
+use Rattle.std.proofs.lemmas.Option.{slice_get-get_or, slice_get_within}
+use Rattle.model.specs.declared.abs.Rule.{Rule}
+use Rattle.model.specs.declared.event.Lock.{Lock}
+use Rattle.model.specs.declared.event.Lock.TheVariants.{SystemCancel}
+use Rattle.model.specs.declared.instr.Instr.{Instr}
+use Rattle.model.specs.declared.instr.Instr.TheVariants.{Acquire, Release, AcquireCancel, ReleaseCancel, Pass, Call, End, Ret}
+use Rattle.model.specs.declared.instr.Return.{Return}
+use Rattle.model.specs.declared.instr.Return.TheVariants.{WithStatus, Lower, Continue}
+use Rattle.model.specs.declared.limits.TheConstants.{MAX_LOOPS}
+use Rattle.model.specs.declared.set.Sort.{Sort}
+use Rattle.model.specs.declared.set.Sort.TheVariants.{Dispatch, Propagate}
+use Rattle.model.specs.declared.status.Status.{Status}
+use Rattle.model.specs.declared.world.Activation.{Activation}
+use Rattle.model.specs.declared.world.Frame.TheVariants.{Routine}
+use Rattle.model.specs.Effect.{spin_lock}
+use Rattle.model.specs.LocalRule.{broken_if, kind_of, duty_fault, form_fault}
+use Rattle.model.specs.Set.{Set, sort_of}
+use Rattle.model.specs.Sound.{OperandFits}
+use Rattle.model.specs.World.{Shared, blank_cells, status_in, register}
+use Rattle.run_laws.proofs.Lists.{all_at}
+use Rattle.run_laws.proofs.States.Entering.{LowerThere, lower_there}
+use Rattle.run_laws.proofs.States.Fits.{IsThere, owner_there}
+use Rattle.run_laws.proofs.States.Frames.{state_of, Stays, Runs}
+use Rattle.run_laws.proofs.States.Kinds.{status_there}
+use Rattle.run_laws.proofs.States.LoopEnds.{room_for_loop, some_loop}
+use Rattle.run_laws.proofs.States.Obeyed.{SendsDown, sends_down, returns_by}
+use Rattle.run_laws.proofs.States.OnTop.{OnTop, at_routine, runs, value_suits, packet_there, number_found}
+use Rattle.run_laws.proofs.States.Rules.{States, first_none}
+use Rattle.run_laws.proofs.Steps.Comes.{Lacks, no_instruction, no_number, no_packet, no_room, no_loop, no_cells, none_taken, none_freed, no_lower, no_status, no_form}
+use Rattle.run_laws.proofs.Steps.Words.{Forwarding, work_of, packet_operand, lock_taken, lock_freed, status_returned, is_form_of}
+
+broken_not : (b : Bool) (rule : Rule) → broken_if (not b) rule ≡ None → b ≡ true
+broken_not true rule h = refl
+broken_not false rule h = cc
+
+has_form : (sort : Sort) (form : Return) → form_fault sort form ≡ None → is_form_of sort form ≡ true
+has_form Dispatch Continue h = cc
+has_form Dispatch _ h = refl
+has_form Propagate Continue h = refl
+has_form Propagate _ h = cc
+
+-- what sends a packet down works on one
+down_operand : (i : Instr) → work_of i ≡ Forwarding → (r : ℕ) × (packet_operand i ≡ Some r)
+down_operand (Pass r) is = (r, refl)
+down_operand (Call r f) is = (r, refl)
+down_operand _ is = cc
+
+module _ (set : Set) (states : States) (s : Shared) (a : Activation) where
+  operand_fits : (i : Instr) → Runs set states s a i → OperandFits i
+  operand_fits i h = all_at OperandFits h.routine.code a.position i h.known.operands h.here
+
+  device_within : (i : Instr) → Runs set states s a i → a.device < length set.devices
+  device_within i h = slice_get_within set.devices a.device h.stays.serves.0 h.stays.serves.1
+
+  -- a lock that an instruction takes or frees is there
+  pub taken_there : (i : Instr) (lock : Lock) → Runs set states s a i → lock_taken a i ≡ Some lock
+      → IsThere set lock
+  taken_there (Acquire l) lock h is =
+      let same : spin_lock a l ≡ lock = cc in
+      rw (← same) (device_within (Acquire l) h, operand_fits (Acquire l) h)
+  taken_there AcquireCancel lock h is = let same : SystemCancel ≡ lock = cc in rw (← same) tt
+  taken_there _ lock h is = cc
+
+  pub freed_there : (i : Instr) (lock : Lock) → Runs set states s a i → lock_freed a i ≡ Some lock
+      → IsThere set lock
+  freed_there (Release l) lock h is =
+      let same : spin_lock a l ≡ lock = cc in
+      rw (← same) (device_within (Release l) h, operand_fits (Release l) h)
+  freed_there ReleaseCancel lock h is = let same : SystemCancel ≡ lock = cc in rw (← same) tt
+  freed_there _ lock h is = cc
+
+  -- the rules of what sends a packet down, and the device that it is sent to
+  pub down : (i : Instr) (r : ℕ) → Runs set states s a i → work_of i ≡ Forwarding
+      → packet_operand i ≡ Some r
+      → SendsDown (state_of states a) (sort_of set a.driver a.routine) set a.driver i r
+  down i r h is operand =
+      sends_down (state_of states a) (sort_of set a.driver a.routine) set a.driver i r h.obeys is operand
+
+  pub lower_device : (i : Instr) → Runs set states s a i → work_of i ≡ Forwarding
+      → LowerThere set a.device
+  lower_device i h is =
+      let operand : (r : ℕ) × (packet_operand i ≡ Some r) = down_operand i is in
+      lower_there set a.device a.driver h.good.sound h.stays.serves
+      (down i operand.0 h is operand.1).lower
+
+  some_status : (form : Return) → Runs set states s a (Ret form) → is_form_of Dispatch form ≡ true
+      → status_returned a form ≡ None → ⊥
+  some_status (WithStatus status) h of_form none = cc
+  some_status (Lower r) h of_form none =
+      let rule : duty_fault (state_of states a) (Lower r) ≡ None =
+      (returns_by (state_of states a) (sort_of set a.driver a.routine) set a.driver (Lower r)
+      h.obeys).duty in
+      let status : (status : Status) × (status_in (register a r) ≡ Some status) =
+      status_there s.issued (kind_of (state_of states a) r) (register a r)
+      (broken_not _ _ (first_none _ _ rule))
+      (value_suits set states s a (Ret (Lower r)) r h) in
+      let no : None ≡ Some status.0 = sym none ∙ status.1 in
+      cc
+  some_status Continue h of_form none = cc
+
+  pub never_lacks : OnTop set states s (Routine a) → Lacks set s a → ⊥
+  never_lacks h (no_instruction none) =
+      let stays : Stays set states s.issued h.stands.0 a = h.stands.1 in
+      let there : slice_get h.stands.0.code a.position
+      ≡ Some (slice_index_or h.stands.0.code a.position End) =
+      slice_get-get_or h.stands.0.code a.position End stays.within in
+      let no : None ≡ Some (slice_index_or h.stands.0.code a.position End) =
+      sym none ∙ at_routine set h.stands.0 a stays.is_of ∙ there in
+      cc
+  never_lacks h (no_number i r at is none) =
+      number_found set states s a i r (runs set states s a i h at) is none
+  never_lacks h (no_packet i r at is none) =
+      packet_there set states s a i r (runs set states s a i h at) is none
+  never_lacks h (no_room turns at full) =
+      let room : nat_lt (length a.loops.items) MAX_LOOPS ≡ true =
+      room_for_loop set states s a turns (runs set states s a _ h at) in
+      cc
+  never_lacks h (no_loop at none) = some_loop set states s a (runs set states s a End h at) none
+  never_lacks h (no_cells i at is none) =
+      let within : a.device < length set.devices = device_within i (runs set states s a i h at) in
+      let long : length s.cells ≡ length set.devices = h.fits.cells in
+      let there : slice_get s.cells a.device ≡ Some (slice_index_or s.cells a.device blank_cells) =
+      slice_get-get_or s.cells a.device blank_cells (omega arith) in
+      let no : None ≡ Some (slice_index_or s.cells a.device blank_cells) = sym none ∙ there in
+      cc
+  never_lacks h (none_taken i lock at is none) =
+      owner_there set s h.fits lock (taken_there i lock (runs set states s a i h at) is) none
+  never_lacks h (none_freed i lock at is none) =
+      owner_there set s h.fits lock (freed_there i lock (runs set states s a i h at) is) none
+  never_lacks h (no_lower i at is none) =
+      let lower : LowerThere set a.device = lower_device i (runs set states s a i h at) is in
+      let no : None ≡ Some lower.0 = sym none ∙ lower.1 in
+      cc
+  never_lacks h (no_status form at sort of_form none) =
+      some_status form (runs set states s a (Ret form) h at) of_form none
+  never_lacks h (no_form form at isnt) =
+      let is : is_form_of (sort_of set a.driver a.routine) form ≡ true =
+      has_form (sort_of set a.driver a.routine) form
+      (returns_by (state_of states a) (sort_of set a.driver a.routine) set a.driver form
+      (runs set states s a (Ret form) h at).obeys).of_form
+      in
+      let no : true ≡ false = sym is ∙ isnt in
+      cc

@@ -1,0 +1,130 @@
+-- What an instruction that breaks no rule tells of the state before it: where it sends a packet
+-- down, completes one, or returns.
+use Rattle.std.proofs.Common.{◌≡◌, ℕ, Bool, true, false, None, Some, refl}
+use Rattle.std.specs.Prelude.{◌||◌}
+use Rattle.std.specs.List.{list_any}
+use Rattle.model.specs.declared.abs.Abs.{Abs}
+use Rattle.model.specs.declared.abs.Kind.{Kind}
+use Rattle.model.specs.declared.abs.Kind.TheVariants.{New, Own}
+use Rattle.model.specs.declared.abs.Rule.TheVariants.{MarkIrpPending, CancelSpinLock, SpinLock, LockHeld, Dropped, Completion as CompletionRule, StackTooSmall, NoLower}
+use Rattle.model.specs.declared.instr.Instr.{Instr}
+use Rattle.model.specs.declared.instr.Instr.TheVariants.{Pass, Call, Complete, Ret}
+use Rattle.model.specs.declared.instr.Return.{Return}
+use Rattle.model.specs.declared.set.Sort.{Sort}
+use Rattle.model.specs.declared.set.Sort.TheVariants.{Dispatch, Propagate}
+use Rattle.model.specs.declared.status.Status.{Status}
+use Rattle.model.specs.Forwarding.{lacks_lower, is_too_small}
+use Rattle.model.specs.LocalRule.{kind_of, is_kept, is_right, is_pending, is_completion, holds_lock, holds_spin_lock, a_new_one, one_handed_or_owned, demanded, complete_kind, broken_if, least_of, completion_sort_fault, kept_fault, given_down, handed, refuses, forward_fault, duty_fault, form_fault, settled_fault}
+use Rattle.model.specs.Set.{Set}
+use Rattle.run_laws.proofs.States.Rules.{first_none, second_none, unbroken}
+use Rattle.run_laws.proofs.Steps.Words.{Forwarding, work_of, packet_operand}
+
+-- how many locations more a packet needs that an instruction sends down
+abbrev pub locations_wanted : Instr → ℕ
+locations_wanted (Call r f) = 1
+locations_wanted _ = 0
+
+dispatch_of : (sort : Sort) → is_completion sort ≡ false → sort ≡ Dispatch
+dispatch_of Dispatch h = refl
+dispatch_of Propagate h = cc
+
+new_right : (k : Kind) → demanded a_new_one k ≡ None → is_right k ≡ true
+new_right New h = refl
+new_right _ h = cc
+
+owned_right : (k : Kind) → demanded one_handed_or_owned k ≡ None → is_right k ≡ true
+owned_right New h = refl
+owned_right Own h = refl
+owned_right _ h = cc
+
+complete_right : (k : Kind) → complete_kind k ≡ None → is_right k ≡ true
+complete_right New h = refl
+complete_right Own h = refl
+complete_right _ h = cc
+
+either_free : (cancel spin : Bool) → cancel ≡ false → spin ≡ false → (cancel || spin) ≡ false
+either_free cancel spin one two = rw (one, two) refl
+
+module _ (s : Abs) (sort : Sort) (set : Set) (driver : ℕ) where
+  -- a packet is sent down
+  pub record SendsDown (i : Instr) (r : ℕ) : Type 0 where
+    pub right : is_right (kind_of s r) ≡ true
+    pub free : holds_lock s ≡ false
+    pub dispatch : sort ≡ Dispatch
+    pub room : is_too_small set driver (locations_wanted i) ≡ false
+    pub lower : lacks_lower set driver ≡ false
+    pub after : handed s i ≡ given_down s r (kind_of s r)
+
+  sends_by : (i : Instr) (q r : ℕ) → Some q ≡ Some r → is_right (kind_of s q) ≡ true
+      → forward_fault s sort set driver (locations_wanted i) ≡ None
+      → handed s i ≡ given_down s q (kind_of s q)
+      → SendsDown i r
+  sends_by i q r same right rule after =
+      let one : q ≡ r = cc in
+      let later : least_of (completion_sort_fault sort)
+      (least_of (broken_if (is_too_small set driver (locations_wanted i)) StackTooSmall)
+      (broken_if (lacks_lower set driver) NoLower)) ≡ None = second_none _ _ rule in
+      record {
+        right = rw one at right;
+        free = unbroken (holds_lock s) LockHeld (first_none _ _ rule);
+        dispatch = dispatch_of sort (unbroken (is_completion sort) CompletionRule (first_none _ _ later));
+        room = unbroken (is_too_small set driver (locations_wanted i)) StackTooSmall
+            (first_none _ _ (second_none _ _ later));
+        lower = unbroken (lacks_lower set driver) NoLower (second_none _ _ (second_none _ _ later));
+        after = rw one at after;
+      }
+
+  pub sends_down : (i : Instr) (r : ℕ) → refuses s i sort set driver ≡ None → work_of i ≡ Forwarding
+      → packet_operand i ≡ Some r → SendsDown i r
+  sends_down (Pass q) r h is operand =
+      sends_by (Pass q) q r operand (new_right (kind_of s q) (first_none _ _ h)) (second_none _ _ h) refl
+  sends_down (Call q f) r h is operand =
+      sends_by (Call q f) q r operand (owned_right (kind_of s q) (first_none _ _ h))
+      (second_none _ _ h) refl
+  sends_down _ r h is operand = cc
+
+  -- one is completed
+  pub record CompletesOne (r : ℕ) (status : Status) : Type 0 where
+    pub right : is_right (kind_of s r) ≡ true
+    pub final : is_pending status ≡ false
+    pub free : holds_lock s ≡ false
+    pub dispatch : sort ≡ Dispatch
+
+  pub completes_one : (r : ℕ) (status : Status) → refuses s (Complete r status) sort set driver ≡ None
+      → CompletesOne r status
+  completes_one r status h =
+      let later : least_of (broken_if (is_pending status) MarkIrpPending)
+      (least_of (broken_if (holds_lock s) LockHeld) (completion_sort_fault sort)) ≡ None =
+      second_none _ _ h in
+      record {
+        right = complete_right (kind_of s r) (first_none _ _ h);
+        final = unbroken (is_pending status) MarkIrpPending (first_none _ _ later);
+        free = unbroken (holds_lock s) LockHeld (first_none _ _ (second_none _ _ later));
+        dispatch = dispatch_of sort
+            (unbroken (is_completion sort) CompletionRule (second_none _ _ (second_none _ _ later)));
+      }
+
+  -- the routine returns
+  pub record ReturnsBy (form : Return) : Type 0 where
+    pub duty : duty_fault s form ≡ None
+    pub free : holds_lock s ≡ false
+    pub nothing_left : list_any is_kept s.kinds ≡ false
+    pub of_form : form_fault sort form ≡ None
+    pub settled : settled_fault sort s.settled ≡ None
+
+  pub returns_by : (form : Return) → refuses s (Ret form) sort set driver ≡ None → ReturnsBy form
+  returns_by form h =
+      let rest : least_of (kept_fault s)
+      (least_of (form_fault sort form) (settled_fault sort s.settled)) ≡ None =
+      second_none _ _ h in
+      let kept : kept_fault s ≡ None = first_none _ _ rest in
+      record {
+        duty = first_none _ _ h;
+        free = either_free s.cancel (holds_spin_lock s)
+            (unbroken s.cancel CancelSpinLock (first_none _ _ kept))
+            (unbroken (holds_spin_lock s) SpinLock (first_none _ _ (second_none _ _ kept)));
+        nothing_left =
+            unbroken (list_any is_kept s.kinds) Dropped (second_none _ _ (second_none _ _ kept));
+        of_form = first_none _ _ (second_none _ _ rest);
+        settled = second_none _ _ (second_none _ _ rest);
+      }

@@ -1,0 +1,31 @@
+-- What follows where an instruction breaks no rule: each of its conditions holds.
+use Rattle.std.proofs.Common.{◌≡◌, ℕ, Bool, true, false, Option, None, Some, refl, cond}
+use Rattle.std.specs.Prelude.{nat_le}
+use Rattle.model.specs.declared.abs.Abs.{Abs}
+use Rattle.model.specs.declared.abs.Rule.{Rule}
+use Rattle.model.specs.LocalRule.{broken_if, least_of, rule_number}
+
+-- a state for every position of every routine of a set
+abbrev pub States : Type 0
+States = ℕ → ℕ → ℕ → Abs
+
+-- one of two broken rules is broken
+either_rule : (b : Bool) (one other : Rule) → cond {A = Option Rule} b (Some one) (Some other) ≡ None → ⊥
+either_rule true one other h = cc
+either_rule false one other h = cc
+
+pub first_none : (one other : Option Rule) → least_of one other ≡ None → one ≡ None
+first_none None other h = refl
+first_none (Some rule) None h = cc
+first_none (Some rule) (Some later) h =
+    absurd (either_rule (nat_le (rule_number rule) (rule_number later)) rule later h)
+
+pub second_none : (one other : Option Rule) → least_of one other ≡ None → other ≡ None
+second_none None other h = h
+second_none (Some rule) None h = refl
+second_none (Some rule) (Some later) h =
+    absurd (either_rule (nat_le (rule_number rule) (rule_number later)) rule later h)
+
+pub unbroken : (b : Bool) (rule : Rule) → broken_if b rule ≡ None → b ≡ false
+unbroken false rule h = refl
+unbroken true rule h = cc

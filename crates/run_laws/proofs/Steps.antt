@@ -1,0 +1,6 @@
+pub mod Words
+pub mod Comes
+pub mod Walk
+pub mod Faults
+pub mod Below
+pub mod Locking

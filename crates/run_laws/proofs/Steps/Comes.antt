@@ -1,0 +1,209 @@
+-- The shapes of a step: a thread's top frame, over another frame or none, leaves one of these
+-- outcomes. Each shape has the instruction, and all that decided it. What a step does to a law is
+-- then said once a shape, and an instruction of a known shape costs a law nothing.
+use Rattle.std.specs.Prelude.{ℕ, ◌≡◌, ◌⊎◌, ◌+◌, ◌∷◌, ◌++◌, Bool, true, false, List, [], length, Option, None, Some, nat_eq, nat_lt, slice_get, slice_set}
+use Rattle.model.specs.declared.event.Lock.{Lock}
+use Rattle.model.specs.declared.event.OfDevice.{OfDevice}
+use Rattle.model.specs.declared.event.Reply.TheVariants.{Topped}
+use Rattle.model.specs.declared.instr.Instr.{Instr}
+use Rattle.model.specs.declared.instr.Instr.TheVariants.{Move, Clear, Loop, End, Put, Mark, Pass, Call, Complete, Ret}
+use Rattle.model.specs.declared.instr.Return.{Return}
+use Rattle.model.specs.declared.instr.Return.TheVariants.{Continue}
+use Rattle.model.specs.declared.limits.TheConstants.{MAX_LOOPS}
+use Rattle.model.specs.declared.set.Sort.TheVariants.{Dispatch, Propagate}
+use Rattle.model.specs.declared.status.Status.{Status}
+use Rattle.model.specs.declared.world.Activation.{Activation}
+use Rattle.model.specs.declared.world.Cells.{Cells}
+use Rattle.model.specs.declared.world.Completion.{Completion}
+use Rattle.model.specs.declared.world.Frame.{Frame}
+use Rattle.model.specs.declared.world.Frame.TheVariants.{Routine, Walk}
+use Rattle.model.specs.declared.world.OpenLoop.{OpenLoop}
+use Rattle.model.specs.declared.world.Packet.{Packet}
+use Rattle.model.specs.declared.world.Value.{Value}
+use Rattle.model.specs.declared.world.Value.TheVariants.{Blank, Num}
+use Rattle.model.specs.Action.{Executes, Acquires, Releases, TouchesPaged, Touches, Calls, Ups, Completes, Marks, Leaves, TopsOut}
+use Rattle.model.specs.Effect.{Outcome, leaves, goes_wrong, goes_on, waits, turned, asks, set_by, returned, completes_with}
+use Rattle.model.specs.Set.{Set, instruction_at, sort_of, lower_of, label_of}
+use Rattle.model.specs.World.{Shared, owner_of, with_owner, with_locks, packet_of, with_packet, without_packet, packet_in, number_in, register, next, at_label, innermost, with_loops, with_info, mark_current, current_location, sent_down, shared_with, left_location, moved_up, is_marked, completion_of, completed}
+use Rattle.run_laws.proofs.Steps.Words.{Computing, Paging, Looking, Forwarding, work_of, is_touching, goes_next, packet_operand, number_operand, second_operand, keeps_registers, numbered_by, is_of_cells, lock_taken, lock_freed, jumps_on, status_returned, is_form_of}
+
+-- the instruction at an activation's position
+abbrev pub Executing : Set → Activation → Instr → Type 0
+Executing set a i = instruction_at set a.driver a.routine a.position ≡ Some i
+
+-- a register of an activation refers to a packet that was issued
+abbrev pub Reads : Shared → Activation → ℕ → ℕ → Type 0
+Reads s a r n = packet_in s (register a r) ≡ Some n
+
+-- why a step is wrong: there is no instruction, or an operand, a loop, a cell, a lock, a device or
+-- a form of return that it wants isn't there
+pub data Lacks (set : Set) (s : Shared) (a : Activation) : Type 0 where
+  no_instruction : instruction_at set a.driver a.routine a.position ≡ None → Lacks set s a
+  no_number : (i : Instr) (r : ℕ) → Executing set a i → (number_operand i ≡ Some r)
+      ⊎ (second_operand i ≡ Some r)
+      → number_in (register a r) ≡ None → Lacks set s a
+  no_packet : (i : Instr) (r : ℕ) → Executing set a i → packet_operand i ≡ Some r
+      → packet_in s (register a r) ≡ None → Lacks set s a
+  no_room : (turns : ℕ) → Executing set a (Loop turns) → nat_lt (length a.loops.items) MAX_LOOPS ≡ false
+      → Lacks set s a
+  no_loop : Executing set a End → innermost a ≡ None → Lacks set s a
+  no_cells : (i : Instr) → Executing set a i → is_of_cells i ≡ true → slice_get s.cells a.device ≡ None
+      → Lacks set s a
+  none_taken : (i : Instr) (lock : Lock) → Executing set a i → lock_taken a i ≡ Some lock
+      → owner_of s.locks lock ≡ None → Lacks set s a
+  none_freed : (i : Instr) (lock : Lock) → Executing set a i → lock_freed a i ≡ Some lock
+      → owner_of s.locks lock ≡ None → Lacks set s a
+  no_lower : (i : Instr) → Executing set a i → work_of i ≡ Forwarding → lower_of set a.device ≡ None
+      → Lacks set s a
+  no_status : (form : Return) → Executing set a (Ret form) → sort_of set a.driver a.routine ≡ Dispatch
+      → is_form_of Dispatch form ≡ true → status_returned a form ≡ None → Lacks set s a
+  no_form : (form : Return) → Executing set a (Ret form)
+      → is_form_of (sort_of set a.driver a.routine) form ≡ false
+      → Lacks set s a
+
+-- the registers after an instruction: as they were, with a number in one of them, or with one moved
+-- or cleared
+pub data Written (a : Activation) : Instr → List Value → Type 0 where
+  keeps_all : (i : Instr) → keeps_registers i ≡ true → Written a i a.registers
+  makes_number : (i : Instr) (r n : ℕ) → numbered_by i ≡ Some r
+      → Written a i (slice_set a.registers r (Num n))
+  moves_over : (r q : ℕ) → Written a (Move r q) (slice_set a.registers r (register a q))
+  makes_blank : (r : ℕ) → Written a (Clear r) (slice_set a.registers r Blank)
+
+-- how an activation goes on after an instruction, and whether it jumps
+pub data GoesTo (a : Activation) (i : Instr) : Activation → Bool → Type 0 where
+  onward : (registers : List Value) → goes_next i ≡ true → Written a i registers
+      → GoesTo a i (record a { position = a.position + 1; registers = registers }) false
+  jumping : (label : ℕ) → label_of i ≡ Some label → GoesTo a i (at_label a label) true
+
+-- what stands under a frame is the I/O manager's
+abbrev pub is_walk : Option Frame → Bool
+is_walk None = false
+is_walk (Some (Routine a)) = false
+is_walk (Some (Walk n)) = true
+
+-- a step comes to an outcome: of a thread's top frame, over a frame or none
+pub data Comes (set : Set) (s : Shared) (t : ℕ) : Option Frame → Frame → Outcome → Type 0 where
+  -- something that the instruction wants isn't there
+  errs : {under : Option Frame} (a : Activation) → Lacks set s a
+      → Comes set s t under (Routine a) (goes_wrong s a)
+  -- another thread owns the lock that it takes
+  awaits_lock : {under : Option Frame} (a : Activation) (i : Instr) (lock : Lock) (owner : ℕ)
+      → Executing set a i
+      → lock_taken a i ≡ Some lock → owner_of s.locks lock ≡ Some (Some owner) → nat_eq owner t ≡ false
+      → Comes set s t under (Routine a) (waits s a)
+  -- registers and cells alone
+  computes : {under : Option Frame} (a : Activation) (i : Instr) (b : Activation) (jumped : Bool)
+      (cells : List Cells)
+      → Executing set a i → work_of i ≡ Computing → GoesTo a i b jumped → length cells ≡ length s.cells
+      → Comes set s t under (Routine a) (goes_on (record s { cells = cells }) b [])
+  opens_loop : {under : Option Frame} (a : Activation) (turns : ℕ) → Executing set a (Loop turns)
+      → nat_lt (length a.loops.items) MAX_LOOPS ≡ true
+      → Comes set s t under (Routine a)
+      (goes_on s (next
+      (with_loops a (a.loops.items ++ record { start = a.position + 1; turns = turns } ∷ [])))
+      [])
+  turns_loop : {under : Option Frame} (a : Activation) (l : OpenLoop) → Executing set a End
+      → innermost a ≡ Some l
+      → Comes set s t under (Routine a) (goes_on s (turned a l) [])
+  -- a paged cell among them
+  pages : {under : Option Frame} (a : Activation) (i : Instr) (b : Activation) (cell : OfDevice)
+      (cells : List Cells)
+      → Executing set a i → work_of i ≡ Paging → GoesTo a i b false → length cells ≡ length s.cells
+      → Comes set s t under (Routine a) (goes_on (record s { cells = cells }) b (TouchesPaged cell ∷ []))
+  -- a packet is touched that isn't live
+  touches_gone : {under : Option Frame} (a : Activation) (i : Instr) (r n : ℕ) → Executing set a i
+      → is_touching (work_of i) ≡ true → goes_next i ≡ true → packet_operand i ≡ Some r → Reads s a r n
+      → packet_of s n ≡ None
+      → Comes set s t under (Routine a) (goes_on s (next a) (Touches n ∷ []))
+  looks_at : {under : Option Frame} (a : Activation) (i : Instr) (b : Activation) (jumped : Bool)
+      (r n : ℕ) (p : Packet)
+      → Executing set a i → work_of i ≡ Looking → GoesTo a i b jumped → packet_operand i ≡ Some r
+      → Reads s a r n
+      → packet_of s n ≡ Some p → jumped ≡ jumps_on i p
+      → Comes set s t under (Routine a) (goes_on s b (Touches n ∷ []))
+  writes_info : {under : Option Frame} (a : Activation) (q r n : ℕ) (p : Packet) (info : ℕ)
+      → Executing set a (Put q r)
+      → Reads s a q n → packet_of s n ≡ Some p → number_in (register a r) ≡ Some info
+      → Comes set s t under (Routine a)
+      (goes_on (with_packet s n (with_info p info)) (next a) (Touches n ∷ []))
+  marks_packet : {under : Option Frame} (a : Activation) (r n : ℕ) (p : Packet) → Executing set a (Mark r)
+      → Reads s a r n → packet_of s n ≡ Some p
+      → Comes set s t under (Routine a)
+      (goes_on (with_packet s n (mark_current p)) (next a) (Touches n ∷ Marks n ∷ []))
+  -- a free lock becomes the thread's, one that it owns stays its own, one becomes free
+  takes_lock : {under : Option Frame} (a : Activation) (i : Instr) (lock : Lock) → Executing set a i
+      → lock_taken a i ≡ Some lock → owner_of s.locks lock ≡ Some None
+      → Comes set s t under (Routine a)
+      (goes_on (with_locks s (with_owner s.locks lock (Some t))) (next a) (Acquires lock ∷ []))
+  retakes_lock : {under : Option Frame} (a : Activation) (i : Instr) (lock : Lock) → Executing set a i
+      → lock_taken a i ≡ Some lock → owner_of s.locks lock ≡ Some (Some t)
+      → Comes set s t under (Routine a) (goes_on s (next a) (Acquires lock ∷ []))
+  frees_lock : {under : Option Frame} (a : Activation) (i : Instr) (lock : Lock) (owner : Option ℕ)
+      → Executing set a i
+      → lock_freed a i ≡ Some lock → owner_of s.locks lock ≡ Some owner
+      → Comes set s t under (Routine a)
+      (goes_on (with_locks s (with_owner s.locks lock None)) (next a) (Releases lock ∷ []))
+  completes_packet : {under : Option Frame} (a : Activation) (r : ℕ) (status : Status) (n : ℕ)
+      (p : Packet)
+      → Executing set a (Complete r status) → Reads s a r n → packet_of s n ≡ Some p
+      → Comes set s t under (Routine a)
+      (leaves (with_packet s n (completed p status)) (Routine (next a) ∷ Walk n ∷ [])
+      (Executes ∷ Completes n ∷ []))
+  completes_gone : {under : Option Frame} (a : Activation) (r : ℕ) (status : Status) (n : ℕ)
+      → Executing set a (Complete r status) → Reads s a r n → packet_of s n ≡ None
+      → Comes set s t under (Routine a) (goes_on s (next a) (Completes n ∷ []))
+  -- the lower driver is asked, in the caller's location or in one of its own
+  passes_down : {under : Option Frame} (a : Activation) (r n : ℕ) (p : Packet) (lower : ℕ)
+      → Executing set a (Pass r)
+      → Reads s a r n → packet_of s n ≡ Some p → lower_of set a.device ≡ Some lower
+      → Comes set s t under (Routine a)
+      (leaves (with_packet s n (shared_with p lower)) (asks set a lower p n) (Executes ∷ Touches n ∷ []))
+  calls_down : {under : Option Frame} (a : Activation) (r : ℕ) (f : Option ℕ) (n : ℕ) (p : Packet)
+      (lower : ℕ)
+      → Executing set a (Call r f) → Reads s a r n → packet_of s n ≡ Some p
+      → lower_of set a.device ≡ Some lower
+      → Comes set s t under (Routine a)
+      (leaves (with_packet s n (sent_down p lower (set_by a f))) (asks set a lower p n)
+      (Executes ∷ Touches n ∷ Calls n ∷ []))
+  -- a dispatch routine returns a status; a completion routine lets the completion go on, over the
+  -- I/O manager's frame or over none of its
+  returns_status : {under : Option Frame} (a : Activation) (form : Return) (status : Status)
+      → Executing set a (Ret form) → sort_of set a.driver a.routine ≡ Dispatch
+      → status_returned a form ≡ Some status
+      → Comes set s t under (Routine a) (returned s status)
+  lets_go : {under : Option Frame} (a : Activation) → Executing set a (Ret Continue)
+      → sort_of set a.driver a.routine ≡ Propagate → is_walk under ≡ false
+      → Comes set s t under (Routine a) (leaves s [] (Executes ∷ []))
+  lets_walk : (a : Activation) (n : ℕ) → Executing set a (Ret Continue)
+      → sort_of set a.driver a.routine ≡ Propagate
+      → Comes set s t (Some (Walk n)) (Routine a) (leaves s [] (Executes ∷ Touches n ∷ []))
+  -- the I/O manager finds no packet; it runs the completion routine of the location that it leaves;
+  -- where there is none it goes up, without a mark or with one that it carries up; or the packet
+  -- tops out
+  walks_gone : {under : Option Frame} (n : ℕ) → packet_of s n ≡ None
+      → Comes set s t under (Walk n) (leaves s [] (Touches n ∷ []))
+  walks_to : {under : Option Frame} (n : ℕ) (p : Packet) (c : Completion) → packet_of s n ≡ Some p
+      → completion_of (current_location p) ≡ Some c
+      → Comes set s t under (Walk n)
+      (leaves (with_packet s n (moved_up (left_location p)))
+      (Walk n ∷ Routine (completes_with set c n) ∷ [])
+      (Touches n ∷ Leaves n ∷ Ups n ∷ []))
+  walks_up : {under : Option Frame} (n : ℕ) (p : Packet) → packet_of s n ≡ Some p
+      → completion_of (current_location p) ≡ None → nat_lt 1 p.depth ≡ true
+      → is_marked (current_location p) ≡ false
+      → Comes set s t under (Walk n)
+      (leaves (with_packet s n (moved_up (left_location p))) (Walk n ∷ [])
+      (Touches n ∷ Leaves n ∷ Ups n ∷ []))
+  carries_up : {under : Option Frame} (n : ℕ) (p : Packet) → packet_of s n ≡ Some p
+      → completion_of (current_location p) ≡ None → nat_lt 1 p.depth ≡ true
+      → is_marked (current_location p) ≡ true
+      → Comes set s t under (Walk n)
+      (leaves (with_packet s n (mark_current (moved_up (left_location p)))) (Walk n ∷ [])
+      (Touches n ∷ Leaves n ∷ Ups n ∷ Marks n ∷ []))
+  tops_out : {under : Option Frame} (n : ℕ) (p : Packet) → packet_of s n ≡ Some p
+      → completion_of (current_location p) ≡ None → nat_lt 1 p.depth ≡ false
+      → Comes set s t under (Walk n)
+      (record (leaves (without_packet s n) [] (Touches n ∷ Leaves n ∷ TopsOut n ∷ [])) {
+        reply = Topped n p.status p.info;
+      })

@@ -1,0 +1,22 @@
+-- What takes or frees a lock goes on at the next position, with its registers as they were.
+use Rattle.std.proofs.Common.{◌≡◌, true, Some, refl}
+use Rattle.model.specs.declared.event.Lock.{Lock}
+use Rattle.model.specs.declared.instr.Instr.{Instr}
+use Rattle.model.specs.declared.instr.Instr.TheVariants.{Acquire, AcquireCancel, Release, ReleaseCancel}
+use Rattle.model.specs.declared.world.Activation.{Activation}
+use Rattle.run_laws.proofs.Steps.Words.{Locking, goes_next, keeps_registers, lock_freed, lock_taken, work_of}
+
+pub record LockWord (i : Instr) : Type 0 where
+  pub work : work_of i ≡ Locking
+  pub on : goes_next i ≡ true
+  pub keeps : keeps_registers i ≡ true
+
+pub taken_word : (a : Activation) (i : Instr) (lock : Lock) → lock_taken a i ≡ Some lock → LockWord i
+taken_word a (Acquire l) lock is = record { work = refl; on = refl; keeps = refl }
+taken_word a AcquireCancel lock is = record { work = refl; on = refl; keeps = refl }
+taken_word a _ lock is = cc
+
+pub freed_word : (a : Activation) (i : Instr) (lock : Lock) → lock_freed a i ≡ Some lock → LockWord i
+freed_word a (Release l) lock is = record { work = refl; on = refl; keeps = refl }
+freed_word a ReleaseCancel lock is = record { work = refl; on = refl; keeps = refl }
+freed_word a _ lock is = cc

@@ -1,0 +1,359 @@
+-- Every step has one of the shapes: the one walk over the instructions and the I/O manager's steps.
+use Rattle.std.proofs.Common.{◌≡◌, ℕ, ◌+◌, List, [], ◌∷◌, length, Option, None, Some, Bool, true, false, inl, inr, refl, ap, sym, ◌∙◌}
+use Rattle.std.specs.Prelude.{option_map, nat_eq, nat_lt, slice_get, slice_set, if◌then◌else◌}
+use Rattle.std.proofs.lemmas.Bool.{cond_both}
+use Rattle.std.proofs.lemmas.Bool.Decides.{eqb_tells}
+use Rattle.std.proofs.lemmas.List.{length-set}
+use Rattle.model.specs.declared.event.Lock.{Lock}
+use Rattle.model.specs.declared.event.Lock.TheVariants.{SystemCancel}
+use Rattle.model.specs.declared.instr.Field.{Field}
+use Rattle.model.specs.declared.instr.Instr.{Instr}
+use Rattle.model.specs.declared.instr.Instr.TheVariants.{Const, Move, Clear, Add, Subtract, JumpIfZero, JumpIfLess, Jump, Loop, End, Load, Store, LoadPaged, StorePaged, Get, Put, Mark, Acquire, Release, AcquireCancel, ReleaseCancel, Pass, Call, Complete, IfPending, Ret}
+use Rattle.model.specs.declared.instr.Return.{Return}
+use Rattle.model.specs.declared.instr.Return.TheVariants.{WithStatus, Lower, Continue}
+use Rattle.model.specs.declared.limits.TheConstants.{MAX_LOOPS}
+use Rattle.model.specs.declared.set.Sort.{Sort}
+use Rattle.model.specs.declared.set.Sort.TheVariants.{Dispatch, Propagate}
+use Rattle.model.specs.declared.status.Status.{Status}
+use Rattle.model.specs.declared.world.Activation.{Activation}
+use Rattle.model.specs.declared.world.Cells.{Cells}
+use Rattle.model.specs.declared.world.Completion.{Completion}
+use Rattle.model.specs.declared.world.Frame.{Frame}
+use Rattle.model.specs.declared.world.Frame.TheVariants.{Routine, Walk}
+use Rattle.model.specs.declared.world.OpenLoop.{OpenLoop}
+use Rattle.model.specs.declared.world.Packet.{Packet}
+use Rattle.model.specs.declared.world.Value.{Value}
+use Rattle.model.specs.Action.{Acquires, Touches, Ups, Marks, Leaves}
+use Rattle.model.specs.Effect.{Outcome, leaves, goes_wrong, goes_on, number_effect, of_both, sum_of, difference_of, jump_effect, is_zero_at, is_less_at, loop_effect, end_effect, cell_of, load_effect, load_paged_effect, stored, stored_paged, store_effect, store_paged_effect, get_packet, get_effect, put_packet, put_effect, waits, acquire_owned, acquire_effect, release_effect, spin_lock, mark_packet, mark_effect, complete_packet, complete_effect, pass_packet, pass_effect, call_packet, call_effect, look_packet, look_effect, return_lower, continued, return_effect, instruction_effect, routine_effect, walk_up, walk_out, walk_from, walk_packet, frame_effect}
+use Rattle.model.specs.Set.{Set, instruction_at, sort_of, lower_of, label_of}
+use Rattle.model.specs.World.{Shared, owner_of, packet_of, with_packet, packet_in, number_in, status_in, register, next, at_label, innermost, mark_current, current_location, left_location, moved_up, is_marked, completion_of}
+use Rattle.run_laws.proofs.Steps.Words.{Computing, work_of, goes_next, number_operand, second_operand, keeps_registers, numbered_by, lock_taken, lock_freed}
+use Rattle.run_laws.proofs.Steps.Comes.{Executing, Reads, Lacks, no_instruction, no_number, no_packet, no_room, no_loop, no_cells, none_taken, none_freed, no_lower, no_status, no_form, Written, keeps_all, makes_number, moves_over, makes_blank, onward, jumping, Comes, errs, awaits_lock, computes, opens_loop, turns_loop, pages, touches_gone, looks_at, writes_info, marks_packet, takes_lock, retakes_lock, frees_lock, completes_packet, completes_gone, passes_down, calls_down, returns_status, lets_go, lets_walk, walks_gone, walks_to, walks_up, carries_up, tops_out}
+
+module _ (set : Set) (s : Shared) (t : ℕ) (under : Option Frame) (a : Activation) where
+  abbrev ComesTo : Outcome → Type 0
+  ComesTo o = Comes set s t under (Routine a) o
+
+  -- registers and cells alone
+  straight : (i : Instr) (registers : List Value) → Executing set a i → work_of i ≡ Computing
+      → goes_next i ≡ true
+      → Written a i registers
+      → ComesTo (goes_on s (record a { position = a.position + 1; registers = registers }) [])
+  straight i registers at work on written =
+      computes a i _ false s.cells at work (onward registers on written) refl
+
+  jumps : (i : Instr) (label : ℕ) → Executing set a i → work_of i ≡ Computing → label_of i ≡ Some label
+      → ComesTo (goes_on s (at_label a label) [])
+  jumps i label at work to = computes a i _ true s.cells at work (jumping label to) refl
+
+  -- one of two numbers isn't there
+  of_two : (i : Instr) (r q : ℕ) → Executing set a i → number_operand i ≡ Some r
+      → second_operand i ≡ Some q → {A : Type 0} → (f : ℕ → ℕ → A) (m n : Option ℕ)
+      → number_in (register a r) ≡ m
+      → number_in (register a q) ≡ n → of_both f m n ≡ None → Lacks set s a
+  of_two i r q at first second f None n here there none = no_number i r at (inl first) here
+  of_two i r q at first second f (Some x) None here there none = no_number i q at (inr second) there
+  of_two i r q at first second f (Some x) (Some y) here there none = cc
+
+  number : (i : Instr) (r : ℕ) (o : Option ℕ) → Executing set a i → work_of i ≡ Computing
+      → goes_next i ≡ true
+      → numbered_by i ≡ Some r → (o ≡ None → Lacks set s a) → ComesTo (number_effect s a r o)
+  number i r None at work on to lacks = errs a (lacks refl)
+  number i r (Some n) at work on to lacks = straight i _ at work on (makes_number i r n to)
+
+  jump : (i : Instr) (label : ℕ) (o : Option Bool) → Executing set a i → work_of i ≡ Computing
+      → goes_next i ≡ true
+      → label_of i ≡ Some label → keeps_registers i ≡ true → (o ≡ None → Lacks set s a)
+      → ComesTo (jump_effect s a label o)
+  jump i label None at work on to keeps lacks = errs a (lacks refl)
+  jump i label (Some true) at work on to keeps lacks = jumps i label at work to
+  jump i label (Some false) at work on to keeps lacks =
+      straight i a.registers at work on (keeps_all i keeps)
+
+  zero_lacks : (r label : ℕ) (o : Option ℕ) → Executing set a (JumpIfZero r label)
+      → number_in (register a r) ≡ o
+      → option_map (λ n. nat_eq n 0) o ≡ None → Lacks set s a
+  zero_lacks r label None at here none = no_number (JumpIfZero r label) r at (inl refl) here
+  zero_lacks r label (Some n) at here none = cc
+
+  opens : (turns : ℕ) → Executing set a (Loop turns) → ComesTo (loop_effect s a turns)
+  opens turns at =
+      cond_both (nat_lt (length a.loops.items) MAX_LOOPS) _ (goes_wrong s a) (λ o. ComesTo o)
+      (λ room. opens_loop a turns at room) (λ full. errs a (no_room turns at full))
+
+  turns : (o : Option OpenLoop) → Executing set a End → innermost a ≡ o → ComesTo (end_effect s a o)
+  turns None at inner = errs a (no_loop at inner)
+  turns (Some l) at inner = turns_loop a l at inner
+
+  load : (r c : ℕ) (o : Option Cells) → Executing set a (Load r c) → slice_get s.cells a.device ≡ o
+      → ComesTo (load_effect s a r c o)
+  load r c None at there = errs a (no_cells (Load r c) at refl there)
+  load r c (Some cells) at there = straight (Load r c) _ at refl refl (makes_number (Load r c) r _ refl)
+
+  load_paged : (r c : ℕ) (o : Option Cells) → Executing set a (LoadPaged r c)
+      → slice_get s.cells a.device ≡ o
+      → ComesTo (load_paged_effect s a r c o)
+  load_paged r c None at there = errs a (no_cells (LoadPaged r c) at refl there)
+  load_paged r c (Some cells) at there =
+      pages a (LoadPaged r c) _ (cell_of a c) s.cells at refl
+      (onward _ refl (makes_number (LoadPaged r c) r _ refl)) refl
+
+  store : (c r : ℕ) (n : Option ℕ) (o : Option Cells) → Executing set a (Store c r)
+      → number_in (register a r) ≡ n
+      → slice_get s.cells a.device ≡ o → ComesTo (store_effect s a c n o)
+  store c r None o at here there = errs a (no_number (Store c r) r at (inl refl) here)
+  store c r (Some n) None at here there = errs a (no_cells (Store c r) at refl there)
+  store c r (Some n) (Some cells) at here there =
+      computes a (Store c r) (next a) false (slice_set s.cells a.device (stored cells c n)) at refl
+      (onward a.registers refl (keeps_all (Store c r) refl))
+      (length-set s.cells a.device (stored cells c n))
+
+  store_paged : (c r : ℕ) (n : Option ℕ) (o : Option Cells) → Executing set a (StorePaged c r)
+      → number_in (register a r) ≡ n → slice_get s.cells a.device ≡ o
+      → ComesTo (store_paged_effect s a c n o)
+  store_paged c r None o at here there = errs a (no_number (StorePaged c r) r at (inl refl) here)
+  store_paged c r (Some n) None at here there = errs a (no_cells (StorePaged c r) at refl there)
+  store_paged c r (Some n) (Some cells) at here there =
+      pages a (StorePaged c r) (next a) (cell_of a c)
+      (slice_set s.cells a.device (stored_paged cells c n)) at refl
+      (onward a.registers refl (keeps_all (StorePaged c r) refl))
+      (length-set s.cells a.device (stored_paged cells c n))
+
+  gets_from : (r q : ℕ) (field : Field) (n : ℕ) (o : Option Packet)
+      → Executing set a (Get r q field) → Reads s a q n
+      → packet_of s n ≡ o → ComesTo (get_packet s a r field n o)
+  gets_from r q field n None at reads there =
+      touches_gone a (Get r q field) q n at refl refl refl reads there
+  gets_from r q field n (Some p) at reads there =
+      looks_at a (Get r q field) _ false q n p at refl
+      (onward _ refl (makes_number (Get r q field) r _ refl)) refl reads
+      there refl
+
+  gets : (r q : ℕ) (field : Field) (o : Option ℕ) → Executing set a (Get r q field)
+      → packet_in s (register a q) ≡ o → ComesTo (get_effect s a r field o)
+  gets r q field None at reads = errs a (no_packet (Get r q field) q at refl reads)
+  gets r q field (Some n) at reads = gets_from r q field n (packet_of s n) at reads refl
+
+  puts_into : (q r info n : ℕ) (o : Option Packet) → Executing set a (Put q r) → Reads s a q n
+      → packet_of s n ≡ o
+      → number_in (register a r) ≡ Some info → ComesTo (put_packet s a info n o)
+  puts_into q r info n None at reads there here =
+      touches_gone a (Put q r) q n at refl refl refl reads there
+  puts_into q r info n (Some p) at reads there here = writes_info a q r n p info at reads there here
+
+  puts : (q r : ℕ) (x o : Option ℕ) → Executing set a (Put q r) → number_in (register a r) ≡ x
+      → packet_in s (register a q) ≡ o → ComesTo (put_effect s a x o)
+  puts q r None o at here reads = errs a (no_number (Put q r) r at (inl refl) here)
+  puts q r (Some info) None at here reads = errs a (no_packet (Put q r) q at refl reads)
+  puts q r (Some info) (Some n) at here reads = puts_into q r info n (packet_of s n) at reads refl here
+
+  marks_in : (r n : ℕ) (o : Option Packet) → Executing set a (Mark r) → Reads s a r n → packet_of s n ≡ o
+      → ComesTo (mark_packet s a n o)
+  marks_in r n None at reads there = touches_gone a (Mark r) r n at refl refl refl reads there
+  marks_in r n (Some p) at reads there = marks_packet a r n p at reads there
+
+  marks : (r : ℕ) (o : Option ℕ) → Executing set a (Mark r) → packet_in s (register a r) ≡ o
+      → ComesTo (mark_effect s a o)
+  marks r None at reads = errs a (no_packet (Mark r) r at refl reads)
+  marks r (Some n) at reads = marks_in r n (packet_of s n) at reads refl
+
+  takes_owned : (i : Instr) (lock : Lock) (o : Option ℕ) → Executing set a i → lock_taken a i ≡ Some lock
+      → owner_of s.locks lock ≡ Some o → ComesTo (acquire_owned s t a lock o)
+  takes_owned i lock None at is there = takes_lock a i lock at is there
+  takes_owned i lock (Some owner) at is there =
+      cond_both (nat_eq owner t) (goes_on s (next a) (Acquires lock ∷ [])) (waits s a) (λ o. ComesTo o)
+      (λ own. elim (eqb_tells owner t) [
+        | inl g ↦ retakes_lock a i lock at is (there ∙ ap (λ x. Some (Some x)) g.1)
+        | inr g ↦ cc
+      ]) (λ other. awaits_lock a i lock owner at is there other)
+
+  takes : (i : Instr) (lock : Lock) (o : Option (Option ℕ)) → Executing set a i
+      → lock_taken a i ≡ Some lock
+      → owner_of s.locks lock ≡ o → ComesTo (acquire_effect s t a lock o)
+  takes i lock None at is there = errs a (none_taken i lock at is there)
+  takes i lock (Some o) at is there = takes_owned i lock o at is there
+
+  frees : (i : Instr) (lock : Lock) (o : Option (Option ℕ)) → Executing set a i
+      → lock_freed a i ≡ Some lock
+      → owner_of s.locks lock ≡ o → ComesTo (release_effect s a lock o)
+  frees i lock None at is there = errs a (none_freed i lock at is there)
+  frees i lock (Some o) at is there = frees_lock a i lock o at is there
+
+  completes_in : (r : ℕ) (status : Status) (n : ℕ) (o : Option Packet)
+      → Executing set a (Complete r status)
+      → Reads s a r n → packet_of s n ≡ o → ComesTo (complete_packet s a status n o)
+  completes_in r status n None at reads there = completes_gone a r status n at reads there
+  completes_in r status n (Some p) at reads there = completes_packet a r status n p at reads there
+
+  completes : (r : ℕ) (status : Status) (o : Option ℕ) → Executing set a (Complete r status)
+      → packet_in s (register a r) ≡ o → ComesTo (complete_effect s a status o)
+  completes r status None at reads = errs a (no_packet (Complete r status) r at refl reads)
+  completes r status (Some n) at reads = completes_in r status n (packet_of s n) at reads refl
+
+  passes_in : (r lower n : ℕ) (o : Option Packet) → Executing set a (Pass r) → Reads s a r n
+      → packet_of s n ≡ o
+      → lower_of set a.device ≡ Some lower → ComesTo (pass_packet set s a lower n o)
+  passes_in r lower n None at reads there down = touches_gone a (Pass r) r n at refl refl refl reads there
+  passes_in r lower n (Some p) at reads there down = passes_down a r n p lower at reads there down
+
+  passes : (r : ℕ) (o lower : Option ℕ) → Executing set a (Pass r) → packet_in s (register a r) ≡ o
+      → lower_of set a.device ≡ lower → ComesTo (pass_effect set s a o lower)
+  passes r None lower at reads down = errs a (no_packet (Pass r) r at refl reads)
+  passes r (Some n) None at reads down = errs a (no_lower (Pass r) at refl down)
+  passes r (Some n) (Some lower) at reads down = passes_in r lower n (packet_of s n) at reads refl down
+
+  calls_in : (r : ℕ) (f : Option ℕ) (lower n : ℕ) (o : Option Packet) → Executing set a (Call r f)
+      → Reads s a r n
+      → packet_of s n ≡ o → lower_of set a.device ≡ Some lower → ComesTo (call_packet set s a f lower n o)
+  calls_in r f lower n None at reads there down =
+      touches_gone a (Call r f) r n at refl refl refl reads there
+  calls_in r f lower n (Some p) at reads there down = calls_down a r f n p lower at reads there down
+
+  calls : (r : ℕ) (f o lower : Option ℕ) → Executing set a (Call r f) → packet_in s (register a r) ≡ o
+      → lower_of set a.device ≡ lower → ComesTo (call_effect set s a f o lower)
+  calls r f None lower at reads down = errs a (no_packet (Call r f) r at refl reads)
+  calls r f (Some n) None at reads down = errs a (no_lower (Call r f) at refl down)
+  calls r f (Some n) (Some lower) at reads down = calls_in r f lower n (packet_of s n) at reads refl down
+
+  looks_in : (r label n : ℕ) (o : Option Packet) → Executing set a (IfPending r label) → Reads s a r n
+      → packet_of s n ≡ o → ComesTo (look_packet s a label n o)
+  looks_in r label n None at reads there =
+      touches_gone a (IfPending r label) r n at refl refl refl reads there
+  looks_in r label n (Some p) at reads there =
+      cond_both p.pending_returned (at_label a label) (next a)
+      (λ b. ComesTo (goes_on s b (Touches n ∷ [])))
+      (λ is. looks_at a (IfPending r label) _ true r n p at refl (jumping label refl) refl reads
+      there (sym is))
+      (λ isnt. looks_at a (IfPending r label) _ false r n p at refl
+      (onward a.registers refl (keeps_all (IfPending r label) refl)) refl reads there (sym isnt))
+
+  looks : (r label : ℕ) (o : Option ℕ) → Executing set a (IfPending r label)
+      → packet_in s (register a r) ≡ o
+      → ComesTo (look_effect s a label o)
+  looks r label None at reads = errs a (no_packet (IfPending r label) r at refl reads)
+  looks r label (Some n) at reads = looks_in r label n (packet_of s n) at reads refl
+
+  returns_lower : (r : ℕ) (o : Option Status) → Executing set a (Ret (Lower r))
+      → sort_of set a.driver a.routine ≡ Dispatch → status_in (register a r) ≡ o
+      → ComesTo (return_lower s a o)
+  returns_lower r None at sort there = errs a (no_status (Lower r) at sort refl there)
+  returns_lower r (Some status) at sort there = returns_status a (Lower r) status at sort there
+
+-- a completion routine lets the completion go on that stands under it
+lets : (set : Set) (s : Shared) (t : ℕ) (a : Activation) (under : Option Frame)
+    → Executing set a (Ret Continue)
+    → sort_of set a.driver a.routine ≡ Propagate → Comes set s t under (Routine a) (continued s under)
+lets set s t a None at sort = lets_go a at sort refl
+lets set s t a (Some (Routine b)) at sort = lets_go a at sort refl
+lets set s t a (Some (Walk n)) at sort = lets_walk a n at sort
+
+returns : (set : Set) (s : Shared) (t : ℕ) (under : Option Frame) (a : Activation) (sort : Sort)
+    (form : Return)
+    → Executing set a (Ret form) → sort_of set a.driver a.routine ≡ sort
+    → Comes set s t under (Routine a) (return_effect s a under sort form)
+returns set s t under a Dispatch (WithStatus status) at is =
+    returns_status a (WithStatus status) status at is refl
+returns set s t under a Dispatch (Lower r) at is =
+    returns_lower set s t under a r (status_in (register a r)) at is refl
+returns set s t under a Dispatch Continue at is = errs a (no_form Continue at (rw is refl))
+returns set s t under a Propagate (WithStatus status) at is =
+    errs a (no_form (WithStatus status) at (rw is refl))
+returns set s t under a Propagate (Lower r) at is = errs a (no_form (Lower r) at (rw is refl))
+returns set s t under a Propagate Continue at is = lets set s t a under at is
+
+executes : (set : Set) (s : Shared) (t : ℕ) (under : Option Frame) (a : Activation) (i : Instr)
+    → Executing set a i
+    → Comes set s t under (Routine a) (instruction_effect set s t under a i)
+executes set s t under a (Const r n) at =
+    straight set s t under a (Const r n) _ at refl refl (makes_number (Const r n) r n refl)
+executes set s t under a (Move r q) at =
+    straight set s t under a (Move r q) _ at refl refl (moves_over r q)
+executes set s t under a (Clear r) at = straight set s t under a (Clear r) _ at refl refl (makes_blank r)
+executes set s t under a (Add r q) at =
+    number set s t under a (Add r q) r (sum_of a r q) at refl refl refl
+    (of_two set s t under a (Add r q) r q at refl refl _ (number_in (register a r))
+    (number_in (register a q)) refl refl)
+executes set s t under a (Subtract r q) at =
+    number set s t under a (Subtract r q) r (difference_of a r q) at refl refl refl
+    (of_two set s t under a (Subtract r q) r q at refl refl _ (number_in (register a r))
+    (number_in (register a q)) refl refl)
+executes set s t under a (JumpIfZero r label) at =
+    jump set s t under a (JumpIfZero r label) label (is_zero_at a r) at refl refl refl refl
+    (zero_lacks set s t under a r label (number_in (register a r)) at refl)
+executes set s t under a (JumpIfLess r q label) at =
+    jump set s t under a (JumpIfLess r q label) label (is_less_at a r q) at refl refl refl refl
+    (of_two set s t under a (JumpIfLess r q label) r q at refl refl _ (number_in (register a r))
+    (number_in (register a q)) refl refl)
+executes set s t under a (Jump label) at = jumps set s t under a (Jump label) label at refl refl
+executes set s t under a (Loop count) at = opens set s t under a count at
+executes set s t under a End at = turns set s t under a (innermost a) at refl
+executes set s t under a (Load r c) at = load set s t under a r c (slice_get s.cells a.device) at refl
+executes set s t under a (Store c r) at =
+    store set s t under a c r (number_in (register a r)) (slice_get s.cells a.device) at refl refl
+executes set s t under a (LoadPaged r c) at =
+    load_paged set s t under a r c (slice_get s.cells a.device) at refl
+executes set s t under a (StorePaged c r) at =
+    store_paged set s t under a c r (number_in (register a r)) (slice_get s.cells a.device) at refl refl
+executes set s t under a (Get r q field) at =
+    gets set s t under a r q field (packet_in s (register a q)) at refl
+executes set s t under a (Put q r) at =
+    puts set s t under a q r (number_in (register a r)) (packet_in s (register a q)) at refl refl
+executes set s t under a (Mark r) at = marks set s t under a r (packet_in s (register a r)) at refl
+executes set s t under a (Acquire l) at =
+    takes set s t under a (Acquire l) (spin_lock a l) (owner_of s.locks (spin_lock a l)) at refl refl
+executes set s t under a (Release l) at =
+    frees set s t under a (Release l) (spin_lock a l) (owner_of s.locks (spin_lock a l)) at refl refl
+executes set s t under a AcquireCancel at =
+    takes set s t under a AcquireCancel SystemCancel (owner_of s.locks SystemCancel) at refl refl
+executes set s t under a ReleaseCancel at =
+    frees set s t under a ReleaseCancel SystemCancel (owner_of s.locks SystemCancel) at refl refl
+executes set s t under a (Pass r) at =
+    passes set s t under a r (packet_in s (register a r)) (lower_of set a.device) at refl refl
+executes set s t under a (Call r f) at =
+    calls set s t under a r f (packet_in s (register a r)) (lower_of set a.device) at refl refl
+executes set s t under a (Complete r status) at =
+    completes set s t under a r status (packet_in s (register a r)) at refl
+executes set s t under a (IfPending r label) at =
+    looks set s t under a r label (packet_in s (register a r)) at refl
+executes set s t under a (Ret form) at =
+    returns set s t under a (sort_of set a.driver a.routine) form at refl
+
+routine_comes : (set : Set) (s : Shared) (t : ℕ) (under : Option Frame) (a : Activation)
+    (o : Option Instr)
+    → instruction_at set a.driver a.routine a.position ≡ o
+    → Comes set s t under (Routine a) (routine_effect set s t under a o)
+routine_comes set s t under a None at = errs a (no_instruction at)
+routine_comes set s t under a (Some i) at = executes set s t under a i at
+
+module _ (set : Set) (s : Shared) (t : ℕ) (under : Option Frame) where
+  up : (n : ℕ) (p : Packet) (marked : Bool) → packet_of s n ≡ Some p
+      → completion_of (current_location p) ≡ None
+      → nat_lt 1 p.depth ≡ true → is_marked (current_location p) ≡ marked
+      → Comes set s t under (Walk n)
+      (leaves
+      (with_packet s n
+      (if marked then mark_current (moved_up (left_location p)) else moved_up (left_location p)))
+      (Walk n ∷ [])
+      (Touches n ∷ Leaves n ∷ Ups n ∷ (if marked then Marks n ∷ [] else [])))
+  up n p false there none deep is = walks_up n p there none deep is
+  up n p true there none deep is = carries_up n p there none deep is
+
+  walks_from : (n : ℕ) (p : Packet) (o : Option Completion) → packet_of s n ≡ Some p
+      → completion_of (current_location p) ≡ o
+      → Comes set s t under (Walk n) (walk_from set s n (left_location p) o)
+  walks_from n p (Some c) there next = walks_to n p c there next
+  walks_from n p None there next =
+      cond_both (nat_lt 1 p.depth) (walk_up s n (left_location p)) (walk_out s n (left_location p))
+      (λ o. Comes set s t under (Walk n) o)
+      (λ deep. up n p (is_marked (current_location p)) there next deep refl)
+      (λ last. tops_out n p there next last)
+
+  walks : (n : ℕ) (o : Option Packet) → packet_of s n ≡ o
+      → Comes set s t under (Walk n) (walk_packet set s n o)
+  walks n None there = walks_gone n there
+  walks n (Some p) there = walks_from n p (completion_of (current_location p)) there refl
+
+  pub comes : (f : Frame) → Comes set s t under f (frame_effect set s t under f)
+  comes (Routine a) =
+      routine_comes set s t under a (instruction_at set a.driver a.routine a.position) refl
+  comes (Walk n) = walks n (packet_of s n) refl

@@ -1,0 +1,181 @@
+-- What kind of work each instruction does, and which operands it has: what the laws ask of an
+-- instruction without naming it.
+use Rattle.std.specs.Prelude.{ℕ, Bool, true, false, Option, None, Some}
+use Rattle.model.specs.declared.event.Lock.{Lock}
+use Rattle.model.specs.declared.event.Lock.TheVariants.{SystemCancel}
+use Rattle.model.specs.declared.instr.Instr.{Instr}
+use Rattle.model.specs.declared.instr.Instr.TheVariants.{Const, Move, Clear, Add, Subtract, JumpIfZero, JumpIfLess, Jump, Loop, End, Load, Store, LoadPaged, StorePaged, Get, Put, Mark, Acquire, Release, AcquireCancel, ReleaseCancel, Pass, Call, Complete, IfPending, Ret}
+use Rattle.model.specs.declared.instr.Return.{Return}
+use Rattle.model.specs.declared.instr.Return.TheVariants.{WithStatus, Lower, Continue}
+use Rattle.model.specs.declared.set.Sort.{Sort}
+use Rattle.model.specs.declared.set.Sort.TheVariants.{Dispatch, Propagate}
+use Rattle.model.specs.declared.status.Status.{Status}
+use Rattle.model.specs.declared.world.Activation.{Activation}
+use Rattle.model.specs.declared.world.Packet.{Packet}
+use Rattle.model.specs.Effect.{spin_lock}
+use Rattle.model.specs.Set.{Flow, Onward, Branches, Jumps, Opens, Closes, Leaves, flow_of}
+use Rattle.model.specs.World.{register, status_in}
+
+-- computing with registers and cells, opening and turning loops, touching paged cells, looking at a
+-- packet, writing to it, marking it, taking and freeing locks, sending a packet down, completing
+-- it, and returning
+pub data Work : Type 0 where
+  Computing : Work
+  Looping : Work
+  Paging : Work
+  Looking : Work
+  Writing : Work
+  Marking : Work
+  Locking : Work
+  Forwarding : Work
+  Completing : Work
+  Returning : Work
+
+abbrev pub work_of : Instr → Work
+work_of (Const r n) = Computing
+work_of (Move r q) = Computing
+work_of (Clear r) = Computing
+work_of (Add r q) = Computing
+work_of (Subtract r q) = Computing
+work_of (JumpIfZero r label) = Computing
+work_of (JumpIfLess r q label) = Computing
+work_of (Jump label) = Computing
+work_of (Loop turns) = Looping
+work_of End = Looping
+work_of (Load r c) = Computing
+work_of (Store c r) = Computing
+work_of (LoadPaged r c) = Paging
+work_of (StorePaged c r) = Paging
+work_of (Get r q field) = Looking
+work_of (Put q r) = Writing
+work_of (Mark r) = Marking
+work_of (Acquire lock) = Locking
+work_of (Release lock) = Locking
+work_of AcquireCancel = Locking
+work_of ReleaseCancel = Locking
+work_of (Pass r) = Forwarding
+work_of (Call r f) = Forwarding
+work_of (Complete r status) = Completing
+work_of (IfPending r label) = Looking
+work_of (Ret form) = Returning
+
+-- work that touches a packet, which may be gone
+abbrev pub is_touching : Work → Bool
+is_touching Looking = true
+is_touching Writing = true
+is_touching Marking = true
+is_touching Forwarding = true
+is_touching _ = false
+
+abbrev pub is_forwarding : Work → Bool
+is_forwarding Forwarding = true
+is_forwarding _ = false
+
+-- work that changes the kind of the packet's register alone: a mark, what sends it down, and its
+-- completion
+abbrev pub is_giving : Work → Bool
+is_giving Marking = true
+is_giving Forwarding = true
+is_giving Completing = true
+is_giving _ = false
+
+-- the routine may go on at the next position
+abbrev pub falls_through : Flow → Bool
+falls_through Onward = true
+falls_through (Branches label) = true
+falls_through (Jumps label) = false
+falls_through (Opens turns) = false
+falls_through Closes = false
+falls_through Leaves = false
+
+abbrev pub goes_next : Instr → Bool
+goes_next i = falls_through (flow_of i)
+
+-- the register with the packet that an instruction works on
+abbrev pub packet_operand : Instr → Option ℕ
+packet_operand (Get r q field) = Some q
+packet_operand (Put q r) = Some q
+packet_operand (Mark r) = Some r
+packet_operand (Pass r) = Some r
+packet_operand (Call r f) = Some r
+packet_operand (Complete r status) = Some r
+packet_operand (IfPending r label) = Some r
+packet_operand _ = None
+
+-- the registers whose numbers it computes with: one or two
+abbrev pub number_operand : Instr → Option ℕ
+number_operand (Add r q) = Some r
+number_operand (Subtract r q) = Some r
+number_operand (JumpIfZero r label) = Some r
+number_operand (JumpIfLess r q label) = Some r
+number_operand (Store c r) = Some r
+number_operand (StorePaged c r) = Some r
+number_operand (Put q r) = Some r
+number_operand _ = None
+
+abbrev pub second_operand : Instr → Option ℕ
+second_operand (Add r q) = Some q
+second_operand (Subtract r q) = Some q
+second_operand (JumpIfLess r q label) = Some q
+second_operand _ = None
+
+-- it leaves the registers alone, or one of them becomes a number
+abbrev pub keeps_registers : Instr → Bool
+keeps_registers (Const r n) = false
+keeps_registers (Move r q) = false
+keeps_registers (Clear r) = false
+keeps_registers (Add r q) = false
+keeps_registers (Subtract r q) = false
+keeps_registers (Load r c) = false
+keeps_registers (LoadPaged r c) = false
+keeps_registers (Get r q field) = false
+keeps_registers _ = true
+
+abbrev pub numbered_by : Instr → Option ℕ
+numbered_by (Const r n) = Some r
+numbered_by (Add r q) = Some r
+numbered_by (Subtract r q) = Some r
+numbered_by (Load r c) = Some r
+numbered_by (LoadPaged r c) = Some r
+numbered_by (Get r q field) = Some r
+numbered_by _ = None
+
+-- it works on a cell of the device
+abbrev pub is_of_cells : Instr → Bool
+is_of_cells (Load r c) = true
+is_of_cells (Store c r) = true
+is_of_cells (LoadPaged r c) = true
+is_of_cells (StorePaged c r) = true
+is_of_cells _ = false
+
+-- the lock that an activation takes, and the one that it frees
+abbrev pub lock_taken : Activation → Instr → Option Lock
+lock_taken a (Acquire lock) = Some (spin_lock a lock)
+lock_taken a AcquireCancel = Some SystemCancel
+lock_taken a _ = None
+
+abbrev pub lock_freed : Activation → Instr → Option Lock
+lock_freed a (Release lock) = Some (spin_lock a lock)
+lock_freed a ReleaseCancel = Some SystemCancel
+lock_freed a _ = None
+
+-- a look at a packet jumps exactly if Irp->PendingReturned is set, where the instruction looks at
+-- that
+abbrev pub jumps_on : Instr → Packet → Bool
+jumps_on (IfPending r label) p = p.pending_returned
+jumps_on _ p = false
+
+-- the status that a dispatch routine returns
+abbrev pub status_returned : Activation → Return → Option Status
+status_returned a (WithStatus status) = Some status
+status_returned a (Lower r) = status_in (register a r)
+status_returned a Continue = None
+
+-- the forms of return of a sort of routine
+abbrev pub is_form_of : Sort → Return → Bool
+is_form_of Dispatch (WithStatus status) = true
+is_form_of Dispatch (Lower r) = true
+is_form_of Dispatch Continue = false
+is_form_of Propagate (WithStatus status) = false
+is_form_of Propagate (Lower r) = false
+is_form_of Propagate Continue = true

@@ -1,0 +1,13 @@
+pub mod Fates
+pub mod Traced
+pub mod FateFacts
+pub mod Becomes
+pub mod AgreedStays
+pub mod LinkedStays
+pub mod CurrentUses
+pub mod LateMarks
+pub mod Steps
+pub mod RoutineSteps
+pub mod WalkSteps
+pub mod TopFrames
+pub mod Events

@@ -1,0 +1,307 @@
+-- What an event does to each packet and its uses; so it keeps what live packets and the trace tell
+-- of each other, what was agreed on for a use, and that a use waits for the one below it.
+use Rattle.std.proofs.Common.{◌≡◌, ℕ, ◌+◌, inl, inr, List, [], ◌∷◌, ◌++◌, None, Option, Some, Bool, refl, ap, sym, ◌∙◌, subst, arith}
+use Rattle.std.specs.Prelude.{nat_lt, slice_set}
+use Rattle.std.proofs.lemmas.Bool.Decides.{eqb_tells}
+use Rattle.model.specs.declared.world.Activation.{Activation}
+use Rattle.model.specs.declared.world.Frame.{Frame}
+use Rattle.model.specs.declared.world.Frame.TheVariants.{Routine, Walk}
+use Rattle.model.specs.declared.world.Irql.TheVariants.{Passive}
+use Rattle.model.specs.declared.world.Packet.{Packet}
+use Rattle.model.specs.declared.world.Thread.{Thread}
+use Rattle.model.specs.Action.{Action, Issues}
+use Rattle.model.specs.Effect.{Change, Outcome, rooted, serves_request, standing, top_of, with_new_packet, with_stack}
+use Rattle.model.specs.Fault.{first_fault}
+use Rattle.model.specs.Run.{frames_on}
+use Rattle.model.specs.Set.{Set}
+use Rattle.model.specs.Trace.{Actor, Entry, Serving, recorded, uses}
+use Rattle.model.specs.World.{World, new_packet}
+use Rattle.run_laws.proofs.Holders.Runs.{top_holding}
+use Rattle.run_laws.proofs.Holders.Sums.{Held}
+use Rattle.run_laws.proofs.Past.LivePackets.{find, find_above, find_push}
+use Rattle.run_laws.proofs.Runs.Events.{Happens, IssuesPacket, StepsFrame, issues, nothing, steps}
+use Rattle.run_laws.proofs.Runs.Threads.{frames_there}
+use Rattle.run_laws.proofs.States.Frames.{IsGood}
+use Rattle.run_laws.proofs.States.Rules.{States}
+use Rattle.run_laws.proofs.States.Stacks.{Stacked}
+use Rattle.run_laws.proofs.States.Standing.{Standing, on_top, stands_there}
+use Rattle.run_laws.proofs.States.Told.{last_under}
+use Rattle.run_laws.proofs.Steps.Below.{standing_is}
+use Rattle.run_laws.proofs.Steps.Comes.{Comes}
+use Rattle.run_laws.proofs.Live.Sees.{AllSeen, seen_top}
+use Rattle.run_laws.proofs.Uses.AgreedStays.{AgreedIn, agreed_turns}
+use Rattle.run_laws.proofs.Uses.Becomes.{Turns, comes_in, uses_turns}
+use Rattle.run_laws.proofs.Uses.Fates.{Agreed, Linked, UsesTell, fate_in, late_in, late_marks}
+use Rattle.run_laws.proofs.Uses.LateMarks.{late_replaced, late_set, late_top, no_late_free, no_late_walk}
+use Rattle.run_laws.proofs.Uses.LinkedStays.{LinkedIn, linked_turns}
+use Rattle.run_laws.proofs.Uses.Steps.{UseStep, apart_becomes, late_of, turn_recorded}
+use Rattle.run_laws.proofs.Uses.RoutineSteps.{OnWalk, routine_used}
+use Rattle.run_laws.proofs.Uses.WalkSteps.{walk_used}
+use Rattle.run_laws.proofs.Uses.TopFrames.{FrameOn, KnownTop, steps_routine, steps_walk}
+use Rattle.run_laws.proofs.Uses.Traced.{same_recorded, same_uses, traced_begun, traced_recorded}
+
+-- the marks of a packet that have still to be carried up in a world
+abbrev pub late_in_world : States → World → ℕ → ℕ
+late_in_world states w n =
+    late_of (λ returned. late_marks states returned n w.threads) (find w.shared.packets n)
+
+-- what becomes of a packet from one world to another
+abbrev pub WorldTurns : States → World → World → List Entry → List Entry → ℕ → Type 0
+WorldTurns states w after past later n =
+    Turns past later n (find w.shared.packets n) (find after.shared.packets n) (late_in_world states w n)
+    (late_in_world states after n)
+
+-- a completion routine stands over the I/O manager's frame
+module _ (set : Set) (states : States) (issued : ℕ) where
+  on_walk : (under : Option Frame) (g : Frame) (below : List Frame) (a : Activation)
+      → Stacked set states issued (g ∷ below ++ Routine a ∷ [])
+      → OnWalk set (last_under under (g ∷ below)) a
+  on_walk under (Walk n) [] a h = h.0.0
+  on_walk under (Routine b) [] a h = tt
+  on_walk under g (e ∷ below) a h = on_walk (Some g) e below a h.1
+
+  frame_on : (below : List Frame) (f : Frame) → Stacked set states issued (below ++ f ∷ [])
+      → FrameOn set (last_under None below) f
+  frame_on below (Walk n) h = tt
+  frame_on [] (Routine a) h = tt
+  frame_on (g ∷ below) (Routine a) h = on_walk None g below a h
+
+-- what is known of a world and its past
+pub record KnownWorld (set : Set) (states : States) (w : World) (past : List Entry) : Type 0 where
+  pub good : IsGood set states
+  pub stands : Standing set states w past
+  pub kept : Held states w
+  pub sees : (t : ℕ) → AllSeen set None (frames_on w t)
+
+module _ (set : Set) (states : States) (w : World) (past : List Entry)
+    (known : KnownWorld set states w past) where
+  pub known_top : (t : ℕ) (h : StepsFrame set w t)
+      → KnownTop set states w.shared past (last_under None h.below) h.frame
+  known_top t h =
+      record {
+        top = on_top set states w past known.good known.stands t h;
+        holding = top_holding set states w past known.stands known.kept t h;
+        seen = (seen_top set None h.below (h.frame ∷ [])
+            (subst (λ (frames : List Frame). AllSeen set None frames)
+            (frames_there w t h.thread h.found ∙ h.frames) (known.sees t))).0;
+        on = frame_on set states w.shared.issued h.below h.frame
+            (stands_there set states w past known.good known.stands t h);
+      }
+
+  frame_used : (actor : Actor) (under below : Option Frame) (f : Frame) (o : Outcome)
+      → KnownTop set states w.shared past under f → Comes set w.shared actor.thread below f o
+      → first_fault past actor o.actions ≡ None → UseStep states w.shared past actor under f o
+  frame_used actor under below (Routine a) o h comes quiet =
+      routine_used set states w.shared past actor actor.thread under a
+      (steps_routine set states w.shared past under a h) below o comes quiet
+  frame_used actor under below (Walk n) o h comes quiet =
+      walk_used set states w.shared past actor actor.thread under n
+      (steps_walk set states w.shared past actor under n h) below o comes
+
+  frame_turns : (actor : Actor) (h : StepsFrame set w actor.thread)
+      → first_fault past actor h.outcome.actions ≡ None → (n : ℕ) → WorldTurns states w
+      (record {
+        threads = slice_set w.threads actor.thread (with_stack h.thread (standing set h.below h.outcome));
+        shared = h.outcome.shared;
+      }) past (recorded past actor h.outcome.actions) n
+  frame_turns actor h quiet n =
+      let o : Outcome = h.outcome in
+      let t : ℕ = actor.thread in
+      let under : Option Frame = last_under None h.below in
+      let after : Thread = with_stack h.thread (standing set h.below o) in
+      let threads : List Thread = slice_set w.threads t after in
+      frame_used actor under (top_of h.below) h.frame o (known_top t h) h.comes quiet n
+      (λ returned. late_marks states returned n w.threads)
+      (λ returned. late_marks states returned n threads)
+      (record {
+        even = λ returned. late_replaced states returned n set w.threads t h.thread after h.below
+            h.frame o.told
+            o.frames h.found h.frames
+            (standing_is set w.shared t (top_of h.below) h.frame o h.below h.comes);
+        own = λ returned. late_top states returned n w.threads t h.thread h.below h.frame h.found
+            h.frames;
+        free = λ free returned. no_late_free states w n returned known.kept free;
+        walked = λ is returned. no_late_walk states w t n h.thread h.below returned known.kept h.found
+            (subst (λ (f : Frame). h.thread.frames.items ≡ h.below ++ f ∷ []) is h.frames);
+      })
+
+  -- a packet is issued
+  issue_turns : (actor : Actor) (h : IssuesPacket set w actor.thread) (n : ℕ) → WorldTurns states w
+      (record {
+        threads = slice_set w.threads actor.thread
+            (rooted h.thread Passive (serves_request set h.d h.device h.major w.shared.issued));
+        shared = with_new_packet w.shared h.d h.device h.major h.argument;
+      }) past (recorded past actor (Issues w.shared.issued h.device.stack ∷ [])) n
+  issue_turns actor h n =
+      let t : ℕ = actor.thread in
+      let m : ℕ = w.shared.issued in
+      let a : Activation = serves_request set h.d h.device h.major m in
+      let p : Packet = new_packet m h.d h.major h.argument h.device.stack in
+      let thread : Thread = rooted h.thread Passive a in
+      let packets : List Packet = w.shared.packets ++ p ∷ [] in
+      let actions : List Action = Issues m h.device.stack ∷ [] in
+      let threads : List Thread = slice_set w.threads t thread in
+      let before : Option Packet = find w.shared.packets n in
+      let late : Bool → ℕ = λ returned. late_marks states returned n w.threads in
+      let lately : Bool → ℕ = λ returned. late_marks states returned n threads in
+      let same : (returned : Bool) → lately returned ≡ late returned =
+      λ returned.
+      (let put : late_marks states returned n threads + late_in states returned n None
+      h.thread.frames.items
+      ≡ late_marks states returned n w.threads + late_in states returned n None (Routine a ∷ []) =
+      late_set states returned n w.threads t h.thread thread h.found in
+      let idle : late_in states returned n None h.thread.frames.items ≡ 0 =
+      ap (λ (frames : List Frame). late_in states returned n None frames) h.idle in
+      let new : late_in states returned n None (Routine a ∷ []) ≡ 0 = refl in
+      omega arith) in
+      let push : find packets n ≡ _ = find_push 0 w.shared.packets m p known.stands.tells.rises refl n in
+      turn_recorded past actor actions n before (find packets n) (late_of late before)
+      (late_of lately (find packets n))
+      (elim (eqb_tells m n) [
+        | inl e ↦
+            let here : m ≡ n = e.1 in
+            comes_in (record {
+              device = h.d;
+              major = h.major;
+              argument = h.argument;
+              stack = h.device.stack;
+              was = find_above 0 w.shared.packets m n known.stands.tells.rises (omega arith);
+              now = push ∙ rw (e.0, ← here) refl;
+              used = rw e.0 refl;
+              marked = λ u. refl;
+              left = λ u. refl;
+              sized = rw e.0 refl;
+            })
+        | inr e ↦
+            apart_becomes past (recorded past actor actions) n before (find packets n) late lately
+            (same_recorded past actor actions n (rw e.0 refl)) (push ∙ rw e.0 refl)
+            (λ q there. same q.pending_returned)
+      ])
+
+  -- an event
+  pub event_turns : (actor : Actor) (c : Change) → Happens set w actor.thread c
+      → first_fault past actor c.actions ≡ None
+      → (n : ℕ) → WorldTurns states w c.world past (recorded past actor c.actions) n
+  event_turns actor c (nothing reply right) quiet n =
+      turn_recorded past actor [] n (find w.shared.packets n) (find w.shared.packets n)
+      (late_in_world states w n)
+      (late_in_world states w n)
+      (apart_becomes past past n (find w.shared.packets n) (find w.shared.packets n)
+      (λ returned. late_marks states returned n w.threads)
+      (λ returned. late_marks states returned n w.threads)
+      (same_uses past n) refl (λ p there. refl))
+  event_turns actor c (steps h) quiet n = frame_turns actor h quiet n
+  event_turns actor c (issues h) quiet n = issue_turns actor h n
+
+-- what is agreed on in a world, in the words of the turns
+module _ (states : States) (w : World) (past : List Entry) where
+  late_there : (n : ℕ) (p : Packet) → find w.shared.packets n ≡ Some p
+      → late_in_world states w n ≡ late_marks states p.pending_returned n w.threads
+  late_there n p there = ap (late_of (λ returned. late_marks states returned n w.threads)) there
+
+  agreed_in : (v : Serving) (b : Bool) → Agreed states w past v b
+      → AgreedIn past v (find w.shared.packets v.packet) (late_in_world states w v.packet) b
+  agreed_in v b h =
+      record {
+        opened = h.opened;
+        left = h.left;
+        stands = λ p marked there is. h.stands p marked there
+            (subst (λ (late : ℕ). fate_in (uses past v.packet) p.locations.items (nat_lt 0 late)
+            v.«use» ≡ Some marked)
+            (late_there v.packet p there) is);
+      }
+
+  agreed_out : (v : Serving) (b : Bool)
+      → AgreedIn past v (find w.shared.packets v.packet) (late_in_world states w v.packet) b
+      → Agreed states w past v b
+  agreed_out v b h =
+      record {
+        opened = h.opened;
+        left = h.left;
+        stands = λ p marked there is. h.stands p marked there
+            (subst (λ (late : ℕ). fate_in (uses past v.packet) p.locations.items (nat_lt 0 late)
+            v.«use» ≡ Some marked)
+            (sym (late_there v.packet p there)) is);
+      }
+
+  linked_out : (v lower : Serving)
+      → LinkedIn past v lower (find w.shared.packets v.packet) (late_in_world states w v.packet)
+      → Linked states w past v lower
+  linked_out v lower (inl waits) =
+      inr (inl (record {
+        packet = waits.packet;
+        live = waits.live;
+        there = waits.there;
+        above = waits.above;
+      }))
+  linked_out v lower (inr followed) =
+      inr (inr (record {
+        marked = followed.marked;
+        turn = followed.turn;
+        left = followed.left;
+        agreed = agreed_out v followed.marked followed.agreed;
+      }))
+
+-- what is kept, as each packet's uses turn
+module _ (states : States) (w after : World) (past later : List Entry) (told : UsesTell w past)
+    (turns : (n : ℕ) → WorldTurns states w after past later n) where
+  pub agreed_by : (v : Serving) (b : Bool) → Agreed states w past v b → Agreed states after later v b
+  agreed_by v b h =
+      agreed_out states after later v b
+      (agreed_turns past later v (find w.shared.packets v.packet) (find after.shared.packets v.packet)
+      (late_in_world states w v.packet) (late_in_world states after v.packet) b told.traced
+      (told.live v.packet)
+      (turns v.packet) (agreed_in states w past v b h))
+
+  linked_turned : (v lower : Serving)
+      → LinkedIn past v lower (find w.shared.packets v.packet) (late_in_world states w v.packet)
+      → Linked states after later v lower
+  linked_turned v lower h =
+      linked_out states after later v lower
+      (linked_turns past later v lower (find w.shared.packets v.packet)
+      (find after.shared.packets v.packet)
+      (late_in_world states w v.packet) (late_in_world states after v.packet) told.traced
+      (told.live v.packet)
+      (turns v.packet) h)
+
+  pub linked_by : (v lower : Serving) → Linked states w past v lower → Linked states after later v lower
+  linked_by v lower (inl same) = inl same
+  linked_by v lower (inr (inl waits)) =
+      linked_turned v lower
+      (inl (record {
+        packet = waits.packet;
+        live = waits.live;
+        there = waits.there;
+        above = waits.above;
+      }))
+  linked_by v lower (inr (inr followed)) =
+      linked_turned v lower
+      (inr (record {
+        marked = followed.marked;
+        turn = followed.turn;
+        left = followed.left;
+        agreed = agreed_in states w past v followed.marked followed.agreed;
+      }))
+
+-- before the first event
+pub uses_begun : (w : World) → w.shared.packets ≡ [] → UsesTell w []
+uses_begun w none =
+    record {
+      traced = traced_begun;
+      live = λ n p there. (let no : None ≡ Some p = sym (ap (λ (ps : List Packet). find ps n) none)
+          ∙ there in cc);
+    }
+
+-- an event keeps what live packets and the trace tell of each other
+pub uses_event : (set : Set) (states : States) (w : World) (past : List Entry) (actor : Actor)
+    (c : Change)
+    → KnownWorld set states w past → UsesTell w past → Happens set w actor.thread c
+    → first_fault past actor c.actions ≡ None → UsesTell c.world (recorded past actor c.actions)
+uses_event set states w past actor c known told happens quiet =
+    record {
+      traced = traced_recorded past actor c.actions told.traced;
+      live = λ n. uses_turns past (recorded past actor c.actions) n (find w.shared.packets n)
+          (find c.world.shared.packets n) (late_in_world states w n)
+          (late_in_world states c.world n) told.traced
+          (told.live n) (event_turns set states w past known actor c happens quiet n);
+    }

@@ -1,0 +1,556 @@
+-- What a step of a routine does to each packet and its uses.
+use Rattle.std.proofs.Common.{◌≡◌, ℕ, ◌+◌, ◌-◌, ◌≤◌, ◌⊎◌, inl, inr, List, [], ◌∷◌, ◌++◌, length, Option, None, Some, Bool, true, false, refl, ap, sym, ◌∙◌, subst, arith}
+use Rattle.std.specs.Prelude.{⊤, nat_eq, nat_le, slice_get}
+use Rattle.std.specs.List.{list_any}
+use Rattle.std.proofs.lemmas.Bool.{cond_both, eq-eqb, leb-false}
+use Rattle.std.proofs.lemmas.Bool.Decides.{eqb_tells}
+use Rattle.model.specs.declared.abs.Abs.{Abs}
+use Rattle.model.specs.declared.abs.Kind.{Kind}
+use Rattle.model.specs.declared.abs.Kind.TheVariants.{Blank, Num, Lower, New, Own, View}
+use Rattle.model.specs.declared.abs.Settled.{Settled}
+use Rattle.model.specs.declared.abs.Settled.TheVariants.{NeedMark, Open, Settled as SettledMark}
+use Rattle.model.specs.declared.event.Reply.{Reply}
+use Rattle.model.specs.declared.event.Reply.TheVariants.{Stepped, Waited}
+use Rattle.model.specs.declared.event.Bug.{Bug}
+use Rattle.model.specs.declared.event.BugCheck.TheVariants.{IrqlNotLessOrEqual, NoMoreIrpStackLocations}
+use Rattle.model.specs.declared.event.Subject.TheVariants.{Packet as PacketSubject}
+use Rattle.model.specs.declared.instr.Instr.{Instr}
+use Rattle.model.specs.declared.instr.Instr.TheVariants.{Call, Complete, End, Get, IfPending, Loop, Mark, Pass, Put, Ret}
+use Rattle.model.specs.declared.instr.Return.{Return}
+use Rattle.model.specs.declared.instr.Return.TheVariants.{Continue}
+use Rattle.model.specs.declared.set.Sort.{Sort}
+use Rattle.model.specs.declared.set.Sort.TheVariants.{Dispatch, Propagate}
+use Rattle.model.specs.declared.world.Activation.{Activation}
+use Rattle.model.specs.declared.world.Frame.{Frame}
+use Rattle.model.specs.declared.world.Frame.TheVariants.{Routine, Walk}
+use Rattle.model.specs.declared.world.OpenLoop.{OpenLoop}
+use Rattle.model.specs.declared.world.Packet.{Packet}
+use Rattle.model.specs.Action.{Action, Acquires, Calls, Completes, Executes, GoesWrong, Marks, Releases, Touches, TouchesPaged}
+use Rattle.model.specs.Effect.{Outcome, asks, dispatched, goes_on, goes_wrong, leaves, set_by, turned}
+use Rattle.model.specs.Fault.{depth, first_fault, stack_size, bug_if, first_or, topped}
+use Rattle.model.specs.LocalRule.{given_down, is_right, is_view, kind_of, look_fault, mark_fault, marked, refuses, settled_fault}
+use Rattle.model.specs.Set.{Set, flow_of, sort_of}
+use Rattle.model.specs.Trace.{Actor, Entry}
+use Rattle.model.specs.World.{Shared, asked_of, completed, completion_of, current_location, innermost, is_marked, mark_current, next, packet_of, sent_down, shared_with, with_info, with_locks, with_loops, with_owner, with_packet}
+use Rattle.run_laws.specs.Holder.{frame_rights}
+use Rattle.run_laws.proofs.Holders.Sums.{held, own_if, unheld}
+use Rattle.run_laws.proofs.Past.LivePackets.{find}
+use Rattle.run_laws.proofs.Past.Packets.{Tells, found, named, numbered}
+use Rattle.run_laws.proofs.States.Fine.{bug_none, not_gone, touch_top}
+use Rattle.run_laws.proofs.States.Frames.{Runs, state_of}
+use Rattle.run_laws.proofs.States.Moves.{arrives, arrives_next, falls_next, has_next, onto}
+use Rattle.run_laws.proofs.States.Lacking.{down}
+use Rattle.run_laws.proofs.States.Obeyed.{returns_by}
+use Rattle.run_laws.proofs.Steps.Locking.{LockWord, freed_word, taken_word}
+use Rattle.run_laws.proofs.States.Rules.{States}
+use Rattle.run_laws.proofs.Steps.Comes.{Comes, Executing, GoesTo, Reads, awaits_lock, calls_down, completes_gone, completes_packet, computes, errs, frees_lock, lets_go, lets_walk, looks_at, marks_packet, opens_loop, pages, passes_down, retakes_lock, returns_status, takes_lock, touches_gone, turns_loop, writes_info}
+use Rattle.run_laws.proofs.Steps.Faults.{none_first, none_later}
+use Rattle.run_laws.proofs.Steps.Words.{Looking, Marking, Work, jumps_on, packet_operand, work_of}
+use Rattle.run_laws.proofs.Uses.Becomes.{gets_marked, goes_down}
+use Rattle.run_laws.proofs.Uses.FateFacts.{shared_completion, shared_marks}
+use Rattle.run_laws.proofs.Past.Stacks.{shared_length}
+use Rattle.run_laws.proofs.Uses.Fates.{late_in, late_mark, late_on}
+use Rattle.run_laws.proofs.Uses.Traced.{is_about}
+use Rattle.run_laws.proofs.Uses.Steps.{UseStep, apart_at, becomes_at, found_other, found_put, kept_at, late_of, split_step}
+
+-- a routine that goes on has as much to carry up as before, and what stands on one carries nothing
+pub late_still : (states : States) (returned : Bool) (n : ℕ) (under : Option Frame) (a b : Activation)
+    → (state_of states b).settled ≡ (state_of states a).settled
+    → late_on states returned n under (Routine b) ≡ late_on states returned n under (Routine a)
+late_still states returned n None a b h = refl
+late_still states returned n (Some (Routine c)) a b h = refl
+late_still states returned n (Some (Walk m)) a b h = rw h refl
+
+on_routine : (states : States) (returned : Bool) (n : ℕ) (b : Activation) (g : Frame)
+    → late_on states returned n (Some (Routine b)) g ≡ 0
+on_routine states returned n b (Routine c) = refl
+on_routine states returned n b (Walk m) = refl
+
+one_late : (states : States) (returned : Bool) (n : ℕ) (under : Option Frame) (a b : Activation)
+    → (state_of states b).settled ≡ (state_of states a).settled
+    → late_in states returned n under (Routine b ∷ []) ≡ late_on states returned n under (Routine a)
+one_late states returned n under a b settled =
+    let same : late_on states returned n under (Routine b) ≡ late_on states returned n under (Routine a) =
+    late_still states returned n under a b settled in
+    omega arith
+
+two_late : (states : States) (returned : Bool) (n : ℕ) (under : Option Frame) (a b : Activation)
+    (g : Frame)
+    → (state_of states b).settled ≡ (state_of states a).settled
+    → late_in states returned n under (Routine b ∷ g ∷ []) ≡ late_on states returned n under (Routine a)
+two_late states returned n under a b g settled =
+    let over : late_on states returned n (Some (Routine b)) g ≡ 0 = on_routine states returned n b g in
+    let same : late_on states returned n under (Routine b) ≡ late_on states returned n under (Routine a) =
+    late_still states returned n under a b settled in
+    omega arith
+
+-- what has to be carried up changes with a mark or a look alone
+abbrev settles : Instr → Bool
+settles (Mark r) = true
+settles (IfPending r label) = true
+settles _ = false
+
+abbrev keeps_settled : Work → Bool
+keeps_settled Marking = false
+keeps_settled Looking = false
+keeps_settled _ = true
+
+quiet_work : (i : Instr) → keeps_settled (work_of i) ≡ true → settles i ≡ false
+quiet_work (Mark r) h = cc
+quiet_work (IfPending r label) h = cc
+quiet_work _ h = refl
+
+given_settled : (s : Abs) (r : ℕ) (k : Kind) → (given_down s r k).settled ≡ s.settled
+given_settled s r New = refl
+given_settled s r _ = refl
+
+onto_settled : (s : Abs) (i : Instr) (jumped : Bool) → settles i ≡ false
+    → (onto s i jumped).settled ≡ s.settled
+onto_settled s (Mark r) jumped h = cc
+onto_settled s (IfPending r label) jumped h = cc
+onto_settled s (Pass r) false h = given_settled s r (kind_of s r)
+onto_settled s (Call r f) false h = given_settled s r (kind_of s r)
+onto_settled s _ true h = refl
+onto_settled s _ false h = refl
+
+-- a look: of a completion routine it settles whether there is a mark to carry up
+abbrev LooksSo : Abs → Abs → ℕ → Packet → Type 0
+LooksSo s to r p =
+    (to.settled ≡ s.settled) ⊎ ((is_view (kind_of s r) ≡ true)
+    × (late_mark p.pending_returned to.settled ≡ late_mark p.pending_returned s.settled))
+
+looked_kind : (carried : Settled) (k : Kind) → look_fault carried k ≡ None → (is_view k ≡ true)
+    × (carried ≡ Open)
+looked_kind Open View h = (refl, refl)
+looked_kind NeedMark View h = cc
+looked_kind SettledMark View h = cc
+looked_kind carried New h = cc
+looked_kind carried Own h = cc
+looked_kind carried Blank h = cc
+looked_kind carried Num h = cc
+looked_kind carried Lower h = cc
+
+looked_late : (returned : Bool) (s : Abs) (r label : ℕ) → s.settled ≡ Open
+    → late_mark returned (onto s (IfPending r label) returned).settled ≡ late_mark returned s.settled
+looked_late true s r label is = rw is refl
+looked_late false s r label is = rw is refl
+
+looks_so : (s : Abs) (i : Instr) (sort : Sort) (set : Set) (driver r : ℕ) (p : Packet) (jumped : Bool)
+    → refuses s i sort set driver ≡ None → work_of i ≡ Looking → packet_operand i ≡ Some r
+    → jumped ≡ jumps_on i p
+    → LooksSo s (onto s i jumped) r p
+looks_so s (Get q k field) sort set driver r p true rule work operand jumps = inl refl
+looks_so s (Get q k field) sort set driver r p false rule work operand jumps = inl refl
+looks_so s (IfPending q label) sort set driver r p jumped rule work operand jumps =
+    let known : (is_view (kind_of s q) ≡ true) × (s.settled ≡ Open) =
+    looked_kind s.settled (kind_of s q) rule in
+    let same : q ≡ r = cc in
+    inr (
+      subst (λ (x : ℕ). is_view (kind_of s x) ≡ true) same known.0,
+      subst (λ (b : Bool). late_mark p.pending_returned (onto s (IfPending q label) b).settled
+          ≡ late_mark p.pending_returned s.settled) (sym jumps)
+          (looked_late p.pending_returned s q label known.1),
+    )
+looks_so s _ sort set driver r p jumped rule work operand jumps = cc
+
+-- a mark: of a packet that the routine was handed, or where one has to be carried up
+marked_kind : (carried : Settled) (k : Kind) → mark_fault carried k ≡ None
+    → (k ≡ New) ⊎ ((k ≡ View) × (carried ≡ NeedMark))
+marked_kind carried New h = inl refl
+marked_kind NeedMark View h = inr (refl, refl)
+marked_kind Open View h = cc
+marked_kind SettledMark View h = cc
+marked_kind carried Own h = cc
+marked_kind carried Blank h = cc
+marked_kind carried Num h = cc
+marked_kind carried Lower h = cc
+
+new_settled : (s : Abs) (r : ℕ) (k : Kind) → k ≡ New → (marked s r k).settled ≡ s.settled
+new_settled s r New h = refl
+new_settled s r View h = cc
+new_settled s r _ h = refl
+
+-- a return: a completion routine has carried up what it had to
+settled_mark : (carried : Settled) (sort : Sort) → sort ≡ Propagate → settled_fault sort carried ≡ None
+    → carried ≡ SettledMark
+settled_mark SettledMark sort is rule = refl
+settled_mark Open Propagate is rule = cc
+settled_mark NeedMark Propagate is rule = cc
+settled_mark Open Dispatch is rule = cc
+settled_mark NeedMark Dispatch is rule = cc
+
+walk_other : (states : States) (returned : Bool) (n m : ℕ) (under : Option Frame) (a b : Activation)
+    → under ≡ Some (Walk n) → nat_eq n m ≡ false
+    → late_on states returned m under (Routine b) ≡ late_on states returned m under (Routine a)
+walk_other states returned n m under a b walk apart = rw (walk, apart) refl
+
+none_late : (late : Bool → ℕ) (o : Option Packet) → ((returned : Bool) → late returned ≡ 0)
+    → late_of late o ≡ 0
+none_late late None h = refl
+none_late late (Some p) h = h p.pending_returned
+
+held_free : (p : Packet) → p.completing ≡ false → held (Some p) ≡ 0
+held_free p free = rw free refl
+
+-- on what stands under a routine: a completion routine runs over the I/O manager's frame
+abbrev pub OnWalk : Set → Option Frame → Activation → Type 0
+OnWalk set (Some (Walk n)) a = sort_of set a.driver a.routine ≡ Propagate
+OnWalk set _ a = ⊤
+
+-- what is known of a routine's frame that steps
+pub record StepsRoutine (set : Set) (states : States) (s : Shared) (past : List Entry)
+    (under : Option Frame)
+    (a : Activation) : Type 0 where
+  pub tells : Tells s past
+  pub runs : (i : Instr) → Executing set a i → Runs set states s a i
+  pub ends : (l : OpenLoop) → Executing set a End → innermost a ≡ Some l
+      → state_of states (turned a l) ≡ state_of states a
+  pub rights : (n : ℕ) → frame_rights states (Routine a) n ≤ unheld (find s.packets n)
+  pub owns : (r n : ℕ) → is_right (kind_of (state_of states a) r) ≡ true → Reads s a r n
+      → 1 ≤ frame_rights states (Routine a) n
+  pub views : (r n : ℕ) → is_view (kind_of (state_of states a) r) ≡ true → Reads s a r n
+      → under ≡ Some (Walk n)
+  pub on : OnWalk set under a
+
+module _ (set : Set) (states : States) (s : Shared) (past : List Entry) (actor : Actor) (t : ℕ)
+    (under : Option Frame) (a : Activation) (h : StepsRoutine set states s past under a) where
+  -- a routine goes on, and nothing of packets changes
+  on_used : (after : Shared) (b : Activation) (actions : List Action) (reply : Reply)
+      → (state_of states b).settled ≡ (state_of states a).settled → after.packets ≡ s.packets
+      → ((n : ℕ) → list_any (is_about n) actions ≡ false)
+      → UseStep states s past actor under (Routine a)
+      (record (leaves after (Routine b ∷ []) actions) { reply = reply })
+  on_used after b actions reply settled packets quiet n =
+      apart_at states s past actor under (Routine a)
+      (record (leaves after (Routine b ∷ []) actions) { reply = reply }) n
+      (record {
+        there = ap (λ (ps : List Packet). find ps n) packets;
+        quiet = quiet n;
+        late = λ p there. one_late states p.pending_returned n under a b settled;
+      })
+
+  settled_on : (i : Instr) (b : Activation) (jumped : Bool) → Executing set a i → GoesTo a i b jumped
+      → settles i ≡ false → (state_of states b).settled ≡ (state_of states a).settled
+  settled_on i b jumped at goes quiet =
+      ap (λ (state : Abs). state.settled) (arrives set states s a i (h.runs i at) b jumped goes)
+      ∙ onto_settled (state_of states a) i jumped quiet
+
+  settled_next : (i : Instr) → Executing set a i → has_next (flow_of i) ≡ true → settles i ≡ false
+      → (states a.driver a.routine (a.position + 1)).settled ≡ (state_of states a).settled
+  settled_next i at leads quiet =
+      ap (λ (state : Abs). state.settled) (arrives_next set states s a i (h.runs i at) leads)
+      ∙ onto_settled (state_of states a) i false quiet
+
+  settled_word : (i : Instr) → Executing set a i → LockWord i
+      → (states a.driver a.routine (a.position + 1)).settled ≡ (state_of states a).settled
+  settled_word i at word =
+      settled_next i at (falls_next (flow_of i) word.on) (quiet_work i (ap keeps_settled word.work))
+
+  -- one packet is written back with its marks as they were
+  written_used : (n : ℕ) (p q : Packet) (frames : List Frame) (actions : List Action)
+      → packet_of s n ≡ Some p
+      → q.number ≡ p.number → q.pending_returned ≡ p.pending_returned
+      → ((k : ℕ) → is_marked (slice_get q.locations.items k) ≡ is_marked (slice_get p.locations.items k))
+      → completion_of (slice_get q.locations.items 0) ≡ completion_of (slice_get p.locations.items 0)
+      → q.depth ≡ p.depth → length q.locations.items ≡ length p.locations.items
+      → (p.completing ≡ true → q.completing ≡ true)
+      → ((m : ℕ) → list_any (is_about m) actions ≡ false)
+      → ((returned : Bool) (m : ℕ) → late_in states returned m under frames
+      ≡ late_on states returned m under (Routine a))
+      → UseStep states s past actor under (Routine a) (leaves (with_packet s n q) frames actions)
+  written_used n p q frames actions there number returned marks routed deep long completing quiet late =
+      let at : find s.packets n ≡ Some p = found s n (Some p) there in
+      let same : q.number ≡ n = number ∙ numbered s n p there in
+      let o : Outcome = leaves (with_packet s n q) frames actions in
+      split_step states s past actor under (Routine a) o n
+      (kept_at states s past actor under (Routine a) o n p q
+      (record {
+        there = at;
+        now = found_put s n p q at same;
+        returned = returned;
+        marks = marks;
+        routed = routed;
+        deep = deep;
+        long = long;
+        completing = completing;
+        quiet = quiet n;
+        late = late p.pending_returned n;
+      }))
+      (λ m apart. record {
+        there = found_other s n m p q at same apart;
+        quiet = quiet m;
+        late = λ x is. late x.pending_returned m;
+      })
+
+  -- a look
+  looks_used : (i : Instr) (b : Activation) (jumped : Bool) (r n : ℕ) (p : Packet) → Executing set a i
+      → GoesTo a i b jumped → Reads s a r n → packet_of s n ≡ Some p
+      → LooksSo (state_of states a) (onto (state_of states a) i jumped) r p
+      → UseStep states s past actor under (Routine a) (goes_on s b (Touches n ∷ []))
+  looks_used i b jumped r n p at goes reads there (inl same) =
+      on_used s b (Executes ∷ Touches n ∷ []) Stepped
+      (ap (λ (state : Abs). state.settled) (arrives set states s a i (h.runs i at) b jumped goes)
+      ∙ same) refl
+      (λ m. refl)
+  looks_used i b jumped r n p at goes reads there (inr views) =
+      let walk : under ≡ Some (Walk n) = h.views r n views.0 reads in
+      let seen : late_mark p.pending_returned (state_of states b).settled
+      ≡ late_mark p.pending_returned (state_of states a).settled =
+      ap (λ (state : Abs). late_mark p.pending_returned state.settled)
+      (arrives set states s a i (h.runs i at) b jumped goes) ∙ views.1 in
+      λ m. apart_at states s past actor under (Routine a) (goes_on s b (Touches n ∷ [])) m
+      (record {
+        there = refl;
+        quiet = refl;
+        late = λ x is.
+            let same : late_on states x.pending_returned m under (Routine b)
+            ≡ late_on states x.pending_returned m under (Routine a) =
+            elim (eqb_tells n m) [
+              | inl e ↦
+                  let both : Some p ≡ Some x = sym (found s n (Some p) there)
+                  ∙ ap (find s.packets) e.1 ∙ is in
+                  let one : p ≡ x = cc in
+                  rw (walk, e.0, ← one) seen
+              | inr e ↦ walk_other states x.pending_returned n m under a b walk e.0
+            ] in
+            omega arith;
+      })
+
+  -- a mark of a packet that is live
+  record MarksIt (n : ℕ) (p : Packet) : Type 0 where
+    due : (p.completing ≡ false) ⊎ (late_on states p.pending_returned n under (Routine a) ≡ 1)
+    others : (m : ℕ) (returned : Bool) → nat_eq n m ≡ false
+        → late_on states returned m under (Routine (next a)) ≡ late_on states returned m under (Routine a)
+
+  mark_due : (late : Bool → ℕ) (p : Packet) (o : Option Packet) (own : ℕ) → o ≡ Some p
+      → own ≤ late p.pending_returned → (p.completing ≡ false) ⊎ (own ≡ 1)
+      → (p.completing ≡ false) ⊎ (1 ≤ late_of late o)
+  mark_due late p o own there le (inl free) = inl free
+  mark_due late p o own there le (inr one) =
+      let same : late_of late o ≡ late p.pending_returned = ap (late_of late) there in inr (omega arith)
+
+  marks_it : (n : ℕ) (p : Packet) → packet_of s n ≡ Some p → MarksIt n p
+      → UseStep states s past actor under (Routine a)
+      (goes_on (with_packet s n (mark_current p)) (next a) (Touches n ∷ Marks n ∷ []))
+  marks_it n p there known =
+      let at : find s.packets n ≡ Some p = found s n (Some p) there in
+      let number : p.number ≡ n = numbered s n p there in
+      let o : Outcome = goes_on (with_packet s n (mark_current p)) (next a) (Touches n ∷ Marks n ∷ []) in
+      split_step states s past actor under (Routine a) o n
+      (becomes_at states s past actor under (Routine a) o n (λ late lately lates. gets_marked (record {
+        p = p;
+        was = at;
+        now = found_put s n p (mark_current p) at number;
+        used = refl;
+        marked = λ u. refl;
+        left = λ u. refl;
+        sized = refl;
+        due = mark_due late p (find s.packets n)
+            (late_on states p.pending_returned n under (Routine a)) at
+            (lates.own p.pending_returned) known.due;
+      })))
+      (λ m apart. record {
+        there = found_other s n m p (mark_current p) at number apart;
+        quiet = rw apart refl;
+        late = λ x is.
+            let same : late_on states x.pending_returned m under (Routine (next a))
+            ≡ late_on states x.pending_returned m under (Routine a) =
+            known.others m x.pending_returned apart in
+            omega arith;
+      })
+
+  free_there : (r n : ℕ) (p : Packet) → is_right (kind_of (state_of states a) r) ≡ true → Reads s a r n
+      → packet_of s n ≡ Some p → p.completing ≡ false
+  free_there r n p right reads there =
+      let some : 1 ≤ frame_rights states (Routine a) n = h.owns r n right reads in
+      let all : frame_rights states (Routine a) n ≤ unheld (find s.packets n) = h.rights n in
+      let own : (q : Packet) × (find s.packets n ≡ Some q) × (q.completing ≡ false) =
+      own_if (find s.packets n) (omega arith) in
+      let both : Some own.0 ≡ Some p = sym own.1 ∙ found s n (Some p) there in
+      let same : own.0 ≡ p = cc in
+      ap (λ (q : Packet). q.completing) (sym same) ∙ own.2
+
+  marks_used : (r n : ℕ) (p : Packet) → Executing set a (Mark r) → Reads s a r n → packet_of s n ≡ Some p
+      → MarksIt n p
+  marks_used r n p at reads there =
+      let k : Kind = kind_of (state_of states a) r in
+      elim (marked_kind (state_of states a).settled k (h.runs (Mark r) at).obeys) [
+        | inl new ↦
+            let settled : (state_of states (next a)).settled ≡ (state_of states a).settled =
+            ap (λ (state : Abs). state.settled)
+            (arrives_next set states s a (Mark r) (h.runs (Mark r) at) refl)
+            ∙ new_settled (state_of states a) r k new in
+            record {
+              due = inl (free_there r n p (rw new refl) reads there);
+              others = λ m returned apart. late_still states returned m under a (next a) settled;
+            }
+        | inr view ↦
+            let walk : under ≡ Some (Walk n) = h.views r n (rw view.0 refl) reads in
+            record {
+              due = inr (rw (walk, eq-eqb n n refl, view.1) refl);
+              others = λ m returned apart. walk_other states returned n m under a (next a) walk apart;
+            }
+      ]
+
+  -- a packet is sent down in a location of its own
+  calls_used : (r : ℕ) (f : Option ℕ) (n : ℕ) (p : Packet) (lower : ℕ) → Executing set a (Call r f)
+      → Reads s a r n
+      → packet_of s n ≡ Some p → is_right (kind_of (state_of states a) r) ≡ true
+      → first_fault past actor (Executes ∷ Touches n ∷ Calls n ∷ []) ≡ None
+      → UseStep states s past actor under (Routine a)
+      (leaves (with_packet s n (sent_down p lower (set_by a f))) (asks set a lower p n)
+      (Executes ∷ Touches n ∷ Calls n ∷ []))
+  calls_used r f n p lower at reads there right quiet =
+      let here : find s.packets n ≡ Some p = found s n (Some p) there in
+      let number : p.number ≡ n = numbered s n p there in
+      let q : Packet = sent_down p lower (set_by a f) in
+      let g : Frame =
+      Routine (dispatched set lower (slice_get set.devices lower)
+      (asked_of (current_location p)) n) in
+      let o : Outcome =
+      leaves (with_packet s n q) (asks set a lower p n) (Executes ∷ Touches n ∷ Calls n ∷ []) in
+      let now : find o.shared.packets n ≡ Some q = found_put s n p q here number in
+      let free : p.completing ≡ false = free_there r n p right reads there in
+      let settled : (state_of states (next a)).settled ≡ (state_of states a).settled =
+      settled_next (Call r f) at refl refl in
+      let sent : Option Bug =
+      bug_if (nat_le (stack_size past n) (depth past n)) NoMoreIrpStackLocations (PacketSubject n) in
+      let room : nat_le (stack_size past n) (depth past n) ≡ false =
+      bug_none (nat_le (stack_size past n) (depth past n)) NoMoreIrpStackLocations (PacketSubject n)
+      (none_first sent None
+      (none_later (bug_if (topped past n) IrqlNotLessOrEqual (PacketSubject n)) (first_or sent None)
+      quiet)) in
+      split_step states s past actor under (Routine a) o n
+      (becomes_at states s past actor under (Routine a) o n (λ late lately lates.
+      let none : (returned : Bool) → late returned ≡ 0 = lates.free (ap held here ∙ held_free p free) in
+      goes_down (record {
+        p = p;
+        device = lower;
+        completion = set_by a f;
+        was = here;
+        now = now;
+        used = rw (eq-eqb n n refl) refl;
+        marked = λ u. refl;
+        left = λ u. refl;
+        sized = refl;
+        room = leb-false (stack_size past n) (depth past n) room;
+        free = free;
+        none = none_late late (find s.packets n) none;
+        still = none_late lately (find o.shared.packets n) (λ returned.
+            let even : lately returned + late_on states returned n under (Routine a)
+            ≡ late returned + late_in states returned n under o.frames =
+            lates.even returned in
+            let zero_before : late returned ≡ 0 = none returned in
+            let equal : late_in states returned n under o.frames ≡ late_on states returned n under
+            (Routine a) =
+            two_late states returned n under a (next a) g settled in
+            omega arith);
+      })))
+      (λ m apart. record {
+        there = found_other s n m p q here number apart;
+        quiet = rw apart refl;
+        late = λ x is. two_late states x.pending_returned m under a (next a) g settled;
+      })
+
+  -- a return
+  carried_up : (form : Return) → Executing set a (Ret form) → sort_of set a.driver a.routine ≡ Propagate
+      → (state_of states a).settled ≡ SettledMark
+  carried_up form at is =
+      settled_mark (state_of states a).settled (sort_of set a.driver a.routine) is
+      (returns_by (state_of states a) (sort_of set a.driver a.routine) set a.driver form
+      (h.runs (Ret form) at).obeys).settled
+
+  none_on : (form : Return) → Executing set a (Ret form) → (returned : Bool) (n : ℕ) (u : Option Frame)
+      → OnWalk set u a → late_on states returned n u (Routine a) ≡ 0
+  none_on form at returned n None on = refl
+  none_on form at returned n (Some (Routine b)) on = refl
+  none_on form at returned n (Some (Walk m)) on =
+      rw (carried_up form at on) (cond_both (nat_eq m n) 0 0 (λ x. x ≡ 0) (λ is. refl) (λ isnt. refl))
+
+  left_used : (form : Return) (o : Outcome) → Executing set a (Ret form) → o.frames ≡ [] → o.shared ≡ s
+      → ((n : ℕ) → list_any (is_about n) o.actions ≡ false)
+      → UseStep states s past actor under (Routine a) o
+  left_used form o at none same quiet n =
+      apart_at states s past actor under (Routine a) o n
+      (record {
+        there = ap (λ (x : Shared). find x.packets n) same;
+        quiet = quiet n;
+        late = λ p there.
+            ap (λ (frames : List Frame). late_in states p.pending_returned n under frames) none
+            ∙ sym (none_on form at p.pending_returned n under h.on);
+      })
+
+  -- every step of a routine
+  pub routine_used : (below : Option Frame) (o : Outcome) → Comes set s t below (Routine a) o
+      → first_fault past actor o.actions ≡ None
+      → UseStep states s past actor under (Routine a) o
+  routine_used below o (errs b lacks) quiet =
+      on_used s a (GoesWrong ∷ []) (goes_wrong s a).reply refl refl (λ n. refl)
+  routine_used below o (awaits_lock b i lock owner at taken owned other) quiet =
+      on_used s a [] Waited refl refl (λ n. refl)
+  routine_used below o (computes b i c jumped cells at work goes long) quiet =
+      on_used (record s { cells = cells }) c (Executes ∷ []) Stepped
+      (settled_on i c jumped at goes (quiet_work i (ap keeps_settled work))) refl (λ n. refl)
+  routine_used below o (opens_loop b turns at room) quiet =
+      on_used s (next
+      (with_loops a (a.loops.items ++ record { start = a.position + 1; turns = turns } ∷ [])))
+      (Executes ∷ []) Stepped (settled_next (Loop turns) at refl refl) refl (λ n. refl)
+  routine_used below o (turns_loop b l at there) quiet =
+      on_used s (turned a l) (Executes ∷ []) Stepped
+      (ap (λ (state : Abs). state.settled) (h.ends l at there)) refl (λ n. refl)
+  routine_used below o (pages b i c cell cells at work goes long) quiet =
+      on_used (record s { cells = cells }) c (Executes ∷ TouchesPaged cell ∷ []) Stepped
+      (settled_on i c false at goes (quiet_work i (ap keeps_settled work))) refl (λ n. refl)
+  routine_used below o (touches_gone b i r n at touching on operand reads gone) quiet =
+      absurd (not_gone s past n h.tells (touch_top past actor n quiet) (named s _ n reads) gone)
+  routine_used below o (looks_at b i c jumped r n p at work goes operand reads there jumps) quiet =
+      looks_used i c jumped r n p at goes reads there
+      (looks_so (state_of states a) i (sort_of set a.driver a.routine) set a.driver r p jumped
+      (h.runs i at).obeys work
+      operand jumps)
+  routine_used below o (writes_info b q r n p info at reads there number) quiet =
+      written_used n p (with_info p info) (Routine (next a) ∷ []) (Executes ∷ Touches n ∷ []) there
+      refl refl (λ k. refl)
+      refl refl refl (λ done. done) (λ m. refl)
+      (λ returned m. one_late states returned m under a (next a) (settled_next (Put q r) at refl refl))
+  routine_used below o (marks_packet b r n p at reads there) quiet =
+      marks_it n p there (marks_used r n p at reads there)
+  routine_used below o (takes_lock b i lock at taken free) quiet =
+      on_used (with_locks s (with_owner s.locks lock (Some t))) (next a)
+      (Executes ∷ Acquires lock ∷ []) Stepped
+      (settled_word i at (taken_word a i lock taken)) refl (λ n. refl)
+  routine_used below o (retakes_lock b i lock at taken own) quiet =
+      on_used s (next a) (Executes ∷ Acquires lock ∷ []) Stepped
+      (settled_word i at (taken_word a i lock taken)) refl (λ n. refl)
+  routine_used below o (frees_lock b i lock owner at freed owned) quiet =
+      on_used (with_locks s (with_owner s.locks lock None)) (next a) (Executes ∷ Releases lock ∷ [])
+      Stepped
+      (settled_word i at (freed_word a i lock freed)) refl (λ n. refl)
+  routine_used below o (completes_packet b r status n p at reads there) quiet =
+      written_used n p (completed p status) (Routine (next a) ∷ Walk n ∷ [])
+      (Executes ∷ Completes n ∷ []) there refl
+      refl (λ k. refl) refl refl refl (λ done. refl) (λ m. refl)
+      (λ returned m. two_late states returned m under a (next a) (Walk n)
+      (settled_next (Complete r status) at refl refl))
+  routine_used below o (completes_gone b r status n at reads gone) quiet =
+      on_used s (next a) (Executes ∷ Completes n ∷ []) Stepped
+      (settled_next (Complete r status) at refl refl) refl
+      (λ m. refl)
+  routine_used below o (passes_down b r n p lower at reads there under_it) quiet =
+      written_used n p (shared_with p lower) (asks set a lower p n) (Executes ∷ Touches n ∷ [])
+      there refl refl
+      (shared_marks p.locations.items (p.depth - 1) lower)
+      (shared_completion p.locations.items (p.depth - 1) lower 0)
+      refl (shared_length (slice_get p.locations.items (p.depth - 1)) p.locations.items
+      (p.depth - 1) lower)
+      (λ done. done) (λ m. refl)
+      (λ returned m. two_late states returned m under a (next a)
+      (Routine (dispatched set lower (slice_get set.devices lower) (asked_of (current_location p)) n))
+      (settled_next (Pass r) at refl refl))
+  routine_used below o (calls_down b r f n p lower at reads there under_it) quiet =
+      calls_used r f n p lower at reads there
+      (down set states s a (Call r f) r (h.runs (Call r f) at) refl refl).right quiet
+  routine_used below o (returns_status b form status at sort there) quiet =
+      left_used form o at refl refl (λ n. refl)
+  routine_used below o (lets_go b at sort bare) quiet = left_used Continue o at refl refl (λ n. refl)
+  routine_used below o (lets_walk b n at sort) quiet = left_used Continue o at refl refl (λ m. refl)

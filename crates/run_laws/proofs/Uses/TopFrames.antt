@@ -1,0 +1,103 @@
+-- What is known of a thread's top frame that steps, over another frame or none: it stands as it
+-- should, its rights are to live packets, and what it sees and stands on is as its sort says.
+use Rattle.std.proofs.Common.{◌≡◌, ℕ, ◌≤◌, List, Option, None, Some, true, false, ap, sym, ◌∙◌, arith}
+use Rattle.std.specs.Prelude.{⊤}
+use Rattle.model.specs.declared.abs.Abs.{Abs}
+use Rattle.model.specs.declared.instr.Instr.TheVariants.{End}
+use Rattle.model.specs.declared.set.Sort.{Sort}
+use Rattle.model.specs.declared.set.Sort.TheVariants.{Dispatch}
+use Rattle.model.specs.declared.world.Activation.{Activation}
+use Rattle.model.specs.declared.world.Frame.{Frame}
+use Rattle.model.specs.declared.world.Frame.TheVariants.{Routine, Walk}
+use Rattle.model.specs.LocalRule.{is_view, kind_of}
+use Rattle.model.specs.Set.{Set, member}
+use Rattle.model.specs.Trace.{Actor, Entry}
+use Rattle.model.specs.World.{Shared, register}
+use Rattle.run_laws.specs.Holder.{right, rights}
+use Rattle.run_laws.proofs.Holders.Counts.{Holding, reads_ref, walk_taken}
+use Rattle.run_laws.proofs.Holders.Rights.{one_right, right_le}
+use Rattle.run_laws.proofs.Past.LivePackets.{find_place}
+use Rattle.run_laws.proofs.States.Entering.{IsOfSort, sort_there, begins_back}
+use Rattle.run_laws.proofs.States.Frames.{Stays, state_of}
+use Rattle.run_laws.proofs.States.Known.{IsKnown}
+use Rattle.run_laws.proofs.States.LoopEnds.{moved_end}
+use Rattle.run_laws.proofs.States.NoViews.{dispatch_no_view, no_view_at}
+use Rattle.run_laws.proofs.States.OnTop.{OnTop, runs}
+use Rattle.run_laws.proofs.States.Rules.{States}
+use Rattle.run_laws.proofs.Steps.Comes.{Reads}
+use Rattle.run_laws.proofs.Live.Sees.{Seen, reads_own}
+use Rattle.run_laws.proofs.Uses.RoutineSteps.{OnWalk, StepsRoutine}
+use Rattle.run_laws.proofs.Uses.WalkSteps.{StepsWalk}
+
+-- what stands under a frame
+abbrev pub FrameOn : Set → Option Frame → Frame → Type 0
+FrameOn set under (Routine a) = OnWalk set under a
+FrameOn set under (Walk n) = ⊤
+
+pub record KnownTop (set : Set) (states : States) (s : Shared) (past : List Entry)
+    (under : Option Frame) (f : Frame)
+    : Type 0 where
+  pub top : OnTop set states s f
+  pub holding : Holding states s past f
+  pub seen : Seen set under f
+  pub on : FrameOn set under f
+
+module _ (set : Set) (states : States) (s : Shared) (past : List Entry) (under : Option Frame)
+    (a : Activation)
+    (h : KnownTop set states s past under (Routine a)) where
+  pub stays : Stays set states s.issued h.top.stands.0 a
+  stays = h.top.stands.1
+
+  pub known : IsKnown (member set a.driver a.routine h.top.stands.0) (states a.driver a.routine)
+  known = h.top.good.led.known a.driver a.routine h.top.stands.0 stays.is_of
+
+  pub sort_is : (sort : Sort) → IsOfSort set a sort → h.top.stands.0.sort ≡ sort
+  sort_is sort is = sym (sort_there set a.driver a.routine h.top.stands.0 stays.is_of) ∙ is
+
+  pub unseen : IsOfSort set a Dispatch → (r : ℕ) → is_view (kind_of (state_of states a) r) ≡ false
+  unseen is r =
+      no_view_at (state_of states a).kinds r
+      (dispatch_no_view (member set a.driver a.routine h.top.stands.0) a.position (state_of states a)
+      (sort_is Dispatch is) (known.follows.arrives a.position stays.within))
+
+  never_views : IsOfSort set a Dispatch → (r : ℕ) → is_view (kind_of (state_of states a) r) ≡ true → ⊥
+  never_views is r views = let no : false ≡ true = sym (unseen is r) ∙ views in cc
+
+  views_under : (u : Option Frame) → Seen set u (Routine a) → (r n : ℕ)
+      → is_view (kind_of (state_of states a) r) ≡ true → Reads s a r n → u ≡ Some (Walk n)
+  views_under None seen r n views reads = absurd (never_views seen r views)
+  views_under (Some (Routine b)) seen r n views reads = absurd (never_views seen r views)
+  views_under (Some (Walk m)) seen r n views reads =
+      ap (λ (k : ℕ). Some (Walk k)) (sym (reads_own m s a seen r n reads))
+
+  pub steps_routine : StepsRoutine set states s past under a
+  steps_routine =
+      record {
+        tells = h.holding.tells;
+        runs = λ i at. runs set states s a i h.top at;
+        ends = λ l at there.
+            (moved_end set states s a (runs set states s a End h.top at) l there).arrives;
+        rights = h.holding.rights;
+        owns = λ r n is reads.
+            let one : right (kind_of (state_of states a) r) (register a r) n ≡ 1 =
+            one_right (kind_of (state_of states a) r) (register a r) n is
+            (reads_ref s (register a r) n reads) in
+            let le : right (kind_of (state_of states a) r) (register a r) n
+            ≤ rights (state_of states a).kinds a.registers n =
+            right_le s.issued (state_of states a).kinds a.registers r n stays.kinds in
+            omega arith;
+        views = views_under under h.seen;
+        on = h.on;
+      }
+
+pub steps_walk : (set : Set) (states : States) (s : Shared) (past : List Entry) (actor : Actor)
+    (under : Option Frame)
+    (n : ℕ) → KnownTop set states s past under (Walk n) → StepsWalk set states s n
+steps_walk set states s past actor under n h =
+    record {
+      rises = h.holding.tells.rises;
+      done = λ p at. walk_taken states s past n h.holding p (find_place s.packets n ∙ at);
+      starts = λ p c there routed.
+          ap (λ (state : Abs). state.settled)
+          (begins_back set states s h.top.good h.top.fits n p c h.top.stands there routed).start;
+    }

@@ -1,0 +1,241 @@
+-- What a step of the I/O manager's frame does to each packet and its uses.
+use Rattle.std.proofs.Common.{◌≡◌, ℕ, ◌+◌, ◌-◌, ◌<◌, ◌≤◌, inl, inr, List, [], ◌∷◌, Option, None, Some, Bool, true, false, refl, ap, sym, ◌∙◌, arith}
+use Rattle.std.specs.Prelude.{nat_eq, nat_lt, slice_get, if◌then◌else◌}
+use Rattle.std.proofs.lemmas.Bool.{cases_lt, eq-eqb, ltb-false, ltb-true}
+use Rattle.model.specs.declared.abs.Settled.TheVariants.{Open}
+use Rattle.model.specs.declared.event.Reply.TheVariants.{Topped}
+use Rattle.model.specs.declared.world.Completion.{Completion}
+use Rattle.model.specs.declared.world.Frame.{Frame}
+use Rattle.model.specs.declared.world.Frame.TheVariants.{Routine, Walk}
+use Rattle.model.specs.declared.world.Packet.{Packet}
+use Rattle.model.specs.Action.{Action, Leaves, Marks, Touches, TopsOut, Ups}
+use Rattle.model.specs.Effect.{Outcome, completes_with, leaves}
+use Rattle.model.specs.LocalRule.{marked}
+use Rattle.model.specs.PendingAgreement.{is_use, marks_left, was_marked}
+use Rattle.model.specs.Set.{Set}
+use Rattle.model.specs.Trace.{Actor, Entry, current_use, recorded}
+use Rattle.model.specs.World.{Shared, completion_of, current_location, is_marked, left_location, mark_current, moved_up, packet_of, with_packet, without_packet}
+use Rattle.run_laws.proofs.Past.LivePackets.{Rises, find, find_remove}
+use Rattle.run_laws.proofs.Past.Packets.{found, numbered}
+use Rattle.run_laws.proofs.States.Frames.{state_of}
+use Rattle.run_laws.proofs.States.Rules.{States}
+use Rattle.run_laws.proofs.Steps.Comes.{Comes, carries_up, tops_out, walks_gone, walks_to, walks_up}
+use Rattle.run_laws.proofs.Uses.Becomes.{gets_marked, goes_out, goes_up}
+use Rattle.run_laws.proofs.Uses.Fates.{late_in, late_on}
+use Rattle.run_laws.proofs.Uses.LateMarks.{late_walk}
+use Rattle.run_laws.proofs.Uses.Traced.{noted_recorded, opened_recorded, traced_recorded}
+use Rattle.run_laws.proofs.Uses.Steps.{UseStep, apart_at, becomes_at, found_other, found_put, late_of, split_step}
+
+-- completion leaves the current location
+left_current : (past : List Entry) (actor : Actor) (n u : ℕ)
+    → marks_left (recorded past actor (Touches n ∷ Leaves n ∷ Ups n ∷ []))
+    (record { packet = n; «use» = u })
+    ≡ (if is_use n (current_use past n) (record { packet = n; «use» = u })
+    then was_marked past (record { packet = n; «use» = u }) ∷ marks_left past
+    (record { packet = n; «use» = u })
+    else marks_left past (record { packet = n; «use» = u }))
+left_current past actor n u = refl
+
+-- a location with a completion routine isn't the first one
+routed_deep : (p : Packet) (c : Completion) → completion_of (current_location p) ≡ Some c → 1 ≤ p.depth
+    → completion_of (slice_get p.locations.items 0) ≡ None → 1 < p.depth
+routed_deep p c there some rooted =
+    elim (cases_lt 1 p.depth) [
+      | inl more ↦ more
+      | inr few ↦
+          let first : p.depth - 1 ≡ 0 = omega arith in
+          let none : completion_of (current_location p) ≡ None =
+          ap (λ (k : ℕ). completion_of (slice_get p.locations.items k)) first ∙ rooted in
+          let no : None ≡ Some c = sym none ∙ there in cc
+    ]
+
+-- what is known of the I/O manager's frame that steps
+pub record StepsWalk (set : Set) (states : States) (s : Shared) (n : ℕ) : Type 0 where
+  pub rises : Rises 0 s.packets s.issued
+  pub done : (p : Packet) → find s.packets n ≡ Some p → p.completing ≡ true
+  pub starts : (p : Packet) (c : Completion) → packet_of s n ≡ Some p
+      → completion_of (current_location p) ≡ Some c
+      → (state_of states (completes_with set c n)).settled ≡ Open
+
+module _ (set : Set) (states : States) (s : Shared) (past : List Entry) (actor : Actor) (t : ℕ)
+    (under : Option Frame) (n : ℕ) (h : StepsWalk set states s n) where
+  -- it goes up to the next location; what stands in place of the frame carries a mark up as the
+  -- location says
+  goes_up_at : (p : Packet) (frames : List Frame) → packet_of s n ≡ Some p
+      → (1 ≤ p.depth → completion_of (slice_get p.locations.items 0) ≡ None → 1 < p.depth)
+      → late_in states (is_marked (current_location p)) n under frames
+      ≡ (if is_marked (current_location p) then 1 else 0)
+      → ((m : ℕ) (returned : Bool) → nat_eq n m ≡ false → late_in states returned m under frames ≡ 0)
+      → UseStep states s past actor under (Walk n)
+      (leaves (with_packet s n (moved_up (left_location p))) frames (Touches n ∷ Leaves n ∷ Ups n ∷ []))
+  goes_up_at p frames there more own others =
+      let at : find s.packets n ≡ Some p = found s n (Some p) there in
+      let q : Packet = moved_up (left_location p) in
+      let number : p.number ≡ n = numbered s n p there in
+      let o : Outcome = leaves (with_packet s n q) frames (Touches n ∷ Leaves n ∷ Ups n ∷ []) in
+      let now : find o.shared.packets n ≡ Some q = found_put s n p q at number in
+      split_step states s past actor under (Walk n) o n
+      (becomes_at states s past actor under (Walk n) o n (λ late lately lates.
+      let none : (returned : Bool) → late returned ≡ 0 = lates.walked refl in
+      let even : lately q.pending_returned + late_on states q.pending_returned n under (Walk n)
+      ≡ late q.pending_returned + late_in states q.pending_returned n under frames =
+      lates.even q.pending_returned in
+      let top : late_on states q.pending_returned n under (Walk n) ≡ 0 =
+      late_walk states q.pending_returned n under n in
+      let zero_before : late q.pending_returned ≡ 0 = none q.pending_returned in
+      let carried : lately q.pending_returned ≡ (if is_marked (current_location p) then 1 else 0) =
+      (let same : lately q.pending_returned ≡ late_in states q.pending_returned n under frames =
+      omega arith in
+      same ∙ own) in
+      goes_up (record {
+        p = p;
+        was = at;
+        now = now;
+        used = rw (eq-eqb n n refl) refl;
+        marked = λ u. refl;
+        left = left_current past actor n;
+        sized = refl;
+        more = more;
+        done = h.done p at;
+        none = ap (late_of late) at ∙ none p.pending_returned;
+        carried = ap (late_of lately) now ∙ carried;
+      })))
+      (λ m apart. record {
+        there = found_other s n m p q at number apart;
+        quiet = rw apart refl;
+        late = λ x is.
+            let top : late_on states x.pending_returned m under (Walk n) ≡ 0 =
+            late_walk states x.pending_returned m under n in
+            others m x.pending_returned apart ∙ sym top;
+      })
+
+  -- the mark is carried up at once
+  carries_at : (p : Packet) → packet_of s n ≡ Some p → nat_lt 1 p.depth ≡ true
+      → is_marked (current_location p) ≡ true → UseStep states s past actor under (Walk n)
+      (leaves (with_packet s n (mark_current (moved_up (left_location p)))) (Walk n ∷ [])
+      (Touches n ∷ Leaves n ∷ Ups n ∷ Marks n ∷ []))
+  carries_at p there deep is =
+      let at : find s.packets n ≡ Some p = found s n (Some p) there in
+      let up : Packet = moved_up (left_location p) in
+      let q : Packet = mark_current up in
+      let number : p.number ≡ n = numbered s n p there in
+      let first : List Action = Touches n ∷ Leaves n ∷ Ups n ∷ [] in
+      let middle : List Entry = recorded past actor first in
+      let o : Outcome =
+      leaves (with_packet s n q) (Walk n ∷ []) (Touches n ∷ Leaves n ∷ Ups n ∷ Marks n ∷ []) in
+      let now : find o.shared.packets n ≡ Some q = found_put s n p q at number in
+      split_step states s past actor under (Walk n) o n
+      (λ late lately lates.
+      let none : (returned : Bool) → late returned ≡ 0 = lates.walked refl in
+      inr (record {
+        middle = middle;
+        between = Some up;
+        midway = 1;
+        traced = traced_recorded past actor first;
+        first = record {
+          grows = opened_recorded past actor first;
+          noted = λ v k marked h. noted_recorded past actor first v k marked h;
+          how = goes_up (record {
+            p = p;
+            was = at;
+            now = refl;
+            used = rw (eq-eqb n n refl) refl;
+            marked = λ u. refl;
+            left = left_current past actor n;
+            sized = refl;
+            more = λ some rooted. ltb-true 1 p.depth deep;
+            done = h.done p at;
+            none = ap (late_of late) at ∙ none p.pending_returned;
+            carried = rw is refl;
+          });
+        };
+        second = record {
+          grows = opened_recorded middle actor (Marks n ∷ []);
+          noted = λ v k marked h. noted_recorded middle actor (Marks n ∷ []) v k marked h;
+          how = gets_marked (record {
+            p = up;
+            was = refl;
+            now = now;
+            used = refl;
+            marked = λ u. refl;
+            left = λ u. refl;
+            sized = refl;
+            due = inr (omega arith);
+          });
+        };
+      }))
+      (λ m apart. record {
+        there = found_other s n m p q at number apart;
+        quiet = rw apart refl;
+        late = λ x is.
+            let top : late_on states x.pending_returned m under (Walk n) ≡ 0 =
+            late_walk states x.pending_returned m under n in
+            omega arith;
+      })
+
+  -- at the first location the packet tops out
+  tops_at : (p : Packet) → packet_of s n ≡ Some p → nat_lt 1 p.depth ≡ false
+      → UseStep states s past actor under (Walk n)
+      (record (leaves (without_packet s n) [] (Touches n ∷ Leaves n ∷ TopsOut n ∷ [])) {
+        reply = Topped n p.status p.info;
+      })
+  tops_at p there last =
+      let at : find s.packets n ≡ Some p = found s n (Some p) there in
+      let o : Outcome =
+      record (leaves (without_packet s n) [] (Touches n ∷ Leaves n ∷ TopsOut n ∷ [])) {
+        reply = Topped n p.status p.info;
+      } in
+      split_step states s past actor under (Walk n) o n
+      (becomes_at states s past actor under (Walk n) o n (λ late lately lates.
+      let none : (returned : Bool) → late returned ≡ 0 = lates.walked refl in
+      goes_out (record {
+        p = p;
+        was = at;
+        gone = find_remove 0 s.packets s.issued n h.rises n ∙ rw (eq-eqb n n refl) refl;
+        left = λ u. refl;
+        shallow = ltb-false 1 p.depth last;
+        none = ap (late_of late) at ∙ none p.pending_returned;
+      })))
+      (λ m apart. record {
+        there = find_remove 0 s.packets s.issued n h.rises m ∙ rw apart refl;
+        quiet = rw apart refl;
+        late = λ x is. sym (late_walk states x.pending_returned m under n);
+      })
+
+  walk_late : (returned : Bool) (m : ℕ) → late_in states returned m under (Walk n ∷ []) ≡ 0
+  walk_late returned m =
+      let top : late_on states returned m under (Walk n) ≡ 0 = late_walk states returned m under n
+      in omega arith
+
+  -- a completion routine that begins has still to see whether there is a mark
+  routine_late : (c : Completion) (returned : Bool) (m : ℕ) (b : Bool) → nat_eq n m ≡ b
+      → (state_of states (completes_with set c n)).settled ≡ Open
+      → late_in states returned m under (Walk n ∷ Routine (completes_with set c n) ∷ [])
+      ≡ (if b then if returned then 1 else 0 else 0)
+  routine_late c returned m b same starts =
+      let top : late_on states returned m under (Walk n) ≡ 0 = late_walk states returned m under n in
+      let over : late_on states returned m (Some (Walk n)) (Routine (completes_with set c n))
+      ≡ (if b then if returned then 1 else 0 else 0) = rw (same, starts) refl in
+      omega arith
+
+  pub walk_used : (below : Option Frame) (o : Outcome) → Comes set s t below (Walk n) o
+      → UseStep states s past actor under (Walk n) o
+  walk_used below o (walks_gone m gone) =
+      λ k. apart_at states s past actor under (Walk n) o k
+      (record {
+        there = refl;
+        quiet = refl;
+        late = λ p is. sym (late_walk states p.pending_returned k under n);
+      })
+  walk_used below o (walks_to m p c there routed) =
+      let starts : (state_of states (completes_with set c n)).settled ≡ Open =
+      h.starts p c there routed in
+      goes_up_at p (Walk n ∷ Routine (completes_with set c n) ∷ []) there
+      (λ some rooted. routed_deep p c routed some rooted)
+      (routine_late c (is_marked (current_location p)) n true (eq-eqb n n refl) starts)
+      (λ k returned apart. routine_late c returned k false apart starts)
+  walk_used below o (walks_up m p there unrouted deep unmarked) =
+      goes_up_at p (Walk n ∷ []) there (λ some rooted. ltb-true 1 p.depth deep)
+      (rw unmarked (walk_late false n)) (λ k returned apart. walk_late returned k)
+  walk_used below o (carries_up m p there unrouted deep marked) = carries_at p there deep marked
+  walk_used below o (tops_out m p there unrouted last) = tops_at p there last

@@ -1,0 +1,5 @@
+use Rattle.std.proofs.Common.{refl}
+use Rattle.run_laws.proofs.a_mark_is_shared.Goals as goal
+
+pub returns : goal.returns
+returns c = record { opened = refl; left = refl; returned = refl }
