@@ -1,5 +1,5 @@
--- The packet table: the part of a world that the I/O manager keeps of its packets. Its words are those of
--- the world, on the table alone.
+-- The packet table: the part of a world that the I/O manager keeps of its packets. Its words are
+-- those of the world, on the table alone.
 use Rattle.std.specs.Prelude.{ℕ, ◌+◌, ◌++◌, List, [], ◌∷◌, Option, slice_get, slice_set, remove}
 use Rattle.model.specs.declared.world.Packet.{Packet}
 use Rattle.model.specs.World.{Shared, free_locks, place_of}
@@ -15,7 +15,8 @@ with_table s table = record s { packets = table.packets; issued = table.issued }
 
 -- a shared part with this table, without locks and cells
 abbrev pub shared_of : Table → Shared
-shared_of table = record { packets = table.packets; issued = table.issued; locks = free_locks 0; cells = [] }
+shared_of table =
+    record { packets = table.packets; issued = table.issued; locks = free_locks 0; cells = [] }
 
 -- before the first packet
 abbrev pub no_packets : Table
@@ -27,7 +28,8 @@ live_packet table n = slice_get table.packets (place_of table.packets n)
 
 -- the same with that packet changed, and without it
 abbrev pub with_live : Table → ℕ → Packet → Table
-with_live table n p = record table { packets = slice_set table.packets (place_of table.packets n) p }
+with_live table n p =
+    record table { packets = slice_set table.packets (place_of table.packets n) p }
 
 abbrev pub without_live : Table → ℕ → Table
 without_live table n = record table { packets = remove table.packets (place_of table.packets n) }

@@ -1,11 +1,11 @@
 -- One step of the walk by which the I/O manager completes a packet, on the packet table.
 use Rattle.std.specs.Prelude.{ℕ, [], ◌∷◌, Option, None, Some, nat_lt, if◌then◌else◌}
-use Rattle.model.specs.declared.event.Reply.TheVariants.{Stepped, Topped}
+use Rattle.model.specs.declared.event.Reply.TheVariants.{Topped}
 use Rattle.model.specs.declared.world.Completion.{Completion}
 use Rattle.model.specs.declared.world.Frame.TheVariants.{Routine, Walk as WalkFrame}
 use Rattle.model.specs.declared.world.Packet.{Packet}
 use Rattle.model.specs.Action.{Touches, Leaves, Ups, Marks, TopsOut as TopsOutAction}
-use Rattle.model.specs.Effect.{Outcome, completes_with}
+use Rattle.model.specs.Effect.{Outcome, leaves, completes_with}
 use Rattle.model.specs.Set.{Set}
 use Rattle.model.specs.World.{Shared, current_location, completion_of, left_location, moved_up, carried_up}
 use Rattle.iomgr.specs.declared.walk.WalkStep.{WalkStep}
@@ -19,7 +19,8 @@ pub record Walked : Type 0 where
 
 -- from a packet whose current location was left, and the completion routine that is set there
 abbrev pub walk_up : Table → ℕ → Packet → Walked
-walk_up table n p = record { table = with_live table n (carried_up p); step = Ascends p.pending_returned }
+walk_up table n p =
+    record { table = with_live table n (carried_up p); step = Ascends p.pending_returned }
 
 abbrev pub walk_out : Table → ℕ → Packet → Walked
 walk_out table n p = record { table = without_live table n; step = TopsOut p.status p.info }
@@ -30,35 +31,22 @@ walk_from table n p None = if nat_lt 1 p.depth then walk_up table n p else walk_
 
 abbrev pub walk_packet : Table → ℕ → Option Packet → Walked
 walk_packet table n None = record { table = table; step = Missing }
-walk_packet table n (Some p) = walk_from table n (left_location p) (completion_of (current_location p))
+walk_packet table n (Some p) =
+    walk_from table n (left_location p) (completion_of (current_location p))
 
 abbrev pub walked : Table → ℕ → Walked
 walked table n = walk_packet table n (live_packet table n)
 
 -- what a run makes of it, where the world's shared part has become this
 abbrev pub walk_outcome : Set → Shared → ℕ → WalkStep → Outcome
-walk_outcome set s n Missing = record { shared = s; frames = []; actions = Touches n ∷ []; reply = Stepped; told = None }
+walk_outcome set s n Missing = leaves s [] (Touches n ∷ [])
 walk_outcome set s n (Runs c) =
-    record {
-      shared = s;
-      frames = WalkFrame n ∷ Routine (completes_with set c n) ∷ [];
-      actions = Touches n ∷ Leaves n ∷ Ups n ∷ [];
-      reply = Stepped;
-      told = None;
-    }
+    leaves s (WalkFrame n ∷ Routine (completes_with set c n) ∷ [])
+    (Touches n ∷ Leaves n ∷ Ups n ∷ [])
 walk_outcome set s n (Ascends marked) =
-    record {
-      shared = s;
-      frames = WalkFrame n ∷ [];
-      actions = Touches n ∷ Leaves n ∷ Ups n ∷ (if marked then Marks n ∷ [] else []);
-      reply = Stepped;
-      told = None;
-    }
+    leaves s (WalkFrame n ∷ [])
+    (Touches n ∷ Leaves n ∷ Ups n ∷ (if marked then Marks n ∷ [] else []))
 walk_outcome set s n (TopsOut status info) =
-    record {
-      shared = s;
-      frames = [];
-      actions = Touches n ∷ Leaves n ∷ TopsOutAction n ∷ [];
+    record (leaves s [] (Touches n ∷ Leaves n ∷ TopsOutAction n ∷ [])) {
       reply = Topped n status info;
-      told = None;
     }

@@ -6,6 +6,3 @@ pub mod walk;
 
 pub use packet_table::PacketTable;
 pub use walk::WalkStep;
-
-#[cfg(test)]
-mod tests;

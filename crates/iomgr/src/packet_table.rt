@@ -1,6 +1,7 @@
 //! The table of live packets.
 
 ghost use Rattle.std.specs.Prelude.{◌≡◌, ◌≤◌, ◌<◌, ◌++◌, ◌∷◌, [], IfOk, IsTrue, option_map, length};
+ghost use Rattle.model.specs.declared.limits.TheConstants.{MAX_STACK};
 
 use crate::walk::WalkStep;
 use irp::Packet;
@@ -10,8 +11,8 @@ use model::world::Value;
 use std::alloc::{AllocError, Global};
 use std::marker::Model;
 
-/// The live packets in the order of their issue, with room for all that may live at once, and how many
-/// were ever issued. They are searched by number.
+/// The live packets in the order of their issue, with room for all that may live at once, and how
+/// many were ever issued. They are searched by number.
 #[derive(Drop)]
 pub struct PacketTable {
     live: Vec<Packet>,
@@ -20,13 +21,14 @@ pub struct PacketTable {
 
 impl Model for PacketTable {
     ghost use Rattle.std.specs.Prelude.{◌≤◌, vec_capacity};
+    ghost use Rattle.model.specs.declared.limits.TheConstants.{MAX_LIVE_PACKETS};
     ghost use Rattle.iomgr.specs.Table.{Table};
 
     ghost Value = { Table };
 
     ghost view = { λ t. record { packets = t.live.items; issued = t.issued_count } };
 
-    ghost invariant = { λ t. 1024 ≤ vec_capacity t.live };
+    ghost invariant = { λ t. MAX_LIVE_PACKETS ≤ vec_capacity t.live };
 }
 
 impl PacketTable {
@@ -38,8 +40,8 @@ impl PacketTable {
     ghost use Rattle.iomgr.specs.Walk.{walked, walk_outcome};
     ghost use Rattle.iomgr.specs.Lending.{LendsPacket};
 
-    /// No packets. An error where memory for all that may live at once is refused; no other call needs
-    /// any.
+    /// No packets. An error where memory for all that may live at once is refused; no other call
+    /// needs any.
     pub fn new(alloc: Global) -> Result<PacketTable, AllocError>
         ensures { IfOk result (λ table. table ≡ no_packets) }
     {
@@ -66,9 +68,10 @@ impl PacketTable {
     /// Issues a packet to a device of this stack size, 1 to 16, and answers its number.
     pub fn issue(&mut self, device: u8, major: Major, argument: u64, stack: u8) -> u64
         requires room { IsTrue (can_issue (shared_of self.old)) }
-        requires stack { stack ≤ 16 }
+        requires stack { stack ≤ MAX_STACK }
         ensures number { result ≡ self.old.issued }
-        ensures added { self.new ≡ with_issued self.old (new_packet self.old.issued device major argument stack) }
+        ensures added { let packet = new_packet self.old.issued device major argument stack in
+            self.new ≡ with_issued self.old packet }
     {
         let number = self.issued_count;
         let pushed = self
@@ -121,7 +124,9 @@ impl PacketTable {
     /// One step of the walk that completes the packet of a number.
     pub fn walk(&mut self, n: u64) -> WalkStep
         ensures walked { record { table = self.new; step = result } ≡ walked self.old n }
-        ensures outcome { (set : Set) (s : Shared) → walk_outcome set (with_table s self.new) n result ≡ walk_packet set (with_table s self.old) n (packet_of (with_table s self.old) n) }
+        ensures outcome { (set : Set) (s : Shared)
+            → walk_outcome set (with_table s self.new) n result
+            ≡ walk_packet set (with_table s self.old) n (packet_of (with_table s self.old) n) }
     {
         let place = self.place(n);
         let Some(packet) = self.live.get(place) else {

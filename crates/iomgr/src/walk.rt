@@ -3,12 +3,14 @@
 use model::status::Status;
 use model::world::Completion;
 
-/// What a step of the walk did. Unless the packet wasn't live, completion has left its current location.
-#[derive(Clone, Copy, Debug, PartialEq, Eq)]
+/// What a step of the walk did. Unless the packet wasn't live, completion has left its current
+/// location.
+#[derive(Clone, Copy)]
 pub enum WalkStep {
     /// Nothing: the packet isn't live.
     Missing,
-    /// The location above is current, and the completion routine has to run for the device that set it.
+    /// The location above is current, and the completion routine has to run for the device that set
+    /// it.
     Runs(Completion),
     /// The location above is current, and is marked where the one that was left was.
     Ascends { marked: bool },

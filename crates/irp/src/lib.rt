@@ -1,5 +1,5 @@
-//! I/O request packets: their stack locations, and the calls by which drivers and the I/O manager change
-//! them.
+//! I/O request packets: their stack locations, and the calls by which drivers and the I/O manager
+//! change them.
 #![tactic(auto)]
 
 mod control;
@@ -7,6 +7,3 @@ mod location;
 pub mod packet;
 
 pub use packet::Packet;
-
-#[cfg(test)]
-mod tests;

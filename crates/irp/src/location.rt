@@ -28,7 +28,14 @@ impl Model for Location {
 
     ghost Value = { Location };
 
-    ghost view = { λ l. record { major = l.major; argument = l.argument; device = l.device; marked = bit_and l.control.0 1 == 1; completion = l.completion } };
+    ghost view = { λ l. record {
+      major = l.major;
+      argument = l.argument;
+      device = l.device;
+      marked =
+          bit_and l.control.0 1 == 1;
+      completion = l.completion;
+    } };
 }
 
 impl Location {

@@ -1,11 +1,13 @@
 //! A live packet, and the calls that change it.
 
 ghost use Rattle.std.specs.Prelude.{◌≡◌, ◌≤◌, ◌<◌, ◌-◌, ◌∷◌, length, nat_lt, option_map, replicate};
+ghost use Rattle.model.specs.declared.limits.TheConstants.{MAX_STACK};
 ghost use Rattle.model.specs.World.{unused_location};
 
 use crate::location::Location;
 use arrayvec::ArrayVec;
 use model::instr::Field;
+use model::limits::MAX_STACK;
 use model::status::{Major, Status};
 use model::world::Completion;
 use std::marker::Model;
@@ -16,7 +18,7 @@ pub struct Packet {
     number: u64,
     depth: u8,
     /// All its locations, that of the top driver first.
-    stack: ArrayVec<Location, 16>,
+    stack: ArrayVec<Location, MAX_STACK>,
     status: Status,
     info: u64,
     completing: bool,
@@ -24,16 +26,30 @@ pub struct Packet {
 }
 
 impl Model for Packet {
+    ghost use Rattle.std.specs.Prelude.{◌≤◌, length};
+    ghost use Rattle.model.specs.declared.limits.TheConstants.{MAX_STACK};
     ghost use Rattle.model.specs.declared.world.Packet.{Packet};
 
     ghost Value = { Packet };
 
-    ghost view = { λ p. record { number = p.number; depth = p.depth; locations = record { items = p.stack.items }; status = p.status; info = p.info; completing = p.completing; pending_returned = p.pending_returned } };
+    ghost view = { λ p. record {
+      number = p.number;
+      depth = p.depth;
+      locations =
+          record { items = p.stack.items };
+      status = p.status;
+      info = p.info;
+      completing =
+          p.completing;
+      pending_returned = p.pending_returned;
+    } };
+
+    ghost invariant = { λ p. length p.stack.items ≤ MAX_STACK };
 }
 
 /// The stack locations of a packet: the first one as given, and the others unused.
-fn stack_of(size: u8, first: Location) -> ArrayVec<Location, 16>
-    requires { size ≤ 16 }
+fn stack_of(size: u8, first: Location) -> ArrayVec<Location, MAX_STACK>
+    requires { size ≤ MAX_STACK }
     ensures { result.items ≡ first ∷ replicate (size - 1) unused_location }
 {
     let mut stack = ArrayVec::new();
@@ -47,10 +63,10 @@ fn stack_of(size: u8, first: Location) -> ArrayVec<Location, 16>
 impl Packet {
     ghost use Rattle.model.specs.World.{new_packet, sent_down, shared_with, moved_up, carried_up, mark_current, left_location, completed, with_info, field_of, current_location, completion_of, asked_of, is_marked};
 
-    /// A new packet for a device of this stack size, 1 to 16: the first location asks the device, and is
-    /// current.
+    /// A new packet for a device of this stack size, 1 to 16: the first location asks the device,
+    /// and is current.
     pub fn new(number: u64, device: u8, major: Major, argument: u64, stack: u8) -> Packet
-        requires { stack ≤ 16 }
+        requires { stack ≤ MAX_STACK }
         ensures { result ≡ new_packet number device major argument stack }
     {
         Packet {
@@ -81,7 +97,7 @@ impl Packet {
     /// How many locations it has.
     pub fn stack_size(&self) -> usize
         ensures size { result ≡ length self.now.locations.items }
-        ensures fits { result ≤ 16 }
+        ensures fits { result ≤ MAX_STACK }
     {
         self.stack.len()
     }
@@ -189,8 +205,8 @@ impl Packet {
         }
     }
 
-    /// IoCopyCurrentIrpStackLocationToNext, IoSetCompletionRoutine and IoCallDriver: the lower device is
-    /// asked the same in the next location, which becomes current.
+    /// IoCopyCurrentIrpStackLocationToNext, IoSetCompletionRoutine and IoCallDriver: the lower
+    /// device is asked the same in the next location, which becomes current.
     pub fn down(&mut self, device: u8, completion: Option<Completion>)
         requires { self.old.depth < length self.old.locations.items }
         ensures { self.new ≡ sent_down self.old device completion }
@@ -199,16 +215,14 @@ impl Packet {
             Some(location) => location.copied_to(device, completion),
             None => Location::unasked(device, completion),
         };
-        let below = self.depth;
-        // It is at most 16, so the depth can't overflow.
-        let _size = self.stack.len();
-        self.depth += 1;
-        if let Some(location) = self.stack.get_mut(below as usize) {
+        if let Some(location) = self.stack.get_mut(self.depth as usize) {
             *location = copied;
+            self.depth += 1;
         }
     }
 
-    /// IoSkipCurrentIrpStackLocation and IoCallDriver: the lower device is asked in the current location.
+    /// IoSkipCurrentIrpStackLocation and IoCallDriver: the lower device is asked in the current
+    /// location.
     pub fn share(&mut self, device: u8)
         ensures { self.new ≡ shared_with self.old device }
     {

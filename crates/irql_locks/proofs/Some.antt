@@ -25,7 +25,8 @@ pub owned_its : (t : ℕ) (o : Option (Option ℕ)) → is_owned_by t o ≡ true
 owned_its t None h = cc
 owned_its t (Some owner) h = ap (λ (x : Option ℕ). Some x) (owner_its t owner h)
 
-pub owned_as : (locks : Locks) (t : ℕ) (lock : Lock) → IsTrue (owns locks t lock) ↔ (owner_of locks lock ≡ Some (Some t))
+pub owned_as : (locks : Locks) (t : ℕ) (lock : Lock)
+    → IsTrue (owns locks t lock) ↔ (owner_of locks lock ≡ Some (Some t))
 owned_as locks t lock = (owned_its t (owner_of locks lock), λ h. rw h (its_owner t))
 
 -- an element that passes a test, and where it stands
@@ -44,9 +45,11 @@ or_right true b h = refl
 or_right false b h = h
 
 module _ {A : Type 0} (test : A → Bool) where
-  any_at : (xs : List A) (i : ℕ) (x : A) → slice_get xs i ≡ Some x → test x ≡ true → list_any test xs ≡ true
+  any_at : (xs : List A) (i : ℕ) (x : A) → slice_get xs i ≡ Some x → test x ≡ true
+      → list_any test xs ≡ true
   any_at [] i x h p = cc
-  any_at (y ∷ xs) zero x h p = let same : y ≡ x = cc in or_left (test y) (list_any test xs) (rw same p)
+  any_at (y ∷ xs) zero x h p = let same : y ≡ x =
+      cc in or_left (test y) (list_any test xs) (rw same p)
   any_at (y ∷ xs) (suc i) x h p = or_right (test y) (list_any test xs) (any_at xs i x h p)
 
   passes_here : (y : A) (xs : List A) (b : Bool) → test y ≡ b → (b || list_any test xs) ≡ true →
@@ -54,7 +57,13 @@ module _ {A : Type 0} (test : A → Bool) where
   passes_here y xs true p h more = record { place = 0; element = y; there = refl; passes = p }
   passes_here y xs false p h more =
       let rest : Passes test xs = more h in
-      record { place = suc rest.place; element = rest.element; there = rest.there; passes = rest.passes }
+      record {
+        place = suc rest.place;
+        element = rest.element;
+        there = rest.there;
+        passes =
+            rest.passes;
+      }
 
   pub passes_any : (xs : List A) → list_any test xs ≡ true → Passes test xs
   passes_any [] h = cc
@@ -67,14 +76,17 @@ owns_place owners t i None there h = cc
 owns_place owners t i (Some owner) there h = any_at (is_owner t) owners i owner there h
 
 owns_spin : (spin : List (List (Option ℕ))) (t : ℕ) (l : OfDevice) (e : Option (List (Option ℕ))) →
-    slice_get spin l.device ≡ e → is_owned_by t (option_and_then (λ os. slice_get os l.number) e) ≡ true →
+    slice_get spin l.device ≡ e → is_owned_by t (option_and_then (λ os. slice_get os l.number) e)
+    ≡ true →
     list_any (owns_one t) spin ≡ true
 owns_spin spin t l None there h = cc
 owns_spin spin t l (Some owners) there h =
-    any_at (owns_one t) spin l.device owners there (owns_place owners t l.number (slice_get owners l.number) refl h)
+    any_at (owns_one t) spin l.device owners there
+    (owns_place owners t l.number (slice_get owners l.number) refl h)
 
 pub any_owns : (locks : Locks) (t : ℕ) (l : Lock) → owns locks t l ≡ true → owns_any locks t ≡ true
-any_owns locks t SystemCancel h = or_right (list_any (owns_one t) locks.spin) (is_owner t locks.system_cancel) h
+any_owns locks t SystemCancel h =
+    or_right (list_any (owns_one t) locks.spin) (is_owner t locks.system_cancel) h
 any_owns locks t (Spin l) h =
     or_left (list_any (owns_one t) locks.spin) (is_owner t locks.system_cancel)
     (owns_spin locks.spin t l (slice_get locks.spin l.device) refl h)
@@ -87,7 +99,8 @@ pub record One (locks : Locks) (t : ℕ) : Type 0 where
 one_spin : (locks : Locks) (t : ℕ) → list_any (owns_one t) locks.spin ≡ true → One locks t
 one_spin locks t h =
     let device : Passes (owns_one t) locks.spin = passes_any (owns_one t) locks.spin h in
-    let lock : Passes (is_owner t) device.element = passes_any (is_owner t) device.element device.passes in
+    let lock : Passes (is_owner t) device.element =
+    passes_any (is_owner t) device.element device.passes in
     record {
       lock = Spin (record { device = device.place; number = lock.place });
       its = rw (device.there, lock.there) lock.passes;
@@ -110,5 +123,6 @@ some_owned locks t h =
 any_of_some : (locks : Locks) (t : ℕ) → OwnsSome locks t → owns_any locks t ≡ true
 any_of_some locks t some = any_owns locks t some.0 (rw some.1 (its_owner t))
 
-pub owns_some : (locks : Locks) (t : ℕ) (b : Bool) → b ≡ owns_any locks t → IsTrue b ↔ OwnsSome locks t
+pub owns_some : (locks : Locks) (t : ℕ) (b : Bool) → b ≡ owns_any locks t
+    → IsTrue b ↔ OwnsSome locks t
 owns_some locks t b same = rw same (some_owned locks t, any_of_some locks t)

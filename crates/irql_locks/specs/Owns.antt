@@ -28,8 +28,9 @@ owns_one t owners = list_any (is_owner t) owners
 abbrev pub owns_any : Locks → ℕ → Bool
 owns_any locks t = list_any (owns_one t) locks.spin || is_owner t locks.system_cancel
 
--- what the tests tell of the owners: a thread owns a lock exactly if it is its owner, and any lock exactly if there
--- is one that it owns
+-- what the tests tell of the owners: a thread owns a lock exactly if it is its owner, and any lock
+-- exactly if there is one that it owns
 pub record OwningTells : Type 0 where
-  pub lock : (locks : Locks) (t : ℕ) (lock : Lock) → IsTrue (owns locks t lock) ↔ (owner_of locks lock ≡ Some (Some t))
+  pub lock : (locks : Locks) (t : ℕ) (lock : Lock)
+      → IsTrue (owns locks t lock) ↔ (owner_of locks lock ≡ Some (Some t))
   pub any : (locks : Locks) (t : ℕ) → IsTrue (owns_any locks t) ↔ OwnsSome locks t

@@ -7,8 +7,8 @@ pub mod lock_table;
 
 pub use lock_table::LockTable;
 
-/// A law of the tests of owners: a thread owns a lock exactly if it is its owner, and any lock exactly if there
-/// is one that it owns.
+/// A law of the tests of owners: a thread owns a lock exactly if it is its owner, and any lock
+/// exactly if there is one that it owns.
 pub fn owning_tells()
     ensures { OwningTells }
 {}

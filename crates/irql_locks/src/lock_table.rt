@@ -6,20 +6,16 @@ ghost use Rattle.irql_locks.specs.Owns.{is_owner, owns_one};
 
 use model::event::Lock;
 use model::limits::SPIN_LOCKS;
+use model::world::Irql;
 use std::alloc::{AllocError, Global};
 use std::marker::Model;
 
-/// PASSIVE_LEVEL, at which a routine begins.
-pub const PASSIVE_LEVEL: u8 = 0;
-/// DISPATCH_LEVEL, at which a thread runs while it owns a lock.
-pub const DISPATCH_LEVEL: u8 = 2;
-
-/// The owner of each lock, by the thread's number: of the system cancel spin lock, and by device of its
-/// eight spin locks. A lock without an owner is free.
+/// The owner of each lock, by the thread's number: of the system cancel spin lock, and by device of
+/// its eight spin locks. A lock without an owner is free.
 #[derive(Drop)]
 pub struct LockTable {
     system_cancel: Option<u8>,
-    spin: Vec<[Option<u8>; 8]>,
+    spin: Vec<[Option<u8>; SPIN_LOCKS]>,
 }
 
 impl Model for LockTable {
@@ -38,21 +34,25 @@ fn is_owner(thread: u8, owner: Option<u8>) -> bool
 }
 
 /// Whether the thread owns one of a device's locks.
-fn owns_one(thread: u8, owners: &[Option<u8>; 8]) -> bool
+fn owns_one(thread: u8, owners: &[Option<u8>; SPIN_LOCKS]) -> bool
     ensures { result ≡ owns_one thread owners.now }
 {
     owners.iter().any(|owner| is_owner(thread, *owner))
 }
 
 /// Whether the thread owns a spin lock of a device.
-fn owns_spin(thread: u8, spin: &[[Option<u8>; 8]]) -> bool
+fn owns_spin(thread: u8, spin: &[[Option<u8>; SPIN_LOCKS]]) -> bool
     ensures { result ≡ list_any (owns_one thread) spin.now }
 {
     spin.iter().any(|owners| owns_one(thread, owners))
 }
 
 /// The same owners, but for one.
-fn replaced(mut owners: [Option<u8>; 8], number: usize, owner: Option<u8>) -> [Option<u8>; 8]
+fn replaced(
+    mut owners: [Option<u8>; SPIN_LOCKS],
+    number: usize,
+    owner: Option<u8>,
+) -> [Option<u8>; SPIN_LOCKS]
     ensures { result ≡ slice_set owners number owner }
 {
     if number < SPIN_LOCKS {
@@ -106,8 +106,8 @@ impl LockTable {
         }
     }
 
-    /// Makes the thread the owner of a lock that is free. It answers false, and nothing has changed,
-    /// exactly where another thread owns the lock.
+    /// Makes the thread the owner of a lock that is free. It answers false, and nothing has
+    /// changed, exactly where another thread owns the lock.
     pub fn acquire(&mut self, lock: Lock, thread: u8) -> bool
         requires there { IsSome (owner_of self.old lock) }
         requires once { owner_of self.old lock ≢ Some (Some thread) }
@@ -137,12 +137,12 @@ impl LockTable {
         owns_spin(thread, self.spin.as_slice()) || is_owner(thread, self.system_cancel)
     }
 
-    /// The level of a thread whose root has a level: DISPATCH_LEVEL while it owns a lock.
-    pub fn level(&self, thread: u8, root: u8) -> u8
-        ensures { result ≡ (if owns_any self.now thread then 2 else root) }
+    /// The level of a thread whose lowest frame has a level: DISPATCH_LEVEL while it owns a lock.
+    pub fn level(&self, thread: u8, root: Irql) -> Irql
+        ensures { result ≡ (if owns_any self.now thread then Irql.Dispatch else root) }
     {
         if self.owns_any(thread) {
-            DISPATCH_LEVEL
+            Irql::Dispatch
         } else {
             root
         }
