@@ -16,6 +16,7 @@ use Rattle.model.specs.declared.set.Sort.{Sort}
 use Rattle.model.specs.declared.set.Sort.TheVariants.{Dispatch, Propagate}
 use Rattle.model.specs.declared.instr.Instr.{Instr}
 use Rattle.model.specs.declared.instr.Instr.TheVariants.{JumpIfZero, JumpIfLess, Jump, IfPending, Call}
+use Rattle.model.specs.declared.limits.TheConstants.{MAX_DEVICES, MAX_DRIVERS, MAX_INSTRUCTIONS, MAX_ROUTINES, MAX_STACK}
 use Rattle.asm.specs.declared.draft.Place.{Place}
 use Rattle.asm.specs.declared.draft.Place.TheVariants.{Outside, InDriver, InRoutine}
 use Rattle.asm.specs.declared.draft.ClosedRoutine.{ClosedRoutine}
@@ -26,14 +27,17 @@ use Rattle.asm.specs.declared.fault.AsmKind.TheVariants.{UnknownWord, DuplicateN
 use Rattle.asm_line.specs.declared.line.Body.{Body}
 use Rattle.asm_line.specs.declared.line.Body.TheVariants.{Blank, OpenDriver, CloseDriver, Handle, OpenRoutine, CloseRoutine, AddDevice, Step as TakeStep}
 use Rattle.asm_line.specs.declared.line.Line.{Line}
-use Rattle.asm_line.specs.declared.line.Target.{Target}
+use Rattle.asm_line.specs.declared.line.UsedNames.{UsedNames}
+use Rattle.asm_line.specs.Line.{BodyFits}
 use Rattle.asm.specs.declared.routines.Role.{Role}
 use Rattle.asm.specs.declared.routines.Role.TheVariants.{Handler, Completion}
-use Rattle.asm.specs.Outline.{Outline, with_label, with_routine, label_added, label_used, call_place, resolved, target_position, used_at, nothing_read, misfit, stands, is_again, is_among, is_out_of_range, is_stack_size, has_room, noted, number_of, number_used, number_for, routine_named, routine_called, handler_in, called, finished, finished_driver, missed, missed_from, missed_routine, earliest, driver_opened, driver_closed, handled, routine_opened, routine_closed, open_drivers, open_routines, open_sort, device_added, stepped, BodyFits, ClosedFits, DevicesKnown, IsFitting, IsOrderly}
+use Rattle.asm.specs.Outline.{Outline, with_label, with_routine, label_added, call_place, resolved, target_position, used_at, nothing_read, misfit, stands, is_again, is_among, is_out_of_range, is_stack_size, has_room, noted, number_of, number_used, number_for, routine_named, routine_called, handler_in, called, finished, finished_driver, missed, missed_from, missed_routine, earliest, driver_opened, driver_closed, handled, routine_opened, routine_closed, open_drivers, open_routines, open_sort, device_added, stepped, ClosedFits, DevicesKnown, IsFitting, IsOrderly}
 
 -- no kind is chosen only where each test passes
 none_chosen : (a b c d : Bool)
-    → (if not a then Some UnknownWord else (if b then Some DuplicateName else (if c then Some OutOfRange else (if not d then Some OverLimit else None)))) ≡ None
+    → (if not a then Some UnknownWord
+    else (if b then Some DuplicateName
+    else (if c then Some OutOfRange else (if not d then Some OverLimit else None)))) ≡ None
     → (a ≡ true) × (b ≡ false) × (c ≡ false) × (d ≡ true)
 none_chosen false b c d h = cc
 none_chosen true true c d h = cc
@@ -43,11 +47,13 @@ none_chosen true false false true h = (refl, refl, refl, refl)
 
 pub fitting : (o : Outline) (l : Line) → misfit o l ≡ None → IsFitting o l
 fitting o l h =
-    let all = none_chosen (stands o.place l.body) (is_again o l.label l.body) (is_out_of_range l.body) (has_room o l.body) h in
+    let all = none_chosen (stands o.place l.body) (is_again o l.label l.body)
+    (is_out_of_range l.body) (has_room o l.body) h in
     record { standing = all.0; fresh = all.1; in_range = all.2; room = all.3 }
 
 -- a number that a name has is below the count of names
-number_below : (names : List (List ℕ)) (name : List ℕ) → IfSome (number_of names name) (λ n. n < length names)
+number_below : (names : List (List ℕ)) (name : List ℕ)
+    → IfSome (number_of names name) (λ n. n < length names)
 number_below names name = below (position (bytes_eq name) names) refl
   where
     below : (o : Option ℕ) → position (bytes_eq name) names ≡ o → IfSome o (λ n. n < length names)
@@ -58,7 +64,8 @@ number_below names name = below (position (bytes_eq name) names) refl
 abbrev sort_at : ClosedRoutine → Sort
 sort_at routine = routine.sort
 
-map_push : {A B : Type 0} (f : A → B) (xs : List A) (x : A) → map f (xs ++ x ∷ []) ≡ map f xs ++ f x ∷ []
+map_push : {A B : Type 0} (f : A → B) (xs : List A) (x : A)
+    → map f (xs ++ x ∷ []) ≡ map f xs ++ f x ∷ []
 map_push f [] x = refl
 map_push f (y ∷ ys) x = ap (λ rest. f y ∷ rest) (map_push f ys x)
 
@@ -66,19 +73,30 @@ length_one_more : {A : Type 0} (xs : List A) (x : A) → length (xs ++ x ∷ [])
 length_one_more xs x = length-append xs (x ∷ [])
 
 -- a device of an old driver is one still when there are more drivers
-devices_stay : (m n number : ℕ) (devices : List Device) → m ≤ n → DevicesFit m number devices → DevicesFit n number devices
+devices_stay : (m n number : ℕ) (devices : List Device) → m ≤ n → DevicesFit m number devices
+    → DevicesFit n number devices
 devices_stay m n number [] more fit = tt
 devices_stay m n number (d ∷ ds) more fit =
-    let one : DeviceFits m number d = fit.0 in
-    (record { driver = omega (arith, one.driver, more); low = one.low; high = one.high; lower = one.lower }, devices_stay m n (suc number) ds more fit.1)
+    let one : DeviceFits m number d = fit.0 in (
+      record {
+        driver = omega (arith, one.driver, more);
+        low = one.low;
+        high = one.high;
+        lower = one.lower;
+      },
+      devices_stay m n (suc number) ds more fit.1,
+    )
 
 -- a device more
-devices_push : (drivers number count : ℕ) (devices : List Device) (d : Device) → count ≡ number + length devices → DevicesFit drivers number devices → DeviceFits drivers count d
+devices_push : (drivers number count : ℕ) (devices : List Device) (d : Device)
+    → count ≡ number + length devices → DevicesFit drivers number devices
+    → DeviceFits drivers count d
     → DevicesFit drivers number (devices ++ d ∷ [])
 devices_push drivers number count [] d is fit one =
     let same : count ≡ number = omega (arith, is) in
     (subst (λ (k : ℕ). DeviceFits drivers k d) same one, tt)
-devices_push drivers number count (e ∷ es) d is fit one = (fit.0, devices_push drivers (suc number) count es d (omega (arith, is)) fit.1 one)
+devices_push drivers number count (e ∷ es) d is fit one =
+    (fit.0, devices_push drivers (suc number) count es d (omega (arith, is)) fit.1 one)
 
 -- where the earliest of two lines isn't there, neither is
 neither : (a b : Option ℕ) → earliest a b ≡ None → (a ≡ None) × (b ≡ None)
@@ -86,36 +104,45 @@ neither None b h = (refl, h)
 neither (Some a) None h = cc
 neither (Some a) (Some b) h = cc
 
-none_before : (labels : List (List ℕ)) (found : Option ℕ) (steps : List Step) → missed_from labels found steps ≡ None → found ≡ None
+none_before : (labels : List (List ℕ)) (found : Option ℕ) (steps : List Step)
+    → missed_from labels found steps ≡ None → found ≡ None
 none_before labels found [] h = h
-none_before labels found (s ∷ ss) h = (neither found (missed labels s.label) (none_before labels (earliest found (missed labels s.label)) ss h)).0
+none_before labels found (s ∷ ss) h =
+    (neither found (missed labels s.label)
+    (none_before labels (earliest found (missed labels s.label)) ss h)).0
 
 option_length : {A : Type 0} (x : Option A) → length (option_to_list x) ≤ 1
 option_length None = omega arith
 option_length (Some x) = omega arith
 
 -- a line's place tells what is open there
-outside : (p : Place) (name : List ℕ) (sort : Sort) → stands p (OpenDriver name) ≡ true → (open_drivers p ≡ 0) × (open_routines p ≡ 0) × (open_sort p sort ≡ [])
+outside : (p : Place) (name : List ℕ) (sort : Sort) → stands p (OpenDriver name) ≡ true
+    → (open_drivers p ≡ 0) × (open_routines p ≡ 0) × (open_sort p sort ≡ [])
 outside Outside name sort h = (refl, refl, refl)
 outside InDriver name sort h = cc
 outside InRoutine name sort h = cc
 
-closing_driver : (p : Place) (sort : Sort) → stands p CloseDriver ≡ true → (open_drivers p ≡ 1) × (open_routines p ≡ 0) × (open_sort p sort ≡ [])
+closing_driver : (p : Place) (sort : Sort) → stands p CloseDriver ≡ true → (open_drivers p ≡ 1)
+    × (open_routines p ≡ 0) × (open_sort p sort ≡ [])
 closing_driver Outside sort h = cc
 closing_driver InDriver sort h = (refl, refl, refl)
 closing_driver InRoutine sort h = cc
 
-opening_routine : (p : Place) (name : List ℕ) (sort old : Sort) → stands p (OpenRoutine name sort) ≡ true → (open_drivers p ≡ 1) × (open_routines p ≡ 0) × (open_sort p old ≡ [])
+opening_routine : (p : Place) (name : List ℕ) (sort old : Sort)
+    → stands p (OpenRoutine name sort) ≡ true → (open_drivers p ≡ 1) × (open_routines p ≡ 0)
+    × (open_sort p old ≡ [])
 opening_routine Outside name sort old h = cc
 opening_routine InDriver name sort old h = (refl, refl, refl)
 opening_routine InRoutine name sort old h = cc
 
-closing_routine : (p : Place) (sort : Sort) → stands p CloseRoutine ≡ true → (open_drivers p ≡ 1) × (open_routines p ≡ 1) × (open_sort p sort ≡ sort ∷ [])
+closing_routine : (p : Place) (sort : Sort) → stands p CloseRoutine ≡ true → (open_drivers p ≡ 1)
+    × (open_routines p ≡ 1) × (open_sort p sort ≡ sort ∷ [])
 closing_routine Outside sort h = cc
 closing_routine InDriver sort h = cc
 closing_routine InRoutine sort h = (refl, refl, refl)
 
-driver_opened_orderly : (o : Outline) (name : List ℕ) → stands o.place (OpenDriver name) ≡ true → length o.driver_names < 8 → IsOrderly o → IsOrderly (driver_opened o name)
+driver_opened_orderly : (o : Outline) (name : List ℕ) → stands o.place (OpenDriver name) ≡ true
+    → length o.driver_names < MAX_DRIVERS → IsOrderly o → IsOrderly (driver_opened o name)
 driver_opened_orderly o name place room h =
     let p = outside o.place name o.sort place in
     let more = length_one_more o.driver_names name in
@@ -129,26 +156,34 @@ driver_opened_orderly o name place room h =
       operands_fit = h.operands_fit;
       driver_count = omega (arith, more, h.driver_count, p.0);
       routine_count = omega (arith, h.routine_count, p.1);
-      sorts_known = ap (λ (opened : List Sort). map sort_at o.routines ++ opened) (sym none) ∙ h.sorts_known;
+      sorts_known = ap (λ (opened : List Sort). map sort_at o.routines ++ opened) (sym none)
+          ∙ h.sorts_known;
       drivers_fit = h.drivers_fit;
       devices_known = λ known.
           let devices = h.devices_known known in
-          record { count = devices.count; fit = devices_stay (length o.driver_names) (length (o.driver_names ++ name ∷ [])) 0 o.devices (omega (arith, more)) devices.fit };
+          record {
+            count = devices.count;
+            fit =
+                devices_stay (length o.driver_names) (length (o.driver_names ++ name ∷ [])) 0
+                o.devices (omega (arith, more)) devices.fit;
+          };
       routines_fit = h.routines_fit;
     }
 
 -- a label is one still when the routine of a call is known
-labelled_still : (count : ℕ) (i : Instr) (f : Option ℕ) → LabelFits count i → LabelFits count (with_routine i f)
+labelled_still : (count : ℕ) (i : Instr) (f : Option ℕ) → LabelFits count i
+    → LabelFits count (with_routine i f)
 labelled_still count (Call r old) f h = tt
 labelled_still count _ f h = h
 
 -- the operands of an instruction fit still when the routine of a call is known
 operands_still : (i : Instr) (f : Option ℕ) → OperandFits i → OperandFits (with_routine i f)
-operands_still (Call r old) f h = tt
+operands_still (Call r old) f h = h
 operands_still _ f h = h
 
 -- so a closed routine fits when its driver is finished
-finished_fits : (o : Outline) (routine : ClosedRoutine) → ClosedFits routine → RoutineFits (finished o routine)
+finished_fits : (o : Outline) (routine : ClosedRoutine) → ClosedFits routine
+    → RoutineFits (finished o routine)
 finished_fits o routine h =
     let same = length-map routine.code (called o) in
     let count = length (map (called o) routine.code) in
@@ -156,81 +191,104 @@ finished_fits o routine h =
       few = omega (arith, same, h.few);
       labels = All-map (LabelFits count) (called o) routine.code (λ i d inside.
           let step = get_or routine.code i d in
-          labelled_still count step.instr (routine_called o step.call) (subst (λ (k : ℕ). LabelFits k step.instr) (sym same) (h.labels i d inside)));
+          labelled_still count step.instr (routine_called o step.call)
+          (subst (λ (k : ℕ). LabelFits k step.instr) (sym same) (h.labels i d inside)));
       operands = All-map OperandFits (called o) routine.code (λ i d inside.
           let step = get_or routine.code i d in
           operands_still step.instr (routine_called o step.call) (h.operands i d inside));
     }
 
 -- a routine's sort stays when its driver is finished
-sort_stays : (P : Sort → Type 0) (o : Outline) (sort : Sort) (routine : Option ClosedRoutine) → option_map sort_at routine ≡ Some sort → P sort → HasSort P (option_map (finished o) routine)
+sort_stays : (P : Sort → Type 0) (o : Outline) (sort : Sort) (routine : Option ClosedRoutine)
+    → option_map sort_at routine ≡ Some sort → P sort → HasSort P (option_map (finished o) routine)
 sort_stays P o sort None is h = cc
 sort_stays P o sort (Some routine) is h = let same : sort ≡ routine.sort = cc in subst P same h
 
-sort_kept : (P : Sort → Type 0) (o : Outline) (number : ℕ) (sort : Sort) → map sort_at o.routines ≡ o.sorts → slice_get o.sorts number ≡ Some sort → P sort
+sort_kept : (P : Sort → Type 0) (o : Outline) (number : ℕ) (sort : Sort)
+    → map sort_at o.routines ≡ o.sorts → slice_get o.sorts number ≡ Some sort → P sort
     → HasSort P (slice_get (map (finished o) o.routines) number)
 sort_kept P o number sort sorts is h =
     let here : option_map sort_at (slice_get o.routines number) ≡ Some sort =
-    sym (slice_get-map sort_at o.routines number) ∙ ap (λ (all : List Sort). slice_get all number) sorts ∙ is in
-    subst (HasSort P) (sym (slice_get-map (finished o) o.routines number)) (sort_stays P o sort (slice_get o.routines number) here h)
+    sym (slice_get-map sort_at o.routines number)
+    ∙ ap (λ (all : List Sort). slice_get all number) sorts ∙ is in
+    subst (HasSort P) (sym (slice_get-map (finished o) o.routines number))
+    (sort_stays P o sort (slice_get o.routines number) here h)
 
 -- a number that is given for a role is that of a routine of a sort for it
 abbrev SortFor : Role → Sort → Type 0
 SortFor Handler sort = IsDispatch sort
 SortFor Completion sort = IsCompletion sort
 
-number_has_sort : (o : Outline) (role : Role) (number : ℕ) (sort : Option Sort) → map sort_at o.routines ≡ o.sorts → slice_get o.sorts number ≡ sort
-    → IfSome (number_for role number sort) (λ n. HasSort (SortFor role) (slice_get (map (finished o) o.routines) n))
+number_has_sort : (o : Outline) (role : Role) (number : ℕ) (sort : Option Sort)
+    → map sort_at o.routines ≡ o.sorts → slice_get o.sorts number ≡ sort
+    → IfSome (number_for role number sort)
+    (λ n. HasSort (SortFor role) (slice_get (map (finished o) o.routines) n))
 number_has_sort o role number None sorts is = tt
-number_has_sort o Handler number (Some Dispatch) sorts is = sort_kept IsDispatch o number Dispatch sorts is tt
+number_has_sort o Handler number (Some Dispatch) sorts is =
+    sort_kept IsDispatch o number Dispatch sorts is tt
 number_has_sort o Handler number (Some Propagate) sorts is = tt
 number_has_sort o Completion number (Some Dispatch) sorts is = tt
-number_has_sort o Completion number (Some Propagate) sorts is = sort_kept IsCompletion o number Propagate sorts is tt
+number_has_sort o Completion number (Some Propagate) sorts is =
+    sort_kept IsCompletion o number Propagate sorts is tt
 
 named_has_sort : (o : Outline) (role : Role) (number : Option ℕ) → map sort_at o.routines ≡ o.sorts
-    → IfSome (option_and_then (λ n. number_for role n (slice_get o.sorts n)) number) (λ n. HasSort (SortFor role) (slice_get (map (finished o) o.routines) n))
+    → IfSome (option_and_then (λ n. number_for role n (slice_get o.sorts n)) number)
+    (λ n. HasSort (SortFor role) (slice_get (map (finished o) o.routines) n))
 named_has_sort o role None sorts = tt
 named_has_sort o role (Some n) sorts = number_has_sort o role n (slice_get o.sorts n) sorts refl
 
-handler_fits : (o : Outline) (u : Option Use) → map sort_at o.routines ≡ o.sorts → HandlerFits (map (finished o) o.routines) (handler_in o.routine_names o.sorts u)
+handler_fits : (o : Outline) (u : Option Use) → map sort_at o.routines ≡ o.sorts
+    → HandlerFits (map (finished o) o.routines) (handler_in o.routine_names o.sorts u)
 handler_fits o None sorts = tt
 handler_fits o (Some u) sorts = named_has_sort o Handler (number_of o.routine_names u.name) sorts
 
 -- so is the routine of a call
 use_fits : (o : Outline) (u : Option Use) → map sort_at o.routines ≡ o.sorts
-    → IfSome (option_and_then (λ u. routine_named o.routine_names o.sorts Completion u.name) u) (λ n. HasSort IsCompletion (slice_get (map (finished o) o.routines) n))
+    → IfSome (option_and_then (λ u. routine_named o.routine_names o.sorts Completion u.name) u)
+    (λ n. HasSort IsCompletion (slice_get (map (finished o) o.routines) n))
 use_fits o None sorts = tt
 use_fits o (Some u) sorts = named_has_sort o Completion (number_of o.routine_names u.name) sorts
 
-call_fits : (o : Outline) (i : Instr) (f : Option ℕ) → IfSome f (λ n. HasSort IsCompletion (slice_get (map (finished o) o.routines) n)) → CallFits (map (finished o) o.routines) (with_routine i f)
+call_fits : (o : Outline) (i : Instr) (f : Option ℕ)
+    → IfSome f (λ n. HasSort IsCompletion (slice_get (map (finished o) o.routines) n))
+    → CallFits (map (finished o) o.routines) (with_routine i f)
 call_fits o (Call r old) f h = h
 call_fits o _ f h = tt
 
-calls_fit : (o : Outline) (routine : ClosedRoutine) → map sort_at o.routines ≡ o.sorts → CallsFit (map (finished o) o.routines) (finished o routine)
-calls_fit o routine sorts = All-map (CallFits (map (finished o) o.routines)) (called o) routine.code (λ i d inside.
+calls_fit : (o : Outline) (routine : ClosedRoutine) → map sort_at o.routines ≡ o.sorts
+    → CallsFit (map (finished o) o.routines) (finished o routine)
+calls_fit o routine sorts = All-map (CallFits (map (finished o) o.routines)) (called o) routine.code
+    (λ i d inside.
     let step = get_or routine.code i d in
-    call_fits o step.instr (routine_called o step.call) (use_fits o (option_and_then (λ place. slice_get o.calls place) step.call) sorts))
+    call_fits o step.instr (routine_called o step.call)
+    (use_fits o (option_and_then (λ place. slice_get o.calls place) step.call) sorts))
 
-finished_driver_fits : (o : Outline) → length o.routine_names ≡ length o.routines → map sort_at o.routines ≡ o.sorts → IsOrderly o → DriverFits (finished_driver o)
+finished_driver_fits : (o : Outline) → length o.routine_names ≡ length o.routines
+    → map sort_at o.routines ≡ o.sorts → IsOrderly o → DriverFits (finished_driver o)
 finished_driver_fits o same sorts h =
     let count = length-map o.routines (finished o) in
     record {
       few = omega (arith, same, count, h.few_routines);
-      routines = All-map RoutineFits (finished o) o.routines (λ i d inside. finished_fits o (get_or o.routines i d) (h.routines_fit i d inside));
+      routines = All-map RoutineFits (finished o) o.routines
+          (λ i d inside. finished_fits o (get_or o.routines i d) (h.routines_fit i d inside));
       read = handler_fits o o.read sorts;
       write = handler_fits o o.write sorts;
       control = handler_fits o o.control sorts;
-      calls = All-map (CallsFit (map (finished o) o.routines)) (finished o) o.routines (λ i d inside. calls_fit o (get_or o.routines i d) sorts);
+      calls = All-map (CallsFit (map (finished o) o.routines)) (finished o) o.routines
+          (λ i d inside. calls_fit o (get_or o.routines i d) sorts);
     }
 
-driver_closed_orderly : (o : Outline) → stands o.place CloseDriver ≡ true → IsOrderly o → IsOrderly (driver_closed o)
+driver_closed_orderly : (o : Outline) → stands o.place CloseDriver ≡ true → IsOrderly o
+    → IsOrderly (driver_closed o)
 driver_closed_orderly o place h =
     let p = closing_driver o.place o.sort place in
     let none : open_sort o.place o.sort ≡ [] = p.2 in
     let more = length_one_more o.drivers (finished_driver o) in
     let same : length o.routine_names ≡ length o.routines = omega (arith, h.routine_count, p.1) in
     let sorts : map sort_at o.routines ≡ o.sorts =
-    sym (append-nil (map sort_at o.routines)) ∙ ap (λ (opened : List Sort). map sort_at o.routines ++ opened) (sym none) ∙ h.sorts_known in
+    sym (append-nil (map sort_at o.routines))
+    ∙ ap (λ (opened : List Sort). map sort_at o.routines ++ opened) (sym none) ∙ h.sorts_known
+    in
     record {
       few_drivers = h.few_drivers;
       few_devices = h.few_devices;
@@ -241,7 +299,9 @@ driver_closed_orderly o place h =
       driver_count = omega (arith, more, h.driver_count, p.0);
       routine_count = refl;
       sorts_known = refl;
-      drivers_fit = All-push DriverFits o.drivers (finished_driver o) h.drivers_fit (finished_driver_fits o same sorts h);
+      drivers_fit =
+          All-push DriverFits o.drivers (finished_driver o) h.drivers_fit
+          (finished_driver_fits o same sorts h);
       devices_known = λ known.
           let devices = h.devices_known (neither o.unknown (missed_routine o) known).0 in
           record { count = devices.count; fit = devices.fit };
@@ -249,24 +309,72 @@ driver_closed_orderly o place h =
     }
 
 -- devices are known still where neither they nor the names change
-same_devices : (o next : Outline) → next.unknown ≡ o.unknown → next.devices ≡ o.devices → next.device_names ≡ o.device_names → next.driver_names ≡ o.driver_names
+same_devices : (o next : Outline) → next.unknown ≡ o.unknown → next.devices ≡ o.devices
+    → next.device_names ≡ o.device_names → next.driver_names ≡ o.driver_names
     → (o.unknown ≡ None → DevicesKnown o) → next.unknown ≡ None → DevicesKnown next
 same_devices o next unknown devices names drivers h none =
     let old = h (sym unknown ∙ none) in
     record { count = rw (devices, names) old.count; fit = rw (devices, drivers) old.fit }
 
-handled_orderly : (o : Outline) (u : Use) (major : Major) → IsOrderly o → IsOrderly (handled o u major)
-handled_orderly o u Read h = record { few_drivers = h.few_drivers; few_devices = h.few_devices; few_routines = h.few_routines; few_steps = h.few_steps; positions_fit = h.positions_fit; operands_fit = h.operands_fit; driver_count = h.driver_count; routine_count = h.routine_count; sorts_known = h.sorts_known; drivers_fit = h.drivers_fit; devices_known = same_devices o (handled o u Read) refl refl refl refl h.devices_known; routines_fit = h.routines_fit }
-handled_orderly o u Write h = record { few_drivers = h.few_drivers; few_devices = h.few_devices; few_routines = h.few_routines; few_steps = h.few_steps; positions_fit = h.positions_fit; operands_fit = h.operands_fit; driver_count = h.driver_count; routine_count = h.routine_count; sorts_known = h.sorts_known; drivers_fit = h.drivers_fit; devices_known = same_devices o (handled o u Write) refl refl refl refl h.devices_known; routines_fit = h.routines_fit }
-handled_orderly o u Control h = record { few_drivers = h.few_drivers; few_devices = h.few_devices; few_routines = h.few_routines; few_steps = h.few_steps; positions_fit = h.positions_fit; operands_fit = h.operands_fit; driver_count = h.driver_count; routine_count = h.routine_count; sorts_known = h.sorts_known; drivers_fit = h.drivers_fit; devices_known = same_devices o (handled o u Control) refl refl refl refl h.devices_known; routines_fit = h.routines_fit }
+handled_orderly : (o : Outline) (u : Use) (major : Major) → IsOrderly o
+    → IsOrderly (handled o u major)
+handled_orderly o u Read h =
+    record {
+      few_drivers = h.few_drivers;
+      few_devices = h.few_devices;
+      few_routines = h.few_routines;
+      few_steps = h.few_steps;
+      positions_fit = h.positions_fit;
+      operands_fit = h.operands_fit;
+      driver_count = h.driver_count;
+      routine_count = h.routine_count;
+      sorts_known = h.sorts_known;
+      drivers_fit = h.drivers_fit;
+      devices_known = same_devices o (handled o u Read) refl refl refl refl h.devices_known;
+      routines_fit = h.routines_fit;
+    }
+handled_orderly o u Write h =
+    record {
+      few_drivers = h.few_drivers;
+      few_devices = h.few_devices;
+      few_routines = h.few_routines;
+      few_steps = h.few_steps;
+      positions_fit = h.positions_fit;
+      operands_fit = h.operands_fit;
+      driver_count = h.driver_count;
+      routine_count = h.routine_count;
+      sorts_known = h.sorts_known;
+      drivers_fit = h.drivers_fit;
+      devices_known = same_devices o (handled o u Write) refl refl refl refl h.devices_known;
+      routines_fit = h.routines_fit;
+    }
+handled_orderly o u Control h =
+    record {
+      few_drivers = h.few_drivers;
+      few_devices = h.few_devices;
+      few_routines = h.few_routines;
+      few_steps = h.few_steps;
+      positions_fit = h.positions_fit;
+      operands_fit = h.operands_fit;
+      driver_count = h.driver_count;
+      routine_count = h.routine_count;
+      sorts_known = h.sorts_known;
+      drivers_fit = h.drivers_fit;
+      devices_known = same_devices o (handled o u Control) refl refl refl refl h.devices_known;
+      routines_fit = h.routines_fit;
+    }
 
-routine_opened_orderly : (o : Outline) (name : List ℕ) (sort : Sort) → stands o.place (OpenRoutine name sort) ≡ true → length o.routine_names < 32 → IsOrderly o → IsOrderly (routine_opened o name sort)
+routine_opened_orderly : (o : Outline) (name : List ℕ) (sort : Sort)
+    → stands o.place (OpenRoutine name sort) ≡ true → length o.routine_names < MAX_ROUTINES
+    → IsOrderly o → IsOrderly (routine_opened o name sort)
 routine_opened_orderly o name sort place room h =
     let p = opening_routine o.place name sort o.sort place in
     let none : open_sort o.place o.sort ≡ [] = p.2 in
     let more = length_one_more o.routine_names name in
     let sorts : map sort_at o.routines ≡ o.sorts =
-    sym (append-nil (map sort_at o.routines)) ∙ ap (λ (opened : List Sort). map sort_at o.routines ++ opened) (sym none) ∙ h.sorts_known in
+    sym (append-nil (map sort_at o.routines))
+    ∙ ap (λ (opened : List Sort). map sort_at o.routines ++ opened) (sym none) ∙ h.sorts_known
+    in
     record {
       few_drivers = h.few_drivers;
       few_devices = h.few_devices;
@@ -278,12 +386,14 @@ routine_opened_orderly o name sort place room h =
       routine_count = omega (arith, more, h.routine_count, p.1);
       sorts_known = ap (λ (all : List Sort). all ++ sort ∷ []) sorts;
       drivers_fit = h.drivers_fit;
-      devices_known = same_devices o (routine_opened o name sort) refl refl refl refl h.devices_known;
+      devices_known =
+          same_devices o (routine_opened o name sort) refl refl refl refl h.devices_known;
       routines_fit = h.routines_fit;
     }
 
 -- a label's position, or 0, is below a count that is above the positions of all labels
-number_fits : (count : ℕ) (positions : List ℕ) → 0 < count → All (λ p. p < count) positions → (o : Option ℕ) → unwrap_or (option_and_then (λ k. slice_get positions k) o) 0 < count
+number_fits : (count : ℕ) (positions : List ℕ) → 0 < count → All (λ p. p < count) positions
+    → (o : Option ℕ) → unwrap_or (option_and_then (λ k. slice_get positions k) o) 0 < count
 number_fits count positions some fit None = some
 number_fits count positions some fit (Some k) = or_zero (slice_get positions k) refl
   where
@@ -291,13 +401,17 @@ number_fits count positions some fit (Some k) = or_zero (slice_get positions k) 
     or_zero None is = some
     or_zero (Some p) is =
         let inside = slice_get_within positions k p is in
-        let same : Some p ≡ Some (get_or positions k p) = sym is ∙ slice_get-get_or positions k p inside in
+        let same : Some p ≡ Some (get_or positions k p) =
+        sym is ∙ slice_get-get_or positions k p inside in
         let here : p ≡ get_or positions k p = cc in
         omega (arith, here, fit k p inside)
 
-target_fits : (count : ℕ) (labels : List (List ℕ)) (positions : List ℕ) → 0 < count → All (λ p. p < count) positions → (target : Option Use) → target_position labels positions target < count
+target_fits : (count : ℕ) (labels : List (List ℕ)) (positions : List ℕ) → 0 < count
+    → All (λ p. p < count) positions → (target : Option Use)
+    → target_position labels positions target < count
 target_fits count labels positions some fit None = some
-target_fits count labels positions some fit (Some u) = number_fits count positions some fit (number_of labels u.name)
+target_fits count labels positions some fit (Some u) =
+    number_fits count positions some fit (number_of labels u.name)
 
 label_fits : (count label : ℕ) (i : Instr) → label < count → LabelFits count (with_label i label)
 label_fits count label (JumpIfZero r old) h = h
@@ -308,34 +422,42 @@ label_fits count label _ h = tt
 
 -- the operands of an instruction fit still with its label's position
 operands_labelled : (label : ℕ) (i : Instr) → OperandFits i → OperandFits (with_label i label)
-operands_labelled label (JumpIfZero r old) h = tt
-operands_labelled label (JumpIfLess r s old) h = tt
-operands_labelled label (Jump old) h = tt
-operands_labelled label (IfPending r old) h = tt
+operands_labelled label (JumpIfZero r old) h = h
+operands_labelled label (JumpIfLess r s old) h = h
+operands_labelled label (Jump old) h = h
+operands_labelled label (IfPending r old) h = h
 operands_labelled label _ h = h
 
 -- so a routine that is closed fits
-closed_fits : (o : Outline) → IsOrderly o → ClosedFits (record { sort = o.sort; code = map (resolved o.labels o.positions) o.steps })
+closed_fits : (o : Outline) → IsOrderly o
+    → ClosedFits (record { sort = o.sort; code = map (resolved o.labels o.positions) o.steps })
 closed_fits o h =
     let same = length-map o.steps (resolved o.labels o.positions) in
     let count = length (map (resolved o.labels o.positions) o.steps) in
     record {
       few = omega (arith, same, h.few_steps);
-      labels = All-map (λ (step : Linked). LabelFits count step.instr) (resolved o.labels o.positions) o.steps (λ i d inside.
+      labels = All-map (λ (step : Linked). LabelFits count step.instr)
+          (resolved o.labels o.positions) o.steps (λ i d inside.
           let step = get_or o.steps i d in
           let some : 0 < length o.steps = omega (arith, inside) in
-          let below = target_fits (length o.steps) o.labels o.positions some h.positions_fit step.label in
-          label_fits count (target_position o.labels o.positions step.label) step.instr (omega (arith, same, below)));
-      operands = All-map (λ (step : Linked). OperandFits step.instr) (resolved o.labels o.positions) o.steps (λ i d inside.
+          let below = target_fits (length o.steps) o.labels o.positions some h.positions_fit
+          step.label in
+          label_fits count (target_position o.labels o.positions step.label) step.instr
+          (omega (arith, same, below)));
+      operands = All-map (λ (step : Linked). OperandFits step.instr) (resolved o.labels o.positions)
+          o.steps (λ i d inside.
           let step = get_or o.steps i d in
-          operands_labelled (target_position o.labels o.positions step.label) step.instr (h.operands_fit i d inside));
+          operands_labelled (target_position o.labels o.positions step.label) step.instr
+          (h.operands_fit i d inside));
     }
 
-routine_closed_orderly : (o : Outline) → stands o.place CloseRoutine ≡ true → IsOrderly o → IsOrderly (routine_closed o)
+routine_closed_orderly : (o : Outline) → stands o.place CloseRoutine ≡ true → IsOrderly o
+    → IsOrderly (routine_closed o)
 routine_closed_orderly o place h =
     let p = closing_routine o.place o.sort place in
     let open_one : open_sort o.place o.sort ≡ o.sort ∷ [] = p.2 in
-    let closed : ClosedRoutine = record { sort = o.sort; code = map (resolved o.labels o.positions) o.steps } in
+    let closed : ClosedRoutine =
+    record { sort = o.sort; code = map (resolved o.labels o.positions) o.steps } in
     let more = length_one_more o.routines closed in
     record {
       few_drivers = h.few_drivers;
@@ -358,22 +480,27 @@ routine_closed_orderly o place h =
       routines_fit = All-push ClosedFits o.routines closed h.routines_fit (closed_fits o h);
     }
 
-size_within : (n : ℕ) → (nat_le 1 n && nat_le n 16) ≡ true → (1 ≤ n) × (n ≤ 16)
+size_within : (n : ℕ) → (nat_le 1 n && nat_le n MAX_STACK) ≡ true → (1 ≤ n) × (n ≤ MAX_STACK)
 size_within n h = grind (arith, nat_tests)
 
-any_within : {X : Type 0} (p : X → Bool) (xs : List X) → list_any p xs ≡ true → position_or_len p xs < length xs
+any_within : {X : Type 0} (p : X → Bool) (xs : List X) → list_any p xs ≡ true
+    → position_or_len p xs < length xs
 any_within p [] h = cc
 any_within p (x ∷ xs) h = by (p x) (any_within p xs) h
   where
-    by : (b : Bool) → (list_any p xs ≡ true → position_or_len p xs < length xs) → (b || list_any p xs) ≡ true → (if not b then 1 + position_or_len p xs else 0) < suc (length xs)
+    by : (b : Bool) → (list_any p xs ≡ true → position_or_len p xs < length xs)
+        → (b || list_any p xs) ≡ true → (if not b then 1 + position_or_len p xs else 0)
+        < suc (length xs)
     by true rest h = omega arith
     by false rest h = let within = rest h in omega (arith, within)
 
 -- a name that is among these has a number
-number_there : (names : List (List ℕ)) (name : List ℕ) → is_among names name ≡ true → number_of names name ≡ Some (position_or_len (bytes_eq name) names)
+number_there : (names : List (List ℕ)) (name : List ℕ) → is_among names name ≡ true
+    → number_of names name ≡ Some (position_or_len (bytes_eq name) names)
 number_there names name h =
     let within = any_within (bytes_eq name) names h in
-    let test : nat_lt (position_or_len (bytes_eq name) names) (length names) ≡ true = grind (arith, nat_tests, within) in
+    let test : nat_lt (position_or_len (bytes_eq name) names) (length names) ≡ true =
+    grind (arith, nat_tests, within) in
     ap (λ (b : Bool). if b then Some (position_or_len (bytes_eq name) names) else None) test
 
 -- a name that isn't missed is among these
@@ -381,46 +508,68 @@ is_there : (known : Bool) (line : ℕ) → (if known then None else Some line) �
 is_there true line h = refl
 is_there false line h = cc
 
-number_not_missed : (names : List (List ℕ)) (u : Use) → missed names (Some u) ≡ None → number_of names u.name ≡ None → ⊥
+number_not_missed : (names : List (List ℕ)) (u : Use) → missed names (Some u) ≡ None
+    → number_of names u.name ≡ None → ⊥
 number_not_missed names u h none =
-    let bad : Some (position_or_len (bytes_eq u.name) names) ≡ None = sym (number_there names u.name (is_there (is_among names u.name) u.line h)) ∙ none in
+    let bad : Some (position_or_len (bytes_eq u.name) names) ≡ None =
+    sym (number_there names u.name (is_there (is_among names u.name) u.line h)) ∙ none in
     cc
 
 -- the number of a lower device is below the count of devices
-lower_below : (names : List (List ℕ)) (u : Option Use) → IfSome (number_used names u) (λ lower. lower < length names)
+lower_below : (names : List (List ℕ)) (u : Option Use)
+    → IfSome (number_used names u) (λ lower. lower < length names)
 lower_below names None = tt
 lower_below names (Some u) = number_below names u.name
 
-abbrev device_from : Outline → Option ℕ → Option Use → Option ℕ → Option Device
-device_from o stack lower number = option_and_then (λ number. option_map (λ s. record { driver = number; stack = s; lower = number_used o.device_names lower }) stack) number
+abbrev device_from : Outline → ℕ → Option Use → Option ℕ → Option Device
+device_from o stack lower number =
+    option_map
+    (λ number. record { driver = number; stack = stack; lower = number_used o.device_names lower })
+    number
 
 -- a device more, of a driver that is there
-device_known : (o : Outline) (stack : ℕ) (lower : Option Use) (number : Option ℕ) → IfSome number (λ k. k < length o.driver_names) → (number ≡ None → ⊥) → (1 ≤ stack) × (stack ≤ 16) → DevicesKnown o
-    → (length (o.devices ++ option_to_list (device_from o (Some stack) lower number)) ≡ length o.devices + 1)
-    × DevicesFit (length o.driver_names) 0 (o.devices ++ option_to_list (device_from o (Some stack) lower number))
+device_known : (o : Outline) (stack : ℕ) (lower : Option Use) (number : Option ℕ)
+    → IfSome number (λ k. k < length o.driver_names) → (number ≡ None → ⊥) → (1 ≤ stack)
+    × (stack ≤ MAX_STACK) → DevicesKnown o
+    → (length (o.devices ++ option_to_list (device_from o stack lower number))
+    ≡ length o.devices + 1)
+    × DevicesFit (length o.driver_names) 0
+    (o.devices ++ option_to_list (device_from o stack lower number))
 device_known o stack lower None below known size h = absurd (known refl)
 device_known o stack lower (Some k) below known size h =
-    let device : Device = record { driver = k; stack = stack; lower = number_used o.device_names lower } in
+    let device : Device =
+    record { driver = k; stack = stack; lower = number_used o.device_names lower } in
     let fits : DeviceFits (length o.driver_names) (length o.devices) device = record {
       driver = below;
       low = size.0;
       high = size.1;
-      lower = subst (λ (n : ℕ). IfSome (number_used o.device_names lower) (λ l. l < n)) (sym h.count) (lower_below o.device_names lower);
-    } in
-    (length_one_more o.devices device, devices_push (length o.driver_names) 0 (length o.devices) o.devices device (omega arith) h.fit fits)
+      lower = subst (λ (n : ℕ). IfSome (number_used o.device_names lower) (λ l. l < n))
+          (sym h.count) (lower_below o.device_names lower);
+    } in (
+      length_one_more o.devices device,
+      devices_push (length o.driver_names) 0 (length o.devices)
+          o.devices device (omega arith) h.fit fits,
+    )
 
-added_known : (o : Outline) (name : List ℕ) (u : Use) (stack : Option ℕ) (lower : Option Use) → is_stack_size stack ≡ true → (o.unknown ≡ None → DevicesKnown o)
-    → (device_added o name u stack lower).unknown ≡ None → DevicesKnown (device_added o name u stack lower)
-added_known o name u None lower size h known = cc
-added_known o name u (Some n) lower size h known =
-    let both = neither o.unknown (earliest (missed o.driver_names (Some u)) (missed o.device_names lower)) known in
-    let driver = (neither (missed o.driver_names (Some u)) (missed o.device_names lower) both.1).0 in
+added_known : (o : Outline) (name : List ℕ) (u : Use) (stack : ℕ) (lower : Option Use)
+    → is_stack_size stack ≡ true → (o.unknown ≡ None → DevicesKnown o)
+    → (device_added o name u stack lower).unknown ≡ None
+    → DevicesKnown (device_added o name u stack lower)
+added_known o name u stack lower size h known =
+    let both = neither o.unknown
+    (earliest (missed o.driver_names (Some u)) (missed o.device_names lower)) known in
+    let driver = (neither (missed o.driver_names (Some u)) (missed o.device_names lower) both.1).0
+    in
     let old = h both.0 in
-    let all = device_known o n lower (number_of o.driver_names u.name) (number_below o.driver_names u.name) (number_not_missed o.driver_names u driver) (size_within n size) old in
+    let all = device_known o stack lower (number_of o.driver_names u.name)
+    (number_below o.driver_names u.name) (number_not_missed o.driver_names u driver)
+    (size_within stack size) old in
     let more = length_one_more o.device_names name in
     record { count = all.0 ∙ ap (λ (n : ℕ). n + 1) old.count ∙ sym more; fit = all.1 }
 
-device_added_orderly : (o : Outline) (name : List ℕ) (u : Use) (stack : Option ℕ) (lower : Option Use) → is_stack_size stack ≡ true → length o.device_names < 16 → IsOrderly o → IsOrderly (device_added o name u stack lower)
+device_added_orderly : (o : Outline) (name : List ℕ) (u : Use) (stack : ℕ) (lower : Option Use)
+    → is_stack_size stack ≡ true → length o.device_names < MAX_DEVICES → IsOrderly o
+    → IsOrderly (device_added o name u stack lower)
 device_added_orderly o name u stack lower size room h =
     let more = length_one_more o.device_names name in
     record {
@@ -439,35 +588,50 @@ device_added_orderly o name u stack lower size room h =
     }
 
 -- positions are below a greater count too
-positions_stay : (m n : ℕ) (positions : List ℕ) → m ≤ n → All (λ p. p < m) positions → All (λ p. p < n) positions
-positions_stay m n positions more fit = λ i p inside. let one = fit i p inside in omega (arith, one, more)
+positions_stay : (m n : ℕ) (positions : List ℕ) → m ≤ n → All (λ p. p < m) positions
+    → All (λ p. p < n) positions
+positions_stay m n positions more fit = λ i p inside. let one =
+    fit i p inside in omega (arith, one, more)
 
 -- so is that of the label that is added
-added_fits : (o : Outline) (label : Option (List ℕ)) (n : ℕ) → length o.steps < n → All (λ p. p < length o.steps) o.positions → All (λ p. p < n) (label_added o label).positions
+added_fits : (o : Outline) (label : Option (List ℕ)) (n : ℕ) → length o.steps < n
+    → All (λ p. p < length o.steps) o.positions → All (λ p. p < n) (label_added o label).positions
 added_fits o label n more h =
     let old = positions_stay (length o.steps) n o.positions (omega (arith, more)) h in
-    All-append (λ p. p < n) o.positions (option_to_list (option_map (λ label. length o.steps) label)) old (one label)
+    All-append (λ p. p < n) o.positions
+    (option_to_list (option_map (λ label. length o.steps) label)) old (one label)
   where
-    one : (label : Option (List ℕ)) → All (λ p. p < n) (option_to_list (option_map (λ label. length o.steps) label))
+    one : (label : Option (List ℕ))
+        → All (λ p. p < n) (option_to_list (option_map (λ label. length o.steps) label))
     one None = All-nil (λ p. p < n)
     one (Some label) = All-push (λ p. p < n) [] (length o.steps) (All-nil (λ p. p < n)) more
 
-stepped_orderly : (o : Outline) (n : ℕ) (label : Option (List ℕ)) (instr : Instr) (target : Target) → length o.steps < 1024 → OperandFits instr → IsOrderly o → IsOrderly (stepped o n label instr target)
-stepped_orderly o n label instr target room operand h =
-    let step : Step = record { instr = instr; label = label_used n target; call = call_place (length o.calls) target } in
+stepped_orderly : (o : Outline) (n : ℕ) (label : Option (List ℕ)) (instr : Instr) (used : UsedNames)
+    → length o.steps < MAX_INSTRUCTIONS → OperandFits instr → IsOrderly o
+    → IsOrderly (stepped o n label instr used)
+stepped_orderly o n label instr used room operand h =
+    let step : Step =
+    record {
+      instr = instr;
+      label = used_at n used.label;
+      call = call_place (length o.calls) used.routine;
+    } in
     let more = length_one_more o.steps step in
     record {
       few_drivers = h.few_drivers;
       few_devices = h.few_devices;
       few_routines = h.few_routines;
       few_steps = omega (arith, more);
-      positions_fit = added_fits o label (length (o.steps ++ step ∷ [])) (omega (arith, more)) h.positions_fit;
-      operands_fit = All-push (λ (step : Step). OperandFits step.instr) o.steps step h.operands_fit operand;
+      positions_fit = added_fits o label (length (o.steps ++ step ∷ [])) (omega (arith, more))
+          h.positions_fit;
+      operands_fit = All-push (λ (step : Step). OperandFits step.instr) o.steps step h.operands_fit
+          operand;
       driver_count = h.driver_count;
       routine_count = h.routine_count;
       sorts_known = h.sorts_known;
       drivers_fit = h.drivers_fit;
-      devices_known = same_devices o (stepped o n label instr target) refl refl refl refl h.devices_known;
+      devices_known =
+          same_devices o (stepped o n label instr used) refl refl refl refl h.devices_known;
       routines_fit = h.routines_fit;
     }
 
@@ -476,23 +640,33 @@ not_false true h = refl
 not_false false h = cc
 
 orderly_with : (o : Outline) (n : ℕ) (label : Option (List ℕ)) (body : Body)
-    → stands o.place body ≡ true → is_out_of_range body ≡ false → has_room o body ≡ true → BodyFits body
+    → stands o.place body ≡ true → is_out_of_range body ≡ false → has_room o body ≡ true
+    → BodyFits body
     → IsOrderly o → IsOrderly (noted o n label body)
 orderly_with o n label Blank place size room operand h = h
-orderly_with o n label (OpenDriver name) place size room operand h = driver_opened_orderly o name place (ltb-true (length o.driver_names) 8 room) h
+orderly_with o n label (OpenDriver name) place size room operand h =
+    driver_opened_orderly o name place (ltb-true (length o.driver_names) MAX_DRIVERS room) h
 orderly_with o n label CloseDriver place size room operand h = driver_closed_orderly o place h
-orderly_with o n label (Handle major routine) place size room operand h = handled_orderly o (record { line = n; name = routine }) major h
-orderly_with o n label (OpenRoutine name sort) place size room operand h = routine_opened_orderly o name sort place (ltb-true (length o.routine_names) 32 room) h
+orderly_with o n label (Handle major routine) place size room operand h =
+    handled_orderly o (record { line = n; name = routine }) major h
+orderly_with o n label (OpenRoutine name sort) place size room operand h =
+    routine_opened_orderly o name sort place (ltb-true (length o.routine_names) MAX_ROUTINES room) h
 orderly_with o n label CloseRoutine place size room operand h = routine_closed_orderly o place h
-orderly_with o n label (AddDevice name driver stack lower) place size room operand h = device_added_orderly o name (record { line = n; name = driver }) stack (used_at n lower) (not_false (is_stack_size stack) size) (ltb-true (length o.device_names) 16 room) h
-orderly_with o n label (TakeStep (Some instr) target) place size room operand h = stepped_orderly o n label instr target (ltb-true (length o.steps) 1024 room) operand h
-orderly_with o n label (TakeStep None target) place size room operand h = h
+orderly_with o n label (AddDevice name driver stack lower) place size room operand h =
+    device_added_orderly o name (record { line = n; name = driver }) stack (used_at n lower)
+    (not_false (is_stack_size stack) size) (ltb-true (length o.device_names) MAX_DEVICES room) h
+orderly_with o n label (TakeStep (Some instr) used) place size room operand h =
+    stepped_orderly o n label instr used (ltb-true (length o.steps) MAX_INSTRUCTIONS room) operand h
+orderly_with o n label (TakeStep None used) place size room operand h = h
 
-pub orderly_on : (o : Outline) (n : ℕ) (l : Line) → IsFitting o l → BodyFits l.body → IsOrderly o → IsOrderly (noted o n l.label l.body)
-orderly_on o n l fits operand h = orderly_with o n l.label l.body fits.standing fits.in_range fits.room operand h
+pub orderly_on : (o : Outline) (n : ℕ) (l : Line) → IsFitting o l → BodyFits l.body → IsOrderly o
+    → IsOrderly (noted o n l.label l.body)
+orderly_on o n l fits operand h =
+    orderly_with o n l.label l.body fits.standing fits.in_range fits.room operand h
 
 -- what was read is a set, where no driver is open and no name is unknown
-pub sound : (o : Outline) → IsOrderly o → o.place ≡ Outside → o.unknown ≡ None → IsSound (record { drivers = o.drivers; devices = o.devices })
+pub sound : (o : Outline) → IsOrderly o → o.place ≡ Outside → o.unknown ≡ None
+    → IsSound (record { drivers = o.drivers; devices = o.devices })
 sound o h closed known =
     let none : open_drivers o.place ≡ 0 = ap open_drivers closed in
     let same : length o.driver_names ≡ length o.drivers = omega (arith, h.driver_count, none) in

@@ -1,5 +1,5 @@
--- The unknown name that is found when routines and drivers are closed is that of the first line that
--- uses one.
+-- The unknown name that is found when routines and drivers are closed is that of the first line
+-- that uses one.
 use Rattle.std.proofs.Common.{◌≡◌, ℕ, ◌+◌, ◌<◌, ◌≤◌, Bool, true, false, ◌&&◌, length, List, [], ◌∷◌, ◌++◌, Option, Some, None, IfSome, refl, ap, sym, ◌∙◌, subst, arith, append_assoc, append-nil}
 use Rattle.std.specs.Prelude.{min, is_some, option_to_list, if◌then◌else◌}
 use Rattle.model.specs.declared.status.Major.{Major}
@@ -12,12 +12,11 @@ use Rattle.asm.specs.declared.draft.Use.{Use}
 use Rattle.asm_line.specs.declared.line.Body.{Body}
 use Rattle.asm_line.specs.declared.line.Body.TheVariants.{Blank, OpenDriver, CloseDriver, Handle, OpenRoutine, CloseRoutine, AddDevice, Step as TakeStep}
 use Rattle.asm_line.specs.declared.line.Line.{Line}
-use Rattle.asm_line.specs.declared.line.Target.{Target}
-use Rattle.asm_line.specs.declared.line.Target.TheVariants.{Nothing, Label, Routine as RoutineNamed}
+use Rattle.asm_line.specs.declared.line.UsedNames.{UsedNames}
 use Rattle.asm.specs.declared.routines.Role.TheVariants.{Handler, Completion}
 use Rattle.model.specs.declared.instr.Instr.{Instr}
-use Rattle.asm.specs.Outline.{Outline, nothing_read, call_place, call_used, device_added, driver_closed, driver_opened, earliest, handled, handler_of, has_routine, is_again, is_among, is_out_of_range, label_used, missed, missed_calls, missed_entry, missed_from, missed_handler, missed_use, noted, routine_closed, routine_opened, stands, stepped, used_at}
-use Rattle.asm.specs.Laws.{Scope, nothing_named, scope_after, drivers_after, devices_after, has_lower, labelled_ahead, labels_ahead, labels_around, named_ahead, routines_ahead, routines_around, sorted_ahead, sorts_ahead, sorts_around, unknown_at, unknown_from, Reads}
+use Rattle.asm.specs.Outline.{Outline, nothing_read, call_place, device_added, driver_closed, driver_opened, earliest, handled, handler_of, has_routine, is_again, is_among, is_out_of_range, missed, missed_calls, missed_entry, missed_from, missed_handler, missed_use, noted, routine_closed, routine_opened, stands, stepped, used_at}
+use Rattle.asm.specs.Laws.{Scope, nothing_named, scope_after, drivers_after, devices_after, is_known, labelled_ahead, labels_ahead, labels_around, named_ahead, routines_ahead, routines_around, sorted_ahead, sorts_ahead, sorts_around, is_callable, unknown_at, unknown_from, Reads}
 use Rattle.asm.proofs.Orderly.{fitting}
 
 earliest_none : (a : Option ℕ) → earliest a None ≡ a
@@ -28,22 +27,27 @@ earliest_assoc : (a b c : Option ℕ) → earliest (earliest a b) c ≡ earliest
 earliest_assoc None b c = refl
 earliest_assoc (Some a) None c = refl
 earliest_assoc (Some a) (Some b) None = refl
-earliest_assoc (Some a) (Some b) (Some c) = let same : min (min a b) c ≡ min a (min b c) = omega arith in ap (λ (n : ℕ). Some n) same
+earliest_assoc (Some a) (Some b) (Some c) = let same : min (min a b) c ≡ min a (min b c) =
+    omega arith in ap (λ (n : ℕ). Some n) same
 
 earliest_comm : (a b : Option ℕ) → earliest a b ≡ earliest b a
 earliest_comm None None = refl
 earliest_comm None (Some b) = refl
 earliest_comm (Some a) None = refl
-earliest_comm (Some a) (Some b) = let same : min a b ≡ min b a = omega arith in ap (λ (n : ℕ). Some n) same
+earliest_comm (Some a) (Some b) = let same : min a b ≡ min b a =
+    omega arith in ap (λ (n : ℕ). Some n) same
 
 -- a line is earlier than what comes after it
-earliest_first : (n : ℕ) (later : Option ℕ) → IfSome later (λ m. n < m) → earliest (Some n) later ≡ Some n
+earliest_first : (n : ℕ) (later : Option ℕ) → IfSome later (λ m. n < m)
+    → earliest (Some n) later ≡ Some n
 earliest_first n None after = refl
-earliest_first n (Some m) after = let same : min n m ≡ n = omega arith in ap (λ (k : ℕ). Some k) same
+earliest_first n (Some m) after = let same : min n m ≡ n =
+    omega arith in ap (λ (k : ℕ). Some k) same
 
 -- one line is earlier than another in a list of them
 earliest_swap : (a b c : Option ℕ) → earliest a (earliest b c) ≡ earliest b (earliest a c)
-earliest_swap a b c = sym (earliest_assoc a b c) ∙ ap (λ (x : Option ℕ). earliest x c) (earliest_comm a b) ∙ earliest_assoc b a c
+earliest_swap a b c = sym (earliest_assoc a b c)
+    ∙ ap (λ (x : Option ℕ). earliest x c) (earliest_comm a b) ∙ earliest_assoc b a c
 
 weaken : (n : ℕ) (o : Option ℕ) → IfSome o (λ m. n < m) → IfSome o (λ m. n ≤ m)
 weaken n None h = tt
@@ -53,16 +57,19 @@ next_later : (n : ℕ) (o : Option ℕ) → IfSome o (λ m. n + 1 ≤ m) → IfS
 next_later n None h = tt
 next_later n (Some m) h = omega arith
 
-chosen_line : (b : Bool) (n : ℕ) (after : Option ℕ) → IfSome after (λ m. n < m) → IfSome (if b then after else Some n) (λ m. n ≤ m)
+chosen_line : (b : Bool) (n : ℕ) (after : Option ℕ) → IfSome after (λ m. n < m)
+    → IfSome (if b then after else Some n) (λ m. n ≤ m)
 chosen_line true n after h = weaken n after h
 chosen_line false n after h = omega arith
 
-line_or_later : (s : Scope) (n : ℕ) (body : Body) (after : Option ℕ) → IfSome after (λ m. n < m) → IfSome (unknown_at s n body after) (λ m. n ≤ m)
-line_or_later s n (Handle major routine) after h = chosen_line (has_routine s.routines s.sorts Handler routine) n after h
-line_or_later s n (AddDevice name driver stack lower) after h = chosen_line (is_among s.drivers driver && has_lower s.devices lower) n after h
-line_or_later s n (TakeStep instr (Label label)) after h = chosen_line (is_among s.labels label) n after h
-line_or_later s n (TakeStep instr (RoutineNamed routine)) after h = chosen_line (has_routine s.routines s.sorts Completion routine) n after h
-line_or_later s n (TakeStep instr Nothing) after h = weaken n after h
+line_or_later : (s : Scope) (n : ℕ) (body : Body) (after : Option ℕ) → IfSome after (λ m. n < m)
+    → IfSome (unknown_at s n body after) (λ m. n ≤ m)
+line_or_later s n (Handle major routine) after h =
+    chosen_line (has_routine s.routines s.sorts Handler routine) n after h
+line_or_later s n (AddDevice name driver stack lower) after h =
+    chosen_line (is_among s.drivers driver && is_known s.devices lower) n after h
+line_or_later s n (TakeStep instr used) after h =
+    chosen_line (is_known s.labels used.label && is_callable s used.routine) n after h
 line_or_later s n _ after h = weaken n after h
 
 -- the line that is found is one of those that are left
@@ -89,20 +96,28 @@ abbrev jumping : List (List ℕ) → List Step → Option ℕ
 jumping labels steps = missed_from labels None steps
 
 -- what is found in a routine is weighed against what was found before it
-missed_split : (labels : List (List ℕ)) (found : Option ℕ) (steps : List Step) → missed_from labels found steps ≡ earliest found (jumping labels steps)
+missed_split : (labels : List (List ℕ)) (found : Option ℕ) (steps : List Step)
+    → missed_from labels found steps ≡ earliest found (jumping labels steps)
 missed_split labels found [] = sym (earliest_none found)
 missed_split labels found (s ∷ ss) =
     let one = missed labels s.label in
-    missed_split labels (earliest found one) ss ∙ earliest_assoc found one (jumping labels ss) ∙ ap (λ (x : Option ℕ). earliest found x) (sym (missed_split labels one ss))
+    missed_split labels (earliest found one) ss ∙ earliest_assoc found one (jumping labels ss)
+    ∙ ap (λ (x : Option ℕ). earliest found x) (sym (missed_split labels one ss))
 
-missed_push : (labels : List (List ℕ)) (found : Option ℕ) (steps : List Step) (s : Step) → missed_from labels found (steps ++ s ∷ []) ≡ earliest (missed_from labels found steps) (missed labels s.label)
+missed_push : (labels : List (List ℕ)) (found : Option ℕ) (steps : List Step) (s : Step)
+    → missed_from labels found (steps ++ s ∷ []) ≡ earliest (missed_from labels found steps)
+    (missed labels s.label)
 missed_push labels found [] s = refl
-missed_push labels found (t ∷ ts) s = missed_push labels (earliest found (missed labels t.label)) ts s
+missed_push labels found (t ∷ ts) s =
+    missed_push labels (earliest found (missed labels t.label)) ts s
 
 -- what is found in calls is weighed against what was found before them
-calls_push : (names : List (List ℕ)) (sorts : List Sort) (found : Option ℕ) (calls : List Use) (u : Use) → missed_calls names sorts found (calls ++ u ∷ []) ≡ earliest (missed_calls names sorts found calls) (missed_use names sorts Completion u)
+calls_push : (names : List (List ℕ)) (sorts : List Sort) (found : Option ℕ) (calls : List Use)
+    (u : Use) → missed_calls names sorts found (calls ++ u ∷ [])
+    ≡ earliest (missed_calls names sorts found calls) (missed_use names sorts Completion u)
 calls_push names sorts found [] u = refl
-calls_push names sorts found (v ∷ vs) u = calls_push names sorts (earliest found (missed_use names sorts Completion v)) vs u
+calls_push names sorts found (v ∷ vs) u =
+    calls_push names sorts (earliest found (missed_use names sorts Completion v)) vs u
 
 -- no driver is open
 record IsEmpty (o : Outline) : Type 0 where
@@ -135,7 +150,14 @@ record Around (o : Outline) (here ahead : Names) : Type 0 where
 
 -- the names that the next line may use
 abbrev scope_of : Outline → Names → Scope
-scope_of o here = record { drivers = o.driver_names; devices = o.device_names; routines = here.routines; sorts = here.sorts; labels = here.labels }
+scope_of o here =
+    record {
+      drivers = o.driver_names;
+      devices = o.device_names;
+      routines = here.routines;
+      sorts = here.sorts;
+      labels = here.labels;
+    }
 
 abbrev scope_next : Outline → Body → Names → Scope
 scope_next o body after = record {
@@ -148,51 +170,79 @@ scope_next o body after = record {
 
 -- the names ahead of these lines, and round the next one
 abbrev ahead_of : List Line → Names
-ahead_of ls = record { routines = routines_ahead ls; sorts = sorts_ahead ls; labels = labels_ahead ls }
+ahead_of ls =
+    record { routines = routines_ahead ls; sorts = sorts_ahead ls; labels = labels_ahead ls }
 
 abbrev ahead_with : Option (List ℕ) → Body → Names → Names
-ahead_with label body ahead = record { routines = named_ahead body ahead.routines; sorts = sorted_ahead body ahead.sorts; labels = labelled_ahead label body ahead.labels }
+ahead_with label body ahead =
+    record {
+      routines = named_ahead body ahead.routines;
+      sorts = sorted_ahead body ahead.sorts;
+      labels = labelled_ahead label body ahead.labels;
+    }
 
 abbrev around_next : Names → Body → List Line → Names
-around_next here body ls = record { routines = routines_around here.routines body ls; sorts = sorts_around here.sorts body ls; labels = labels_around here.labels body ls }
+around_next here body ls =
+    record {
+      routines = routines_around here.routines body ls;
+      sorts = sorts_around here.sorts body ls;
+      labels = labels_around here.labels body ls;
+    }
 
-never_outside : (p : Place) (body : Body) → stands Outside body ≡ false → stands p body ≡ true → p ≡ Outside → ⊥
-never_outside p body refused stood is = let here : stands Outside body ≡ true = subst (λ (q : Place). stands q body ≡ true) is stood in cc
+never_outside : (p : Place) (body : Body) → stands Outside body ≡ false → stands p body ≡ true
+    → p ≡ Outside → ⊥
+never_outside p body refused stood is = let here : stands Outside body ≡ true =
+    subst (λ (q : Place). stands q body ≡ true) is stood in cc
 
-never_inside : (p : Place) (body : Body) → stands InRoutine body ≡ false → stands p body ≡ true → p ≡ InRoutine → ⊥
-never_inside p body refused stood is = let here : stands InRoutine body ≡ true = subst (λ (q : Place). stands q body ≡ true) is stood in cc
+never_inside : (p : Place) (body : Body) → stands InRoutine body ≡ false → stands p body ≡ true
+    → p ≡ InRoutine → ⊥
+never_inside p body refused stood is = let here : stands InRoutine body ≡ true =
+    subst (λ (q : Place). stands q body ≡ true) is stood in cc
 
-only_outside : (p : Place) (body : Body) → stands InDriver body ≡ false → stands InRoutine body ≡ false → stands p body ≡ true → p ≡ Outside
+only_outside : (p : Place) (body : Body) → stands InDriver body ≡ false
+    → stands InRoutine body ≡ false → stands p body ≡ true → p ≡ Outside
 only_outside Outside body a b stood = refl
 only_outside InDriver body a b stood = cc
 only_outside InRoutine body a b stood = cc
 
-only_inside : (p : Place) (body : Body) → stands Outside body ≡ false → stands InDriver body ≡ false → stands p body ≡ true → p ≡ InRoutine
+only_inside : (p : Place) (body : Body) → stands Outside body ≡ false → stands InDriver body ≡ false
+    → stands p body ≡ true → p ≡ InRoutine
 only_inside Outside body a b stood = cc
 only_inside InDriver body a b stood = cc
 only_inside InRoutine body a b stood = refl
 
 -- what is left from a line on: the lines after it, from what is noted with it
 abbrev left : Outline → Names → ℕ → List Line → Option ℕ
-left o here n ls = earliest o.unknown (earliest (pending here.routines here.sorts o) (earliest (jumping here.labels o.steps) (unknown_from (scope_of o here) n ls)))
+left o here n ls =
+    earliest o.unknown
+    (earliest (pending here.routines here.sorts o)
+    (earliest (jumping here.labels o.steps) (unknown_from (scope_of o here) n ls)))
 
 -- a use is weighed now or when its driver or routine is closed
-use_counts : (b : Bool) (n : ℕ) (x after : Option ℕ) → IfSome after (λ m. n < m) → earliest (earliest (if b then None else Some n) x) after ≡ earliest x (if b then after else Some n)
+use_counts : (b : Bool) (n : ℕ) (x after : Option ℕ) → IfSome after (λ m. n < m)
+    → earliest (earliest (if b then None else Some n) x) after
+    ≡ earliest x (if b then after else Some n)
 use_counts true n x after later = refl
 use_counts false n x after later =
-    ap (λ (y : Option ℕ). earliest y after) (earliest_comm (Some n) x) ∙ earliest_assoc x (Some n) after ∙ ap (λ (y : Option ℕ). earliest x y) (earliest_first n after later)
+    ap (λ (y : Option ℕ). earliest y after) (earliest_comm (Some n) x)
+    ∙ earliest_assoc x (Some n) after
+    ∙ ap (λ (y : Option ℕ). earliest x y) (earliest_first n after later)
 
-used_now : (b : Bool) (n : ℕ) (after : Option ℕ) → IfSome after (λ m. n < m) → earliest (if b then None else Some n) after ≡ (if b then after else Some n)
+used_now : (b : Bool) (n : ℕ) (after : Option ℕ) → IfSome after (λ m. n < m)
+    → earliest (if b then None else Some n) after ≡ (if b then after else Some n)
 used_now true n after later = refl
 used_now false n after later = earliest_first n after later
 
 -- the next outline has the names around it, and says the same of what is left
-record Turn (o next : Outline) (here after ahead : Names) (n : ℕ) (body : Body) (ls : List Line) : Type 0 where
+record Turn (o next : Outline) (here after ahead : Names) (n : ℕ) (body : Body) (ls : List Line)
+    : Type 0 where
   around : Around next after ahead
-  same : left next after (n + 1) ls ≡ earliest o.unknown (earliest (pending here.routines here.sorts o) (earliest (jumping here.labels o.steps)
+  same : left next after (n + 1) ls ≡ earliest o.unknown
+      (earliest (pending here.routines here.sorts o) (earliest (jumping here.labels o.steps)
       (unknown_at (scope_of o here) n body (unknown_from (scope_next o body after) (n + 1) ls))))
 
-blank_turn : (o : Outline) (here ahead : Names) (n : ℕ) (ls : List Line) → Around o here ahead → Turn o o here here ahead n Blank ls
+blank_turn : (o : Outline) (here ahead : Names) (n : ℕ) (ls : List Line) → Around o here ahead
+    → Turn o o here here ahead n Blank ls
 blank_turn o here ahead n ls h = record { around = h; same = refl }
 
 -- the line of a call, where there is one
@@ -200,20 +250,56 @@ abbrev missed_call : List (List ℕ) → List Sort → Option Use → Option ℕ
 missed_call names sorts None = None
 missed_call names sorts (Some u) = missed_use names sorts Completion u
 
-calls_added : (names : List (List ℕ)) (sorts : List Sort) (calls : List Use) (u : Option Use) → calling names sorts (calls ++ option_to_list u) ≡ earliest (calling names sorts calls) (missed_call names sorts u)
-calls_added names sorts calls None = ap (calling names sorts) (append-nil calls) ∙ sym (earliest_none (calling names sorts calls))
+calls_added : (names : List (List ℕ)) (sorts : List Sort) (calls : List Use) (u : Option Use)
+    → calling names sorts (calls ++ option_to_list u) ≡ earliest (calling names sorts calls)
+    (missed_call names sorts u)
+calls_added names sorts calls None = ap (calling names sorts) (append-nil calls)
+    ∙ sym (earliest_none (calling names sorts calls))
 calls_added names sorts calls (Some u) = calls_push names sorts None calls u
 
--- the name that an instruction uses is weighed now or when its routine or driver is closed
-target_counts : (s : Scope) (n : ℕ) (instr : Option Instr) (target : Target) (after : Option ℕ) → IfSome after (λ m. n < m)
-    → earliest (missed_call s.routines s.sorts (call_used n target)) (earliest (missed s.labels (label_used n target)) after) ≡ unknown_at s n (TakeStep instr target) after
-target_counts s n instr Nothing after later = refl
-target_counts s n instr (Label name) after later = used_now (is_among s.labels name) n after later
-target_counts s n instr (RoutineNamed name) after later = used_now (has_routine s.routines s.sorts Completion name) n after later
+-- two names of a line are weighed at once
+both_count : (driver lower : Bool) (n : ℕ)
+    → earliest (if driver then None else Some n) (if lower then None else Some n)
+    ≡ (if driver && lower then None else Some n)
+both_count true lower n = refl
+both_count false true n = refl
+both_count false false n = let same : min n n ≡ n = omega arith in ap (λ (k : ℕ). Some k) same
+
+name_missed : (names : List (List ℕ)) (name : Option (List ℕ)) (n : ℕ)
+    → missed names (used_at n name) ≡ (if is_known names name then None else Some n)
+name_missed names None n = refl
+name_missed names (Some name) n = refl
+
+call_missed : (s : Scope) (routine : Option (List ℕ)) (n : ℕ)
+    → missed_call s.routines s.sorts (used_at n routine)
+    ≡ (if is_callable s routine then None else Some n)
+call_missed s None n = refl
+call_missed s (Some routine) n = refl
+
+-- the names that an instruction uses are weighed now or when its routine and driver are closed
+used_count : (s : Scope) (n : ℕ) (instr : Option Instr) (used : UsedNames) (after : Option ℕ)
+    → IfSome after (λ m. n < m)
+    → earliest (missed_call s.routines s.sorts (used_at n used.routine))
+    (earliest (missed s.labels (used_at n used.label)) after)
+    ≡ unknown_at s n (TakeStep instr used) after
+used_count s n instr used after later =
+    let known = is_known s.labels used.label in
+    let callable = is_callable s used.routine in
+    let call = missed_call s.routines s.sorts (used_at n used.routine) in
+    let jump = missed s.labels (used_at n used.label) in
+    earliest_swap call jump after
+    ∙ sym (earliest_assoc jump call after)
+    ∙ ap (λ (line : Option ℕ). earliest (earliest line call) after)
+    (name_missed s.labels used.label n)
+    ∙ ap (λ (line : Option ℕ). earliest (earliest (if known then None else Some n) line) after)
+    (call_missed s used.routine n)
+    ∙ ap (λ (line : Option ℕ). earliest line after) (both_count known callable n)
+    ∙ used_now (known && callable) n after later
 
 -- two lines that are found at once, in order
 weighed_apart : (calls call handlers jumps jump rest : Option ℕ)
-    → earliest (earliest (earliest calls call) handlers) (earliest (earliest jumps jump) rest) ≡ earliest (earliest calls handlers) (earliest jumps (earliest call (earliest jump rest)))
+    → earliest (earliest (earliest calls call) handlers) (earliest (earliest jumps jump) rest)
+    ≡ earliest (earliest calls handlers) (earliest jumps (earliest call (earliest jump rest)))
 weighed_apart calls call handlers jumps jump rest =
     earliest_assoc (earliest calls call) handlers (earliest (earliest jumps jump) rest)
     ∙ earliest_assoc calls call (earliest handlers (earliest (earliest jumps jump) rest))
@@ -224,23 +310,33 @@ weighed_apart calls call handlers jumps jump rest =
     ∙ earliest_swap call jumps (earliest jump rest)))
     ∙ sym (earliest_assoc calls handlers (earliest jumps (earliest call (earliest jump rest))))
 
-step_turn : (o : Outline) (label : Option (List ℕ)) (instr : Instr) (target : Target) (here ahead : Names) (n : ℕ) (ls : List Line)
-    → stands o.place (TakeStep (Some instr) target) ≡ true → Around o here (ahead_with label (TakeStep (Some instr) target) ahead)
-    → Turn o (stepped o n label instr target) here here ahead n (TakeStep (Some instr) target) ls
-step_turn o label instr target here ahead n ls stood h =
-    let body = TakeStep (Some instr) target in
-    let step : Step = record { instr = instr; label = label_used n target; call = call_place (length o.calls) target } in
+step_turn : (o : Outline) (label : Option (List ℕ)) (instr : Instr) (used : UsedNames)
+    (here ahead : Names) (n : ℕ) (ls : List Line)
+    → stands o.place (TakeStep (Some instr) used) ≡ true
+    → Around o here (ahead_with label (TakeStep (Some instr) used) ahead)
+    → Turn o (stepped o n label instr used) here here ahead n (TakeStep (Some instr) used) ls
+step_turn o label instr used here ahead n ls stood h =
+    let body = TakeStep (Some instr) used in
+    let step : Step =
+    record {
+      instr = instr;
+      label = used_at n used.label;
+      call = call_place (length o.calls) used.routine;
+    } in
     let at = only_inside o.place body refl refl stood in
     let scope = scope_of o here in
     let rest = unknown_from scope (n + 1) ls in
     let calls = calling here.routines here.sorts o.calls in
     let handlers = missed_handler here.routines here.sorts o in
     let jumps = jumping here.labels o.steps in
-    let call = missed_call here.routines here.sorts (call_used n target) in
-    let jump = missed here.labels (label_used n target) in
-    let more_calls : calling here.routines here.sorts (o.calls ++ option_to_list (call_used n target)) ≡ earliest calls call = calls_added here.routines here.sorts o.calls (call_used n target) in
-    let more_jumps : jumping here.labels (o.steps ++ step ∷ []) ≡ earliest jumps jump = missed_push here.labels None o.steps step in
-    let counted = target_counts scope n (Some instr) target rest (rest_later scope n ls) in
+    let call = missed_call here.routines here.sorts (used_at n used.routine) in
+    let jump = missed here.labels (used_at n used.label) in
+    let more_calls : calling here.routines here.sorts
+    (o.calls ++ option_to_list (used_at n used.routine)) ≡ earliest calls call =
+    calls_added here.routines here.sorts o.calls (used_at n used.routine) in
+    let more_jumps : jumping here.labels (o.steps ++ step ∷ []) ≡ earliest jumps jump =
+    missed_push here.labels None o.steps step in
+    let counted = used_count scope n (Some instr) used rest (rest_later scope n ls) in
     record {
       around = record {
         inside = h.inside;
@@ -250,16 +346,21 @@ step_turn o label instr target here ahead n ls stood h =
         idle = λ opened. absurd (opened at);
       };
       same = ap (earliest o.unknown) (
-          ap (λ (x : Option ℕ). earliest (earliest x handlers) (earliest (jumping here.labels (o.steps ++ step ∷ [])) rest)) more_calls
-          ∙ ap (λ (x : Option ℕ). earliest (earliest (earliest calls call) handlers) (earliest x rest)) more_jumps
+          ap (λ (x : Option ℕ). earliest (earliest x handlers)
+          (earliest (jumping here.labels (o.steps ++ step ∷ [])) rest)) more_calls
+          ∙ ap (λ (x : Option ℕ). earliest (earliest (earliest calls call) handlers)
+          (earliest x rest)) more_jumps
           ∙ weighed_apart calls call handlers jumps jump rest
           ∙ ap (λ (x : Option ℕ). earliest (earliest calls handlers) (earliest jumps x)) counted);
     }
 
-routine_closed_turn : (o : Outline) (label : Option (List ℕ)) (here ahead : Names) (n : ℕ) (ls : List Line) → stands o.place CloseRoutine ≡ true
-    → Around o here (ahead_with label CloseRoutine ahead) → Turn o (routine_closed o) here here ahead n CloseRoutine ls
+routine_closed_turn : (o : Outline) (label : Option (List ℕ)) (here ahead : Names) (n : ℕ)
+    (ls : List Line) → stands o.place CloseRoutine ≡ true
+    → Around o here (ahead_with label CloseRoutine ahead)
+    → Turn o (routine_closed o) here here ahead n CloseRoutine ls
 routine_closed_turn o label here ahead n ls stood h =
-    let labels : here.labels ≡ o.labels = h.busy (only_inside o.place CloseRoutine refl refl stood) ∙ append-nil o.labels in
+    let labels : here.labels ≡ o.labels = h.busy (only_inside o.place CloseRoutine refl refl stood)
+    ∙ append-nil o.labels in
     let rest = unknown_from (scope_of o here) (n + 1) ls in
     let uses = pending here.routines here.sorts o in
     let jumps = jumping o.labels o.steps in
@@ -272,21 +373,30 @@ routine_closed_turn o label here ahead n ls stood h =
         idle = λ closed. record { labels = refl; steps = refl };
       };
       same =
-          ap (λ (x : Option ℕ). earliest x (earliest uses rest)) (missed_split o.labels o.unknown o.steps)
+          ap (λ (x : Option ℕ). earliest x (earliest uses rest))
+          (missed_split o.labels o.unknown o.steps)
           ∙ earliest_assoc o.unknown jumps (earliest uses rest)
           ∙ ap (λ (x : Option ℕ). earliest o.unknown x) (earliest_swap jumps uses rest)
-          ∙ ap (λ (names : List (List ℕ)). earliest o.unknown (earliest uses (earliest (jumping names o.steps) rest))) (sym labels);
+          ∙ ap (λ (names : List (List ℕ)). earliest o.unknown
+          (earliest uses (earliest (jumping names o.steps) rest))) (sym labels);
     }
 
-routine_opened_turn : (o : Outline) (name : List ℕ) (sort : Sort) (here ahead : Names) (labels : List (List ℕ)) (n : ℕ) (ls : List Line) → stands o.place (OpenRoutine name sort) ≡ true
-    → Around o here (record { routines = name ∷ ahead.routines; sorts = sort ∷ ahead.sorts; labels = labels })
-    → Turn o (routine_opened o name sort) here (record { routines = here.routines; sorts = here.sorts; labels = ahead.labels }) ahead n (OpenRoutine name sort) ls
+routine_opened_turn : (o : Outline) (name : List ℕ) (sort : Sort) (here ahead : Names)
+    (labels : List (List ℕ)) (n : ℕ) (ls : List Line)
+    → stands o.place (OpenRoutine name sort) ≡ true
+    → Around o here
+    (record { routines = name ∷ ahead.routines; sorts = sort ∷ ahead.sorts; labels = labels })
+    → Turn o (routine_opened o name sort) here
+    (record { routines = here.routines; sorts = here.sorts; labels = ahead.labels }) ahead n
+    (OpenRoutine name sort) ls
 routine_opened_turn o name sort here ahead labels n ls stood h =
     let idle = h.idle (never_inside o.place (OpenRoutine name sort) refl stood) in
     record {
       around = record {
-        inside = λ opened. h.inside (never_outside o.place (OpenRoutine name sort) refl stood) ∙ sym (append_assoc o.routine_names (name ∷ []) ahead.routines);
-        sorted = λ opened. h.sorted (never_outside o.place (OpenRoutine name sort) refl stood) ∙ sym (append_assoc o.sorts (sort ∷ []) ahead.sorts);
+        inside = λ opened. h.inside (never_outside o.place (OpenRoutine name sort) refl stood)
+            ∙ sym (append_assoc o.routine_names (name ∷ []) ahead.routines);
+        sorted = λ opened. h.sorted (never_outside o.place (OpenRoutine name sort) refl stood)
+            ∙ sym (append_assoc o.sorts (sort ∷ []) ahead.sorts);
         outside = λ is. cc;
         busy = λ is. rw idle.labels refl;
         idle = λ opened. absurd (opened refl);
@@ -294,8 +404,12 @@ routine_opened_turn o name sort here ahead labels n ls stood h =
       same = rw idle.steps refl;
     }
 
-driver_opened_turn : (o : Outline) (name : List ℕ) (here ahead old : Names) (n : ℕ) (ls : List Line) → stands o.place (OpenDriver name) ≡ true
-    → Around o here old → Turn o (driver_opened o name) here (record { routines = ahead.routines; sorts = ahead.sorts; labels = here.labels }) ahead n (OpenDriver name) ls
+driver_opened_turn : (o : Outline) (name : List ℕ) (here ahead old : Names) (n : ℕ) (ls : List Line)
+    → stands o.place (OpenDriver name) ≡ true
+    → Around o here old
+    → Turn o (driver_opened o name) here
+    (record { routines = ahead.routines; sorts = ahead.sorts; labels = here.labels }) ahead n
+    (OpenDriver name) ls
 driver_opened_turn o name here ahead old n ls stood h =
     let empty = h.outside (only_outside o.place (OpenDriver name) refl refl stood) in
     let idle = h.idle (never_inside o.place (OpenDriver name) refl stood) in
@@ -310,39 +424,46 @@ driver_opened_turn o name here ahead old n ls stood h =
       same = rw (empty.calls, empty.read, empty.write, empty.control, idle.steps) refl;
     }
 
-driver_closed_turn : (o : Outline) (label : Option (List ℕ)) (here ahead : Names) (n : ℕ) (ls : List Line) → stands o.place CloseDriver ≡ true
-    → Around o here (ahead_with label CloseDriver ahead) → Turn o (driver_closed o) here here ahead n CloseDriver ls
+driver_closed_turn : (o : Outline) (label : Option (List ℕ)) (here ahead : Names) (n : ℕ)
+    (ls : List Line) → stands o.place CloseDriver ≡ true
+    → Around o here (ahead_with label CloseDriver ahead)
+    → Turn o (driver_closed o) here here ahead n CloseDriver ls
 driver_closed_turn o label here ahead n ls stood h =
-    let names : here.routines ≡ o.routine_names = h.inside (never_outside o.place CloseDriver refl stood) ∙ append-nil o.routine_names in
-    let sorts : here.sorts ≡ o.sorts = h.sorted (never_outside o.place CloseDriver refl stood) ∙ append-nil o.sorts in
+    let names : here.routines ≡ o.routine_names =
+    h.inside (never_outside o.place CloseDriver refl stood) ∙ append-nil o.routine_names in
+    let sorts : here.sorts ≡ o.sorts = h.sorted (never_outside o.place CloseDriver refl stood)
+    ∙ append-nil o.sorts in
     let idle = h.idle (never_inside o.place CloseDriver refl stood) in
     let rest = unknown_from (scope_of o here) (n + 1) ls in
     record {
       around = record {
         inside = λ opened. absurd (opened refl);
         sorted = λ opened. absurd (opened refl);
-        outside = λ is. record { names = refl; sorts = refl; calls = refl; read = refl; write = refl; control = refl };
+        outside = λ is. record {
+          names = refl;
+          sorts = refl;
+          calls = refl;
+          read = refl;
+          write = refl;
+          control = refl;
+        };
         busy = λ is. cc;
         idle = λ closed. record { labels = idle.labels; steps = idle.steps };
       };
       same = rw idle.steps (
           earliest_assoc o.unknown (pending o.routine_names o.sorts o) rest
-          ∙ ap (λ (names : List (List ℕ)). earliest o.unknown (earliest (pending names o.sorts o) rest)) (sym names)
-          ∙ ap (λ (sorts : List Sort). earliest o.unknown (earliest (pending here.routines sorts o) rest)) (sym sorts));
+          ∙ ap (λ (names : List (List ℕ)). earliest o.unknown
+          (earliest (pending names o.sorts o) rest)) (sym names)
+          ∙ ap (λ (sorts : List Sort). earliest o.unknown
+          (earliest (pending here.routines sorts o) rest)) (sym sorts));
     }
 
--- a device's two names are weighed at once
-both_count : (driver lower : Bool) (n : ℕ) → earliest (if driver then None else Some n) (if lower then None else Some n) ≡ (if driver && lower then None else Some n)
-both_count true lower n = refl
-both_count false true n = refl
-both_count false false n = let same : min n n ≡ n = omega arith in ap (λ (k : ℕ). Some k) same
-
-lower_missed : (devices : List (List ℕ)) (lower : Option (List ℕ)) (n : ℕ) → missed devices (used_at n lower) ≡ (if has_lower devices lower then None else Some n)
-lower_missed devices None n = refl
-lower_missed devices (Some lower) n = refl
-
-device_added_turn : (o : Outline) (name driver : List ℕ) (stack : Option ℕ) (lower : Option (List ℕ)) (here ahead : Names) (n : ℕ) (ls : List Line) → stands o.place (AddDevice name driver stack lower) ≡ true
-    → Around o here ahead → Turn o (device_added o name (record { line = n; name = driver }) stack (used_at n lower)) here here ahead n (AddDevice name driver stack lower) ls
+device_added_turn : (o : Outline) (name driver : List ℕ) (stack : ℕ) (lower : Option (List ℕ))
+    (here ahead : Names) (n : ℕ) (ls : List Line)
+    → stands o.place (AddDevice name driver stack lower) ≡ true
+    → Around o here ahead
+    → Turn o (device_added o name (record { line = n; name = driver }) stack (used_at n lower))
+    here here ahead n (AddDevice name driver stack lower) ls
 device_added_turn o name driver stack lower here ahead n ls stood h =
     let at = only_outside o.place (AddDevice name driver stack lower) refl refl stood in
     let empty = h.outside at in
@@ -351,15 +472,23 @@ device_added_turn o name driver stack lower here ahead n ls stood h =
     let rest = unknown_from (scope_of next here) (n + 1) ls in
     let later = rest_later (scope_of next here) n ls in
     let known = is_among o.driver_names driver in
-    let under = has_lower o.device_names lower in
+    let under = is_known o.device_names lower in
     let line : Option ℕ = if known then None else Some n in
-    let counted : earliest line (missed o.device_names (used_at n lower)) ≡ (if known && under then None else Some n) =
-    ap (earliest line) (lower_missed o.device_names lower n) ∙ both_count known under n in
+    let counted : earliest line (missed o.device_names (used_at n lower))
+    ≡ (if known && under then None else Some n) =
+    ap (earliest line) (name_missed o.device_names lower n) ∙ both_count known under n in
     record {
       around = record {
         inside = λ opened. absurd (opened at);
         sorted = λ opened. absurd (opened at);
-        outside = λ is. record { names = empty.names; sorts = empty.sorts; calls = empty.calls; read = empty.read; write = empty.write; control = empty.control };
+        outside = λ is. record {
+          names = empty.names;
+          sorts = empty.sorts;
+          calls = empty.calls;
+          read = empty.read;
+          write = empty.write;
+          control = empty.control;
+        };
         busy = h.busy;
         idle = λ closed. record { labels = idle.labels; steps = idle.steps };
       };
@@ -369,31 +498,63 @@ device_added_turn o name driver stack lower here ahead n ls stood h =
           ∙ ap (λ (x : Option ℕ). earliest o.unknown x) (used_now (known && under) n rest later));
     }
 
-handled_around : (o : Outline) (u : Use) (major : Major) (here ahead : Names) → (o.place ≡ Outside → ⊥) → IsIdle o → Around o here ahead → Around (handled o u major) here ahead
-handled_around o u Read here ahead inside idle h = record { inside = h.inside; sorted = h.sorted; outside = λ is. absurd (inside is); busy = h.busy; idle = λ closed. record { labels = idle.labels; steps = idle.steps } }
-handled_around o u Write here ahead inside idle h = record { inside = h.inside; sorted = h.sorted; outside = λ is. absurd (inside is); busy = h.busy; idle = λ closed. record { labels = idle.labels; steps = idle.steps } }
-handled_around o u Control here ahead inside idle h = record { inside = h.inside; sorted = h.sorted; outside = λ is. absurd (inside is); busy = h.busy; idle = λ closed. record { labels = idle.labels; steps = idle.steps } }
+handled_around : (o : Outline) (u : Use) (major : Major) (here ahead : Names)
+    → (o.place ≡ Outside → ⊥) → IsIdle o → Around o here ahead
+    → Around (handled o u major) here ahead
+handled_around o u Read here ahead inside idle h =
+    record {
+      inside = h.inside;
+      sorted = h.sorted;
+      outside = λ is. absurd (inside is);
+      busy = h.busy;
+      idle = λ closed. record { labels = idle.labels; steps = idle.steps };
+    }
+handled_around o u Write here ahead inside idle h =
+    record {
+      inside = h.inside;
+      sorted = h.sorted;
+      outside = λ is. absurd (inside is);
+      busy = h.busy;
+      idle = λ closed. record { labels = idle.labels; steps = idle.steps };
+    }
+handled_around o u Control here ahead inside idle h =
+    record {
+      inside = h.inside;
+      sorted = h.sorted;
+      outside = λ is. absurd (inside is);
+      busy = h.busy;
+      idle = λ closed. record { labels = idle.labels; steps = idle.steps };
+    }
 
 was_none : (u : Option Use) → is_some u ≡ false → u ≡ None
 was_none None h = refl
 was_none (Some u) h = cc
 
-handled_same : (o : Outline) (name : List ℕ) (major : Major) (routines : List (List ℕ)) (sorts : List Sort) (n : ℕ) (rest : Option ℕ) → IfSome rest (λ m. n < m) → handler_of o major ≡ None
-    → earliest (missed_handler routines sorts (handled o (record { line = n; name = name }) major)) rest ≡ earliest (missed_handler routines sorts o) (if has_routine routines sorts Handler name then rest else Some n)
+handled_same : (o : Outline) (name : List ℕ) (major : Major) (routines : List (List ℕ))
+    (sorts : List Sort) (n : ℕ) (rest : Option ℕ) → IfSome rest (λ m. n < m)
+    → handler_of o major ≡ None
+    → earliest (missed_handler routines sorts (handled o (record { line = n; name = name }) major))
+    rest ≡ earliest (missed_handler routines sorts o)
+    (if has_routine routines sorts Handler name then rest else Some n)
 handled_same o name Read routines sorts n rest later h =
     let write = missed_entry routines sorts o.write in
     let control = missed_entry routines sorts o.control in
-    rw h (use_counts (has_routine routines sorts Handler name) n (earliest write control) rest later)
+    rw h (use_counts (has_routine routines sorts Handler name) n (earliest write control) rest
+    later)
 handled_same o name Write routines sorts n rest later h =
     let read = missed_entry routines sorts o.read in
     let control = missed_entry routines sorts o.control in
     let line : Option ℕ = if has_routine routines sorts Handler name then None else Some n in
-    rw h (ap (λ (x : Option ℕ). earliest x rest) (earliest_swap read line control) ∙ use_counts (has_routine routines sorts Handler name) n (earliest read control) rest later)
+    rw h (ap (λ (x : Option ℕ). earliest x rest) (earliest_swap read line control)
+    ∙ use_counts (has_routine routines sorts Handler name) n (earliest read control) rest later)
 handled_same o name Control routines sorts n rest later h =
     let read = missed_entry routines sorts o.read in
     let write = missed_entry routines sorts o.write in
     let line : Option ℕ = if has_routine routines sorts Handler name then None else Some n in
-    rw (h, earliest_none write) (ap (λ (x : Option ℕ). earliest (earliest read x) rest) (earliest_comm write line) ∙ ap (λ (x : Option ℕ). earliest x rest) (earliest_swap read line write) ∙ use_counts (has_routine routines sorts Handler name) n (earliest read write) rest later)
+    rw (h, earliest_none write)
+    (ap (λ (x : Option ℕ). earliest (earliest read x) rest) (earliest_comm write line)
+    ∙ ap (λ (x : Option ℕ). earliest x rest) (earliest_swap read line write)
+    ∙ use_counts (has_routine routines sorts Handler name) n (earliest read write) rest later)
 
 -- a table entry changes none of these
 record Unhandled (o next : Outline) : Type 0 where
@@ -404,12 +565,18 @@ record Unhandled (o next : Outline) : Type 0 where
   steps : next.steps ≡ o.steps
 
 handled_rest : (o : Outline) (u : Use) (major : Major) → Unhandled o (handled o u major)
-handled_rest o u Read = record { driver_names = refl; device_names = refl; unknown = refl; calls = refl; steps = refl }
-handled_rest o u Write = record { driver_names = refl; device_names = refl; unknown = refl; calls = refl; steps = refl }
-handled_rest o u Control = record { driver_names = refl; device_names = refl; unknown = refl; calls = refl; steps = refl }
+handled_rest o u Read =
+    record { driver_names = refl; device_names = refl; unknown = refl; calls = refl; steps = refl }
+handled_rest o u Write =
+    record { driver_names = refl; device_names = refl; unknown = refl; calls = refl; steps = refl }
+handled_rest o u Control =
+    record { driver_names = refl; device_names = refl; unknown = refl; calls = refl; steps = refl }
 
-handled_turn : (o : Outline) (major : Major) (name : List ℕ) (here ahead : Names) (n : ℕ) (ls : List Line) → stands o.place (Handle major name) ≡ true → is_some (handler_of o major) ≡ false
-    → Around o here ahead → Turn o (handled o (record { line = n; name = name }) major) here here ahead n (Handle major name) ls
+handled_turn : (o : Outline) (major : Major) (name : List ℕ) (here ahead : Names) (n : ℕ)
+    (ls : List Line) → stands o.place (Handle major name) ≡ true
+    → is_some (handler_of o major) ≡ false
+    → Around o here ahead → Turn o (handled o (record { line = n; name = name }) major) here here
+    ahead n (Handle major name) ls
 handled_turn o major name here ahead n ls stood fresh h =
     let u : Use = record { line = n; name = name } in
     let idle = h.idle (never_inside o.place (Handle major name) refl stood) in
@@ -420,49 +587,82 @@ handled_turn o major name here ahead n ls stood fresh h =
     let calls = calling here.routines here.sorts o.calls in
     let before = missed_handler here.routines here.sorts o in
     let after = missed_handler here.routines here.sorts (handled o u major) in
-    let chosen : Option ℕ = if has_routine here.routines here.sorts Handler name then rest else Some n in
+    let chosen : Option ℕ = if has_routine here.routines here.sorts Handler name then rest
+    else Some n in
     record {
-      around = handled_around o u major here ahead (never_outside o.place (Handle major name) refl stood) idle h;
-      same = rw (unchanged.driver_names, unchanged.device_names, unchanged.unknown, unchanged.calls, unchanged.steps, quiet)
+      around = handled_around o u major here ahead
+          (never_outside o.place (Handle major name) refl stood) idle h;
+      same = rw (
+        unchanged.driver_names,
+        unchanged.device_names,
+        unchanged.unknown,
+        unchanged.calls,
+        unchanged.steps,
+        quiet,
+      )
           (ap (earliest o.unknown) (
           earliest_assoc calls after rest
-          ∙ ap (earliest calls) (handled_same o name major here.routines here.sorts n rest later (was_none (handler_of o major) fresh))
+          ∙ ap (earliest calls)
+          (handled_same o name major here.routines here.sorts n rest later
+          (was_none (handler_of o major) fresh))
           ∙ sym (earliest_assoc calls before chosen)));
     }
 
 turn : (o : Outline) (n : ℕ) (label : Option (List ℕ)) (body : Body) (ls : List Line) (here : Names)
-    → stands o.place body ≡ true → is_again o label body ≡ false → is_out_of_range body ≡ false → Around o here (ahead_with label body (ahead_of ls))
+    → stands o.place body ≡ true → is_again o label body ≡ false → is_out_of_range body ≡ false
+    → Around o here (ahead_with label body (ahead_of ls))
     → Turn o (noted o n label body) here (around_next here body ls) (ahead_of ls) n body ls
 turn o n label Blank ls here stood fresh range h = blank_turn o here (ahead_of ls) n ls h
-turn o n label (OpenDriver name) ls here stood fresh range h = driver_opened_turn o name here (ahead_of ls) (ahead_of ls) n ls stood h
-turn o n label CloseDriver ls here stood fresh range h = driver_closed_turn o label here (ahead_of ls) n ls stood h
-turn o n label (Handle major name) ls here stood fresh range h = handled_turn o major name here (ahead_of ls) n ls stood fresh h
-turn o n label (OpenRoutine name sort) ls here stood fresh range h = routine_opened_turn o name sort here (ahead_of ls) (labels_ahead ls) n ls stood h
-turn o n label CloseRoutine ls here stood fresh range h = routine_closed_turn o label here (ahead_of ls) n ls stood h
-turn o n label (AddDevice name driver stack lower) ls here stood fresh range h = device_added_turn o name driver stack lower here (ahead_of ls) n ls stood h
-turn o n label (TakeStep (Some instr) target) ls here stood fresh range h = step_turn o label instr target here (ahead_of ls) n ls stood h
-turn o n label (TakeStep None target) ls here stood fresh range h = cc
+turn o n label (OpenDriver name) ls here stood fresh range h =
+    driver_opened_turn o name here (ahead_of ls) (ahead_of ls) n ls stood h
+turn o n label CloseDriver ls here stood fresh range h =
+    driver_closed_turn o label here (ahead_of ls) n ls stood h
+turn o n label (Handle major name) ls here stood fresh range h =
+    handled_turn o major name here (ahead_of ls) n ls stood fresh h
+turn o n label (OpenRoutine name sort) ls here stood fresh range h =
+    routine_opened_turn o name sort here (ahead_of ls) (labels_ahead ls) n ls stood h
+turn o n label CloseRoutine ls here stood fresh range h =
+    routine_closed_turn o label here (ahead_of ls) n ls stood h
+turn o n label (AddDevice name driver stack lower) ls here stood fresh range h =
+    device_added_turn o name driver stack lower here (ahead_of ls) n ls stood h
+turn o n label (TakeStep (Some instr) used) ls here stood fresh range h =
+    step_turn o label instr used here (ahead_of ls) n ls stood h
+turn o n label (TakeStep None used) ls here stood fresh range h = cc
 
-unknown_in : (o : Outline) (n : ℕ) (raws : List (List ℕ)) (ls : List Line) (end : Outline) (here : Names)
-    → Reads o n raws ls end → end.place ≡ Outside → Around o here (ahead_of ls) → end.unknown ≡ left o here n ls
+unknown_in : (o : Outline) (n : ℕ) (raws : List (List ℕ)) (ls : List Line) (end : Outline)
+    (here : Names)
+    → Reads o n raws ls end → end.place ≡ Outside → Around o here (ahead_of ls)
+    → end.unknown ≡ left o here n ls
 unknown_in o n [] [] end here read closed h =
     let at : o.place ≡ Outside = ap (λ (x : Outline). x.place) read ∙ closed in
     let empty = h.outside at in
     let idle = h.idle (λ inside. let same : Outside ≡ InRoutine = sym at ∙ inside in cc) in
-    rw (empty.calls, empty.read, empty.write, empty.control, idle.steps) (ap (λ (x : Outline). x.unknown) (sym read) ∙ sym (earliest_none o.unknown))
+    rw (empty.calls, empty.read, empty.write, empty.control, idle.steps)
+    (ap (λ (x : Outline). x.unknown) (sym read) ∙ sym (earliest_none o.unknown))
 unknown_in o n [] (l ∷ ls) end here read closed h = absurd read
 unknown_in o n (raw ∷ raws) [] end here read closed h = absurd read
 unknown_in o n (raw ∷ raws) (l ∷ ls) end here read closed h =
     let fits = fitting o l read.1.0 in
     let next = turn o n l.label l.body ls here fits.standing fits.fresh fits.in_range h in
-    unknown_in (noted o n l.label l.body) (n + 1) raws ls end (around_next here l.body ls) read.1.1 closed next.around ∙ next.same
+    unknown_in (noted o n l.label l.body) (n + 1) raws ls end (around_next here l.body ls) read.1.1
+    closed next.around ∙ next.same
 
-pub unknown_is : (raws : List (List ℕ)) (ls : List Line) (end : Outline) → Reads nothing_read 1 raws ls end → end.place ≡ Outside → end.unknown ≡ unknown_from nothing_named 1 ls
+pub unknown_is : (raws : List (List ℕ)) (ls : List Line) (end : Outline)
+    → Reads nothing_read 1 raws ls end → end.place ≡ Outside
+    → end.unknown ≡ unknown_from nothing_named 1 ls
 unknown_is raws ls end read closed =
-    unknown_in nothing_read 1 raws ls end (record { routines = []; sorts = []; labels = [] }) read closed (record {
+    unknown_in nothing_read 1 raws ls end (record { routines = []; sorts = []; labels = [] }) read
+    closed (record {
       inside = λ opened. absurd (opened refl);
       sorted = λ opened. absurd (opened refl);
-      outside = λ is. record { names = refl; sorts = refl; calls = refl; read = refl; write = refl; control = refl };
+      outside = λ is. record {
+        names = refl;
+        sorts = refl;
+        calls = refl;
+        read = refl;
+        write = refl;
+        control = refl;
+      };
       busy = λ is. cc;
       idle = λ closed. record { labels = refl; steps = refl };
     })

@@ -1,6 +1,6 @@
 -- The instructions of a text in other words: those of a routine are on its lines, in order, a label
--- names the position of the instruction on its line, and a `call` has the number of the routine that
--- it names.
+-- names the position of the instruction on its line, and a `call` has the number of the routine
+-- that it names.
 use Rattle.std.specs.Prelude.{ℕ, ◌≡◌, ◌+◌, Bool, false, bytes_eq, List, [], ◌∷◌, ◌++◌, map, Option, Some, None, option_to_list, unwrap_or, if◌then◌else◌}
 use Rattle.model.specs.declared.instr.Instr.{Instr}
 use Rattle.model.specs.declared.set.Driver.{Driver}
@@ -10,8 +10,6 @@ use Rattle.model.specs.Set.{Set}
 use Rattle.asm_line.specs.declared.line.Body.{Body}
 use Rattle.asm_line.specs.declared.line.Body.TheVariants.{OpenDriver, CloseDriver, OpenRoutine, CloseRoutine, Step}
 use Rattle.asm_line.specs.declared.line.Line.{Line}
-use Rattle.asm_line.specs.declared.line.Target.{Target}
-use Rattle.asm_line.specs.declared.line.Target.TheVariants.{Label, Routine as RoutineNamed}
 use Rattle.asm.specs.declared.routines.Role.TheVariants.{Completion}
 use Rattle.asm.specs.Outline.{routine_named, with_label, with_routine}
 use Rattle.asm.specs.Reading.{IsNamed}
@@ -24,7 +22,8 @@ is_labelled (Some label) name = bytes_eq name label
 
 -- the position that a label names from a line on, where the next instruction has position p
 abbrev pub place_at : List ℕ → ℕ → Option (List ℕ) → Body → (ℕ → Option ℕ) → Option ℕ
-place_at name p label (Step instr target) later = if is_labelled label name then Some p else later (p + 1)
+place_at name p label (Step instr used) later =
+    if is_labelled label name then Some p else later (p + 1)
 place_at name p label _ later = later p
 
 -- the position that a label names: that of the instruction on its line
@@ -32,28 +31,33 @@ abbrev pub label_place : List ℕ → ℕ → List Line → Option ℕ
 label_place name p [] = None
 label_place name p (l ∷ ls) = place_at name p l.label l.body (λ next. label_place name next ls)
 
--- where an instruction on a line of a routine jumps to: the position that its label names; 0 where it
--- doesn't jump
-abbrev pub jump_place : List Line → Target → ℕ
-jump_place routine (Label name) = unwrap_or (label_place name 0 routine) 0
-jump_place routine _ = 0
+-- where an instruction on a line of a routine jumps to: the position that its label names; 0 where
+-- it doesn't jump
+abbrev pub jump_place : List Line → Option (List ℕ) → ℕ
+jump_place routine None = 0
+jump_place routine (Some name) = unwrap_or (label_place name 0 routine) 0
 
 -- the number of the routine that a `call` sets; given are the names and sorts of the driver's
 -- routines, in order
-abbrev pub call_number : List (List ℕ) → List Sort → Target → Option ℕ
-call_number names sorts (RoutineNamed name) = routine_named names sorts Completion name
-call_number names sorts _ = None
+abbrev pub call_number : List (List ℕ) → List Sort → Option (List ℕ) → Option ℕ
+call_number names sorts None = None
+call_number names sorts (Some name) = routine_named names sorts Completion name
 
 -- the instruction on one of the lines of a routine; where it jumps, to the position that its label
--- names among them; where it is a `call`, with the number of the routine that it names in its driver
+-- names among them; where it is a `call`, with the number of the routine that it names in its
+-- driver
 abbrev pub instruction_on : List (List ℕ) → List Sort → List Line → Body → Option Instr
-instruction_on names sorts routine (Step (Some i) target) = Some (with_routine (with_label i (jump_place routine target)) (call_number names sorts target))
+instruction_on names sorts routine (Step (Some i) used) =
+    Some (with_routine (with_label i (jump_place routine used.label))
+    (call_number names sorts used.routine))
 instruction_on names sorts routine _ = None
 
 -- the instructions on some of the lines of a routine
 abbrev pub instructions_on : List (List ℕ) → List Sort → List Line → List Line → List Instr
 instructions_on names sorts routine [] = []
-instructions_on names sorts routine (l ∷ ls) = option_to_list (instruction_on names sorts routine l.body) ++ instructions_on names sorts routine ls
+instructions_on names sorts routine (l ∷ ls) =
+    option_to_list (instruction_on names sorts routine l.body)
+    ++ instructions_on names sorts routine ls
 
 -- a line and those after it, unless it ends the routine
 abbrev pub unless_end : Line → Body → List Line → List Line
@@ -76,18 +80,20 @@ codes_from CloseDriver code after = []
 codes_from (OpenRoutine name sort) code after = code ∷ after
 codes_from _ code after = after
 
--- the codes of the routines from here to the end of the driver, of whose routines the names and sorts
--- are given
+-- the codes of the routines from here to the end of the driver, of whose routines the names and
+-- sorts are given
 abbrev pub routine_codes : List (List ℕ) → List Sort → List Line → List (List Instr)
 routine_codes names sorts [] = []
-routine_codes names sorts (l ∷ ls) = codes_from l.body (routine_code names sorts ls) (routine_codes names sorts ls)
+routine_codes names sorts (l ∷ ls) =
+    codes_from l.body (routine_code names sorts ls) (routine_codes names sorts ls)
 
 -- the codes of the routines of the driver whose lines begin here
 abbrev pub driver_code : List Line → List (List Instr)
 driver_code ls = routine_codes (routines_ahead ls) (sorts_ahead ls) ls
 
 -- the codes of the drivers from a line on: that of the driver which it opens, and those after it
-abbrev pub drivers_from : Body → List (List Instr) → List (List (List Instr)) → List (List (List Instr))
+abbrev pub drivers_from : Body → List (List Instr) → List (List (List Instr))
+    → List (List (List Instr))
 drivers_from (OpenDriver name) codes after = codes ∷ after
 drivers_from _ codes after = after
 

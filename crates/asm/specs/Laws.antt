@@ -1,8 +1,7 @@
 -- The faults of a text in other words: which line is at fault, of which kind, and why.
 use Rattle.std.specs.Prelude.{ℕ, ◌≡◌, ◌<◌, ◌+◌, ◌⊎◌, Bool, true, false, not, ◌&&◌, List, [], ◌∷◌, ◌++◌, length, Option, Some, None, option_to_list, Ok, if◌then◌else◌}
-use Rattle.std.specs.List.{list_all}
-use Rattle.text.specs.Class.{is_token}
-use Rattle.text.specs.Cut.{is_clean, lines_of, tokens_of}
+use Rattle.text.specs.Lexical.{is_lexical}
+use Rattle.text.specs.Cut.{lines_of, tokens_of}
 use Rattle.model.specs.Set.{Set}
 use Rattle.model.specs.declared.set.Sort.{Sort}
 use Rattle.asm.specs.declared.draft.Place.TheVariants.{Outside}
@@ -12,7 +11,6 @@ use Rattle.asm.specs.declared.fault.AsmKind.TheVariants.{Lex, UnknownWord, Dupli
 use Rattle.asm_line.specs.declared.line.Body.{Body}
 use Rattle.asm_line.specs.declared.line.Body.TheVariants.{OpenDriver, CloseDriver, Handle, OpenRoutine, CloseRoutine, AddDevice, Step}
 use Rattle.asm_line.specs.declared.line.Line.{Line}
-use Rattle.asm_line.specs.declared.line.Target.TheVariants.{Label, Routine as RoutineNamed}
 use Rattle.asm.specs.declared.routines.Role.TheVariants.{Handler, Completion}
 use Rattle.asm_line.specs.Line.{line_of, read_line}
 use Rattle.asm.specs.Outline.{Outline, nothing_read, has_room, has_routine, is_again, is_among, is_out_of_range, misfit, noted, stands}
@@ -41,7 +39,7 @@ is_line test (Some l) = test l
 
 -- the line has a fault of this kind, after the lines of which the outline is
 abbrev pub shows : Outline → List ℕ → AsmKind → Bool
-shows o raw Lex = not (is_clean raw && list_all is_token (tokens_of raw))
+shows o raw Lex = not (is_lexical raw)
 shows o raw UnknownWord = is_unknown o (line_of (tokens_of raw))
 shows o raw DuplicateName = is_line (λ l. is_again o l.label l.body) (line_of (tokens_of raw))
 shows o raw OutOfRange = is_line (λ l. is_out_of_range l.body) (line_of (tokens_of raw))
@@ -51,26 +49,29 @@ shows o raw _ = false
 -- of the kinds of fault that the line has, this is the least
 pub record IsLeastKind (o : Outline) (raw : List ℕ) (kind : AsmKind) : Type 0 where
   pub shown : shows o raw kind ≡ true
-  pub least : (lesser : AsmKind) → kind_number lesser < kind_number kind → shows o raw lesser ≡ false
+  pub least : (lesser : AsmKind) → kind_number lesser < kind_number kind
+      → shows o raw lesser ≡ false
 
 -- these are the lines from number n on, each without a fault, and the outline at their end
 abbrev pub Reads : Outline → ℕ → List (List ℕ) → List Line → Outline → Type 0
 Reads o n [] [] end = o ≡ end
 Reads o n (raw ∷ raws) (l ∷ ls) end =
-    (read_line raw ≡ Ok l) × ((misfit o l ≡ None) × Reads (noted o n l.label l.body) (n + 1) raws ls end)
+    (read_line raw ≡ Ok l)
+    × ((misfit o l ≡ None) × Reads (noted o n l.label l.body) (n + 1) raws ls end)
 Reads o n _ _ end = ⊥
 
 -- the first line with a fault, and the least kind of fault that it has
-pub record IsLineFault (o : Outline) (n : ℕ) (raws : List (List ℕ)) (fault : AsmFault) : Type 0 where
-  pub before : List (List ℕ)
-  pub raw : List ℕ
-  pub after : List (List ℕ)
-  pub lines : List Line
-  pub outline : Outline
-  pub split : raws ≡ before ++ raw ∷ after
-  pub read : Reads o n before lines outline
-  pub line : fault.line ≡ n + length before
-  pub kind : IsLeastKind outline raw fault.kind
+pub record IsLineFault (o : Outline) (n : ℕ) (raws : List (List ℕ)) (fault : AsmFault) : Type 0
+  where
+    pub before : List (List ℕ)
+    pub raw : List ℕ
+    pub after : List (List ℕ)
+    pub lines : List Line
+    pub outline : Outline
+    pub split : raws ≡ before ++ raw ∷ after
+    pub read : Reads o n before lines outline
+    pub line : fault.line ≡ n + length before
+    pub kind : IsLeastKind outline raw fault.kind
 
 -- no line has a fault, but the text ends inside a driver or routine
 pub record IsEndFault (o : Outline) (n : ℕ) (raws : List (List ℕ)) (fault : AsmFault) : Type 0 where
@@ -106,7 +107,7 @@ sorts_ahead (l ∷ ls) = sorted_ahead l.body (sorts_ahead ls)
 -- the labels from a line to the end of the routine, after which there are these
 abbrev pub labelled_ahead : Option (List ℕ) → Body → List (List ℕ) → List (List ℕ)
 labelled_ahead label CloseRoutine after = []
-labelled_ahead label (Step instr target) after = option_to_list label ++ after
+labelled_ahead label (Step instr used) after = option_to_list label ++ after
 labelled_ahead label _ after = after
 
 -- the labels from here to the end of the routine
@@ -114,8 +115,9 @@ abbrev pub labels_ahead : List Line → List (List ℕ)
 labels_ahead [] = []
 labels_ahead (l ∷ ls) = labelled_ahead l.label l.body (labels_ahead ls)
 
--- the names that a line may use: of the drivers and devices before it, of the routines in the driver
--- around it, whose sorts are given in the same order, and of the labels in the routine around it
+-- the names that a line may use: of the drivers and devices before it, of the routines in the
+-- driver around it, whose sorts are given in the same order, and of the labels in the routine
+-- around it
 pub record Scope : Type 0 where
   pub drivers : List (List ℕ)
   pub devices : List (List ℕ)
@@ -162,27 +164,35 @@ scope_after s body next = record {
   labels = labels_around s.labels body next;
 }
 
--- a device has no lower one, or one of these
-abbrev pub has_lower : List (List ℕ) → Option (List ℕ) → Bool
-has_lower devices None = true
-has_lower devices (Some lower) = is_among devices lower
+-- there is no name, or it is one of these
+abbrev pub is_known : List (List ℕ) → Option (List ℕ) → Bool
+is_known names None = true
+is_known names (Some name) = is_among names name
+
+-- there is no name, or it is one of a routine that a call may set
+abbrev pub is_callable : Scope → Option (List ℕ) → Bool
+is_callable s None = true
+is_callable s (Some routine) = has_routine s.routines s.sorts Completion routine
 
 -- the line's own number where it uses a name that nothing has: a routine that isn't in the driver
--- around it or isn't of the sort that serves a major function or that a call sets; a driver or lower
--- device that isn't before it; or a label that isn't in the routine around it; else what comes of the
--- lines after it
+-- around it or isn't of the sort that serves a major function or that a call sets; a driver or
+-- lower device that isn't before it; or a label that isn't in the routine around it; else what
+-- comes of the lines after it
 abbrev pub unknown_at : Scope → ℕ → Body → Option ℕ → Option ℕ
-unknown_at s n (Handle major routine) after = if has_routine s.routines s.sorts Handler routine then after else Some n
-unknown_at s n (AddDevice name driver stack lower) after = if is_among s.drivers driver && has_lower s.devices lower then after else Some n
-unknown_at s n (Step instr (Label label)) after = if is_among s.labels label then after else Some n
-unknown_at s n (Step instr (RoutineNamed routine)) after = if has_routine s.routines s.sorts Completion routine then after else Some n
+unknown_at s n (Handle major routine) after = if has_routine s.routines s.sorts Handler routine
+    then after else Some n
+unknown_at s n (AddDevice name driver stack lower) after =
+    if is_among s.drivers driver && is_known s.devices lower then after else Some n
+unknown_at s n (Step instr used) after =
+    if is_known s.labels used.label && is_callable s used.routine then after else Some n
 unknown_at s n _ after = after
 
 -- the first line from number n on that uses a name which nothing has; given are the names that the
 -- first of them may use
 abbrev pub unknown_from : Scope → ℕ → List Line → Option ℕ
 unknown_from s n [] = None
-unknown_from s n (l ∷ ls) = unknown_at s n l.body (unknown_from (scope_after s l.body ls) (n + 1) ls)
+unknown_from s n (l ∷ ls) =
+    unknown_at s n l.body (unknown_from (scope_after s l.body ls) (n + 1) ls)
 
 -- all lines of a text are without a fault, and it ends outside of drivers
 pub record IsRead (text : List ℕ) : Type 0 where
@@ -191,11 +201,14 @@ pub record IsRead (text : List ℕ) : Type 0 where
   pub read : Reads nothing_read 1 (lines_of text) lines outline
   pub closed : outline.place ≡ Outside
 
--- the first fault of a text is the first line that has one, with the least kind that it has, or that
--- the text ends too early; and only where there is none of these, the first use of an unknown name
+-- the first fault of a text is the first line that has one, with the least kind that it has, or
+-- that the text ends too early; and only where there is none of these, the first use of an unknown
+-- name
 pub record IsFirst (text : List ℕ) (fault : AsmFault) : Type 0 where
-  pub other : (fault.kind ≡ UnknownName → ⊥) → IsLineFault nothing_read 1 (lines_of text) fault ⊎ IsEndFault nothing_read 1 (lines_of text) fault
-  pub unknown : fault.kind ≡ UnknownName → (all : IsRead text) × (unknown_from nothing_named 1 all.lines ≡ Some fault.line)
+  pub other : (fault.kind ≡ UnknownName → ⊥) → IsLineFault nothing_read 1 (lines_of text) fault
+      ⊎ IsEndFault nothing_read 1 (lines_of text) fault
+  pub unknown : fault.kind ≡ UnknownName → (all : IsRead text)
+      × (unknown_from nothing_named 1 all.lines ≡ Some fault.line)
 
 -- a text that names a set has no fault
 abbrev pub IsFaultless : List ℕ → Type 0

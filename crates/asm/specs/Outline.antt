@@ -1,8 +1,9 @@
 -- What the lines of a driver text say so far, and what the next line adds to it.
-use Rattle.std.specs.Prelude.{ℕ, ⊤, ◌≡◌, ◌<◌, ◌≤◌, All, map, slice_get, unwrap_or, ◌+◌, min, Bool, true, false, not, ◌&&◌, nat_lt, nat_le, bytes_eq, List, [], ◌∷◌, ◌++◌, length, Option, Some, None, is_some, is_none, option_map, option_and_then, option_to_list, position, if◌then◌else◌}
+use Rattle.std.specs.Prelude.{ℕ, ◌≡◌, ◌<◌, ◌≤◌, All, map, slice_get, unwrap_or, ◌+◌, min, Bool, true, false, not, ◌&&◌, nat_lt, nat_le, bytes_eq, List, [], ◌∷◌, ◌++◌, length, Option, Some, None, is_some, is_none, option_map, option_and_then, option_to_list, position, if◌then◌else◌}
 use Rattle.std.specs.List.{list_any}
 use Rattle.model.specs.declared.instr.Instr.{Instr}
 use Rattle.model.specs.declared.instr.Instr.TheVariants.{JumpIfZero, JumpIfLess, Jump, Call, IfPending}
+use Rattle.model.specs.declared.limits.TheConstants.{MAX_DEVICES, MAX_DRIVERS, MAX_INSTRUCTIONS, MAX_ROUTINES, MAX_STACK}
 use Rattle.model.specs.declared.set.Device.{Device}
 use Rattle.model.specs.declared.set.Driver.{Driver}
 use Rattle.model.specs.declared.set.Routine.{Routine}
@@ -24,15 +25,14 @@ use Rattle.asm.specs.declared.fault.AsmKind.TheVariants.{UnknownWord, DuplicateN
 use Rattle.asm_line.specs.declared.line.Body.{Body}
 use Rattle.asm_line.specs.declared.line.Body.TheVariants.{Blank, OpenDriver, CloseDriver, Handle, OpenRoutine, CloseRoutine, AddDevice, Step}
 use Rattle.asm_line.specs.declared.line.Line.{Line}
-use Rattle.asm_line.specs.declared.line.Target.{Target}
-use Rattle.asm_line.specs.declared.line.Target.TheVariants.{Label, Routine as RoutineNamed}
+use Rattle.asm_line.specs.declared.line.UsedNames.{UsedNames}
 
 -- What was read: the drivers that are closed and the devices, with the names of all of them; of the
 -- open driver its routines that are closed, the names and sorts of all of its routines, the uses of
 -- routines by its calls, and what serves each major function; of the open routine its sort, its
--- labels, the position that each of them names, and its instructions; and the first line that uses a
--- name which nothing has, of those that are weighed already. What is open is empty where nothing is
--- open.
+-- labels, the position that each of them names, and its instructions; and the first line that uses
+-- a name which nothing has, of those that are weighed already. What is open is empty where nothing
+-- is open.
 pub record Outline : Type 0 where
   pub place : Place
   pub driver_names : List (List ℕ)
@@ -91,7 +91,7 @@ stands InDriver CloseDriver = true
 stands InDriver (Handle major routine) = true
 stands InDriver (OpenRoutine name sort) = true
 stands InRoutine CloseRoutine = true
-stands InRoutine (Step instr target) = true
+stands InRoutine (Step instr used) = true
 stands _ _ = false
 
 -- the routine that serves a major function in the open driver, as its line names it
@@ -111,26 +111,25 @@ is_again o label (OpenDriver name) = is_among o.driver_names name
 is_again o label (Handle major routine) = is_some (handler_of o major)
 is_again o label (OpenRoutine name sort) = is_among o.routine_names name
 is_again o label (AddDevice name driver stack lower) = is_among o.device_names name
-is_again o label (Step instr target) = is_known_label o.labels label
+is_again o label (Step instr used) = is_known_label o.labels label
 is_again o label _ = false
 
--- a stack size is 1 to 16
-abbrev pub is_stack_size : Option ℕ → Bool
-is_stack_size None = false
-is_stack_size (Some n) = nat_le 1 n && nat_le n 16
+-- a device may have this stack size
+abbrev pub is_stack_size : ℕ → Bool
+is_stack_size n = nat_le 1 n && nat_le n MAX_STACK
 
 -- an operand of the line is out of range
 abbrev pub is_out_of_range : Body → Bool
 is_out_of_range (AddDevice name driver stack lower) = not (is_stack_size stack)
-is_out_of_range (Step instr target) = is_none instr
+is_out_of_range (Step instr used) = is_none instr
 is_out_of_range _ = false
 
 -- there is room for what the line adds
 abbrev pub has_room : Outline → Body → Bool
-has_room o (OpenDriver name) = nat_lt (length o.driver_names) 8
-has_room o (AddDevice name driver stack lower) = nat_lt (length o.device_names) 16
-has_room o (OpenRoutine name sort) = nat_lt (length o.routine_names) 32
-has_room o (Step instr target) = nat_lt (length o.steps) 1024
+has_room o (OpenDriver name) = nat_lt (length o.driver_names) MAX_DRIVERS
+has_room o (AddDevice name driver stack lower) = nat_lt (length o.device_names) MAX_DEVICES
+has_room o (OpenRoutine name sort) = nat_lt (length o.routine_names) MAX_ROUTINES
+has_room o (Step instr used) = nat_lt (length o.steps) MAX_INSTRUCTIONS
 has_room o _ = true
 
 -- the line's fault in its context: the least kind of those that it has
@@ -174,10 +173,12 @@ abbrev pub number_for : Role → ℕ → Option Sort → Option ℕ
 number_for role number None = None
 number_for role number (Some sort) = if serves role sort then Some number else None
 
--- the number of the routine with this name, if its sort is for the role; given are the names and sorts
--- of the driver's routines, in order
+-- the number of the routine with this name, if its sort is for the role; given are the names and
+-- sorts of the driver's routines, in order
 abbrev pub routine_named : List (List ℕ) → List Sort → Role → List ℕ → Option ℕ
-routine_named names sorts role name = option_and_then (λ number. number_for role number (slice_get sorts number)) (number_of names name)
+routine_named names sorts role name =
+    option_and_then (λ number. number_for role number (slice_get sorts number))
+    (number_of names name)
 
 -- there is a routine with this name, and its sort is for the role
 abbrev pub has_routine : List (List ℕ) → List Sort → Role → List ℕ → Bool
@@ -233,10 +234,11 @@ missed_handler names sorts o =
 -- the first such line of these calls, or the one found already if that is earlier
 abbrev pub missed_calls : List (List ℕ) → List Sort → Option ℕ → List Use → Option ℕ
 missed_calls names sorts found [] = found
-missed_calls names sorts found (u ∷ us) = missed_calls names sorts (earliest found (missed_use names sorts Completion u)) us
+missed_calls names sorts found (u ∷ us) =
+    missed_calls names sorts (earliest found (missed_use names sorts Completion u)) us
 
--- the first line of the open driver that uses a routine which it doesn't have, or one of a sort that
--- isn't for its role
+-- the first line of the open driver that uses a routine which it doesn't have, or one of a sort
+-- that isn't for its role
 abbrev pub missed_routine : Outline → Option ℕ
 missed_routine o =
     earliest (missed_calls o.routine_names o.sorts None o.calls)
@@ -274,7 +276,8 @@ routine_opened o name sort = record o {
 
 -- the position that a label names
 abbrev pub position_of : List (List ℕ) → List ℕ → List ℕ → Option ℕ
-position_of labels positions name = option_and_then (λ k. slice_get positions k) (number_of labels name)
+position_of labels positions name =
+    option_and_then (λ k. slice_get positions k) (number_of labels name)
 
 -- where an instruction jumps to: 0 where nothing has the name, or where it doesn't jump
 abbrev pub target_position : List (List ℕ) → List ℕ → Option Use → ℕ
@@ -306,7 +309,10 @@ missed_from labels found (s ∷ ss) = missed_from labels (earliest found (missed
 abbrev pub routine_closed : Outline → Outline
 routine_closed o = record o {
   place = InDriver;
-  routines = o.routines ++ record { sort = o.sort; code = map (resolved o.labels o.positions) o.steps } ∷ [];
+  routines = o.routines ++ record {
+    sort = o.sort;
+    code = map (resolved o.labels o.positions) o.steps;
+  } ∷ [];
   labels = [];
   positions = [];
   steps = [];
@@ -318,17 +324,22 @@ abbrev pub number_used : List (List ℕ) → Option Use → Option ℕ
 number_used names u = option_and_then (λ u. number_of names u.name) u
 
 -- a device of the driver with this name, if there is one before it
-abbrev pub device_of : Outline → List ℕ → Option ℕ → Option Use → Option Device
+abbrev pub device_of : Outline → List ℕ → ℕ → Option Use → Option Device
 device_of o driver stack lower =
-    option_and_then (λ number. option_map (λ s. record { driver = number; stack = s; lower = number_used o.device_names lower }) stack)
+    option_map (λ number. record {
+      driver = number;
+      stack = stack;
+      lower = number_used o.device_names lower;
+    })
     (number_of o.driver_names driver)
 
 -- `device NAME DRIVER STACK` and `device NAME DRIVER STACK LOWER`
-abbrev pub device_added : Outline → List ℕ → Use → Option ℕ → Option Use → Outline
+abbrev pub device_added : Outline → List ℕ → Use → ℕ → Option Use → Outline
 device_added o name driver stack lower = record o {
   device_names = o.device_names ++ name ∷ [];
   devices = o.devices ++ option_to_list (device_of o driver.name stack lower);
-  unknown = earliest o.unknown (earliest (missed o.driver_names (Some driver)) (missed o.device_names lower));
+  unknown = earliest o.unknown
+      (earliest (missed o.driver_names (Some driver)) (missed o.device_names lower));
 }
 
 -- a label, if there is one: it names the position of the next instruction
@@ -342,36 +353,28 @@ label_added o label = record o {
 abbrev pub used_at : ℕ → Option (List ℕ) → Option Use
 used_at n name = option_map (λ name. record { line = n; name = name }) name
 
--- the use of a label in a line, if its instruction jumps
-abbrev pub label_used : ℕ → Target → Option Use
-label_used n (Label name) = Some (record { line = n; name = name })
-label_used n _ = None
+-- the place of the use of a routine among those of a driver's calls, which were so many
+abbrev pub call_place : ℕ → Option (List ℕ) → Option ℕ
+call_place count routine = option_map (λ name. count) routine
 
--- the use of a routine in a line, if its instruction is a call that sets one
-abbrev pub call_used : ℕ → Target → Option Use
-call_used n (RoutineNamed name) = Some (record { line = n; name = name })
-call_used n _ = None
+-- the use of a routine by a call in a line, if there is one
+abbrev pub call_added : Outline → ℕ → Option (List ℕ) → Outline
+call_added o n routine = record o { calls = o.calls ++ option_to_list (used_at n routine) }
 
--- the place of that use among those of a driver's calls, which were so many
-abbrev pub call_place : ℕ → Target → Option ℕ
-call_place count (RoutineNamed name) = Some count
-call_place count _ = None
-
--- an instruction, with the use of its label and the place of its call
-abbrev pub step_pushed : Outline → Instr → Option Use → Option ℕ → Outline
-step_pushed o instr label call = record o {
-  steps = o.steps ++ (record { instr = instr; label = label; call = call }) ∷ [];
+-- an instruction, and the names that it uses
+abbrev pub step_added : Outline → ℕ → Instr → UsedNames → Outline
+step_added o n instr used = record (call_added o n used.routine) {
+  steps = o.steps
+      ++ (record {
+        instr = instr;
+        label = used_at n used.label;
+        call = call_place (length o.calls) used.routine;
+      }) ∷ [];
 }
 
--- an instruction, and the name that it uses
-abbrev pub step_added : Outline → ℕ → Instr → Target → Outline
-step_added o n instr target = record (step_pushed o instr (label_used n target) (call_place (length o.calls) target)) {
-  calls = o.calls ++ option_to_list (call_used n target);
-}
-
--- an instruction with its label, and the name that it uses
-abbrev pub stepped : Outline → ℕ → Option (List ℕ) → Instr → Target → Outline
-stepped o n label instr target = step_added (label_added o label) n instr target
+-- an instruction with its label, and the names that it uses
+abbrev pub stepped : Outline → ℕ → Option (List ℕ) → Instr → UsedNames → Outline
+stepped o n label instr used = step_added (label_added o label) n instr used
 
 -- what is read with a line more, whose number is n
 abbrev pub noted : Outline → ℕ → Option (List ℕ) → Body → Outline
@@ -381,9 +384,10 @@ noted o n label CloseDriver = driver_closed o
 noted o n label (Handle major routine) = handled o (record { line = n; name = routine }) major
 noted o n label (OpenRoutine name sort) = routine_opened o name sort
 noted o n label CloseRoutine = routine_closed o
-noted o n label (AddDevice name driver stack lower) = device_added o name (record { line = n; name = driver }) stack (used_at n lower)
-noted o n label (Step (Some instr) target) = stepped o n label instr target
-noted o n label (Step None target) = o
+noted o n label (AddDevice name driver stack lower) =
+    device_added o name (record { line = n; name = driver }) stack (used_at n lower)
+noted o n label (Step (Some instr) used) = stepped o n label instr used
+noted o n label (Step None used) = o
 
 -- how many drivers are open in a place
 abbrev pub open_drivers : Place → ℕ
@@ -405,32 +409,28 @@ open_sort InRoutine sort = sort ∷ []
 
 -- a closed routine is within the limits, its labels are among its positions, and its operands fit
 pub record ClosedFits (routine : ClosedRoutine) : Type 0 where
-  pub few : length routine.code ≤ 1024
+  pub few : length routine.code ≤ MAX_INSTRUCTIONS
   pub labels : All (λ (step : Linked). LabelFits (length routine.code) step.instr) routine.code
   pub operands : All (λ (step : Linked). OperandFits step.instr) routine.code
-
--- the operands of a line's instruction fit, if it has one
-abbrev pub BodyFits : Body → Type 0
-BodyFits (Step (Some instr) target) = OperandFits instr
-BodyFits _ = ⊤
 
 -- each device has the number of its name, and all of them fit
 pub record DevicesKnown (o : Outline) : Type 0 where
   pub count : length o.devices ≡ length o.device_names
   pub fit : DevicesFit (length o.driver_names) 0 o.devices
 
--- what was read is within the limits of a set, and its numbers name things, those of its devices where
--- no name is unknown
+-- what was read is within the limits of a set, and its numbers name things, those of its devices
+-- where no name is unknown
 pub record IsOrderly (o : Outline) : Type 0 where
-  pub few_drivers : length o.driver_names ≤ 8
-  pub few_devices : length o.device_names ≤ 16
-  pub few_routines : length o.routine_names ≤ 32
-  pub few_steps : length o.steps ≤ 1024
+  pub few_drivers : length o.driver_names ≤ MAX_DRIVERS
+  pub few_devices : length o.device_names ≤ MAX_DEVICES
+  pub few_routines : length o.routine_names ≤ MAX_ROUTINES
+  pub few_steps : length o.steps ≤ MAX_INSTRUCTIONS
   pub positions_fit : All (λ position. position < length o.steps) o.positions
   pub operands_fit : All (λ (step : StepOf). OperandFits step.instr) o.steps
   pub driver_count : length o.drivers + open_drivers o.place ≡ length o.driver_names
   pub routine_count : length o.routines + open_routines o.place ≡ length o.routine_names
-  pub sorts_known : map (λ (routine : ClosedRoutine). routine.sort) o.routines ++ open_sort o.place o.sort ≡ o.sorts
+  pub sorts_known : map (λ (routine : ClosedRoutine). routine.sort) o.routines
+      ++ open_sort o.place o.sort ≡ o.sorts
   pub drivers_fit : All DriverFits o.drivers
   pub devices_known : o.unknown ≡ None → DevicesKnown o
   pub routines_fit : All ClosedFits o.routines

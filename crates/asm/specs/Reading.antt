@@ -38,7 +38,8 @@ ended o n Outside = Ok o
 ended o n _ = Err (record { line = n; kind = Unclosed })
 
 -- what follows a line, whose number is n
-abbrev pub after_line : ℕ → Result Outline AsmKind → (Outline → Result Outline AsmFault) → Result Outline AsmFault
+abbrev pub after_line : ℕ → Result Outline AsmKind → (Outline → Result Outline AsmFault)
+    → Result Outline AsmFault
 after_line n (Ok o) rest = rest o
 after_line n (Err kind) rest = Err (record { line = n; kind = kind })
 

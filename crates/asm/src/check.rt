@@ -7,7 +7,7 @@ use crate::draft::{Draft, Place, Use};
 use crate::fault::AsmKind;
 use crate::names::{is_among, is_known};
 use asm_line::{Body, Line};
-use model::limits::{MAX_DEVICES, MAX_DRIVERS, MAX_INSTRUCTIONS, MAX_ROUTINES};
+use model::limits::{MAX_DEVICES, MAX_DRIVERS, MAX_INSTRUCTIONS, MAX_ROUTINES, MAX_STACK};
 use model::status::Major;
 
 impl<'a> Draft<'a> {
@@ -94,12 +94,9 @@ fn is_out_of_range(body: &Body<'_>) -> bool
     }
 }
 
-/// Whether a stack size is 1 to 16.
-fn is_stack_size(stack: Option<u64>) -> bool
+/// Whether a device may have this stack size.
+fn is_stack_size(stack: u64) -> bool
     ensures { result ≡ is_stack_size stack }
 {
-    match stack {
-        Some(stack) => 1 <= stack && stack <= 16,
-        None => false,
-    }
+    1 <= stack && stack <= MAX_STACK as u64
 }

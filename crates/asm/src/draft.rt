@@ -26,9 +26,9 @@ pub struct Use<'a> {
     pub name: Piece<'a>,
 }
 
-/// An instruction of the open routine. Where it jumps, `label` is the use of its label's name; where
-/// it is a `call` that sets a routine, `call` is the place of the use of that routine's name among
-/// those of the open driver's calls.
+/// An instruction of the open routine. Where it jumps, `label` is the use of its label's name;
+/// where it is a `call` that sets a routine, `call` is the place of the use of that routine's name
+/// among those of the open driver's calls.
 #[derive(Drop)]
 pub struct Step<'a> {
     pub instr: Instr,

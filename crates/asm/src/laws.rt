@@ -17,9 +17,9 @@ pub fn named_is_faultless()
     ensures { NamedIsFaultless }
 {}
 
-/// A routine of a set that a text names has the instructions on its lines, in order. Each of them that
-/// jumps has the position of the instruction on the line of its label, and each `call` has the number
-/// of the routine that it names.
+/// A routine of a set that a text names has the instructions on its lines, in order. Each of them
+/// that jumps has the position of the instruction on the line of its label, and each `call` has the
+/// number of the routine that it names.
 #[tactic(auto, using(crate::proofs::Written::code_is_of_its_lines))]
 pub fn code_is_of_its_lines()
     ensures { CodeIsOfItsLines }

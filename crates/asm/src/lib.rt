@@ -1,7 +1,8 @@
 //! The assembler: reads a driver text and makes the driver set that it names, or names its fault.
 //!
-//! Faults are sought in two readings. The first seeks all kinds but unknown names: the least line,
-//! on it the least kind. Only where it finds none, the least line that uses an unknown name.
+//! The lines are read once, in order. The first fault of any kind but an unknown name ends the
+//! reading: the least line, on it the least kind. The least line that uses an unknown name is noted
+//! on the way, as drivers and routines are closed, and told only where there is no other fault.
 #![tactic(auto)]
 
 mod check;
@@ -16,6 +17,3 @@ mod routines;
 
 pub use fault::{AsmFault, AsmKind};
 pub use reading::assemble;
-
-#[cfg(test)]
-mod tests;

@@ -17,7 +17,8 @@ pub fn linked(
     positions: &[u16],
     steps: &[Step<'_>],
 ) -> Result<Vec<Linked>, AllocError>
-    ensures { IfOk result (λ code. code.items ≡ map (resolved labels.now.keys positions.now) steps.now) }
+    ensures { IfOk result
+        (λ code. code.items ≡ map (resolved labels.now.keys positions.now) steps.now) }
 {
     let mut code = Vec::new(alloc);
     for step in steps {
@@ -66,8 +67,8 @@ fn position_of(labels: &IndexSet<Piece<'_>>, positions: &[u16], name: &Piece<'_>
     positions.get(labels.get_index_of(name)?).copied()
 }
 
-/// The earliest line of these steps that uses a label which isn't there, or the one found already if
-/// that is earlier.
+/// The earliest line of these steps that uses a label which isn't there, or the one found already
+/// if that is earlier.
 pub fn missed_from(
     labels: &IndexSet<Piece<'_>>,
     found: Option<u64>,

@@ -1,6 +1,6 @@
 //! Names and what they number.
 
-ghost use Rattle.std.specs.Prelude.{◌≡◌, ◌≤◌, ◌++◌, [], ◌∷◌, false, length, OnOk, option_to_list};
+ghost use Rattle.std.specs.Prelude.{◌≡◌, ◌≤◌, ◌^◌, ◌++◌, [], ◌∷◌, false, length, OnOk, option_to_list};
 ghost use Rattle.asm.specs.Outline.{earliest, is_among, is_known_label, missed, number_of, number_used, used_at};
 
 use crate::draft::Use;
@@ -27,7 +27,7 @@ pub fn is_known(labels: &IndexSet<Piece<'_>>, label: &Option<Piece<'_>>) -> bool
 
 /// What the name is the number of.
 pub fn number_of(names: &IndexSet<Piece<'_>>, name: &Piece<'_>) -> Option<u8>
-    requires { length names.now.keys ≤ 32 }
+    requires { length names.now.keys ≤ 2 ^ 8 }
     ensures { result ≡ number_of names.now.keys name.now }
 {
     let number = names.get_index_of(name)?;
@@ -36,7 +36,7 @@ pub fn number_of(names: &IndexSet<Piece<'_>>, name: &Piece<'_>) -> Option<u8>
 
 /// What the name that is used, if one is, is the number of.
 pub fn number_used(names: &IndexSet<Piece<'_>>, used: &Option<Use<'_>>) -> Option<u8>
-    requires { length names.now.keys ≤ 32 }
+    requires { length names.now.keys ≤ 2 ^ 8 }
     ensures { result ≡ number_used names.now.keys used.now }
 {
     match used {

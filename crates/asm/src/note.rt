@@ -1,12 +1,13 @@
 //! What a line adds to what was read.
 
-ghost use Rattle.std.specs.Prelude.{◌≡◌, ◌≤◌, ◌<◌, false, true, length, OnOk};
-ghost use Rattle.asm.specs.Outline.{device_added, device_of, driver_closed, driver_opened, handled, is_among, is_known_label, is_stack_size, label_added, noted, routine_closed, routine_opened, step_added, step_pushed, stepped, IsFitting, IsOrderly};
+ghost use Rattle.std.specs.Prelude.{◌≡◌, ◌≤◌, ◌<◌, ◌++◌, false, true, length, option_to_list, IfOk, OnOk};
+ghost use Rattle.model.specs.declared.limits.TheConstants.{MAX_DEVICES, MAX_DRIVERS, MAX_INSTRUCTIONS, MAX_ROUTINES};
+ghost use Rattle.asm.specs.Outline.{call_added, call_place, device_added, device_of, driver_closed, driver_opened, handled, is_among, is_known_label, is_stack_size, label_added, noted, routine_closed, routine_opened, step_added, stepped, used_at, IsFitting, IsOrderly};
 
 use crate::draft::{ClosedRoutine, Draft, Place, Step, Use};
 use crate::link::{linked, missed_from};
 use crate::names::{add, earliest, missed, number_of, number_used, push_some, used_at};
-use asm_line::{Body, Line, Target};
+use asm_line::{Body, Line, UsedNames};
 use model::instr::Instr;
 use model::items::Items;
 use model::set::{Device, Sort};
@@ -40,8 +41,8 @@ impl<'a> Draft<'a> {
                 };
                 self.add_device(name, used, stack, used_at(number, lower))
             }
-            Body::Step(instr, target) => match instr {
-                Some(instr) => self.step(number, label, instr, target),
+            Body::Step(instr, used) => match instr {
+                Some(instr) => self.step(number, label, instr, used),
                 None => Ok(()),
             },
         }
@@ -59,7 +60,7 @@ impl<'a> Draft<'a> {
 
     /// `endd`.
     fn close_driver(&mut self, alloc: Global) -> Result<(), AllocError>
-        requires { length self.old.routine_names ≤ 32 }
+        requires { length self.old.routine_names ≤ MAX_ROUTINES }
         ensures { OnOk result (self.new ≡ driver_closed self.old) }
     {
         let driver = self.finished_driver(alloc)?;
@@ -122,14 +123,15 @@ impl<'a> Draft<'a> {
         &mut self,
         name: Piece<'a>,
         driver: Use<'a>,
-        stack: Option<u64>,
+        stack: u64,
         lower: Option<Use<'a>>,
     ) -> Result<(), AllocError>
         requires fresh { is_among self.old.device_names name ≡ false }
-        requires few_drivers { length self.old.driver_names ≤ 32 }
-        requires few_devices { length self.old.device_names ≤ 32 }
+        requires few_drivers { length self.old.driver_names ≤ MAX_DRIVERS }
+        requires few_devices { length self.old.device_names ≤ MAX_DEVICES }
         requires stack { is_stack_size stack ≡ true }
-        ensures { OnOk result (self.new ≡ device_added self.old name.entry driver.entry stack lower.entry) }
+        ensures { OnOk result
+            (self.new ≡ device_added self.old name.entry driver.entry stack lower.entry) }
     {
         let device = self.device_of(&driver.name, stack, &lower);
         push_some(&mut self.devices, device)?;
@@ -140,73 +142,72 @@ impl<'a> Draft<'a> {
     }
 
     /// A device of the driver with this name, if there is one before it.
-    fn device_of(
-        &self,
-        driver: &Piece<'a>,
-        stack: Option<u64>,
-        lower: &Option<Use<'a>>,
-    ) -> Option<Device>
-        requires few_drivers { length self.now.driver_names ≤ 32 }
-        requires few_devices { length self.now.device_names ≤ 32 }
+    fn device_of(&self, driver: &Piece<'a>, stack: u64, lower: &Option<Use<'a>>) -> Option<Device>
+        requires few_drivers { length self.now.driver_names ≤ MAX_DRIVERS }
+        requires few_devices { length self.now.device_names ≤ MAX_DEVICES }
         requires stack { is_stack_size stack ≡ true }
         ensures { result ≡ device_of self.now driver.now stack lower.now }
     {
         let number = number_of(&self.driver_names, driver)?;
         Some(Device {
             driver: number,
-            stack: stack? as u8,
+            stack: stack as u8,
             lower: number_used(&self.device_names, lower),
         })
     }
 
-    /// An instruction with its label, and the name that it uses.
+    /// An instruction with its label, and the names that it uses.
     fn step(
         &mut self,
         number: u64,
         label: Option<Piece<'a>>,
         instr: Instr,
-        target: Target<'a>,
+        used: UsedNames<'a>,
     ) -> Result<(), AllocError>
         requires fresh { is_known_label self.old.labels label ≡ false }
-        requires room { length self.old.steps < 1024 }
-        ensures { OnOk result (self.new ≡ stepped self.old number label.entry instr target.entry) }
+        requires room { length self.old.steps < MAX_INSTRUCTIONS }
+        ensures { OnOk result (self.new ≡ stepped self.old number label.entry instr used.entry) }
     {
         self.add_label(label)?;
-        self.add_step(number, instr, target)
+        self.add_step(number, instr, used)
     }
 
-    /// An instruction, and the name that it uses.
-    fn add_step(&mut self, number: u64, instr: Instr, target: Target<'a>) -> Result<(), AllocError>
-        ensures { OnOk result (self.new ≡ step_added self.old number instr target.entry) }
+    /// An instruction, and the names that it uses.
+    fn add_step(&mut self, number: u64, instr: Instr, used: UsedNames<'a>) -> Result<(), AllocError>
+        ensures { OnOk result (self.new ≡ step_added self.old number instr used.entry) }
     {
-        match target {
-            Target::Nothing => self.push_step(instr, None, None),
-            Target::Label(name) => self.push_step(instr, Some(Use { line: number, name }), None),
-            Target::Routine(name) => {
-                let place = self.calls.len();
-                self.calls.push(Use { line: number, name })?;
-                self.push_step(instr, None, Some(place))
-            }
-        }
-    }
-
-    /// An instruction, with the use of its label and the place of its call.
-    fn push_step(
-        &mut self,
-        instr: Instr,
-        label: Option<Use<'a>>,
-        call: Option<usize>,
-    ) -> Result<(), AllocError>
-        ensures { OnOk result (self.new ≡ step_pushed self.old instr label.entry call) }
-    {
-        self.steps.push(Step { instr, label, call })?;
+        let UsedNames { label, routine } = used;
+        let call = self.add_call(number, routine)?;
+        self.steps.push(Step {
+            instr,
+            label: used_at(number, label),
+            call,
+        })?;
         Ok(())
+    }
+
+    /// The use of a routine by a call, if there is one, and its place.
+    fn add_call(
+        &mut self,
+        number: u64,
+        routine: Option<Piece<'a>>,
+    ) -> Result<Option<usize>, AllocError>
+        ensures calls { OnOk result (self.new ≡ call_added self.old number routine.entry) }
+        ensures place { IfOk result
+            (λ place. place ≡ call_place (length self.old.calls) routine.entry) }
+    {
+        let Some(name) = routine else {
+            return Ok(None);
+        };
+        let place = self.calls.len();
+        self.calls.push(Use { line: number, name })?;
+        Ok(Some(place))
     }
 
     /// A label, if there is one, which is new: it stands for the position of the next instruction.
     fn add_label(&mut self, label: Option<Piece<'a>>) -> Result<(), AllocError>
         requires fresh { is_known_label self.old.labels label ≡ false }
-        requires room { length self.old.steps < 1024 }
+        requires room { length self.old.steps < MAX_INSTRUCTIONS }
         ensures { OnOk result (self.new ≡ label_added self.old label.entry) }
     {
         match label {

@@ -1,16 +1,14 @@
 //! The text read line by line, and the set that it names.
 
 ghost use Rattle.std.specs.Prelude.{◌≡◌, ◌⊎◌, ℕ, IfOk, MatchResult, OnOk, Ok, Err};
-ghost use Rattle.asm.specs.Outline.{nothing_read, BodyFits, IsOrderly};
-ghost use Rattle.model.specs.Sound.{OperandFits};
+ghost use Rattle.asm.specs.Outline.{nothing_read, IsOrderly};
 ghost use Rattle.asm.specs.declared.draft.Place.{Place};
 ghost use Rattle.asm.specs.Reading.{kind_of, memory, read_on, reading, resolved, set_in, IsFaultOf, IsNamed};
 
 use crate::draft::{Draft, Place};
 use crate::fault::{AsmFault, AsmKind};
-use asm_line::{Body, LineFault, read_line};
+use asm_line::{LineFault, read_line};
 use image::DriverSet;
-use model::instr::Instr;
 use std::alloc::{AllocError, Global};
 use text::cut::lines;
 use text::piece::Piece;
@@ -19,9 +17,11 @@ use text::piece::Piece;
 ///
 /// # Errors
 ///
-/// The text's first fault. `Memory` comes exactly where a growth was refused, which may be anywhere.
+/// The text's first fault. `Memory` comes exactly where a growth was refused, which may be
+/// anywhere.
 pub fn assemble(alloc: Global, text: &[u8]) -> Result<DriverSet, AsmFault>
-    ensures { MatchResult result (λ set. IsNamed text.now set) (λ fault. (fault ≡ memory) ⊎ IsFaultOf text.now fault) }
+    ensures { MatchResult result (λ set. IsNamed text.now set)
+        (λ fault. (fault ≡ memory) ⊎ IsFaultOf text.now fault) }
 {
     match set_in(alloc, text) {
         Ok(answer) => answer,
@@ -53,7 +53,9 @@ impl<'a> Draft<'a> {
         raws: &[Piece<'a>],
     ) -> Result<Result<(), AsmFault>, AllocError>
         requires { IsOrderly self.old }
-        ensures read { IfOk result (λ answer. MatchResult answer (λ _. reading self.old 1 raws.now ≡ Ok self.new) (λ fault. reading self.old 1 raws.now ≡ Err fault)) }
+        ensures read { IfOk result
+            (λ answer. MatchResult answer (λ _. reading self.old 1 raws.now ≡ Ok self.new)
+            (λ fault. reading self.old 1 raws.now ≡ Err fault)) }
         ensures closed { IfOk result (λ answer. OnOk answer (self.new.place ≡ Place.Outside)) }
         ensures orderly { IfOk result (λ answer. OnOk answer (IsOrderly self.new)) }
     {
@@ -81,17 +83,18 @@ impl<'a> Draft<'a> {
         raw: &'a [u8],
     ) -> Result<Result<(), AsmKind>, AllocError>
         requires { IsOrderly self.old }
-        ensures read { IfOk result (λ answer. MatchResult answer (λ _. read_on self.old number raw.now ≡ Ok self.new) (λ kind. read_on self.old number raw.now ≡ Err kind)) }
+        ensures read { IfOk result
+            (λ answer. MatchResult answer (λ _. read_on self.old number raw.now ≡ Ok self.new)
+            (λ kind. read_on self.old number raw.now ≡ Err kind)) }
         ensures orderly { IfOk result (λ answer. OnOk answer (IsOrderly self.new)) }
     {
-        let line = match read_line(alloc, raw)? {
+        let line = match read_line(raw) {
             Ok(line) => line,
             Err(fault) => return Ok(Err(kind_of(fault))),
         };
         if let Some(kind) = self.misfit(&line) {
             return Ok(Err(kind));
         }
-        operands_fit(&line.body);
         self.note(alloc, number, line)?;
         Ok(Ok(()))
     }
@@ -119,33 +122,6 @@ impl<'a> Draft<'a> {
             Ok(set) => Ok(set),
             Err(_) => unreachable!(),
         }
-    }
-}
-
-/// The operands of a line's instruction fit, as their types keep them.
-fn operands_fit(body: &Body<'_>)
-    ensures { BodyFits body.now }
-{
-    if let Body::Step(Some(instr), _) = body {
-        operand_fits(*instr);
-    }
-}
-
-/// The operands of an instruction fit.
-fn operand_fits(instr: Instr)
-    ensures { OperandFits instr }
-{
-    match instr {
-        Instr::Move(register, _) => {
-            let _place = register.index();
-        }
-        Instr::Loop(turns) => {
-            let _count = turns.count();
-        }
-        Instr::Acquire(lock) | Instr::Release(lock) => {
-            let _place = lock.index();
-        }
-        _ => {}
     }
 }
 

@@ -1,6 +1,7 @@
 //! The routines of a driver put in place of their names, once all of them are known.
 
 ghost use Rattle.std.specs.Prelude.{◌≡◌, ◌≤◌, length, map, IfOk, None};
+ghost use Rattle.model.specs.declared.limits.TheConstants.{MAX_ROUTINES};
 ghost use Rattle.asm.specs.Outline.{called, finished, handler_in, missed_calls, missed_entry, missed_handler, missed_routine, missed_use, number_for, finished_driver, routine_called, routine_named, serves, with_routine};
 
 use crate::draft::{ClosedRoutine, Draft, Linked, Use};
@@ -39,7 +40,7 @@ fn routine_named(
     role: Role,
     name: &Piece<'_>,
 ) -> Option<u8>
-    requires { length names.now.keys ≤ 32 }
+    requires { length names.now.keys ≤ MAX_ROUTINES }
     ensures { result ≡ routine_named names.now.keys sorts.now role name.now }
 {
     let number = number_of(names, name)?;
@@ -73,10 +74,10 @@ fn with_routine(instr: Instr, routine: Option<u8>) -> Instr
 }
 
 impl<'a> Draft<'a> {
-    /// The first line of the open driver that uses a routine which it doesn't have, or one of a sort
-    /// that isn't for its role.
+    /// The first line of the open driver that uses a routine which it doesn't have, or one of a
+    /// sort that isn't for its role.
     pub fn missed_routine(&self) -> Option<u64>
-        requires { length self.now.routine_names ≤ 32 }
+        requires { length self.now.routine_names ≤ MAX_ROUTINES }
         ensures { result ≡ missed_routine self.now }
     {
         earliest(self.missed_calls(), self.missed_handler())
@@ -84,7 +85,7 @@ impl<'a> Draft<'a> {
 
     /// The first line that names such a routine for a major function.
     fn missed_handler(&self) -> Option<u64>
-        requires { length self.now.routine_names ≤ 32 }
+        requires { length self.now.routine_names ≤ MAX_ROUTINES }
         ensures { result ≡ missed_handler self.now.routine_names self.now.sorts self.now }
     {
         let read = self.missed_entry(&self.read);
@@ -95,7 +96,7 @@ impl<'a> Draft<'a> {
 
     /// The line of a table entry that names such a routine.
     fn missed_entry(&self, entry: &Option<Use<'a>>) -> Option<u64>
-        requires { length self.now.routine_names ≤ 32 }
+        requires { length self.now.routine_names ≤ MAX_ROUTINES }
         ensures { result ≡ missed_entry self.now.routine_names self.now.sorts entry.now }
     {
         match entry {
@@ -106,7 +107,7 @@ impl<'a> Draft<'a> {
 
     /// The line of this use of a name, if it names such a routine.
     fn missed_use(&self, role: Role, used: &Use<'a>) -> Option<u64>
-        requires { length self.now.routine_names ≤ 32 }
+        requires { length self.now.routine_names ≤ MAX_ROUTINES }
         ensures { result ≡ missed_use self.now.routine_names self.now.sorts role used.now }
     {
         if self.routine_named(role, &used.name).is_some() {
@@ -118,7 +119,7 @@ impl<'a> Draft<'a> {
 
     /// The first call that names such a routine.
     fn missed_calls(&self) -> Option<u64>
-        requires { length self.now.routine_names ≤ 32 }
+        requires { length self.now.routine_names ≤ MAX_ROUTINES }
         ensures { result ≡ missed_calls self.now.routine_names self.now.sorts None self.now.calls }
     {
         let mut found = None;
@@ -130,7 +131,7 @@ impl<'a> Draft<'a> {
 
     /// The open driver, whose routines are all closed.
     pub fn finished_driver(&self, alloc: Global) -> Result<Driver, AllocError>
-        requires { length self.now.routine_names ≤ 32 }
+        requires { length self.now.routine_names ≤ MAX_ROUTINES }
         ensures { IfOk result (λ driver. driver ≡ finished_driver self.now) }
     {
         Ok(Driver {
@@ -143,7 +144,7 @@ impl<'a> Draft<'a> {
 
     /// The number of the routine that serves a major function.
     fn handler_in(&self, entry: &Option<Use<'a>>) -> Option<u8>
-        requires { length self.now.routine_names ≤ 32 }
+        requires { length self.now.routine_names ≤ MAX_ROUTINES }
         ensures { result ≡ handler_in self.now.routine_names self.now.sorts entry.now }
     {
         match entry {
@@ -154,7 +155,7 @@ impl<'a> Draft<'a> {
 
     /// The number of the open driver's routine with this name, if its sort is for the role.
     fn routine_named(&self, role: Role, name: &Piece<'a>) -> Option<u8>
-        requires { length self.now.routine_names ≤ 32 }
+        requires { length self.now.routine_names ≤ MAX_ROUTINES }
         ensures { result ≡ routine_named self.now.routine_names self.now.sorts role name.now }
     {
         routine_named(&self.routine_names, &self.sorts, role, name)
@@ -162,8 +163,9 @@ impl<'a> Draft<'a> {
 
     /// The open driver's routines, whose calls have the numbers of their routines.
     fn finished_routines(&self, alloc: Global) -> Result<Vec<Routine>, AllocError>
-        requires { length self.now.routine_names ≤ 32 }
-        ensures { IfOk result (λ routines. routines.items ≡ map (finished self.now) self.now.routines) }
+        requires { length self.now.routine_names ≤ MAX_ROUTINES }
+        ensures { IfOk result
+            (λ routines. routines.items ≡ map (finished self.now) self.now.routines) }
     {
         let mut routines = Vec::new(alloc);
         for routine in &self.routines {
@@ -174,7 +176,7 @@ impl<'a> Draft<'a> {
 
     /// A routine whose calls have the numbers of their routines.
     fn finished(&self, alloc: Global, routine: &ClosedRoutine) -> Result<Routine, AllocError>
-        requires { length self.now.routine_names ≤ 32 }
+        requires { length self.now.routine_names ≤ MAX_ROUTINES }
         ensures { IfOk result (λ whole. whole ≡ finished self.now routine.now) }
     {
         Ok(Routine {
@@ -185,7 +187,7 @@ impl<'a> Draft<'a> {
 
     /// Instructions whose calls have the numbers of their routines.
     fn code_of(&self, alloc: Global, steps: &[Linked]) -> Result<Vec<Instr>, AllocError>
-        requires { length self.now.routine_names ≤ 32 }
+        requires { length self.now.routine_names ≤ MAX_ROUTINES }
         ensures { IfOk result (λ code. code.items ≡ map (called self.now) steps.now) }
     {
         let mut code = Vec::new(alloc);
@@ -197,7 +199,7 @@ impl<'a> Draft<'a> {
 
     /// The number of the routine that the call of this place sets.
     fn routine_called(&self, call: Option<usize>) -> Option<u8>
-        requires { length self.now.routine_names ≤ 32 }
+        requires { length self.now.routine_names ≤ MAX_ROUTINES }
         ensures { result ≡ routine_called self.now call }
     {
         let used = self.calls.get(call?)?;

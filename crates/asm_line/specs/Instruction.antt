@@ -1,108 +1,44 @@
--- The instruction that a keyword makes of its operands.
-use Rattle.std.specs.Prelude.{ℕ, Option, Some, None, option_map, option_and_then}
-use Rattle.model.specs.declared.instr.Field.{Field}
+-- The instructions of a driver text, each by its word and what stands behind it.
+use Rattle.std.specs.Prelude.{ℕ, List, bytes_eq, codes, None, if◌then◌else◌}
 use Rattle.model.specs.declared.instr.Instr.{Instr}
 use Rattle.model.specs.declared.instr.Instr.TheVariants.{Const, Move, Clear, Add, Subtract, JumpIfZero, JumpIfLess, Jump, Loop, End, Load, Store, LoadPaged, StorePaged, Get, Put, Mark, Acquire, Release, AcquireCancel, ReleaseCancel, Pass, Call, Complete, IfPending, Ret}
-use Rattle.model.specs.declared.instr.Return.TheVariants.{WithStatus as ReturnStatus, Lower as ReturnLower, Continue as ReturnContinue}
-use Rattle.model.specs.declared.status.Status.{Status}
-use Rattle.asm_line.specs.declared.line.Keyword.{Keyword}
-use Rattle.asm_line.specs.declared.line.Keyword.TheVariants as word
-use Rattle.asm_line.specs.declared.line.Arg.{Arg}
-use Rattle.asm_line.specs.declared.line.ReturnWord.{ReturnWord}
-use Rattle.asm_line.specs.declared.line.ReturnWord.TheVariants as word_of_return
-use Rattle.asm_line.specs.declared.line.Target.{Target}
-use Rattle.asm_line.specs.declared.line.Target.TheVariants.{Nothing, Label, Routine}
-use Rattle.asm_line.specs.declared.line.Arg.TheVariants.{Absent, Named, InRegister, OnLock, InCell, Constant, SoManyTurns, OfField, WithStatus}
+use Rattle.asm_line.specs.Cursor.{Reading, so_far, one, two, three, called, cell, constant, field, label, paged_cell, register, returned, spin_lock, status, turns}
+use Rattle.asm_line.specs.declared.cursor.Cursor.{Cursor}
 
--- the register that an operand is, if it is in range
-abbrev pub register_in : Arg → Option ℕ
-register_in (InRegister register) = register
-register_in _ = None
+-- what is done with packets
+abbrev pub on_packets : List ℕ → Cursor → Reading Instr
+on_packets t c =
+    if bytes_eq t (codes "get") then three Get register register field c else
+    (if bytes_eq t (codes "put") then two Put register register c else
+    (if bytes_eq t (codes "mark") then one Mark register c else
+    (if bytes_eq t (codes "pass") then one Pass register c else
+    (if bytes_eq t (codes "call") then two Call register called c else
+    (if bytes_eq t (codes "complete") then two Complete register status c else
+    (if bytes_eq t (codes "ifpending") then two IfPending register label c else
+    (if bytes_eq t (codes "ret") then one Ret returned c else None)))))))
 
--- the spin lock that an operand is, if it is in range
-abbrev pub lock_in : Arg → Option ℕ
-lock_in (OnLock lock) = lock
-lock_in _ = None
+-- what is done with the device's locks and cells, or with packets
+abbrev pub on_devices : List ℕ → Cursor → Reading Instr
+on_devices t c =
+    if bytes_eq t (codes "load") then two Load register cell c else
+    (if bytes_eq t (codes "store") then two Store cell register c else
+    (if bytes_eq t (codes "loadp") then two LoadPaged register paged_cell c else
+    (if bytes_eq t (codes "storep") then two StorePaged paged_cell register c else
+    (if bytes_eq t (codes "acquire") then one Acquire spin_lock c else
+    (if bytes_eq t (codes "release") then one Release spin_lock c else
+    (if bytes_eq t (codes "acqc") then so_far AcquireCancel c else
+    (if bytes_eq t (codes "relc") then so_far ReleaseCancel c else on_packets t c)))))))
 
--- the cell that an operand is, if it is in range
-abbrev pub cell_in : Arg → Option ℕ
-cell_in (InCell cell) = cell
-cell_in _ = None
-
--- the constant that an operand is, if it is in range
-abbrev pub constant_in : Arg → Option ℕ
-constant_in (Constant constant) = constant
-constant_in _ = None
-
--- the count of turns that an operand is, if it is in range
-abbrev pub turns_in : Arg → Option ℕ
-turns_in (SoManyTurns turns) = turns
-turns_in _ = None
-
--- the field that an operand is
-abbrev pub field_in : Arg → Option Field
-field_in (OfField field) = Some field
-field_in _ = None
-
--- the status that an operand is
-abbrev pub status_in : Arg → Option Status
-status_in (WithStatus status) = Some status
-status_in _ = None
-
--- the label that an operand names
-abbrev pub label_in : Arg → Target
-label_in (Named name) = Label name
-label_in _ = Nothing
-
--- the routine that an operand names, if it is there
-abbrev pub called_routine : Arg → Target
-called_routine (Named name) = Routine name
-called_routine _ = Nothing
-
--- the instruction of a keyword with these operands, which are of the forms that it wants: it is there
--- if all of them are in range. The label of a jump is 0 until the labels of its routine are known, and
--- a `call` has no routine until those of its driver are.
-abbrev pub instr_of : Keyword → Arg → Arg → Arg → Option Instr
-instr_of word.Const a b c = option_and_then (λ r. option_map (λ n. Const r n) (constant_in b)) (register_in a)
-instr_of word.Move a b c = option_and_then (λ r. option_map (λ s. Move r s) (register_in b)) (register_in a)
-instr_of word.Clear a b c = option_map (λ r. Clear r) (register_in a)
-instr_of word.Add a b c = option_and_then (λ r. option_map (λ s. Add r s) (register_in b)) (register_in a)
-instr_of word.Subtract a b c = option_and_then (λ r. option_map (λ s. Subtract r s) (register_in b)) (register_in a)
-instr_of word.JumpIfZero a b c = option_map (λ r. JumpIfZero r 0) (register_in a)
-instr_of word.JumpIfLess a b c = option_and_then (λ r. option_map (λ s. JumpIfLess r s 0) (register_in b)) (register_in a)
-instr_of word.Jump a b c = Some (Jump 0)
-instr_of word.Loop a b c = option_map (λ n. Loop n) (turns_in a)
-instr_of word.End a b c = Some End
-instr_of word.Load a b c = option_and_then (λ r. option_map (λ cell. Load r cell) (cell_in b)) (register_in a)
-instr_of word.Store a b c = option_and_then (λ cell. option_map (λ r. Store cell r) (register_in b)) (cell_in a)
-instr_of word.LoadPaged a b c = option_and_then (λ r. option_map (λ cell. LoadPaged r cell) (cell_in b)) (register_in a)
-instr_of word.StorePaged a b c = option_and_then (λ cell. option_map (λ r. StorePaged cell r) (register_in b)) (cell_in a)
-instr_of word.Get a b c = option_and_then (λ r. option_and_then (λ s. option_map (λ field. Get r s field) (field_in c)) (register_in b)) (register_in a)
-instr_of word.Put a b c = option_and_then (λ r. option_map (λ s. Put r s) (register_in b)) (register_in a)
-instr_of word.Mark a b c = option_map (λ r. Mark r) (register_in a)
-instr_of word.Acquire a b c = option_map (λ l. Acquire l) (lock_in a)
-instr_of word.Release a b c = option_map (λ l. Release l) (lock_in a)
-instr_of word.AcquireCancel a b c = Some AcquireCancel
-instr_of word.ReleaseCancel a b c = Some ReleaseCancel
-instr_of word.Complete a b c = option_and_then (λ r. option_map (λ status. Complete r status) (status_in b)) (register_in a)
-instr_of word.Pass a b c = option_map (λ r. Pass r) (register_in a)
-instr_of word.Call a b c = option_map (λ r. Call r None) (register_in a)
-instr_of word.IfPending a b c = option_map (λ r. IfPending r 0) (register_in a)
-instr_of _ a b c = None
-
--- the name that an instruction uses
-abbrev pub target_of : Keyword → Arg → Arg → Arg → Target
-target_of word.JumpIfZero a b c = label_in b
-target_of word.JumpIfLess a b c = label_in c
-target_of word.Jump a b c = label_in a
-target_of word.IfPending a b c = label_in b
-target_of word.Call a b c = called_routine b
-target_of _ a b c = Nothing
-
--- what `ret` makes of the word after it and what follows that, if they are of a form: the
--- instruction, if the register is in range
-abbrev pub returned : ReturnWord → Arg → Option (Option Instr)
-returned (word_of_return.Status status) Absent = Some (Some (Ret (ReturnStatus status)))
-returned word_of_return.Lower (InRegister register) = Some (option_map (λ r. Ret (ReturnLower r)) register)
-returned word_of_return.Continue Absent = Some (Some (Ret ReturnContinue))
-returned _ _ = None
+-- what an instruction's word and the tokens behind it say
+abbrev pub instruction : List ℕ → Cursor → Reading Instr
+instruction t c =
+    if bytes_eq t (codes "const") then two Const register constant c else
+    (if bytes_eq t (codes "mov") then two Move register register c else
+    (if bytes_eq t (codes "clear") then one Clear register c else
+    (if bytes_eq t (codes "add") then two Add register register c else
+    (if bytes_eq t (codes "sub") then two Subtract register register c else
+    (if bytes_eq t (codes "jz") then two JumpIfZero register label c else
+    (if bytes_eq t (codes "jlt") then three JumpIfLess register register label c else
+    (if bytes_eq t (codes "jmp") then one Jump label c else
+    (if bytes_eq t (codes "loop") then one Loop turns c else
+    (if bytes_eq t (codes "end") then so_far End c else on_devices t c)))))))))

@@ -1,4 +1,4 @@
 pub mod Words
-pub mod Operand
+pub mod Cursor
 pub mod Instruction
 pub mod Line

@@ -1,197 +1,126 @@
 //! One line read by its form.
 
-ghost use Rattle.std.specs.Prelude.{◌≡◌, ◌≤◌, IfOk, option_map, slice_get};
-ghost use Rattle.std.specs.List.{list_all};
-ghost use Rattle.text.specs.Class.{is_token};
-ghost use Rattle.asm_line.specs.Line.{body_from, body_of, device_line, dispatch_line, driver_line, labelled, line_of, line_with, lower_name, read_line, return_line, routine_line};
+ghost use Rattle.std.specs.Prelude.{◌≡◌, IfOk, IfSome};
+ghost use Rattle.asm_line.specs.Cursor.{beginning};
+ghost use Rattle.asm_line.specs.Line.{body, body_of, ended, if_ended, if_in_range, labelled, line_of, read_line, step, BodyFits};
 
-use crate::instruction::{instr_of, returned, target_of};
-use crate::line::{Arg, Body, Keyword, Line, LineFault, Target};
-use crate::operand::{arg_of, first_operand, fourth_operand, second_operand, third_operand};
-use crate::words::keyword_of;
-use std::alloc::{AllocError, Global};
-use text::class::{is_token, label_name};
-use text::cut::{is_clean, tokens};
+use crate::cursor::Cursor;
+use crate::instruction::instruction;
+use crate::line::{Body, Line, LineFault};
+use text::class::{is, label_name};
+use text::cut::is_clean;
 use text::piece::Piece;
+use text::token::Tokens;
 
-/// The line of these bytes, or `Lex` or `UnknownWord`.
+/// The line of these bytes.
 ///
 /// # Errors
 ///
-/// When memory runs out.
-pub fn read_line<'a>(
-    alloc: Global,
-    raw: &'a [u8],
-) -> Result<Result<Line<'a>, LineFault>, AllocError>
-    ensures { IfOk result (λ line. line ≡ read_line raw.now) }
+/// `Lex` where a byte or token is of no form, `UnknownWord` where the line is of none.
+pub fn read_line<'a>(raw: &'a [u8]) -> Result<Line<'a>, LineFault>
+    ensures line { result ≡ read_line raw.now }
+    ensures fits { IfOk result (λ line. BodyFits line.body) }
 {
-    let tokens = tokens(alloc, raw)?;
-    if !is_clean(raw) || !are_tokens(&tokens) {
-        return Ok(Err(LineFault::Lex));
+    let tokens = Tokens::of(raw);
+    if !is_clean(raw) || !tokens.are_of_form() {
+        return Err(LineFault::Lex);
     }
-    match line_of(&tokens) {
-        Some(line) => Ok(Ok(line)),
-        None => Ok(Err(LineFault::UnknownWord)),
-    }
+    line_of(tokens).ok_or(LineFault::UnknownWord)
 }
 
-/// Whether each piece is of a token's form.
-fn are_tokens(pieces: &[Piece<'_>]) -> bool
-    ensures { result ≡ list_all is_token pieces.now }
+/// The line that the tokens are, of which the first may be a label; without a token it is blank.
+fn line_of<'a>(mut tokens: Tokens<'a>) -> Option<Line<'a>>
+    ensures line { result ≡ line_of tokens.entry }
+    ensures fits { IfSome result (λ line. BodyFits line.body) }
 {
-    pieces.iter().all(|piece| is_token(piece.bytes()))
-}
-
-/// The token in a place.
-fn token_at<'a>(tokens: &[Piece<'a>], place: usize) -> Option<&'a [u8]>
-    ensures { option_map (λ token. token.now) result ≡ slice_get tokens.now place }
-{
-    Some(tokens.get(place)?.bytes())
-}
-
-/// The line that the tokens are, if they are one.
-fn line_of<'a>(tokens: &[Piece<'a>]) -> Option<Line<'a>>
-    ensures { result ≡ line_of tokens.now }
-{
-    match token_at(tokens, 0) {
-        Some(first) => line_with(tokens, label_name(first)),
-        None => Some(Line {
+    let Some(first) = tokens.next() else {
+        return Some(Line {
             label: None,
             body: Body::Blank,
-        }),
+        });
+    };
+    if let Some(label) = label_name(first) {
+        let word = tokens.next()?;
+        return labelled(Piece::of(label), body_of(word, Cursor::of(tokens))?);
     }
-}
-
-/// The line that the tokens are, of which the first is this label, if it is one.
-fn line_with<'a>(tokens: &[Piece<'a>], label: Option<&'a [u8]>) -> Option<Line<'a>>
-    ensures { result ≡ line_with tokens.now (option_map (λ name. name.now) label.entry) }
-{
-    match label {
-        Some(name) => labelled(Piece::of(name), body_from(tokens, 1)?),
-        None => Some(Line {
-            label: None,
-            body: body_from(tokens, 0)?,
-        }),
-    }
+    Some(Line {
+        label: None,
+        body: body_of(first, Cursor::of(tokens))?,
+    })
 }
 
 /// An instruction with its label.
 fn labelled<'a>(label: Piece<'a>, body: Body<'a>) -> Option<Line<'a>>
-    ensures { result ≡ labelled label.entry body.entry }
+    requires { BodyFits body }
+    ensures line { result ≡ labelled label.entry body.entry }
+    ensures fits { IfSome result (λ line. BodyFits line.body) }
 {
     match body {
-        Body::Step(instr, target) => Some(Line {
+        Body::Step(instr, used) => Some(Line {
             label: Some(label),
-            body: Body::Step(instr, target),
+            body: Body::Step(instr, used),
         }),
         _ => None,
     }
 }
 
-/// What the tokens from a place on say, if they are of the form of their keyword.
-fn body_from<'a>(tokens: &[Piece<'a>], start: usize) -> Option<Body<'a>>
-    requires { start ≤ 1 }
-    ensures { result ≡ body_from tokens.now start }
+/// What the first word of a line and all tokens behind it say.
+fn body_of<'a>(word: &[u8], mut at: Cursor<'a>) -> Option<Body<'a>>
+    ensures body { result ≡ ended (body word.now at.entry) }
+    ensures fits { IfSome result BodyFits }
 {
-    let keyword = keyword_of(token_at(tokens, start)?)?;
-    if token_at(tokens, start + 5).is_some() {
+    if is(word, b"driver") {
+        let name = at.name()?;
+        return end(at, Body::OpenDriver(name));
+    }
+    if is(word, b"endd") {
+        return end(at, Body::CloseDriver);
+    }
+    if is(word, b"dispatch") {
+        let (major, routine) = (at.major()?, at.name()?);
+        return end(at, Body::Handle(major, routine));
+    }
+    if is(word, b"routine") {
+        let (name, sort) = (at.name()?, at.sort()?);
+        return end(at, Body::OpenRoutine(name, sort));
+    }
+    if is(word, b"endr") {
+        return end(at, Body::CloseRoutine);
+    }
+    if is(word, b"device") {
+        let (name, driver) = (at.name()?, at.name()?);
+        let (stack, lower) = (at.number()?, at.optional_name()?);
+        return end(at, Body::AddDevice(name, driver, stack, lower));
+    }
+    step(word, at)
+}
+
+/// An instruction, and the names that it uses.
+fn step<'a>(word: &[u8], mut at: Cursor<'a>) -> Option<Body<'a>>
+    ensures body { result ≡ ended (step word.now at.entry) }
+    ensures fits { IfSome result BodyFits }
+{
+    let instr = instruction(word, &mut at)?;
+    let Cursor {
+        mut tokens,
+        in_range,
+        used,
+    } = at;
+    if tokens.next().is_some() {
         return None;
     }
-    let first = arg_of(first_operand(keyword), token_at(tokens, start + 1))?;
-    let second = arg_of(second_operand(keyword), token_at(tokens, start + 2))?;
-    let third = arg_of(third_operand(keyword), token_at(tokens, start + 3))?;
-    let fourth = arg_of(fourth_operand(keyword), token_at(tokens, start + 4))?;
-    body_of(keyword, first, second, third, fourth)
+    Some(Body::Step(if in_range { Some(instr) } else { None }, used))
 }
 
-/// What a keyword says with its operands.
-fn body_of<'a>(
-    keyword: Keyword,
-    first: Arg<'a>,
-    second: Arg<'a>,
-    third: Arg<'a>,
-    fourth: Arg<'a>,
-) -> Option<Body<'a>>
-    ensures { result ≡ body_of keyword first.entry second.entry third.entry fourth.entry }
+/// What was read, if no token is left.
+fn end<'a>(mut at: Cursor<'a>, body: Body<'a>) -> Option<Body<'a>>
+    requires { BodyFits body }
+    ensures body { result ≡ if_ended at.entry.tokens body.entry }
+    ensures fits { IfSome result BodyFits }
 {
-    match keyword {
-        Keyword::Driver => driver_line(first),
-        Keyword::Endd => Some(Body::CloseDriver),
-        Keyword::Dispatch => dispatch_line(first, second),
-        Keyword::Routine => routine_line(first, second),
-        Keyword::Endr => Some(Body::CloseRoutine),
-        Keyword::Device => device_line(first, second, third, fourth),
-        Keyword::Ret => return_line(first, second),
-        _ => Some(Body::Step(
-            instr_of(keyword, &first, &second, &third),
-            target_of(keyword, first, second, third),
-        )),
-    }
-}
-
-/// `driver NAME`.
-fn driver_line<'a>(name: Arg<'a>) -> Option<Body<'a>>
-    ensures { result ≡ driver_line name.entry }
-{
-    match name {
-        Arg::Named(name) => Some(Body::OpenDriver(name)),
-        _ => None,
-    }
-}
-
-/// `dispatch MAJOR ROUTINE`.
-fn dispatch_line<'a>(major: Arg<'a>, routine: Arg<'a>) -> Option<Body<'a>>
-    ensures { result ≡ dispatch_line major.entry routine.entry }
-{
-    match (major, routine) {
-        (Arg::OfMajor(major), Arg::Named(routine)) => Some(Body::Handle(major, routine)),
-        _ => None,
-    }
-}
-
-/// `routine NAME SORT`.
-fn routine_line<'a>(name: Arg<'a>, sort: Arg<'a>) -> Option<Body<'a>>
-    ensures { result ≡ routine_line name.entry sort.entry }
-{
-    match (name, sort) {
-        (Arg::Named(name), Arg::OfSort(sort)) => Some(Body::OpenRoutine(name, sort)),
-        _ => None,
-    }
-}
-
-/// `device NAME DRIVER STACK` and `device NAME DRIVER STACK LOWER`.
-fn device_line<'a>(
-    name: Arg<'a>,
-    driver: Arg<'a>,
-    stack: Arg<'a>,
-    lower: Arg<'a>,
-) -> Option<Body<'a>>
-    ensures { result ≡ device_line name.entry driver.entry stack.entry lower.entry }
-{
-    match (name, driver, stack) {
-        (Arg::Named(name), Arg::Named(driver), Arg::StackSize(stack)) => {
-            Some(Body::AddDevice(name, driver, stack, lower_name(lower)))
-        }
-        _ => None,
-    }
-}
-
-/// The name of a lower device, if one is given.
-fn lower_name<'a>(lower: Arg<'a>) -> Option<Piece<'a>>
-    ensures { result ≡ lower_name lower.entry }
-{
-    match lower {
-        Arg::Named(name) => Some(name),
-        _ => None,
-    }
-}
-
-/// `ret STATUS`, `ret lower REGISTER` and `ret continue`.
-fn return_line<'a>(word: Arg<'a>, second: Arg<'a>) -> Option<Body<'a>>
-    ensures { result ≡ return_line word.entry second.entry }
-{
-    match word {
-        Arg::Returning(word) => Some(Body::Step(returned(word, second)?, Target::Nothing)),
-        _ => None,
+    if at.tokens.next().is_some() {
+        None
+    } else {
+        Some(body)
     }
 }

@@ -2,11 +2,11 @@
 //! that they make. Whether it may stand where it does, and what its names are, is not asked here.
 #![tactic(auto)]
 
+mod cursor;
 pub mod form;
 mod instruction;
 pub mod line;
-mod operand;
 mod words;
 
 pub use form::read_line;
-pub use line::{Body, Line, LineFault, Target};
+pub use line::{Body, Line, LineFault, UsedNames};

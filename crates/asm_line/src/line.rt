@@ -1,107 +1,18 @@
 //! A line of a driver text, by its form.
 
-use model::instr::{Cell, Field, Instr, Register, SpinLock, Turns};
+use model::instr::Instr;
 use model::set::Sort;
-use model::status::{Major, Status};
+use model::status::Major;
 use text::piece::Piece;
 
-/// The word that a line begins with, or that follows its label.
-#[derive(Clone, Copy)]
-pub enum Keyword {
-    Driver,
-    Endd,
-    Dispatch,
-    Routine,
-    Endr,
-    Device,
-    Const,
-    Move,
-    Clear,
-    Add,
-    Subtract,
-    JumpIfZero,
-    JumpIfLess,
-    Jump,
-    Loop,
-    End,
-    Load,
-    Store,
-    LoadPaged,
-    StorePaged,
-    Get,
-    Put,
-    Mark,
-    Acquire,
-    Release,
-    AcquireCancel,
-    ReleaseCancel,
-    Pass,
-    Call,
-    Complete,
-    IfPending,
-    Ret,
-}
-
-/// What a keyword wants in a place.
-#[derive(Clone, Copy)]
-pub enum Operand {
-    Nothing,
-    Name,
-    MaybeName,
-    Register,
-    MaybeRegister,
-    SpinLock,
-    Cell,
-    PagedCell,
-    Number,
-    Turns,
-    Stack,
-    Major,
-    Field,
-    Sort,
-    Status,
-    Return,
-}
-
-/// The word after `ret`.
-#[derive(Clone, Copy)]
-pub enum ReturnWord {
-    /// A status, which the routine returns.
-    Status(Status),
-    /// `lower`, with a register: the status in it, which a lower driver returned.
-    Lower,
-    /// `continue`.
-    Continue,
-}
-
-/// An operand as it was read. What is out of range is `None`: a register, lock or cell that isn't
-/// there, a constant or a count of turns that is too large or too small, and a stack size of more
-/// than 64 bits.
+/// The names that an instruction uses. In the instruction itself a label is 0 and a routine none
+/// until they are known.
 #[derive(Drop)]
-pub enum Arg<'a> {
-    Absent,
-    Named(Piece<'a>),
-    InRegister(Option<Register>),
-    OnLock(Option<SpinLock>),
-    InCell(Option<Cell>),
-    Constant(Option<u32>),
-    SoManyTurns(Option<Turns>),
-    StackSize(Option<u64>),
-    OfMajor(Major),
-    OfField(Field),
-    OfSort(Sort),
-    WithStatus(Status),
-    Returning(ReturnWord),
-}
-
-/// The name that an instruction uses.
-#[derive(Drop)]
-pub enum Target<'a> {
-    Nothing,
+pub struct UsedNames<'a> {
     /// Of the label that it jumps to.
-    Label(Piece<'a>),
+    pub label: Option<Piece<'a>>,
     /// Of the routine that a `call` sets.
-    Routine(Piece<'a>),
+    pub routine: Option<Piece<'a>>,
 }
 
 /// What a line says.
@@ -119,13 +30,11 @@ pub enum Body<'a> {
     OpenRoutine(Piece<'a>, Sort),
     /// `endr`.
     CloseRoutine,
-    /// `device NAME DRIVER STACK` and `device NAME DRIVER STACK LOWER`: its name, its driver's name,
-    /// its stack size, and the name of the device under it.
-    AddDevice(Piece<'a>, Piece<'a>, Option<u64>, Option<Piece<'a>>),
-    /// An instruction, if all its operands are in range, and the name that it uses. The instruction
-    /// itself has label 0 until the labels of its routine are known, and no routine until those of
-    /// its driver are.
-    Step(Option<Instr>, Target<'a>),
+    /// `device NAME DRIVER STACK` and `device NAME DRIVER STACK LOWER`: its name, its driver's
+    /// name, its stack size, and the name of the device under it.
+    AddDevice(Piece<'a>, Piece<'a>, u64, Option<Piece<'a>>),
+    /// An instruction, if all its operands are in range, and the names that it uses.
+    Step(Option<Instr>, UsedNames<'a>),
 }
 
 /// A line: what it says, and its label if it has one.

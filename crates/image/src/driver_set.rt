@@ -1,7 +1,9 @@
 //! The type of a driver set.
 
-ghost use Rattle.std.specs.Prelude.{◌≡◌, ◌<◌, ◌↔◌, ℕ, IsOk, IfOk, IfErr, IfSome, option_and_then, option_map, slice_get};
+ghost use Rattle.std.specs.Prelude.{◌≡◌, ◌<◌, ◌↔◌, ℕ, IsOk, IfOk, IfErr, IfSome, slice_get};
+ghost use Rattle.std.specs.Prelude.{option_and_then, option_map};
 ghost use Rattle.model.specs.Set.{default_code};
+ghost use Rattle.model.specs.declared.limits.TheConstants.{MAX_INSTRUCTIONS};
 
 use crate::sound::is_sound;
 use model::instr::{Instr, Register, Return};
@@ -26,7 +28,8 @@ impl Model for DriverSet {
 
     ghost view = { λ s. record { drivers = s.driver_list.items; devices = s.device_list.items } };
 
-    ghost invariant = { λ s. IsSound (record { drivers = s.driver_list.items; devices = s.device_list.items }) };
+    ghost invariant = { λ s. IsSound
+        (record { drivers = s.driver_list.items; devices = s.device_list.items }) };
 }
 
 impl DriverSet {
@@ -39,8 +42,10 @@ impl DriverSet {
         drivers: Vec<Driver>,
         devices: Vec<Device>,
     ) -> Result<DriverSet, (Vec<Driver>, Vec<Device>)>
-        ensures sound { IsOk result ↔ IsSound (record { drivers = drivers.items; devices = devices.items }) }
-        ensures set { IfOk result (λ set. set ≡ record { drivers = drivers.items; devices = devices.items }) }
+        ensures sound { IsOk result
+            ↔ IsSound (record { drivers = drivers.items; devices = devices.items }) }
+        ensures set { IfOk result
+            (λ set. set ≡ record { drivers = drivers.items; devices = devices.items }) }
         ensures back { IfErr result (λ lists. lists ≡ record { 0 = drivers; 1 = devices }) }
     {
         if is_sound(drivers.as_slice(), devices.as_slice()) {
@@ -95,7 +100,9 @@ impl DriverSet {
 
     /// A routine of a driver of the set.
     fn routine(&self, driver: u8, routine: u8) -> Option<&Routine>
-        ensures { option_map (λ r. r.now) result ≡ option_and_then (λ d. slice_get d.routines routine) (slice_get self.now.drivers driver) }
+        ensures { option_map (λ r. r.now) result
+            ≡ option_and_then (λ d. slice_get d.routines routine)
+            (slice_get self.now.drivers driver) }
     {
         self.drivers()
             .get(driver as usize)?
@@ -114,7 +121,7 @@ impl DriverSet {
     /// The instruction at a position of a routine of a driver, the default routine's among them.
     pub fn instruction(&self, driver: u8, routine: u8, position: u16) -> Option<Instr>
         ensures instruction { result ≡ instruction_at self.now driver routine position }
-        ensures near { IfSome result (λ _. position < 1024) }
+        ensures near { IfSome result (λ _. position < MAX_INSTRUCTIONS) }
     {
         if routine == DEFAULT_ROUTINE {
             return default_instruction(position);

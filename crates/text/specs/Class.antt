@@ -2,6 +2,7 @@
 use Rattle.std.specs.Prelude.{ℕ, ◌-◌, Bool, false, nat_eq, nat_le, not, ◌&&◌, ◌||◌, List, [], ◌∷◌, length, take, drop, slice_index, if◌then◌else◌, Option, Some, None, is_some}
 use Rattle.std.specs.Char.{is_ascii_digit, is_ascii_lowercase, is_ascii_uppercase, is_digit}
 use Rattle.std.specs.List.{list_all, starts_with}
+use Rattle.text.specs.declared.class.TheConstants.{MAX_NAME}
 
 -- a small letter or `_`
 abbrev pub is_name_start : ℕ → Bool
@@ -20,9 +21,9 @@ abbrev pub begins_name : List ℕ → Bool
 begins_name [] = false
 begins_name (b ∷ bs) = is_name_start b
 
--- a name: at most 32 bytes, of which the first is no digit
+-- a name: not too long, and it begins with no digit
 abbrev pub is_name : List ℕ → Bool
-is_name token = begins_name token && nat_le (length token) 32 && list_all is_name_byte token
+is_name token = begins_name token && nat_le (length token) MAX_NAME && list_all is_name_byte token
 
 -- a word in capitals and underscores
 abbrev pub is_word : List ℕ → Bool

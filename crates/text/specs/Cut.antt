@@ -11,7 +11,8 @@ closed (b ∷ bs) = (b ∷ bs) ∷ []
 -- the lines of a text of which the bytes held have been read since the last LF
 abbrev pub lines_from : List ℕ → List ℕ → List (List ℕ)
 lines_from held [] = closed held
-lines_from held (b ∷ bs) = if nat_eq b 10 then held ∷ lines_from [] bs else lines_from (held ++ b ∷ []) bs
+lines_from held (b ∷ bs) =
+    if nat_eq b 10 then held ∷ lines_from [] bs else lines_from (held ++ b ∷ []) bs
 
 -- the lines of a text, each without its LF
 abbrev pub lines_of : List ℕ → List (List ℕ)
@@ -24,7 +25,8 @@ is_blank b = nat_eq b 9 || nat_eq b 13 || nat_eq b 32
 -- what stands between blanks, where the bytes held have been read since the last of them
 abbrev pub parts_from : List ℕ → List ℕ → List (List ℕ)
 parts_from held [] = closed held
-parts_from held (b ∷ bs) = if is_blank b then closed held ++ parts_from [] bs else parts_from (held ++ b ∷ []) bs
+parts_from held (b ∷ bs) =
+    if is_blank b then closed held ++ parts_from [] bs else parts_from (held ++ b ∷ []) bs
 
 -- what stands before an index, or all where there is none
 abbrev pub before : Option ℕ → List ℕ → List ℕ

@@ -1,3 +1,5 @@
 pub mod Cut
 pub mod Class
 pub mod Number
+pub mod Lexical
+pub mod Major

@@ -11,7 +11,8 @@ sized n = if nat_lt n (2 ^ 64) then Number n else TooLarge
 
 -- what the digits of a number write: decimal, or hexadecimal after `0x`
 abbrev pub number_value : List ℕ → ℕ
-number_value token = if is_prefixed token then digits_value 16 (drop 2 token) else digits_value 10 token
+number_value token =
+    if is_prefixed token then digits_value 16 (drop 2 token) else digits_value 10 token
 
 -- a token read as a number
 abbrev pub number_in : List ℕ → Numeral

@@ -1,9 +1,10 @@
 //! A text cut into lines, and a line into tokens.
 
 ghost use Rattle.std.specs.Prelude.{◌≡◌, ◌++◌, [], IfOk, OnOk};
-ghost use Rattle.text.specs.Cut.{closed, code_of, comment_at, is_blank, is_clean, is_written, lines_of, parts_from, tokens_of};
+ghost use Rattle.text.specs.Cut.{closed, is_clean, is_written, lines_of, tokens_of};
 
 use crate::piece::Piece;
+use crate::token::Tokens;
 use std::alloc::{AllocError, Global};
 
 /// The lines of a text, in order, without their LF. Bytes after the last LF are a line; nothing
@@ -28,7 +29,7 @@ pub fn lines<'a>(alloc: Global, text: &'a [u8]) -> Result<Vec<Piece<'a>>, AllocE
     Ok(found)
 }
 
-/// The tokens of a line, in order: what stands before its comment, parted at blanks.
+/// The tokens of a line, in order.
 ///
 /// # Errors
 ///
@@ -36,40 +37,11 @@ pub fn lines<'a>(alloc: Global, text: &'a [u8]) -> Result<Vec<Piece<'a>>, AllocE
 pub fn tokens<'a>(alloc: Global, line: &'a [u8]) -> Result<Vec<Piece<'a>>, AllocError>
     ensures { IfOk result (λ tokens. tokens.items ≡ tokens_of line.now) }
 {
-    parted(alloc, before_comment(line))
-}
-
-/// The part of a line before the first `;`, or all of it.
-fn before_comment(line: &[u8]) -> &[u8]
-    ensures { result.now ≡ code_of line.now }
-{
-    match comment_at(line) {
-        Some(end) => &line[..end],
-        None => line,
-    }
-}
-
-/// Where the comment of a line begins, if it has one.
-fn comment_at(line: &[u8]) -> Option<usize>
-    ensures { result ≡ comment_at line.now }
-{
-    line.iter().position(|byte| *byte == b';')
-}
-
-/// The pieces between blanks that have a byte.
-#[tactic(auto, using(crate::proofs::Cuts::parts_end))]
-fn parted<'a>(alloc: Global, code: &'a [u8]) -> Result<Vec<Piece<'a>>, AllocError>
-    ensures { IfOk result (λ parts. parts.items ≡ parts_from [] code.now) }
-{
     let mut found = Vec::new(alloc);
-    let mut start = 0;
-    for (i, byte) in code.iter().enumerate() {
-        if is_blank(*byte) {
-            close(&mut found, &code[start..i])?;
-            start = i + 1;
-        }
+    let mut left = Tokens::of(line);
+    while let Some(token) = left.next() {
+        found.push(Piece::of(token))?;
     }
-    close(&mut found, &code[start..])?;
     Ok(found)
 }
 
@@ -81,13 +53,6 @@ fn close<'a>(found: &mut Vec<Piece<'a>>, held: &'a [u8]) -> Result<(), AllocErro
         found.push(Piece::of(held))?;
     }
     Ok(())
-}
-
-/// Whether a byte parts tokens: tab, CR or space.
-fn is_blank(byte: u8) -> bool
-    ensures { result ≡ is_blank byte }
-{
-    matches!(byte, b'\t' | b'\r' | b' ')
 }
 
 /// Whether a byte may stand in a line: tab, CR, or space to tilde.

@@ -2,12 +2,12 @@
 //! read by the same rules.
 //!
 //! Lines end with LF. `;` begins a comment. Tokens are parted by tabs, spaces and CR. A token is a
-//! name, a word in capitals, a number, or a name with a colon.
+//! name, a word in capitals, a number, or a name with a colon. Both name major functions.
 #![tactic(auto)]
 
 pub mod class;
 pub mod cut;
+pub mod major;
 pub mod number;
 pub mod piece;
-#[cfg(test)]
-mod tests;
+pub mod token;

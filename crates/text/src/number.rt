@@ -77,7 +77,8 @@ fn value(digits: &[u8], radix: u32) -> Option<u64>
     requires low { 2 ≤ radix }
     requires high { radix ≤ 16 }
     requires digits { is_numeral radix digits.now ≡ true }
-    ensures { SomeIff result (digits_value radix digits.now < 2 ^ 64) (digits_value radix digits.now) }
+    ensures { SomeIff result (digits_value radix digits.now < 2 ^ 64)
+        (digits_value radix digits.now) }
 {
     let mut value: u64 = 0;
     for byte in digits {

@@ -4,4 +4,5 @@ use Rattle.asm.proofs.link.missed_from.Given as goal
 
 -- what is found so far and what is left make what is sought
 abbrev pub invariant-loop-step : goal.invariant-loop-step
-invariant-loop-step l = missed_from l.labels.keys l.earliest_line (drop l.step-index l.steps) ≡ missed_from l.labels.keys l.fn.found l.steps
+invariant-loop-step l = missed_from l.labels.keys l.earliest_line (drop l.step-index l.steps)
+    ≡ missed_from l.labels.keys l.fn.found l.steps

@@ -11,9 +11,11 @@ loop-i-preserved c =
     let before = c.loop-i.invariant in
     elim c.if-byte-eq10.branch [
       | then-byte-eq10+in_ok-push w ↦
-          let same = lines_cut text c.loop-i.start c.loop-i.i c.loop-i.found.items (lines_of text) inside w.if-byte-eq10.true before.same in
+          let same = lines_cut text c.loop-i.start c.loop-i.i c.loop-i.found.items (lines_of text)
+          inside w.if-byte-eq10.true before.same in
           record { begun = omega arith; same = cc (same, w.in_ok-push.ensures.items, w.of.ensures) }
       | else-byte-eq10 w ↦
-          let same = lines_on text c.loop-i.start c.loop-i.i c.loop-i.found.items (lines_of text) before.begun inside w.if-byte-eq10.false before.same in
+          let same = lines_on text c.loop-i.start c.loop-i.i c.loop-i.found.items (lines_of text)
+          before.begun inside w.if-byte-eq10.false before.same in
           record { begun = omega arith; same = cc same }
     ]
