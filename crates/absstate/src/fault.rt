@@ -1,20 +1,109 @@
-//! What an operand, a status or a lock breaks: for each demand of an instruction the rule that is
+//! What an instruction demands of its registers and of the locks: for each demand the rule that is
 //! broken, if it is.
 
-ghost use Rattle.std.specs.Prelude.{◌≡◌, not};
+ghost use Rattle.std.specs.Prelude.{◌≡◌, if◌then◌else◌};
 ghost use Rattle.std.specs.List.{list_any};
-ghost use Rattle.model.specs.LocalRule.{kind_of, is_packet, is_view, is_completion, is_pending, is_held, holds_spin_lock, holds_lock, free_kind, number_kind, packet_kind, level_fault, mark_kind, view_mark_fault, look_kind, view_look_fault, complete_kind, completion_fault, completion_sort_fault, first_of_two, broken_if};
+ghost use Rattle.model.specs.LocalRule.{least_of, broken_if, unless, demanded, any_packet};
+ghost use Rattle.model.specs.LocalRule.{is_packet, is_view};
+ghost use Rattle.model.specs.LocalRule.{needs_mark, is_open, is_completion, is_pending};
+ghost use Rattle.model.specs.LocalRule.{kind_of, holds_spin_lock, holds_lock};
+ghost use Rattle.model.specs.LocalRule.{free_kind, number_kind, level_fault};
+ghost use Rattle.model.specs.LocalRule.{mark_fault, look_fault, complete_kind};
+ghost use Rattle.model.specs.LocalRule.{completion_sort_fault, completion_fault};
 
-use crate::state::{is_held, kind};
+use crate::state::kind;
 use model::abs::{Abs, Kind, Rule, Settled};
-use model::instr::{Register, SpinLock};
+use model::instr::Register;
 use model::set::Sort;
 use model::status::Status;
+
+/// The rule of the least number, of two that are broken or not.
+pub fn least(one: Option<Rule>, other: Option<Rule>) -> Option<Rule>
+    ensures { result ≡ least_of one other }
+{
+    match (one, other) {
+        (Some(first), Some(second)) if second.number() < first.number() => other,
+        (Some(_), _) => one,
+        (None, _) => other,
+    }
+}
 
 pub fn broken_if(broken: bool, rule: Rule) -> Option<Rule>
     ensures { result ≡ broken_if broken rule }
 {
     if broken { Some(rule) } else { None }
+}
+
+fn unless(kept: bool, rule: Rule) -> Option<Rule>
+    ensures { result ≡ unless kept rule }
+{
+    if kept { None } else { Some(rule) }
+}
+
+/// The packets that an instruction wants: which kinds it takes.
+#[derive(Clone, Copy)]
+pub struct Wanted {
+    new: bool,
+    own: bool,
+    view: bool,
+}
+
+impl Wanted {
+    /// Any packet.
+    pub const ANY: Wanted = Wanted {
+        new: true,
+        own: true,
+        view: true,
+    };
+    /// One that the routine was handed and has done nothing with.
+    pub const NEW: Wanted = Wanted {
+        new: true,
+        own: false,
+        view: false,
+    };
+    /// One that it was handed, or that it owns.
+    pub const NEW_OR_OWN: Wanted = Wanted {
+        new: true,
+        own: true,
+        view: false,
+    };
+    /// One that it was handed, or that is on its way up.
+    pub const NEW_OR_VIEW: Wanted = Wanted {
+        new: true,
+        own: false,
+        view: true,
+    };
+    /// One that is on its way up.
+    pub const VIEW: Wanted = Wanted {
+        new: false,
+        own: false,
+        view: true,
+    };
+}
+
+/// A register has to hold a packet of a wanted kind.
+pub fn demanded(wanted: Wanted, kind: Kind) -> Option<Rule>
+    ensures { result
+        ≡ demanded (record { new = wanted.new; own = wanted.own; view = wanted.view }) kind }
+{
+    match kind {
+        Kind::Blank | Kind::Num | Kind::Lower => Some(Rule::WrongKind),
+        Kind::New => unless(wanted.new, mark_or_completion(wanted.own)),
+        Kind::Own => unless(wanted.own, mark_or_completion(wanted.new)),
+        Kind::View => unless(wanted.view, Rule::Completion),
+    }
+}
+
+/// What an unwanted packet breaks that the routine may complete: the rule on marks, where it would
+/// be wanted but for its mark.
+fn mark_or_completion(but_for_its_mark: bool) -> Rule
+    ensures { result ≡ (if but_for_its_mark then Rule.MarkIrpPending else Rule.Completion) }
+{
+    if but_for_its_mark {
+        Rule::MarkIrpPending
+    } else {
+        Rule::Completion
+    }
 }
 
 fn is_packet(kind: Kind) -> bool
@@ -29,19 +118,38 @@ fn is_view(kind: Kind) -> bool
     matches!(kind, Kind::View)
 }
 
-fn is_completion(sort: Sort) -> bool
-    ensures { result ≡ is_completion sort }
+/// A register that holds a packet can't be written over.
+pub fn free_fault(state: &Abs, register: Register) -> Option<Rule>
+    ensures { result ≡ free_kind (kind_of state.now register) }
 {
-    match sort {
-        Sort::Dispatch => false,
-        Sort::Propagate => true,
+    broken_if(is_packet(kind(state, register)), Rule::Dropped)
+}
+
+/// An operand has to be a number.
+pub fn number_fault(state: &Abs, register: Register) -> Option<Rule>
+    ensures { result ≡ number_kind (kind_of state.now register) }
+{
+    match kind(state, register) {
+        Kind::Num => None,
+        _ => Some(Rule::WrongKind),
     }
 }
 
-pub fn is_pending(status: Status) -> bool
-    ensures { result ≡ is_pending status }
+/// An operand has to be any packet.
+pub fn packet_fault(state: &Abs, register: Register) -> Option<Rule>
+    ensures { result ≡ demanded any_packet (kind_of state.now register) }
 {
-    status == Status::Pending
+    demanded(Wanted::ANY, kind(state, register))
+}
+
+/// Paged cells are used below DISPATCH_LEVEL alone.
+pub fn level_fault(state: &Abs, sort: Sort) -> Option<Rule>
+    ensures { result ≡ level_fault state.now sort }
+{
+    match sort {
+        Sort::Dispatch => broken_if(holds_lock(state), Rule::Level),
+        Sort::Propagate => Some(Rule::Level),
+    }
 }
 
 pub fn holds_spin_lock(state: &Abs) -> bool
@@ -62,173 +170,92 @@ pub fn holds_lock(state: &Abs) -> bool
     state.cancel || holds_spin_lock(state)
 }
 
-/// A register that holds a packet can't be written over.
-pub fn free_fault(kind: Kind) -> Option<Rule>
-    ensures { result ≡ free_kind kind }
-{
-    broken_if(is_packet(kind), Rule::Dropped)
-}
-
-/// An operand has to be a number.
-pub fn number_fault(kind: Kind) -> Option<Rule>
-    ensures { result ≡ number_kind kind }
-{
-    match kind {
-        Kind::Num => None,
-        _ => Some(Rule::WrongKind),
-    }
-}
-
-/// Two operands have to be numbers.
-pub fn numbers_fault(state: &Abs, first: Register, second: Register) -> Option<Rule>
-    ensures { result ≡ first_of_two (number_kind (kind_of state.now first)) (number_kind (kind_of state.now second)) }
-{
-    number_fault(kind(state, first)).or(number_fault(kind(state, second)))
-}
-
-/// An operand has to be a packet.
-pub fn packet_fault(kind: Kind) -> Option<Rule>
-    ensures { result ≡ packet_kind kind }
-{
-    broken_if(!is_packet(kind), Rule::WrongKind)
-}
-
-/// Paged cells are used below DISPATCH_LEVEL alone.
-pub fn level_fault(state: &Abs, sort: Sort) -> Option<Rule>
-    ensures { result ≡ level_fault state.now sort }
-{
-    match sort {
-        Sort::Dispatch => broken_if(holds_lock(state), Rule::Level),
-        Sort::Propagate => Some(Rule::Level),
-    }
-}
-
-/// A field is read of a packet, into a register that may be written over.
-pub fn get_fault(state: &Abs, to: Register, packet: Register) -> Option<Rule>
-    ensures { result ≡ first_of_two (packet_kind (kind_of state.now packet)) (free_kind (kind_of state.now to)) }
-{
-    match packet_fault(kind(state, packet)) {
-        Some(rule) => Some(rule),
-        None => free_fault(kind(state, to)),
-    }
-}
-
-/// A paged cell is read into a register that may be written over.
-pub fn load_paged_fault(state: &Abs, to: Register, sort: Sort) -> Option<Rule>
-    ensures { result ≡ first_of_two (level_fault state.now sort) (free_kind (kind_of state.now to)) }
-{
-    match level_fault(state, sort) {
-        Some(rule) => Some(rule),
-        None => free_fault(kind(state, to)),
-    }
-}
-
-/// A mark wants a packet that the routine was handed and has done nothing with, or in a completion
-/// routine one whose mark has to be carried up.
+/// A mark wants a packet that the routine was handed, or in a completion routine one whose mark has
+/// to be carried up.
 pub fn mark_fault(settled: Settled, kind: Kind) -> Option<Rule>
-    ensures { result ≡ mark_kind settled kind }
+    ensures { result ≡ mark_fault settled kind }
 {
-    match kind {
-        Kind::New => None,
-        Kind::Own => Some(Rule::MarkIrpPending),
-        Kind::View => view_mark_fault(settled),
-        Kind::Blank | Kind::Num | Kind::Lower => Some(Rule::WrongKind),
-    }
+    let unasked = is_view(kind) && !needs_mark(settled);
+    least(
+        demanded(Wanted::NEW_OR_VIEW, kind),
+        broken_if(unasked, Rule::Completion),
+    )
 }
 
-fn view_mark_fault(settled: Settled) -> Option<Rule>
-    ensures { result ≡ view_mark_fault settled }
+fn needs_mark(settled: Settled) -> bool
+    ensures { result ≡ needs_mark settled }
 {
-    match settled {
-        Settled::NeedMark => None,
-        Settled::Open | Settled::Settled => Some(Rule::Completion),
-    }
+    matches!(settled, Settled::NeedMark)
 }
 
-/// `ifpending` wants a packet on its way up at which the routine hasn't looked.
+/// `ifpending` wants a packet on its way up that wasn't looked at.
 pub fn look_fault(settled: Settled, kind: Kind) -> Option<Rule>
-    ensures { result ≡ look_kind settled kind }
+    ensures { result ≡ look_fault settled kind }
 {
-    match kind {
-        Kind::View => view_look_fault(settled),
-        Kind::New | Kind::Own => Some(Rule::Completion),
-        Kind::Blank | Kind::Num | Kind::Lower => Some(Rule::WrongKind),
-    }
+    let again = is_view(kind) && !is_open(settled);
+    least(
+        demanded(Wanted::VIEW, kind),
+        broken_if(again, Rule::Completion),
+    )
 }
 
-fn view_look_fault(settled: Settled) -> Option<Rule>
-    ensures { result ≡ view_look_fault settled }
+fn is_open(settled: Settled) -> bool
+    ensures { result ≡ is_open settled }
 {
-    match settled {
-        Settled::Open => None,
-        Settled::NeedMark | Settled::Settled => Some(Rule::Completion),
-    }
-}
-
-/// A spin lock that the thread holds isn't acquired again.
-pub fn acquire_fault(state: &Abs, lock: SpinLock) -> Option<Rule>
-    ensures { result ≡ broken_if (is_held state.now lock) Rule.SpinLock }
-{
-    broken_if(is_held(state, lock), Rule::SpinLock)
-}
-
-/// A spin lock that the thread doesn't hold isn't released.
-pub fn release_fault(state: &Abs, lock: SpinLock) -> Option<Rule>
-    ensures { result ≡ broken_if (not (is_held state.now lock)) Rule.SpinLock }
-{
-    broken_if(!is_held(state, lock), Rule::SpinLock)
-}
-
-/// The system cancel spin lock isn't acquired again.
-pub fn acquire_cancel_fault(state: &Abs) -> Option<Rule>
-    ensures { result ≡ broken_if state.now.cancel Rule.CancelSpinLock }
-{
-    broken_if(state.cancel, Rule::CancelSpinLock)
-}
-
-/// The system cancel spin lock isn't released where the thread doesn't hold it.
-pub fn release_cancel_fault(state: &Abs) -> Option<Rule>
-    ensures { result ≡ broken_if (not state.now.cancel) Rule.CancelSpinLock }
-{
-    broken_if(!state.cancel, Rule::CancelSpinLock)
+    matches!(settled, Settled::Open)
 }
 
 /// A completion wants a packet that the routine was handed or owns, a final status, no lock, and no
 /// completion routine.
 pub fn complete_fault(state: &Abs, register: Register, status: Status, sort: Sort) -> Option<Rule>
-    ensures { result ≡ first_of_two (complete_kind (kind_of state.now register)) (completion_fault state.now (kind_of state.now register) status sort) }
+    ensures { result
+        ≡ least_of (complete_kind (kind_of state.now register))
+        (completion_fault state.now status sort) }
 {
-    let kind = kind(state, register);
-    completed_kind_fault(kind).or(completion_fault(state, kind, status, sort))
+    least(
+        completed_kind_fault(kind(state, register)),
+        completion_fault(state, status, sort),
+    )
 }
 
+/// Where the register is blank, the packet was completed or handed on before.
 fn completed_kind_fault(kind: Kind) -> Option<Rule>
     ensures { result ≡ complete_kind kind }
 {
     match kind {
         Kind::Blank => Some(Rule::DoubleCompletion),
-        Kind::Num | Kind::Lower => Some(Rule::WrongKind),
-        Kind::New | Kind::Own | Kind::View => None,
+        _ => demanded(Wanted::NEW_OR_OWN, kind),
     }
 }
 
-fn completion_fault(state: &Abs, kind: Kind, status: Status, sort: Sort) -> Option<Rule>
-    ensures { result ≡ completion_fault state.now kind status sort }
+fn completion_fault(state: &Abs, status: Status, sort: Sort) -> Option<Rule>
+    ensures { result ≡ completion_fault state.now status sort }
 {
-    broken_if(is_pending(status), Rule::MarkIrpPending).or(held_or_completion_fault(
-        state, kind, sort,
-    ))
+    let held = broken_if(holds_lock(state), Rule::LockHeld);
+    least(
+        broken_if(is_pending(status), Rule::MarkIrpPending),
+        least(held, completion_sort_fault(sort)),
+    )
 }
 
-fn held_or_completion_fault(state: &Abs, kind: Kind, sort: Sort) -> Option<Rule>
-    ensures { result ≡ first_of_two (broken_if (holds_lock state.now) Rule.LockHeld) (completion_sort_fault kind sort) }
+pub fn is_pending(status: Status) -> bool
+    ensures { result ≡ is_pending status }
 {
-    broken_if(holds_lock(state), Rule::LockHeld).or(completion_sort_fault(kind, sort))
+    matches!(status, Status::Pending)
 }
 
 /// A completion routine neither completes nor forwards.
-pub fn completion_sort_fault(kind: Kind, sort: Sort) -> Option<Rule>
-    ensures { result ≡ completion_sort_fault kind sort }
+pub fn completion_sort_fault(sort: Sort) -> Option<Rule>
+    ensures { result ≡ completion_sort_fault sort }
 {
-    broken_if(is_view(kind) || is_completion(sort), Rule::Completion)
+    broken_if(is_completion(sort), Rule::Completion)
+}
+
+fn is_completion(sort: Sort) -> bool
+    ensures { result ≡ is_completion sort }
+{
+    match sort {
+        Sort::Dispatch => false,
+        Sort::Propagate => true,
+    }
 }

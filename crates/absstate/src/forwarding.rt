@@ -1,14 +1,15 @@
-//! What forwarding a packet breaks: it wants a lower device and room for it under every device of the
-//! driver.
+//! What forwarding a packet breaks: it wants a lower device and room for it under every device of
+//! the driver.
 
 ghost use Rattle.std.specs.Prelude.{◌≡◌, ◌≤◌};
 ghost use Rattle.model.specs.Forwarding.{lacks_lower, is_too_small, device_under, is_under};
-ghost use Rattle.model.specs.LocalRule.{kind_of, pass_kind, call_kind, forward_fault, completion_sort_fault, first_of_two, broken_if};
+ghost use Rattle.model.specs.LocalRule.{kind_of, least_of, broken_if, demanded, forward_fault};
+ghost use Rattle.model.specs.LocalRule.{a_new_one, one_handed_or_owned};
 
-use crate::fault::{broken_if, completion_sort_fault, holds_lock};
+use crate::fault::{Wanted, broken_if, completion_sort_fault, demanded, holds_lock, least};
 use crate::state::kind;
 use image::DriverSet;
-use model::abs::{Abs, Kind, Rule};
+use model::abs::{Abs, Rule};
 use model::instr::Register;
 use model::set::{Device, Sort};
 
@@ -20,10 +21,14 @@ pub fn pass_fault(
     set: &DriverSet,
     driver: u8,
 ) -> Option<Rule>
-    ensures { result ≡ first_of_two (pass_kind (kind_of state.now register)) (forward_fault state.now (kind_of state.now register) sort set.now driver 0) }
+    ensures { result
+        ≡ least_of (demanded a_new_one (kind_of state.now register))
+        (forward_fault state.now sort set.now driver 0) }
 {
-    let kind = kind(state, register);
-    passed_kind_fault(kind).or(forward_fault(state, kind, sort, set, driver, 0))
+    least(
+        demanded(Wanted::NEW, kind(state, register)),
+        forward_fault(state, sort, set, driver, 0),
+    )
 }
 
 /// `call` wants a packet that the routine was handed or owns.
@@ -34,62 +39,30 @@ pub fn call_fault(
     set: &DriverSet,
     driver: u8,
 ) -> Option<Rule>
-    ensures { result ≡ first_of_two (call_kind (kind_of state.now register)) (forward_fault state.now (kind_of state.now register) sort set.now driver 1) }
+    ensures { result
+        ≡ least_of (demanded one_handed_or_owned (kind_of state.now register))
+        (forward_fault state.now sort set.now driver 1) }
 {
-    let kind = kind(state, register);
-    called_kind_fault(kind).or(forward_fault(state, kind, sort, set, driver, 1))
+    let packet = demanded(Wanted::NEW_OR_OWN, kind(state, register));
+    least(packet, forward_fault(state, sort, set, driver, 1))
 }
 
-fn passed_kind_fault(kind: Kind) -> Option<Rule>
-    ensures { result ≡ pass_kind kind }
-{
-    match kind {
-        Kind::New | Kind::View => None,
-        Kind::Own => Some(Rule::MarkIrpPending),
-        Kind::Blank | Kind::Num | Kind::Lower => Some(Rule::WrongKind),
-    }
-}
-
-fn called_kind_fault(kind: Kind) -> Option<Rule>
-    ensures { result ≡ call_kind kind }
-{
-    match kind {
-        Kind::New | Kind::Own | Kind::View => None,
-        Kind::Blank | Kind::Num | Kind::Lower => Some(Rule::WrongKind),
-    }
-}
-
-/// A packet is forwarded while no lock is held, by no completion routine, from devices that have a
-/// lower one and stack locations for it and so many more.
+/// A packet is forwarded while no lock is held, by no completion routine, from devices that all
+/// have a lower one and stack locations for it and so many more.
 fn forward_fault(
     state: &Abs,
-    kind: Kind,
     sort: Sort,
     set: &DriverSet,
     driver: u8,
     locations: u8,
 ) -> Option<Rule>
     requires { locations ≤ 1 }
-    ensures { result ≡ forward_fault state.now kind sort set.now driver locations }
-{
-    let unheld = unheld_fault(kind, sort, set, driver, locations);
-    broken_if(holds_lock(state), Rule::LockHeld).or(unheld)
-}
-
-fn unheld_fault(kind: Kind, sort: Sort, set: &DriverSet, driver: u8, locations: u8) -> Option<Rule>
-    requires { locations ≤ 1 }
-    ensures { result ≡ first_of_two (completion_sort_fault kind sort) (first_of_two (broken_if (is_too_small set.now driver locations) Rule.StackTooSmall) (broken_if (lacks_lower set.now driver) Rule.NoLower)) }
-{
-    let under = stack_fault(set, driver, locations);
-    completion_sort_fault(kind, sort).or(under)
-}
-
-fn stack_fault(set: &DriverSet, driver: u8, locations: u8) -> Option<Rule>
-    requires { locations ≤ 1 }
-    ensures { result ≡ first_of_two (broken_if (is_too_small set.now driver locations) Rule.StackTooSmall) (broken_if (lacks_lower set.now driver) Rule.NoLower) }
+    ensures { result ≡ forward_fault state.now sort set.now driver locations }
 {
     let small = broken_if(is_too_small(set, driver, locations), Rule::StackTooSmall);
-    small.or(broken_if(lacks_lower(set, driver), Rule::NoLower))
+    let under = least(small, broken_if(lacks_lower(set, driver), Rule::NoLower));
+    let held = broken_if(holds_lock(state), Rule::LockHeld);
+    least(held, least(completion_sort_fault(sort), under))
 }
 
 /// Whether a device of the driver has no lower one.

@@ -8,9 +8,6 @@ mod local_rule;
 mod returns;
 mod state;
 
-pub use local_rule::transfer;
+pub use local_rule::{advance, broken_rule, state_at_label, transfer};
 pub use model::abs::{Abs, Duty, Kind, Outs, Rule, Settled};
 pub use state::{are_same, entry_state};
-
-#[cfg(test)]
-mod tests;

@@ -2,44 +2,39 @@
 
 ghost use Rattle.std.specs.Prelude.{◌≡◌};
 ghost use Rattle.std.specs.List.{list_any};
-ghost use Rattle.model.specs.LocalRule.{kind_of, is_owed, is_lower, is_given_down, status_fault, duty_fault, form_fault, is_settled, settled_fault, left_packet, kept_fault, return_fault, holds_spin_lock, first_of_two, broken_if};
+ghost use Rattle.model.specs.LocalRule.{kind_of, is_kept, is_lower, is_given_down, is_settled};
+ghost use Rattle.model.specs.LocalRule.{status_fault, duty_fault, form_fault, settled_fault};
+ghost use Rattle.model.specs.LocalRule.{left_packet, kept_fault, return_fault};
 
-use crate::fault::{broken_if, holds_spin_lock, is_pending};
+use crate::fault::{broken_if, holds_spin_lock, is_pending, least};
 use crate::state::kind;
 use model::abs::{Abs, Duty, Kind, Rule, Settled};
 use model::instr::{Register, Return};
 use model::set::Sort;
 use model::status::Status;
 
-/// A return keeps the duty to the packet, leaves no lock and no packet behind, and has its sort's form.
-pub fn return_fault(state: &Abs, form: Return, sort: Sort) -> Option<Rule>
-    ensures { result ≡ return_fault state.now form sort }
+/// A return keeps the duty to the packet, leaves no lock and no packet behind, and has its sort's
+/// form.
+pub fn return_fault(state: &Abs, form: &Return, sort: Sort) -> Option<Rule>
+    ensures { result ≡ return_fault state.now form.now sort }
 {
-    let wanted = form;
-    let owed = duty_fault(state, form);
-    owed.or(kept_or_form_fault(state, wanted, sort))
-}
-
-fn kept_or_form_fault(state: &Abs, form: Return, sort: Sort) -> Option<Rule>
-    ensures { result ≡ first_of_two (kept_fault state.now) (first_of_two (form_fault sort form) (settled_fault sort state.now.settled)) }
-{
-    let sorted = form_fault(sort, form).or(settled_fault(sort, state.settled));
-    kept_fault(state).or(sorted)
+    let sorted = least(form_fault(sort, form), settled_fault(sort, state.settled));
+    least(duty_fault(state, form), least(kept_fault(state), sorted))
 }
 
 /// The duty to the packet says which status is returned.
-fn duty_fault(state: &Abs, form: Return) -> Option<Rule>
-    ensures { result ≡ duty_fault state.now form }
+fn duty_fault(state: &Abs, form: &Return) -> Option<Rule>
+    ensures { result ≡ duty_fault state.now form.now }
 {
-    match form {
+    match *form {
         Return::WithStatus(status) => status_fault(state.duty, status),
         Return::Lower(register) => lower_fault(state, register),
         Return::Continue => None,
     }
 }
 
-/// STATUS_PENDING is returned exactly where the packet was marked, and no status of its own where it
-/// was given down.
+/// STATUS_PENDING is returned exactly where the packet was marked, and no status of its own where
+/// it was given down.
 fn status_fault(duty: Duty, status: Status) -> Option<Rule>
     ensures { result ≡ status_fault duty status }
 {
@@ -57,7 +52,10 @@ fn lower_fault(state: &Abs, register: Register) -> Option<Rule>
     ensures { result ≡ duty_fault state.now (Return.Lower register) }
 {
     let other = broken_if(!is_lower(kind(state, register)), Rule::WrongKind);
-    other.or(broken_if(!is_given_down(state.duty), Rule::MarkIrpPending))
+    least(
+        other,
+        broken_if(!is_given_down(state.duty), Rule::MarkIrpPending),
+    )
 }
 
 fn is_lower(kind: Kind) -> bool
@@ -73,16 +71,14 @@ fn is_given_down(duty: Duty) -> bool
 }
 
 /// Each sort has its forms.
-fn form_fault(sort: Sort, form: Return) -> Option<Rule>
-    ensures { result ≡ form_fault sort form }
+fn form_fault(sort: Sort, form: &Return) -> Option<Rule>
+    ensures { result ≡ form_fault sort form.now }
 {
-    match (sort, form) {
-        (Sort::Dispatch, Return::WithStatus(_)) => None,
-        (Sort::Dispatch, Return::Lower(_)) => None,
+    match (sort, *form) {
+        (Sort::Dispatch, Return::WithStatus(_) | Return::Lower(_)) => None,
         (Sort::Dispatch, Return::Continue) => Some(Rule::Sort),
         (Sort::Propagate, Return::Continue) => None,
-        (Sort::Propagate, Return::WithStatus(_)) => Some(Rule::Sort),
-        (Sort::Propagate, Return::Lower(_)) => Some(Rule::Sort),
+        (Sort::Propagate, Return::WithStatus(_) | Return::Lower(_)) => Some(Rule::Sort),
     }
 }
 
@@ -106,29 +102,28 @@ fn is_settled(settled: Settled) -> bool
 fn kept_fault(state: &Abs) -> Option<Rule>
     ensures { result ≡ kept_fault state.now }
 {
-    broken_if(state.cancel, Rule::CancelSpinLock).or(spin_or_left_fault(state))
-}
-
-fn spin_or_left_fault(state: &Abs) -> Option<Rule>
-    ensures { result ≡ first_of_two (broken_if (holds_spin_lock state.now) Rule.SpinLock) (left_packet state.now) }
-{
-    broken_if(holds_spin_lock(state), Rule::SpinLock).or(left_fault(state))
+    let spin = broken_if(holds_spin_lock(state), Rule::SpinLock);
+    least(
+        broken_if(state.cancel, Rule::CancelSpinLock),
+        least(spin, left_fault(state)),
+    )
 }
 
 fn left_fault(state: &Abs) -> Option<Rule>
     ensures { result ≡ left_packet state.now }
 {
-    broken_if(holds_owed(&state.kinds), Rule::Dropped)
+    broken_if(is_any_kept(&state.kinds), Rule::Dropped)
 }
 
-fn holds_owed(kinds: &[Kind]) -> bool
-    ensures { result ≡ list_any is_owed kinds.now }
+fn is_any_kept(kinds: &[Kind]) -> bool
+    ensures { result ≡ list_any is_kept kinds.now }
 {
-    kinds.iter().any(|kind| is_owed(*kind))
+    kinds.iter().any(|kind| is_kept(*kind))
 }
 
-fn is_owed(kind: Kind) -> bool
-    ensures { result ≡ is_owed kind }
+/// A packet that a routine may not leave in a register: any but one on its way up.
+fn is_kept(kind: Kind) -> bool
+    ensures { result ≡ is_kept kind }
 {
     matches!(kind, Kind::New | Kind::Own)
 }

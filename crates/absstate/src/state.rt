@@ -1,25 +1,28 @@
 //! Abstract states: the one at a routine's entry, their parts and changes, and their equality.
 
-ghost use Rattle.std.specs.Prelude.{◌≡◌, ◌↔◌, ◌∷◌, IsTrue, false, replicate};
-ghost use Rattle.model.specs.LocalRule.{entry_state, kind_of, with_kind, is_held, with_lock, with_cancel, left_behind, moved, marked, given_down, duty_completed};
+ghost use Rattle.std.specs.Prelude.{◌≡◌, ◌↔◌, IsTrue};
+ghost use Rattle.model.specs.LocalRule.{entry_of_sort, entered_with, kind_of, with_kind};
+ghost use Rattle.model.specs.LocalRule.{is_held, with_lock, left_behind, moved};
+ghost use Rattle.model.specs.LocalRule.{marked, given_down, duty_completed};
 
 use model::abs::{Abs, Duty, Kind, Settled};
 use model::instr::{Register, SpinLock};
 use model::limits::{REGISTERS, SPIN_LOCKS};
 use model::set::Sort;
 
-/// The state in which a routine of a sort is entered: it finds its packet in the first register.
-pub fn entry_state(sort: Sort) -> Abs
-    ensures { result ≡ entry_state sort }
+/// The state in which a routine of a sort is entered, if it may be: it finds its packet in the
+/// first register.
+pub fn entry_state(sort: Sort) -> Option<Abs>
+    ensures { result ≡ entry_of_sort sort }
 {
     match sort {
-        Sort::Dispatch => entered_with(Kind::New, Duty::Fresh, Settled::Settled),
-        Sort::Propagate => entered_with(Kind::View, Duty::NoDuty, Settled::Open),
+        Sort::Dispatch => Some(entered_with(Kind::New, Duty::Fresh, Settled::Settled)),
+        Sort::Propagate => Some(entered_with(Kind::View, Duty::NoDuty, Settled::Open)),
     }
 }
 
 fn entered_with(first: Kind, duty: Duty, settled: Settled) -> Abs
-    ensures { result ≡ record { kinds = first ∷ replicate 15 Kind.Blank; locks = replicate 8 false; cancel = false; duty = duty; settled = settled } }
+    ensures { result ≡ entered_with first duty settled }
 {
     let mut kinds = [Kind::Blank; REGISTERS];
     kinds[0] = first;
@@ -62,13 +65,11 @@ pub fn kind(state: &Abs, register: Register) -> Kind
     state.kinds[register.index()]
 }
 
-/// The state with another kind in a register.
-pub fn with_kind(state: &Abs, register: Register, kind: Kind) -> Abs
-    ensures { result ≡ with_kind state.now register kind }
+/// Puts another kind into a register.
+pub fn set_kind(state: &mut Abs, register: Register, kind: Kind)
+    ensures { state.new ≡ with_kind state.old register kind }
 {
-    let mut after = *state;
-    after.kinds[register.index()] = kind;
-    after
+    state.kinds[register.index()] = kind;
 }
 
 /// Whether the thread holds a spin lock of the device.
@@ -78,31 +79,20 @@ pub fn is_held(state: &Abs, lock: SpinLock) -> bool
     state.locks[lock.index()]
 }
 
-/// The state with a spin lock held, or not.
-pub fn with_lock(state: &Abs, lock: SpinLock, held: bool) -> Abs
-    ensures { result ≡ with_lock state.now lock held }
+/// Notes that a spin lock is held, or not.
+pub fn set_lock(state: &mut Abs, lock: SpinLock, held: bool)
+    ensures { state.new ≡ with_lock state.old lock held }
 {
-    let mut after = *state;
-    after.locks[lock.index()] = held;
-    after
+    state.locks[lock.index()] = held;
 }
 
-/// The state with the system cancel spin lock held, or not.
-pub fn with_cancel(state: &Abs, held: bool) -> Abs
-    ensures { result ≡ with_cancel state.now held }
-{
-    Abs {
-        cancel: held,
-        ..*state
-    }
-}
-
-/// The state after what is in a register was moved to another one: a number is there as well then.
-pub fn moved(state: &Abs, to: Register, from: Register) -> Abs
-    ensures { result ≡ moved state.now to from }
+/// Moves what is in a register to another one: a number is there as well then.
+pub fn move_kind(state: &mut Abs, to: Register, from: Register)
+    ensures { state.new ≡ moved state.old to from }
 {
     let kind = kind(state, from);
-    with_kind(&with_kind(state, to, kind), from, left_behind(kind))
+    set_kind(state, to, kind);
+    set_kind(state, from, left_behind(kind));
 }
 
 /// What is in a register after it was moved away.
@@ -111,56 +101,50 @@ fn left_behind(kind: Kind) -> Kind
 {
     match kind {
         Kind::Num => Kind::Num,
-        _ => Kind::Blank,
+        Kind::Blank | Kind::Lower | Kind::New | Kind::Own | Kind::View => Kind::Blank,
     }
 }
 
-/// The state after a mark: the routine owns the packet, and has to return STATUS_PENDING; a completion
-/// routine has carried the mark up.
-pub fn marked(state: &Abs, register: Register) -> Abs
-    ensures { result ≡ marked state.now register (kind_of state.now register) }
+/// Marks the packet in a register: the routine owns it, and has to return STATUS_PENDING; a
+/// completion routine has carried the mark up.
+pub fn mark(state: &mut Abs, register: Register)
+    ensures { state.new ≡ marked state.old register (kind_of state.old register) }
 {
     match kind(state, register) {
-        Kind::View => settled_as(state, Settled::Settled),
-        _ => Abs {
-            duty: Duty::Pending,
-            ..with_kind(state, register, Kind::Own)
-        },
+        Kind::New => {
+            set_kind(state, register, Kind::Own);
+            state.duty = Duty::Pending;
+        }
+        Kind::View => state.settled = Settled::Settled,
+        Kind::Blank | Kind::Num | Kind::Lower | Kind::Own => {}
     }
 }
 
-/// The state in which a completion routine has looked for a mark to be carried up.
-pub fn settled_as(state: &Abs, settled: Settled) -> Abs
-    ensures { result ≡ record state.now { settled = settled } }
-{
-    Abs { settled, ..*state }
-}
-
-/// The state after a packet was given to the lower driver: one that wasn't marked leaves the status
+/// Gives the packet in a register to the lower driver: one that wasn't marked leaves the status
 /// that this returned.
-pub fn given_down(state: &Abs, register: Register) -> Abs
-    ensures { result ≡ given_down state.now register (kind_of state.now register) }
+pub fn give_down(state: &mut Abs, register: Register)
+    ensures { state.new ≡ given_down state.old register (kind_of state.old register) }
 {
     match kind(state, register) {
-        Kind::New => Abs {
-            duty: Duty::GivenDown,
-            ..with_kind(state, register, Kind::Lower)
-        },
-        _ => with_kind(state, register, Kind::Blank),
+        Kind::New => {
+            set_kind(state, register, Kind::Lower);
+            state.duty = Duty::GivenDown;
+        }
+        Kind::Own => set_kind(state, register, Kind::Blank),
+        Kind::Blank | Kind::Num | Kind::Lower | Kind::View => {}
     }
 }
 
-/// The state after a completion: the packet is gone, and the duty to one that wasn't marked has
+/// Completes the packet in a register: it is gone, and the duty to one that wasn't marked has
 /// ended.
-pub fn completed(state: &Abs, register: Register) -> Abs
-    ensures { result ≡ record (with_kind state.now register Kind.Blank) { duty = duty_completed (kind_of state.now register) state.now.duty } }
+pub fn complete(state: &mut Abs, register: Register)
+    ensures { state.new
+        ≡ record (with_kind state.old register Kind.Blank) {
+          duty = duty_completed (kind_of state.old register) state.old.duty;
+        } }
 {
-    let duty = match kind(state, register) {
-        Kind::New => Duty::Finished,
-        _ => state.duty,
-    };
-    Abs {
-        duty,
-        ..with_kind(state, register, Kind::Blank)
+    if let Kind::New = kind(state, register) {
+        state.duty = Duty::Finished;
     }
+    set_kind(state, register, Kind::Blank);
 }

@@ -7,4 +7,6 @@ pub mod Handing
 pub mod Closing
 pub mod Judging
 pub mod Steps
+pub mod Fields
+pub mod Faults
 pub mod Verdicts

@@ -1,6 +1,6 @@
 pub mod Survey
 pub mod Table
 pub mod Pass
-pub mod Stops
 pub mod Certificates
 pub mod Verdict
+pub mod FirstFault

@@ -2,8 +2,8 @@
 use Rattle.std.specs.Prelude.{ℕ, ◌≡◌, ◌<◌, ◌≤◌, ◌+◌, true, false, Bool, List, length, Option, None, Some, nat_eq, slice_get, slice_set, slice_index_or, if◌then◌else◌}
 use Rattle.std.specs.List.{list_any}
 use Rattle.model.specs.declared.instr.Instr.{Instr}
-use Rattle.model.specs.declared.instr.Instr.TheVariants.{Loop, End}
 use Rattle.model.specs.Loops.{open_at, is_closed, loops_round}
+use Rattle.model.specs.Set.{Flow, Onward, Branches, Jumps, Opens, Closes, Leaves}
 use Rattle.verifier.specs.declared.loops.Place.{Place}
 use Rattle.verifier.specs.declared.loops.Round.{Round}
 
@@ -17,10 +17,13 @@ outer None opened = None
 outer (Some q) opened = slice_index_or opened q None
 
 -- the innermost open loop after an instruction
-abbrev pub open_next : Instr → ℕ → Option ℕ → List (Option ℕ) → Option ℕ
-open_next (Loop turns) at inner opened = Some at
-open_next End at inner opened = outer inner opened
-open_next _ at inner opened = inner
+abbrev pub open_next : Flow → ℕ → Option ℕ → List (Option ℕ) → Option ℕ
+open_next Onward at inner opened = inner
+open_next (Branches label) at inner opened = inner
+open_next (Jumps label) at inner opened = inner
+open_next (Opens turns) at inner opened = Some at
+open_next Closes at inner opened = outer inner opened
+open_next Leaves at inner opened = inner
 
 -- which loops are open after an `end`
 abbrev pub flags_ended : Option ℕ → List Bool → List Bool
@@ -28,10 +31,13 @@ flags_ended None flags = flags
 flags_ended (Some q) flags = slice_set flags q false
 
 -- which loops are open after an instruction
-abbrev pub flags_next : Instr → ℕ → Option ℕ → List Bool → List Bool
-flags_next (Loop turns) at inner flags = slice_set flags at true
-flags_next End at inner flags = flags_ended inner flags
-flags_next _ at inner flags = flags
+abbrev pub flags_next : Flow → ℕ → Option ℕ → List Bool → List Bool
+flags_next Onward at inner flags = flags
+flags_next (Branches label) at inner flags = flags
+flags_next (Jumps label) at inner flags = flags
+flags_next (Opens turns) at inner flags = slice_set flags at true
+flags_next Closes at inner flags = flags_ended inner flags
+flags_next Leaves at inner flags = flags
 
 -- the table of the innermost open loops is right below a bound
 pub record AreOpen (code : List Instr) (at : ℕ) (opened : List (Option ℕ)) : Type 0 where
@@ -41,7 +47,8 @@ pub record AreOpen (code : List Instr) (at : ℕ) (opened : List (Option ℕ)) :
 -- the flags say which loops are open before a position
 pub record AreFlagged (code : List Instr) (at : ℕ) (flags : List Bool) : Type 0 where
   pub long : length flags ≡ length code
-  pub each : (q : ℕ) → q < length code → slice_index_or flags q false ≡ list_any (nat_eq q) (open_at code at)
+  pub each : (q : ℕ) → q < length code
+      → slice_index_or flags q false ≡ list_any (nat_eq q) (open_at code at)
 
 -- the loops whose bodies hold a position
 abbrev pub round_of : List ℕ → Round
@@ -62,7 +69,8 @@ pub record ArePlaced (code : List Instr) (at : ℕ) (places : List Place) : Type
 
 -- no more loops stand round a position than positions before it
 abbrev pub AreShallow : List Place → Type 0
-AreShallow places = (p : ℕ) (place : Place) → slice_get places p ≡ Some place → place.round.depth ≤ p
+AreShallow places = (p : ℕ) (place : Place) → slice_get places p ≡ Some place
+    → place.round.depth ≤ p
 
 -- the loops round a position, from those round the innermost that is open there
 abbrev pub round_from : Option Place → ℕ → Bool → Round
@@ -75,7 +83,9 @@ round_next None flags places = record { innermost = None; depth = 0 }
 round_next (Some q) flags places = round_from (slice_get places q) q (slice_index_or flags q false)
 
 -- what the first scan knows before a position: both tables, and the innermost open loop
-pub record IsScanned (code : List Instr) (at : ℕ) (opened : List (Option ℕ)) (flags : List Bool) (inner : Option ℕ) : Type 0 where
+pub record IsScanned
+    (code : List Instr) (at : ℕ) (opened : List (Option ℕ)) (flags : List Bool) (inner : Option ℕ)
+    : Type 0 where
   pub table : AreOpen code at opened
   pub flagged : AreFlagged code at flags
   pub first : inner ≡ first_of (open_at code at)

@@ -1,6 +1,9 @@
 -- What the table of the pass says, and how it grows.
-use Rattle.std.specs.Prelude.{ℕ, ◌≡◌, ◌≢◌, ◌<◌, ◌⊎◌, List, length, Option, None, Some, slice_index_or}
+use Rattle.std.specs.Prelude.{ℕ, ◌≡◌, ◌≢◌, ◌<◌, ◌⊎◌, List, length, slice_set, slice_index_or}
 use Rattle.model.specs.declared.abs.Abs.{Abs}
+use Rattle.model.specs.Set.{Flow, Onward, Branches, Jumps, Opens, Closes, Leaves}
+use Rattle.verifier.specs.declared.seen.Arrivals.{Arrivals}
+use Rattle.verifier.specs.declared.seen.Arrivals.TheVariants.{Missing, Alone, Differing}
 use Rattle.verifier.specs.declared.seen.Seen.{Seen}
 use Rattle.verifier.specs.declared.seen.Seen.TheVariants.{Nothing, One, Several}
 
@@ -19,11 +22,31 @@ IsJoined Several s new = new ≡ Several
 -- a table after a state has arrived at a position
 pub record IsNoted (old : List Seen) (to : ℕ) (s : Abs) (new : List Seen) : Type 0 where
   pub long : length new ≡ length old
-  pub here : to < length old → IsJoined (slice_index_or old to Nothing) s (slice_index_or new to Nothing)
+  pub here : to < length old
+      → IsJoined (slice_index_or old to Nothing) s (slice_index_or new to Nothing)
   pub others : (p : ℕ) → p ≢ to → slice_index_or new p Nothing ≡ slice_index_or old p Nothing
 
--- a table after a state has been handed on to a position, if there are both
-abbrev pub IsHanded : List Seen → Option ℕ → Option Abs → List Seen → Type 0
-IsHanded old (Some to) (Some s) new = IsNoted old to s new
-IsHanded old (Some to) None new = new ≡ old
-IsHanded old None state new = new ≡ old
+-- a table after an instruction at a position: it keeps the state that arrives at the label, and at
+-- a loop's start the one before it
+abbrev pub IsKept : Flow → ℕ → Abs → Abs → List Seen → List Seen → Type 0
+IsKept Onward at before jump old new = new ≡ old
+IsKept (Branches label) at before jump old new = IsNoted old label jump new
+IsKept (Jumps label) at before jump old new = IsNoted old label jump new
+IsKept (Opens turns) at before jump old new = new ≡ slice_set old at (One before)
+IsKept Closes at before jump old new = new ≡ old
+IsKept Leaves at before jump old new = new ≡ old
+
+-- what arrives at the next position: the next state, if there is one, and what jumps have led there
+abbrev pub IsArrived : Flow → Abs → Seen → Seen → Type 0
+IsArrived Onward next there new = IsJoined there next new
+IsArrived (Branches label) next there new = IsJoined there next new
+IsArrived (Jumps label) next there new = new ≡ there
+IsArrived (Opens turns) next there new = IsJoined there next new
+IsArrived Closes next there new = IsJoined there next new
+IsArrived Leaves next there new = new ≡ there
+
+-- what has been seen at the position of the pass
+abbrev pub seen_of : Arrivals → Abs → Seen
+seen_of Missing state = Nothing
+seen_of Alone state = One state
+seen_of Differing state = Several

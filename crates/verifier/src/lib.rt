@@ -3,14 +3,13 @@
 #![tactic(auto)]
 
 mod certificate;
+pub mod laws;
 mod loops;
 mod malformed;
-mod routine_pass;
+mod pass;
+mod routine;
 mod seen;
 pub mod verdict;
 
 pub use model::abs::{Refusal, Rule};
 pub use verdict::{Accepted, verify};
-
-#[cfg(test)]
-mod tests;

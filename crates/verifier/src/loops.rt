@@ -27,7 +27,9 @@ pub struct Place {
     pub round: Round,
 }
 
-ghost use Rattle.verifier.specs.Survey.{open_next, flags_next, round_next, AreOpen, AreFlagged, ArePlaced, AreShallow};
+ghost use Rattle.model.specs.Set.{flow_of};
+ghost use Rattle.verifier.specs.Survey.{open_next, flags_next, round_next};
+ghost use Rattle.verifier.specs.Survey.{AreOpen, AreFlagged, ArePlaced, AreShallow};
 
 /// The place of each position of a routine.
 pub fn survey(alloc: Global, code: &[Instr]) -> Result<Vec<Place>, AllocError>
@@ -66,7 +68,7 @@ fn open_next(
     opened: &[Option<usize>],
 ) -> Option<usize>
     requires { IfSome innermost (λ q. q < length opened.now) }
-    ensures { result ≡ open_next instr.now at innermost opened.now }
+    ensures { result ≡ open_next (flow_of instr.now) at innermost opened.now }
 {
     match *instr {
         Instr::Loop(_) => Some(at),
@@ -82,7 +84,7 @@ fn open_next(
 fn flag(instr: &Instr, at: usize, innermost: Option<usize>, unclosed: &mut [bool])
     requires here { at < length unclosed.old }
     requires innermost { IfSome innermost (λ q. q < length unclosed.old) }
-    ensures { unclosed.new ≡ flags_next instr.now at innermost unclosed.old }
+    ensures { unclosed.new ≡ flags_next (flow_of instr.now) at innermost unclosed.old }
 {
     match *instr {
         Instr::Loop(_) => unclosed[at] = true,
@@ -106,7 +108,7 @@ fn place_all(
     requires unclosed { AreFlagged code.now (length code.now) unclosed.now }
     ensures { IfOk result (λ places. ArePlaced code.now (length code.now) places.items) }
 {
-    let mut places = Vec::new(alloc);
+    let mut places = Vec::with_capacity(alloc, code.len())?;
     for at in 0..code.len() {
         let place = Place {
             opened: opened[at],
@@ -118,7 +120,8 @@ fn place_all(
     Ok(places)
 }
 
-/// The loops whose bodies hold a position before which this loop is open, from the places before it.
+/// The loops whose bodies hold a position before which this loop is open, from the places before
+/// it.
 fn round_next(opened: Option<usize>, unclosed: &[bool], places: &[Place]) -> Round
     requires before { IfSome opened (λ q. q < length places.now) }
     requires flagged { length places.now ≤ length unclosed.now }

@@ -1,6 +1,7 @@
 //! Instructions that can't stand where they do, whatever leads there.
 
-ghost use Rattle.std.specs.Prelude.{◌≡◌, ◌<◌, ◌↔◌, ◌&&◌, ◌+◌, length, nat_eq, slice_get, IsTrue};
+ghost use Rattle.std.specs.Prelude.{◌≡◌, ◌<◌, ◌↔◌, ◌&&◌, ◌+◌, length, nat_eq, slice_get};
+ghost use Rattle.std.specs.Prelude.{IsTrue};
 ghost use Rattle.model.specs.Paths.{is_malformed, is_misplaced, isnt_return, goes_forward};
 ghost use Rattle.verifier.specs.Survey.{ArePlaced};
 
@@ -21,7 +22,8 @@ pub fn is_malformed(code: &[Instr], places: &[Place], at: usize) -> bool
 /// Whether the last instruction is at a position and isn't a return.
 fn ends_without_return(code: &[Instr], at: usize) -> bool
     requires { at < length code.now }
-    ensures { result ≡ (nat_eq (at + 1) (length code.now) && isnt_return (slice_get code.now at)) }
+    ensures { result
+        ≡ (nat_eq (at + 1) (length code.now) && isnt_return (slice_get code.now at)) }
 {
     at + 1 == code.len() && !matches!(code[at], Instr::Ret(_))
 }
@@ -32,12 +34,12 @@ fn is_misplaced(code: &[Instr], places: &[Place], at: usize) -> bool
     requires placed { ArePlaced code.now (length code.now) places.now }
     ensures { result ≡ is_misplaced code.now at (slice_get code.now at) }
 {
+    let instr = &code[at];
+    if let Some(label) = instr.label() {
+        return !goes_forward(code, places, at, label as usize);
+    }
     let place = &places[at];
-    match code[at] {
-        Instr::JumpIfZero(_, label)
-        | Instr::JumpIfLess(_, _, label)
-        | Instr::Jump(label)
-        | Instr::IfPending(_, label) => !goes_forward(code, places, at, label as usize),
+    match *instr {
         Instr::Loop(_) => !place.closed || place.round.depth >= MAX_LOOPS,
         Instr::End => place.opened.is_none(),
         _ => false,
@@ -53,8 +55,8 @@ fn goes_forward(code: &[Instr], places: &[Place], at: usize, label: usize) -> bo
     at < label && label < code.len() && are_in_same_loops(&places[at], &places[label])
 }
 
-/// Whether the same loops' bodies hold two positions: since a loop is in the same ones wherever it is
-/// the innermost, that is whether the innermost loop is the same.
+/// Whether the same loops' bodies hold two positions: since a loop is in the same ones wherever it
+/// is the innermost, that is whether the innermost loop is the same.
 fn are_in_same_loops(here: &Place, there: &Place) -> bool
     ensures { IsTrue result ↔ (here.now.round.innermost ≡ there.now.round.innermost) }
 {

@@ -1,8 +1,11 @@
-//! The table of the states that arrive at each position.
+//! The states that arrive at the positions of a routine.
 
 ghost use Rattle.std.specs.Prelude.{◌≡◌, ◌<◌, ◌↔◌, length, slice_index_or, IsTrue};
+ghost use Rattle.model.specs.LocalRule.{handed, handed_at_label};
+ghost use Rattle.model.specs.Set.{flow_of};
 
-use absstate::{Abs, are_same};
+use absstate::{Abs, advance, are_same, state_at_label};
+use model::instr::Instr;
 
 /// The states that have been seen to arrive at a position.
 #[derive(Clone, Copy)]
@@ -15,7 +18,18 @@ pub enum Seen {
     Several,
 }
 
-ghost use Rattle.verifier.specs.Table.{IsJoined, IsNoted, IsHanded};
+/// How many states arrive at the position of a pass, which keeps the one of them beside this.
+#[derive(Clone, Copy)]
+pub enum Arrivals {
+    /// None.
+    Missing,
+    /// The one that is kept.
+    Alone,
+    /// Two that differ.
+    Differing,
+}
+
+ghost use Rattle.verifier.specs.Table.{IsJoined, IsNoted, IsKept, IsArrived, seen_of};
 
 /// What has been seen when one state more arrives.
 fn joined(seen: Seen, state: &Abs) -> Seen
@@ -37,12 +51,56 @@ fn note(table: &mut [Seen], to: usize, state: &Abs)
     }
 }
 
-/// Notes the state that is handed on to a position, if there are both.
-pub fn hand_on(table: &mut [Seen], to: Option<usize>, state: Option<Abs>)
-    ensures { IsHanded table.old to state table.new }
+/// Keeps what is looked at later of an instruction at a position that is reached in a state: what
+/// arrives at its label, and the state at a loop's start.
+pub fn keep(table: &mut [Seen], at: usize, instr: &Instr, state: &Abs)
+    requires { at < length table.old }
+    ensures { IsKept (flow_of instr.now) at state.now (handed_at_label state.now instr.now)
+        table.old table.new }
 {
-    if let (Some(to), Some(state)) = (to, state) {
-        note(table, to, &state);
+    if let Some(label) = instr.label() {
+        note(table, label as usize, &state_at_label(state, instr));
+    } else if let Instr::Loop(_) = *instr {
+        table[at] = Seen::One(*state);
+    }
+}
+
+/// Takes the state before an instruction to the next position, where jumps have led what is there.
+pub fn arrive(there: &Seen, instr: &Instr, state: &mut Abs) -> Arrivals
+    ensures { IsArrived (flow_of instr.now) (handed state.old instr.now) there.now
+        (seen_of result state.new) }
+{
+    match *instr {
+        Instr::Jump(_) | Instr::Ret(_) => take(there, state),
+        _ => {
+            advance(state, instr);
+            meet(there, state)
+        }
+    }
+}
+
+/// Where jumps alone lead.
+fn take(there: &Seen, state: &mut Abs) -> Arrivals
+    ensures { seen_of result state.new ≡ there.now }
+{
+    match *there {
+        Seen::Nothing => Arrivals::Missing,
+        Seen::One(only) => {
+            *state = only;
+            Arrivals::Alone
+        }
+        Seen::Several => Arrivals::Differing,
+    }
+}
+
+/// Where a state arrives beside those that jumps lead there.
+fn meet(there: &Seen, state: &Abs) -> Arrivals
+    ensures { IsJoined there.now state.now (seen_of result state.now) }
+{
+    match *there {
+        Seen::Nothing => Arrivals::Alone,
+        Seen::One(first) if are_same(&first, state) => Arrivals::Alone,
+        Seen::One(_) | Seen::Several => Arrivals::Differing,
     }
 }
 

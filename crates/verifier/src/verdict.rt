@@ -6,9 +6,9 @@ ghost use Rattle.model.specs.Set.{routine_of};
 ghost use Rattle.model.specs.Sound.{DriverFits};
 ghost use Rattle.model.specs.Typable.{IsTypable, IsTypableDriver, IsFirstFault, at_start};
 ghost use Rattle.verifier.specs.Certificates.{driver_certificates, AreCertificates};
-ghost use Rattle.verifier.specs.Verdict.{IsRefusalOf, IsRefusalOfDriver, refusal_of};
+ghost use Rattle.verifier.specs.Verdict.{IsRefusalOf, IsRefusalOfDriver};
 
-use crate::routine_pass::{Stop, check_routine};
+use crate::routine::{at_start, check_routine};
 use image::{DriverSet, Items};
 use model::abs::{Refusal, Rule};
 use model::limits::DEFAULT_ROUTINE;
@@ -35,7 +35,8 @@ impl Model for Accepted {
 
     ghost view = { λ a. a.driver_set };
 
-    ghost invariant = { λ a. IsTypable a.driver_set × AreCertificates a.driver_set a.certificates.items };
+    ghost invariant = { λ a. IsTypable a.driver_set
+        × AreCertificates a.driver_set a.certificates.items };
 }
 
 impl Accepted {
@@ -45,13 +46,6 @@ impl Accepted {
         ensures typable { IsTypable self.now }
     {
         &self.driver_set
-    }
-
-    /// The set, to be run with every test or to be changed.
-    pub fn into_set(self) -> DriverSet
-        ensures { result ≡ self }
-    {
-        self.driver_set
     }
 
     /// The certificate of a routine, the default routine's included: how many instructions an
@@ -72,7 +66,8 @@ impl Accepted {
 /// no memory is found the refusal says that, at driver 0, routine 0, position 0.
 pub fn verify(alloc: Global, set: DriverSet) -> Result<Accepted, (DriverSet, Refusal)>
     ensures accepted { IfOk result (λ a. (a ≡ set) × IsTypable set) }
-    ensures refused { IfErr result (λ e. (e.0 ≡ set) × ((e.1 ≡ at_start Rule.Memory) ⊎ IsFirstFault set e.1)) }
+    ensures refused { IfErr result
+        (λ e. (e.0 ≡ set) × ((e.1 ≡ at_start Rule.Memory) ⊎ IsFirstFault set e.1)) }
     ensures untypable { IfErr result (λ e. e.1.rule ≢ Rule.Memory → IsTypable set → ⊥) }
 {
     match check_set(alloc, &set) {
@@ -87,8 +82,9 @@ pub fn verify(alloc: Global, set: DriverSet) -> Result<Accepted, (DriverSet, Ref
 /// Accepts a set like [`verify`], and answers the certificates of its routines, by driver.
 fn check_set(alloc: Global, set: &DriverSet) -> Result<Vec<Items<u32>>, Refusal>
     ensures typable { OnOk result (IsTypable set.now) }
-    ensures certificates { IfOk result (λ certificates. AreCertificates set.now certificates.items) }
-    ensures refused { IfErr result (λ refusal. IsRefusalOf set.now refusal) }
+    ensures certificates { IfOk result
+        (λ certificates. AreCertificates set.now certificates.items) }
+    ensures refused { IfErr result (IsRefusalOf set.now) }
 {
     if set.devices().is_empty() {
         return Err(at_start(Rule::Malformed));
@@ -107,8 +103,8 @@ fn check_set(alloc: Global, set: &DriverSet) -> Result<Vec<Items<u32>>, Refusal>
     Ok(certificates)
 }
 
-/// Accepts the driver of this number, of a set, exactly if all its routines are typable, memory apart,
-/// and answers their certificates; else the refusal of the set.
+/// Accepts the driver of this number, of a set, exactly if all its routines are typable, memory
+/// apart, and answers their certificates; else the refusal of the set.
 fn check_driver(
     alloc: Global,
     set: &DriverSet,
@@ -117,48 +113,20 @@ fn check_driver(
 ) -> Result<Items<u32>, Refusal>
     requires { DriverFits driver.now }
     ensures typable { OnOk result (IsTypableDriver set.now driver_number driver.now) }
-    ensures certificates { IfOk result (λ certificates. certificates ≡ driver_certificates driver.now) }
-    ensures refused { IfErr result (λ refusal. IsRefusalOfDriver set.now driver_number driver.now refusal) }
+    ensures certificates { IfOk result
+        (λ certificates. certificates ≡ driver_certificates driver.now) }
+    ensures refused { IfErr result (IsRefusalOfDriver set.now driver_number driver.now) }
 {
     let routines = driver.routines.as_slice();
     let mut certificates = Vec::new(alloc);
     for (number, routine) in routines.iter().enumerate() {
-        let certificate = match check_routine(alloc, set, driver_number, routine) {
+        let certificate = match check_routine(alloc, set, driver_number, number as u8, routine) {
             Ok(certificate) => certificate,
-            Err(stop) => return Err(stop.refusal(driver_number, number as u8)),
+            Err(refusal) => return Err(refusal),
         };
         let Ok(()) = certificates.push(certificate) else {
             return Err(at_start(Rule::Memory));
         };
     }
     Ok(Items::of(certificates))
-}
-
-impl Stop {
-    /// The refusal of a set for a routine of it at which a pass stopped.
-    fn refusal(self, driver: u8, routine: u8) -> Refusal
-        ensures { result ≡ refusal_of driver routine self }
-    {
-        match self {
-            Stop::OutOfMemory => at_start(Rule::Memory),
-            Stop::Fault { at, rule } => Refusal {
-                driver,
-                routine,
-                at,
-                rule,
-            },
-        }
-    }
-}
-
-/// The refusal of a set for what isn't about one of its routines.
-fn at_start(rule: Rule) -> Refusal
-    ensures { result ≡ at_start rule }
-{
-    Refusal {
-        driver: 0,
-        routine: 0,
-        at: 0,
-        rule,
-    }
 }

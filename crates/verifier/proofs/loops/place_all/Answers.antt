@@ -7,8 +7,11 @@ use Rattle.verifier.proofs.loops.place_all.Goals as goal
 
 pub round_next-requires-clause-before : goal.round_next-requires-clause-before
 round_next-requires-clause-before c =
-    let long : length c.deref.result.now ≡ c.loop-at.at = ap (λ (places : List Place). length places) c.deref.ensures.value ∙ c.loop-at.invariant.long in
-    first_within c.args.code.now c.loop-at.at (length c.deref.result.now) (slice_index_or c.args.opened.now c.loop-at.at None)
+    let long : length c.deref.result.now ≡ c.loop-at.at =
+    ap (λ (places : List Place). length places) c.deref.ensures.value ∙ c.loop-at.invariant.long
+    in
+    first_within c.args.code.now c.loop-at.at (length c.deref.result.now)
+    (slice_index_or c.args.opened.now c.loop-at.at None)
     (c.requires.opened.each c.loop-at.at c.loop-at-test.true) (omega arith)
 
 pub round_next-requires-clause-shallow : goal.round_next-requires-clause-shallow
@@ -18,8 +21,11 @@ round_next-requires-clause-shallow c =
 
 pub loop-at-preserved : goal.loop-at-preserved
 loop-at-preserved c =
-    placed_more c.args.code.now c.loop-at.at c.args.opened.now c.args.unclosed.now c.loop-at.places.items c.push.new.self.items c.round_next.result
+    placed_more c.args.code.now c.loop-at.at c.args.opened.now c.args.unclosed.now
+    c.loop-at.places.items c.push.new.self.items c.round_next.result
     c.requires.opened c.requires.unclosed c.loop-at.invariant c.loop-at-test.true
-    (subst (λ (places : List Place). c.round_next.result ≡ round_next (slice_index_or c.args.opened.now c.loop-at.at None) c.args.unclosed.now places)
+    (subst (λ (places : List Place). c.round_next.result
+    ≡ round_next (slice_index_or c.args.opened.now c.loop-at.at None) c.args.unclosed.now
+    places)
     c.deref.ensures.value c.round_next.ensures)
     (c.in_ok-push.ensures {u = tt}).items

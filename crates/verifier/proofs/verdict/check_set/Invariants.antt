@@ -5,4 +5,5 @@ use Rattle.verifier.proofs.verdict.check_set.Given as goal
 
 abbrev pub invariant-loop-number : goal.invariant-loop-number
 invariant-loop-number l =
-    AreTypable l.set l.number × (l.certificates.items ≡ map driver_certificates (take l.number l.drivers))
+    AreTypable l.set l.number
+    × (l.certificates.items ≡ map driver_certificates (take l.number l.drivers))

@@ -1,0 +1,88 @@
+//! The verdict on one routine.
+
+ghost use Rattle.std.specs.Prelude.{◌≡◌, ◌<◌, length, if◌then◌else◌, IfOk, IfErr, OnOk};
+ghost use Rattle.model.specs.Certificate.{certificate};
+ghost use Rattle.model.specs.Paths.{is_malformed};
+ghost use Rattle.model.specs.Set.{member};
+ghost use Rattle.model.specs.Sound.{RoutineFits};
+ghost use Rattle.model.specs.Typable.{IsTypableRoutine, at_start};
+ghost use Rattle.verifier.specs.Verdict.{IsRefusalOfRoutine};
+
+use crate::loops::survey;
+use crate::malformed::is_malformed;
+use crate::pass::Pass;
+use absstate::{Rule, entry_state};
+use image::DriverSet;
+use model::abs::Refusal;
+use model::instr::Instr;
+use model::set::Routine;
+use std::alloc::{AllocError, Global};
+
+/// Accepts a routine of a driver of a set, both by number, exactly if it is typable, memory apart,
+/// and answers its certificate; else its first fault.
+pub fn check_routine(
+    alloc: Global,
+    set: &DriverSet,
+    driver: u8,
+    number: u8,
+    routine: &Routine,
+) -> Result<u32, Refusal>
+    requires { RoutineFits routine.now }
+    ensures typable { OnOk result
+        (IsTypableRoutine (member set.now driver number routine.now)) }
+    ensures certificate { IfOk result (λ sum. sum ≡ certificate routine.now.code) }
+    ensures refused { IfErr result
+        (IsRefusalOfRoutine (member set.now driver number routine.now)) }
+{
+    let code = routine.code.as_slice();
+    if code.is_empty() {
+        return Err(refusal(driver, number, 0, Rule::Malformed));
+    }
+    let Some(entry) = entry_state(routine.sort) else {
+        return Err(match rule_at_entry(alloc, code) {
+            Ok(rule) => refusal(driver, number, 0, rule),
+            Err(_) => at_start(Rule::Memory),
+        });
+    };
+    let Ok(mut pass) = Pass::begin(alloc, set, driver, number, routine, entry) else {
+        return Err(at_start(Rule::Memory));
+    };
+    for at in 0..code.len() {
+        if let Err(rule) = pass.step() {
+            return Err(refusal(driver, number, at as u16, rule));
+        }
+    }
+    Ok(pass.certificate())
+}
+
+/// The least rule that is broken at the start of a routine that can't be entered.
+fn rule_at_entry(alloc: Global, code: &[Instr]) -> Result<Rule, AllocError>
+    requires { 0 < length code.now }
+    ensures { IfOk result
+        (λ rule. rule ≡ (if is_malformed code.now 0 then Rule.Malformed else Rule.Sort)) }
+{
+    let places = survey(alloc, code)?;
+    if is_malformed(code, &places, 0) {
+        Ok(Rule::Malformed)
+    } else {
+        Ok(Rule::Sort)
+    }
+}
+
+fn refusal(driver: u8, routine: u8, at: u16, rule: Rule) -> Refusal
+    ensures { result ≡ record { driver = driver; routine = routine; at = at; rule = rule } }
+{
+    Refusal {
+        driver,
+        routine,
+        at,
+        rule,
+    }
+}
+
+/// The refusal of a set for what isn't about one of its routines.
+pub fn at_start(rule: Rule) -> Refusal
+    ensures { result ≡ at_start rule }
+{
+    refusal(0, 0, 0, rule)
+}
