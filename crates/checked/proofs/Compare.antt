@@ -1,8 +1,8 @@
 -- An event on the machine and on the run: both end with the same world and the same reply.
-use Rattle.std.proofs.Common.{◌≡◌, ◌≤◌, ◌<◌, ◌+◌, ◌-◌, ℕ, zero, suc, List, [], ◌∷◌, ◌++◌, Option, None, Some, Bool, true, false, cond, length, take, refl, ap, sym, ◌∙◌, ◌⊎◌, inl, inr, arith, length-append}
-use Rattle.std.specs.Prelude.{◌&&◌, nat_le, slice_get, slice_set}
+use Rattle.std.proofs.Common.{◌≡◌, ◌≤◌, ◌<◌, ◌+◌, ◌-◌, ℕ, suc, List, [], ◌∷◌, ◌++◌, Option, None, Some, Bool, true, false, cond, length, take, refl, ap, sym, ◌∙◌, inl, inr, arith, length-append, length-take}
+use Rattle.std.specs.Prelude.{◌&&◌, nat_lt, slice_get}
 use Rattle.std.proofs.lemmas.Bool.Decides.{leb_tells}
-use Rattle.model.specs.declared.world.Activation.{Activation}
+use Rattle.model.specs.declared.limits.TheConstants.{MAX_FRAMES}
 use Rattle.model.specs.declared.world.Frame.{Frame}
 use Rattle.model.specs.declared.world.Frame.TheVariants.{Routine, Walk}
 use Rattle.model.specs.declared.world.Thread.{Thread}
@@ -14,17 +14,20 @@ use Rattle.model.specs.declared.event.Event.TheVariants.{Issue, Step}
 use Rattle.model.specs.declared.event.Bug.{Bug}
 use Rattle.model.specs.declared.event.Reply.{Reply}
 use Rattle.model.specs.declared.event.Reply.TheVariants.{Stepped, Idle, Refused, Bug as BugCheckReply, Wrong}
-use Rattle.model.specs.Effect.{Outcome, Change, goes_wrong, frame_effect, answered, top_of, told_top, told_to, finished_or, with_frames, settled, top_effect, step_thread, unchanged, issued, issue_on, is_idle, can_issue, effect}
-use Rattle.model.specs.Run.{Run, Answered, frames_on, goes, refused, stops, unless_wrong, unless_fault, judged as run_judged, thread_of}
+use Rattle.model.specs.Effect.{Outcome, Change, frame_effect, answered, top_of, told_top, told_to, kept_below, finished_or, with_stack, with_thread, standing, settled, top_effect, step_thread, unchanged, issued, issue_on, is_idle, can_issue, effect}
+use Rattle.model.specs.Run.{Run, Answered, goes, refused, stops, unless_wrong, unless_fault, judged as run_judged, actor_on, answered_on, root_of, tags_on, thread_of, top_tag}
+use Rattle.model.specs.Fault.{first_fault}
 use Rattle.model.specs.Set.{Set}
-use Rattle.model.specs.Trace.{Entry, Tag, recorded}
+use Rattle.model.specs.Trace.{Entry, recorded}
 use Rattle.model.specs.World.{Shared, World}
-use Rattle.checked.specs.Step.{Left, Ended, first_now, stays, left_by, fits, bounded, moved_by, top_now, step_ended, step_now, ended, event_now, is_stop}
-use Rattle.checked.proofs.Lists.{set_same, last_split}
-use Rattle.checked.proofs.Effects.{Fine, WrongHere, fine_frame}
+use Rattle.checked.specs.declared.frame.Runner.{Runner}
+use Rattle.checked.specs.Step.{Left, Ended, first_now, stays, unless_wrong as wrong_left, left_by, fits, bounded, moved_by, runner, top_now, step_ended, step_now, ended, event_now, is_stop}
+use Rattle.checked.proofs.Lists.{set_back, last_split}
+use Rattle.checked.proofs.Stacks.{finished_more, root_more}
+use Rattle.checked.proofs.Known.{known, runs}
+use Rattle.checked.proofs.Effects.{Fine, is_bug, fine_frame}
 use Rattle.irql_locks.specs.Owns.{OwningTells}
 use Rattle.run_laws.specs.PastTells.{PastTells}
-use Rattle.checked.proofs.Known.{known}
 
 -- the run answers as the machine ends
 pub record Same (a : Answered) (e : Ended) : Type 0 where
@@ -36,240 +39,280 @@ pub record Same (a : Answered) (e : Ended) : Type 0 where
 record Stands (r : Run) (t : ℕ) (thread : Thread) (below : List Frame) (f : Frame) : Type 0 where
   there : slice_get r.world.threads t ≡ Some thread
   split : thread.frames.items ≡ below ++ f ∷ []
-  few : length thread.frames.items ≤ 32
+  few : length thread.frames.items ≤ MAX_FRAMES
   on : r.stopped ≡ false
 
--- a thread with frames has not finished
-finished_more : (below : List Frame) (f : Frame) (frames : List Frame) (reply : Reply) → finished_or (below ++ f ∷ frames) reply ≡ reply
-finished_more [] f frames reply = refl
-finished_more (b ∷ below) f frames reply = refl
-
-goes_finished : (frames : List Frame) (reply : Reply) → is_stop reply ≡ false → is_stop (finished_or frames reply) ≡ false
+-- that a thread has finished is told in place of a step alone
+goes_finished : (frames : List Frame) (reply : Reply) → is_stop reply ≡ false
+    → is_stop (finished_or frames reply) ≡ false
 goes_finished [] Stepped h = refl
 goes_finished [] reply h = h
 goes_finished (f ∷ frames) reply h = h
 
+stops_finished : (frames : List Frame) (reply : Reply) → is_stop reply ≡ true
+    → finished_or frames reply ≡ reply
+stops_finished [] Stepped h = cc
+stops_finished [] reply h = refl
+stops_finished (f ∷ frames) reply h = refl
+
 -- the frame below is told a status, and no frame is more or less
-told_frames : (set : Set) (below : List Frame) (status : Status) (o : Option Frame) → top_of below ≡ o →
+told_frames : (set : Set) (below : List Frame) (status : Status) (o : Option Frame)
+    → top_of below ≡ o →
     length (told_top set below status o) ≡ length below
 told_frames set below status None h = refl
 told_frames set below status (Some (Walk n)) h = refl
 told_frames set below status (Some (Routine a)) h =
     let last : List Frame = Routine (answered set a status) ∷ [] in
-    let split : below ≡ take (length below - 1) below ++ Routine a ∷ [] = last_split below (Routine a) h in
+    let split : below ≡ take (length below - 1) below ++ Routine a ∷ [] =
+    last_split below (Routine a) h in
     let before : length below ≡ length (take (length below - 1) below) + 1 =
     ap length split ∙ length-append (take (length below - 1) below) (Routine a ∷ []) in
     length-append (take (length below - 1) below) last ∙ sym before
 
-told_count : (set : Set) (below : List Frame) (o : Option Status) → length (told_to set below o) ≡ length below
+told_count : (set : Set) (below : List Frame) (o : Option Status)
+    → length (told_to set below o) ≡ length below
 told_count set below None = refl
 told_count set below (Some status) = told_frames set below status (top_of below) refl
 
--- the frames of a thread are put back
+kept_few : (below : List Frame) (taken : Bool) → length (kept_below below taken) ≤ length below
+kept_few below true = rw (length-take (length below - 1) below) (omega arith)
+kept_few below false = omega arith
+
+not_more : (a b : ℕ) → b ≤ a → nat_lt a b ≡ false
+not_more a b few =
+    elim (leb_tells (suc a) b) [
+      | inl l ↦ let more : a < b =
+          l.1 in absurd (omega arith)
+      | inr l ↦ l.0
+    ]
+
+-- a frame of a thread is put back
+stack_back : (thread : Thread) (below : List Frame) (f : Frame)
+    → thread.frames.items ≡ below ++ f ∷ [] →
+    with_stack thread (below ++ f ∷ []) ≡ thread
+stack_back thread below f split = rw (root_more thread.root below f [], ← split) refl
+
 abbrev with_threads : Shared → List Thread → World
 with_threads s threads = record { threads = threads; shared = s }
 
-set_back : {A : Type 0} (xs : List A) (i : ℕ) (x : A) → slice_get xs i ≡ Some x → slice_set xs i x ≡ xs
-set_back {A = A} [] i x h = refl
-set_back {A = A} (z ∷ xs) zero x h = let same : z ≡ x = cc in rw same refl
-set_back {A = A} (z ∷ xs) (suc i) x h = ap (λ (ys : List A). z ∷ ys) (set_back xs i x h)
-
-put_back : (w : World) (t : ℕ) (thread : Thread) (items : List Frame) → slice_get w.threads t ≡ Some thread →
-    thread.frames.items ≡ items → with_frames w t w.shared items ≡ w
-put_back w t thread items h e = rw (← e) (ap (with_threads w.shared) (set_back w.threads t thread h))
-
-frames_put : (w : World) (t : ℕ) (thread : Thread) (s : Shared) (items : List Frame) → slice_get w.threads t ≡ Some thread →
-    frames_on (with_frames w t s items) t ≡ items
-frames_put w t thread s items h = rw (set_same w.threads t thread (record { frames = record { items = items } }) h) refl
+put_back : (w : World) (t : ℕ) (thread : Thread) → slice_get w.threads t ≡ Some thread
+    → with_thread w t w.shared thread ≡ w
+put_back w t thread there = ap (with_threads w.shared) (set_back w.threads t thread there)
 
 -- a step that goes on, or is refused
-abbrev Goes : Run → ℕ → List Entry → Change → Bool → Answered
-Goes r t past c fits = cond {A = Answered} fits (goes r t past c) (refused r)
+abbrev Goes : Set → Run → ℕ → List Entry → Change → Bool → Answered
+Goes set r t past c over = cond {A = Answered} over (refused r) (goes set r t past c)
 
-unless_plain : (r : Run) (t : ℕ) (past : List Entry) (c : Change) (reply : Reply) → is_stop reply ≡ false →
-    unless_wrong r t past c reply ≡ Goes r t past c (nat_le (length (frames_on c.world t)) 32)
-unless_plain r t past c (Wrong place) h = cc
-unless_plain r t past c reply h = refl
+unless_plain : (set : Set) (r : Run) (t : ℕ) (past : List Entry) (c : Change) (reply : Reply)
+    → is_stop reply ≡ false →
+    unless_wrong set r t past c reply ≡ Goes set r t past c c.over
+unless_plain set r t past c (Wrong place) h = cc
+unless_plain set r t past c reply h = refl
 
-compare_goes : (r : Run) (t : ℕ) (past : List Entry) (c : Change) (fits : Bool) → fits ≡ true → is_stop c.reply ≡ false →
-    Same (Goes r t past c fits) (ended c)
-compare_goes r t past c fits h plain = rw h (record { world = refl; reply = refl; stopped = sym plain })
-
--- one frame or none in the place of one leaves no more frames
-room_for : (below lower : List Frame) (f : Frame) (items frames : List Frame) → length lower ≡ length below →
-    items ≡ below ++ f ∷ [] → length items ≤ 32 → length frames ≤ 1 → nat_le (length (lower ++ frames)) 32 ≡ true
-room_for below lower f items frames count split few one =
-    let before : length items ≡ length below + 1 = ap length split ∙ length-append below (f ∷ []) in
-    let after : length (lower ++ frames) ≡ length lower + length frames = length-append lower frames in
-    elim (leb_tells (length (lower ++ frames)) 32) [
-      | inl l ↦ l.0
-      | inr l ↦ let more : 32 < length (lower ++ frames) = l.1 in absurd (omega arith)
-    ]
+compare_goes : (set : Set) (r : Run) (t : ℕ) (past : List Entry) (c : Change) (over : Bool)
+    → over ≡ false → is_stop c.reply ≡ false →
+    Same (Goes set r t past c over) (ended c)
+compare_goes set r t past c over h plain =
+    rw h (record { world = refl; reply = refl; stopped = sym plain })
 
 -- a step of the frame on the top
-module _ (set : Set) (r : Run) (t : ℕ) (past : List Entry) (thread : Thread) (below : List Frame) where
+module _ (set : Set) (r : Run) (t : ℕ) (past : List Entry) (thread : Thread) (below : List Frame)
+    (f : Frame)
+    (stands : Stands r t thread below f) where
+  abbrev s : Shared
+  s = r.world.shared
+
   -- what the machine ends with
   abbrev ends_with : Left → Ended
-  ends_with left = step_ended r.world t (moved_by set below left)
+  ends_with left = step_ended r.world t (moved_by set thread below left)
 
-  -- the frames after an outcome
-  abbrev after_of : Outcome → List Frame
-  after_of o = told_to set below o.told ++ o.frames
+  abbrev whole : Outcome → Left
+  whole o = record {
+    shared = o.shared;
+    frames = o.frames;
+    reply = o.reply;
+    taken_below =
+        o.taken_below;
+    told = o.told;
+  }
 
-  abbrev left_whole : Outcome → Left
-  left_whole o = record { shared = o.shared; frames = o.frames; reply = o.reply; told = o.told }
+  plain_left : (o : Outcome) (reply : Reply) → is_stop reply ≡ false
+      → wrong_left s f o reply ≡ whole o
+  plain_left o (Wrong place) h = cc
+  plain_left o reply h = refl
 
-  -- it stops the run
-  compare_stop : (f : Frame) (reply : Reply) → slice_get r.world.threads t ≡ Some thread → thread.frames.items ≡ below ++ f ∷ [] →
-      is_stop reply ≡ true → Same (stops r past reply) (ends_with (stays r.world.shared f reply))
-  compare_stop f reply h split stop =
+  -- nothing changes
+  same_world : r.world ≡ with_thread r.world t s (with_stack thread (below ++ f ∷ []))
+  same_world = rw (stack_back thread below f stands.split)
+      (sym (put_back r.world t thread stands.there))
+
+  compare_stop : (reply : Reply) → is_stop reply ≡ true
+      → Same (stops r past reply) (ends_with (stays s f reply))
+  compare_stop reply stop =
       record {
-        world = sym (put_back r.world t thread (below ++ f ∷ []) h split);
+        world = same_world;
         reply = sym (finished_more below f [] reply);
         stopped = rw (finished_more below f [] reply) (sym stop);
       }
 
-  module _ (f : Frame) (stands : Stands r t thread below f) where
-    -- it goes on, or would leave too many frames
-    compare_full : (left : Left) (c : Change) (some fits : Bool) → some ≡ fits →
-        c.world ≡ with_frames r.world t left.shared (told_to set below left.told ++ left.frames) →
-        c.reply ≡ finished_or (told_to set below left.told ++ left.frames) left.reply → is_stop c.reply ≡ false →
-        Same (Goes r t past c some) (ends_with (cond {A = Left} fits left (stays r.world.shared f Refused)))
-    compare_full left c true true e world reply plain =
-        record { world = world; reply = reply; stopped = rw reply at (sym plain) }
-    compare_full left c false false e world reply plain =
-        record {
-          world = sym (put_back r.world t thread (below ++ f ∷ []) stands.there stands.split);
-          reply = sym (finished_more below f [] Refused);
-          stopped = rw (finished_more below f [] Refused) stands.on;
-        }
-    compare_full left c true false e world reply plain = cc
-    compare_full left c false true e world reply plain = cc
+  compare_refusal : Same (refused r) (ends_with (stays s f Refused))
+  compare_refusal =
+      record {
+        world = same_world;
+        reply = sym (finished_more below f [] Refused);
+        stopped = rw (finished_more below f [] Refused) stands.on;
+      }
 
-    -- it goes on
-    compare_few : (o : Outcome) → is_stop o.reply ≡ false → length o.frames ≤ 1 →
-        Same (unless_wrong r t past (settled set r.world t below o) (finished_or (after_of o) o.reply))
-        (ended (settled set r.world t below o))
-    compare_few o plain one =
-        let c : Change = settled set r.world t below o in
-        let calm : is_stop c.reply ≡ false = goes_finished (after_of o) o.reply plain in
-        let fit : nat_le (length (after_of o)) 32 ≡ true =
-        room_for below (told_to set below o.told) f thread.frames.items o.frames (told_count set below o.told)
-        stands.split stands.few one in
-        let put : frames_on c.world t ≡ after_of o = frames_put r.world t thread o.shared (after_of o) stands.there in
-        let room : nat_le (length (frames_on c.world t)) 32 ≡ true = rw put fit in
-        rw (unless_plain r t past c _ calm) (compare_goes r t past c _ room calm)
+  -- how many frames stand after it
+  stand_count : (o : Outcome)
+      → length (standing set below o) ≡ length (kept_below below o.taken_below) + length o.frames
+  stand_count o =
+      let kept : List Frame = kept_below below o.taken_below in
+      let count : length (told_to set kept o.told) ≡ length kept = told_count set kept o.told in
+      length-append (told_to set kept o.told) o.frames ∙ rw count refl
 
-    -- it leaves more than one frame
-    compare_more : (o : Outcome) (count : ℕ) → length o.frames ≡ count → is_stop o.reply ≡ false →
-        Same (unless_wrong r t past (settled set r.world t below o) (finished_or (after_of o) o.reply))
-        (ends_with (cond {A = Left} (nat_le (length below + count) 32) (left_whole o) (stays r.world.shared f Refused)))
-    compare_more o count counted plain =
-        let c : Change = settled set r.world t below o in
-        let calm : is_stop c.reply ≡ false = goes_finished (after_of o) o.reply plain in
-        let put : frames_on c.world t ≡ after_of o = frames_put r.world t thread o.shared (after_of o) stands.there in
-        let kept : length (told_to set below o.told) ≡ length below = told_count set below o.told in
-        let size : length (after_of o) ≡ length below + count =
-        length-append (told_to set below o.told) o.frames ∙ (rw (kept, counted) refl) in
-        let fits : nat_le (length (frames_on c.world t)) 32 ≡ nat_le (length below + count) 32 =
-        ap (λ (n : ℕ). nat_le n 32) (ap length put ∙ size) in
-        rw (unless_plain r t past c _ calm) (compare_full (left_whole o) c _ _ fits refl refl calm)
+  -- it goes on
+  compare_few : (o : Outcome) → is_stop o.reply ≡ false → length o.frames ≤ 1 →
+      Same (Goes set r t past (settled set r.world t thread below o)
+      (nat_lt MAX_FRAMES (length (standing set below o))))
+      (ends_with (whole o))
+  compare_few o plain one =
+      let count : length (standing set below o) ≡ length (kept_below below o.taken_below) + length
+      o.frames = stand_count o in
+      let kept : length (kept_below below o.taken_below) ≤ length below =
+      kept_few below o.taken_below in
+      let all : length thread.frames.items ≡ length below + 1 = ap length stands.split
+      ∙ length-append below (f ∷ []) in
+      let few : length thread.frames.items ≤ MAX_FRAMES = stands.few in
+      let within : length (standing set below o) ≤ MAX_FRAMES = omega arith in
+      compare_goes set r t past (settled set r.world t thread below o) _
+      (not_more MAX_FRAMES (length (standing set below o)) within)
+      (goes_finished (standing set below o) o.reply plain)
 
-    -- it has no bug check, and its operands are in order
-    compare_plain : (o : Outcome) (frames : List Frame) → o.frames ≡ frames → is_stop o.reply ≡ false →
-        Same (unless_wrong r t past (settled set r.world t below o) (finished_or (after_of o) o.reply))
-        (ends_with (fits (length below) r.world.shared f (left_whole o) frames))
-    compare_plain o [] h plain = compare_few o plain (rw h (omega arith))
-    compare_plain o (g ∷ []) h plain = compare_few o plain (rw h (omega arith))
-    compare_plain o (g ∷ k ∷ frames) h plain = compare_more o (length (g ∷ k ∷ frames)) (ap length h) plain
+  -- it goes on, or would leave too many frames
+  compare_over : (o : Outcome) (over : Bool) → is_stop o.reply ≡ false →
+      Same (Goes set r t past (settled set r.world t thread below o) over)
+      (ends_with (cond {A = Left} over (stays s f Refused) (whole o)))
+  compare_over o true plain = compare_refusal
+  compare_over o false plain =
+      compare_goes set r t past (settled set r.world t thread below o) false refl
+      (goes_finished (standing set below o) o.reply plain)
 
-    -- it has no bug check
-    compare_outcome : (o : Outcome) → (is_stop o.reply ≡ false) ⊎ WrongHere r.world.shared f o →
-        Same (unless_wrong r t past (settled set r.world t below o) (finished_or (after_of o) o.reply))
-        (ends_with (bounded (length below) r.world.shared f (left_whole o)))
-    compare_outcome o (inl plain) = compare_plain o o.frames refl plain
-    compare_outcome o (inr wrong) =
-        let a : Activation = wrong.0 in
-        let reply : Reply = (goes_wrong r.world.shared a).reply in
-        let whole : finished_or (below ++ Routine a ∷ []) reply ≡ reply = finished_more below (Routine a) [] reply in
-        let split : thread.frames.items ≡ below ++ Routine a ∷ [] = stands.split ∙ ap (λ (g : Frame). below ++ g ∷ []) wrong.1 in
-        rw (wrong.2, whole) (rw whole at (compare_stop (Routine a) reply stands.there split refl))
+  compare_frames : (o : Outcome) (frames : List Frame) → o.frames ≡ frames
+      → is_stop o.reply ≡ false →
+      Same (Goes set r t past (settled set r.world t thread below o)
+      (nat_lt MAX_FRAMES (length (standing set below o))))
+      (ends_with (fits (length (kept_below below o.taken_below)) s f (whole o) frames))
+  compare_frames o [] is plain = compare_few o plain (rw is (omega arith))
+  compare_frames o (g ∷ []) is plain = compare_few o plain (rw is (omega arith))
+  compare_frames o (g ∷ h ∷ frames) is plain =
+      let count : length (standing set below o) ≡ length (kept_below below o.taken_below) + length
+      (g ∷ h ∷ frames) =
+      stand_count o ∙ ap (λ (xs : List Frame). length (kept_below below o.taken_below) + length xs)
+      is in
+      rw (ap (nat_lt MAX_FRAMES) count) (compare_over o _ plain)
 
-    compare_fault : (o : Outcome) (fault : Option Bug) → (is_stop o.reply ≡ false) ⊎ WrongHere r.world.shared f o →
-        Same (unless_fault r t past (settled set r.world t below o) fault)
-        (ends_with (bounded (length below) r.world.shared f (left_by r.world.shared f o fault)))
-    compare_fault o None replies = compare_outcome o replies
-    compare_fault o (Some bug) replies = compare_stop f (BugCheckReply bug) stands.there stands.split refl
+  -- it has no bug check
+  compare_plain : (o : Outcome) (reply : Reply) → o.reply ≡ reply → is_stop reply ≡ false →
+      Same (unless_wrong set r t past (settled set r.world t thread below o)
+      (finished_or (standing set below o) reply))
+      (ends_with (bounded below s f (wrong_left s f o reply)))
+  compare_plain o reply is plain =
+      rw (
+        plain_left o reply plain,
+        unless_plain set r t past (settled set r.world t thread below o)
+            (finished_or (standing set below o) reply)
+            (goes_finished (standing set below o) reply plain),
+      )
+      (compare_frames o o.frames refl (rw is plain))
 
-compare_frame : (set : Set) (r : Run) (t : ℕ) (tag : Tag) (thread : Thread) (below : List Frame) (f : Frame) (o : Outcome) →
-    Stands r t thread below f → Fine r.past t tag r.world.shared f o →
-    Same (run_judged r t tag (settled set r.world t below o))
-    (step_ended r.world t
-    (moved_by set below (bounded (length below) r.world.shared f (left_by r.world.shared f o (first_now r.world.shared t o.actions)))))
-compare_frame set r t tag thread below f o stands fine =
-    rw fine.agrees
-    (compare_fault set r t (recorded r.past t tag o.actions) thread below f stands o (first_now r.world.shared t o.actions) fine.replies)
+  compare_reply : (o : Outcome) (reply : Reply) → o.reply ≡ reply → is_bug reply ≡ false →
+      Same (unless_wrong set r t past (settled set r.world t thread below o)
+      (finished_or (standing set below o) reply))
+      (ends_with (bounded below s f (wrong_left s f o reply)))
+  compare_reply o (Wrong place) is calm =
+      rw (stops_finished (standing set below o) (Wrong place) refl)
+      (compare_stop (Wrong place) refl)
+  compare_reply o (BugCheckReply bug) is calm = cc
+  compare_reply o reply is calm = compare_plain o reply is refl
 
--- a change without actions that a bug check could come from
-compare_change : (r : Run) (t : ℕ) (past : List Entry) (c : Change) → is_stop c.reply ≡ false → length (frames_on c.world t) ≤ 32 →
-    Same (unless_wrong r t past c c.reply) (ended c)
-compare_change r t past c plain few =
-    let room : nat_le (length (frames_on c.world t)) 32 ≡ true =
-    elim (leb_tells (length (frames_on c.world t)) 32) [
-      | inl l ↦ l.0
-      | inr l ↦ let more : 32 < length (frames_on c.world t) = l.1 in absurd (omega arith)
-    ] in
-    rw (unless_plain r t past c _ plain) (compare_goes r t past c _ room plain)
+  compare_fault : (o : Outcome) (fault : Option Bug) → is_bug o.reply ≡ false →
+      Same (unless_fault set r t past (settled set r.world t thread below o) fault)
+      (ends_with (bounded below s f (left_by s f o fault)))
+  compare_fault o None calm = compare_reply o o.reply refl calm
+  compare_fault o (Some bug) calm = compare_stop (BugCheckReply bug) refl
 
 -- what a run knows before an event
-module _ (set : Set) (r : Run) (t : ℕ) (tag : Tag) (on : r.stopped ≡ false) (tells : PastTells r)
+module _ (set : Set) (r : Run) (t : ℕ) (on : r.stopped ≡ false) (tells : PastTells r)
     (owning : OwningTells) where
-  compare_refused : Same (unless_wrong r t r.past (unchanged r.world Refused) Refused) (ended (unchanged r.world Refused))
-  compare_refused = compare_change r t r.past (unchanged r.world Refused) refl (tells.few t)
+  compare_refused : Same (run_judged set r (actor_on r t) (unchanged r.world Refused))
+      (ended (unchanged r.world Refused))
+  compare_refused = compare_goes set r t r.past (unchanged r.world Refused) false refl refl
 
-  compare_top : (thread : Thread) (o : Option Frame) → slice_get thread.frames.items (length thread.frames.items - 1) ≡ o →
-      slice_get r.world.threads t ≡ Some thread → length thread.frames.items ≤ 32 →
-      Same (run_judged r t tag (top_effect set r.world t (take (length thread.frames.items - 1) thread.frames.items) o))
-      (step_ended r.world t (top_now set r.world.shared t thread (take (length thread.frames.items - 1) thread.frames.items) o))
-  compare_top thread None e h here =
-      let same : Same (unless_wrong r t r.past (unchanged r.world Idle) Idle) (ended (unchanged r.world Idle)) =
-      compare_change r t r.past (unchanged r.world Idle) refl (tells.few t) in
-      record {
-        world = same.world ∙ ap (with_threads r.world.shared) (sym (set_back r.world.threads t thread h));
-        reply = same.reply;
-        stopped = same.stopped;
-      }
-  compare_top thread (Some f) e h here =
+  compare_top : (thread : Thread) (o : Option Frame)
+      → slice_get thread.frames.items (length thread.frames.items - 1) ≡ o →
+      slice_get r.world.threads t ≡ Some thread → length thread.frames.items ≤ MAX_FRAMES →
+      Same (run_judged set r (actor_on r t)
+      (top_effect set r.world t thread
+      (take (length thread.frames.items - 1) thread.frames.items) o))
+      (step_ended r.world t
+      (top_now set r.world.shared t thread
+      (take (length thread.frames.items - 1) thread.frames.items) o))
+  compare_top thread None e there few =
+      rw (put_back r.world t thread there)
+      (compare_goes set r t r.past (unchanged r.world Idle) false refl refl)
+  compare_top thread (Some f) e there few =
       let below : List Frame = take (length thread.frames.items - 1) thread.frames.items in
-      compare_frame set r t tag thread below f (frame_effect set r.world.shared t (top_of below) f)
-      (record { there = h; split = last_split thread.frames.items f e; few = here; on = on })
-      (fine_frame r.past t tag r.world.shared (known r tells owning) set (top_of below) f)
+      let o : Outcome = frame_effect set r.world.shared t (top_of below) f in
+      let fine : Fine r.past (actor_on r t) r.world.shared (known r tells owning) o =
+      fine_frame r.past (actor_on r t) r.world.shared (known r tells owning) set (top_of below) f in
+      let stands : Stands r t thread below f =
+      record { there = there; split = last_split thread.frames.items f e; few = few; on = on } in
+      let who : runs (actor_on r t) ≡ runner t thread =
+      ap (λ (x : Option Thread).
+      runs (record { thread = t; root = root_of x; tag = top_tag (tags_on r t) })) there in
+      let same : first_fault r.past (actor_on r t) o.actions ≡ first_now r.world.shared
+      (runner t thread) o.actions =
+      fine.0 ∙ ap (λ (x : Runner). first_now r.world.shared x o.actions) who in
+      rw same
+      (compare_fault set r t (recorded r.past (actor_on r t) o.actions) thread below f stands o
+      (first_now r.world.shared (runner t thread) o.actions) fine.1)
 
   compare_step : (o : Option Thread) → slice_get r.world.threads t ≡ o →
-      Same (run_judged r t tag (step_thread set r.world t o)) (step_now set r.world t o)
-  compare_step None h = compare_refused
-  compare_step (Some thread) h =
-      let here : length thread.frames.items ≤ 32 = rw h at (tells.few t) in
-      compare_top thread (slice_get thread.frames.items (length thread.frames.items - 1)) refl h here
+      Same (run_judged set r (actor_on r t) (step_thread set r.world t o))
+      (step_now set r.world t o)
+  compare_step None there = compare_refused
+  compare_step (Some thread) there =
+      let few : length thread.frames.items ≤ MAX_FRAMES = rw there at (tells.few t) in
+      compare_top thread (slice_get thread.frames.items (length thread.frames.items - 1)) refl there
+      few
 
-  compare_issued : (d : ℕ) (thread : Thread) (device : Device) (major : Major) (argument : ℕ) (b : Bool) →
-      slice_get r.world.threads t ≡ Some thread →
-      Same (run_judged r t tag (cond {A = Change} b (issued set r.world t d device major argument) (unchanged r.world Refused)))
-      (ended (cond {A = Change} b (issued set r.world t d device major argument) (unchanged r.world Refused)))
-  compare_issued d thread device major argument true h =
-      compare_change r t _ (issued set r.world t d device major argument) refl (rw (set_same r.world.threads t thread _ h) (omega arith))
-  compare_issued d thread device major argument false h = compare_refused
+  compare_issued : (d : ℕ) (thread : Thread) (device : Device) (major : Major) (argument : ℕ)
+      (b : Bool) →
+      Same (run_judged set r (actor_on r t)
+      (cond {A = Change} b (issued set r.world t d thread device major argument)
+      (unchanged r.world Refused)))
+      (ended (cond {A = Change} b (issued set r.world t d thread device major argument)
+      (unchanged r.world Refused)))
+  compare_issued d thread device major argument true =
+      compare_goes set r t _ (issued set r.world t d thread device major argument) false refl refl
+  compare_issued d thread device major argument false = compare_refused
 
-  compare_issue : (d : ℕ) (major : Major) (argument : ℕ) (o : Option Thread) (device : Option Device) → slice_get r.world.threads t ≡ o →
-      Same (run_judged r t tag (issue_on set r.world t d major argument o device)) (ended (issue_on set r.world t d major argument o device))
-  compare_issue d major argument None device h = compare_refused
-  compare_issue d major argument (Some thread) None h = compare_refused
-  compare_issue d major argument (Some thread) (Some device) h =
-      compare_issued d thread device major argument (is_idle thread && can_issue r.world.shared) h
+  compare_issue : (d : ℕ) (major : Major) (argument : ℕ) (o : Option Thread)
+      (device : Option Device) →
+      Same (run_judged set r (actor_on r t) (issue_on set r.world t d major argument o device))
+      (ended (issue_on set r.world t d major argument o device))
+  compare_issue d major argument None device = compare_refused
+  compare_issue d major argument (Some thread) None = compare_refused
+  compare_issue d major argument (Some thread) (Some device) =
+      compare_issued d thread device major argument (is_idle thread && can_issue r.world.shared)
 
 -- every event
-pub compare_event : (set : Set) (r : Run) (tag : Tag) (e : Event) → r.stopped ≡ false → PastTells r → OwningTells →
-    Same (run_judged r (thread_of e) tag (effect set r.world e)) (event_now set r.world e)
-compare_event set r tag (Issue t d major argument) on tells owning =
-    compare_issue set r t tag on tells owning d major argument (slice_get r.world.threads t) (slice_get set.devices d) refl
-compare_event set r tag (Step t) on tells owning = compare_step set r t tag on tells owning (slice_get r.world.threads t) refl
+pub compare_event : (set : Set) (r : Run) (e : Event) → r.stopped ≡ false → PastTells r
+    → OwningTells →
+    Same (answered_on set r (effect set r.world e) (thread_of e)) (event_now set r.world e)
+compare_event set r (Issue t d major argument) on tells owning =
+    compare_issue set r t on tells owning d major argument (slice_get r.world.threads t)
+    (slice_get set.devices d)
+compare_event set r (Step t) on tells owning =
+    compare_step set r t on tells owning (slice_get r.world.threads t) refl

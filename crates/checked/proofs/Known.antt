@@ -1,23 +1,36 @@
--- The machine's tests of packets and locks tell what the past tells, where the past tells of the world.
-use Rattle.std.proofs.Common.{◌≡◌, ℕ, suc, List, Option, None, Some, Bool, true, false, refl, sym, ◌∙◌, inl, inr, arith, ◌<◌, ◌≤◌, length}
+-- The machine's tests of packets, locks and levels tell what the past tells, where the past tells
+-- of the world.
+use Rattle.std.proofs.Common.{◌≡◌, ℕ, suc, List, Option, None, Some, Bool, true, false, refl, ap, sym, ◌∙◌, inl, inr, arith, ◌<◌, ◌≤◌, length}
 use Rattle.std.specs.Prelude.{◌||◌, ◌&&◌, not, nat_lt, nat_le}
 use Rattle.std.proofs.lemmas.Bool.Decides.{leb_tells}
+use Rattle.model.specs.declared.event.BugCheck.{BugCheck}
+use Rattle.model.specs.declared.event.BugCheck.TheVariants.{MultipleIrpCompleteRequests}
 use Rattle.model.specs.declared.event.Lock.{Lock}
+use Rattle.model.specs.declared.event.Subject.{Subject}
+use Rattle.model.specs.declared.event.Subject.TheVariants.{Packet as PacketSubject}
 use Rattle.model.specs.declared.world.Packet.{Packet}
-use Rattle.model.specs.Fault.{holds, topped, completing, stack_size, depth, at_dispatch}
+use Rattle.model.specs.Fault.{bug_if, first_or, completion_fault, holds, holds_any, topped, stack_size, depth, at_dispatch, is_dispatch_level}
 use Rattle.model.specs.Run.{Run}
-use Rattle.model.specs.Trace.{Entry}
-use Rattle.model.specs.World.{Shared, owner_of, packet_of}
+use Rattle.model.specs.Trace.{Actor, Entry}
+use Rattle.model.specs.World.{Shared, packet_of}
 use Rattle.run_laws.specs.PastTells.{PastTells, TellsOfPacket}
 use Rattle.irql_locks.specs.Owns.{owns, owns_any, OwningTells, OwnsSome}
-use Rattle.checked.specs.Step.{is_gone, is_held, is_full}
+use Rattle.checked.specs.declared.frame.Runner.{Runner}
+use Rattle.checked.specs.Step.{is_gone, is_held, is_full, is_raised}
+
+-- who runs, of who acts
+abbrev pub runs : Actor → Runner
+runs actor = record { thread = actor.thread; root = actor.root }
 
 pub record Known (s : Shared) (past : List Entry) : Type 0 where
   pub gone : (n : ℕ) → topped past n ≡ is_gone s n
-  pub taken : (n : ℕ) → nat_lt n s.issued ≡ true → (topped past n || completing past n) ≡ (is_gone s n || is_held (packet_of s n))
-  pub full : (n : ℕ) (p : Packet) → packet_of s n ≡ Some p → nat_le (stack_size past n) (depth past n) ≡ is_full (packet_of s n)
+  pub completes : (n : ℕ) → nat_lt n s.issued ≡ true →
+      completion_fault past n ≡ bug_if (is_gone s n || is_held (packet_of s n))
+      MultipleIrpCompleteRequests (PacketSubject n)
+  pub full : (n : ℕ) (p : Packet) → packet_of s n ≡ Some p
+      → nat_le (stack_size past n) (depth past n) ≡ is_full (packet_of s n)
   pub locks : (t : ℕ) (l : Lock) → holds past t l ≡ owns s.locks t l
-  pub level : (t : ℕ) → at_dispatch past t ≡ owns_any s.locks t
+  pub level : (actor : Actor) → at_dispatch past actor ≡ is_raised s (runs actor)
 
 -- a packet is at its last location exactly where it was sent down as often as it has locations
 le_not_lt : (a b : ℕ) → nat_le a b ≡ not (nat_lt b a)
@@ -42,22 +55,30 @@ both_ways true b there back = sym (there refl)
 both_ways false true there back = back refl
 both_ways false false there back = refl
 
+or_none : (b : Bool) (check : BugCheck) (subject : Subject)
+    → first_or (bug_if b check subject) None ≡ bug_if b check subject
+or_none true check subject = refl
+or_none false check subject = refl
+
 module _ (r : Run) (tells : PastTells r) (owning : OwningTells) where
   abbrev shared : Shared
   shared = r.world.shared
 
   -- of a packet that was issued
-  taken_as : (n : ℕ) (o : Option Packet) → packet_of shared n ≡ o → nat_lt n shared.issued ≡ true →
-      (topped r.past n || completing r.past n) ≡ (is_gone shared n || is_held (packet_of shared n))
-  taken_as n None there issued =
+  completed_as : (n : ℕ) (o : Option Packet) → packet_of shared n ≡ o
+      → nat_lt n shared.issued ≡ true →
+      completion_fault r.past n ≡ bug_if (is_gone shared n || is_held (packet_of shared n))
+      MultipleIrpCompleteRequests (PacketSubject n)
+  completed_as n None there issued =
       let gone : is_gone shared n ≡ true = rw (issued, there) refl in
       let before : topped r.past n ≡ true = tells.gone n ∙ gone in
       rw (before, gone) refl
-  taken_as n (Some p) there issued =
+  completed_as n (Some p) there issued =
       let here : is_gone shared n ≡ false = rw there (and_false (nat_lt n shared.issued)) in
       let before : topped r.past n ≡ false = tells.gone n ∙ here in
       let its : TellsOfPacket r.past n p = tells.live n p there in
-      rw (before, here, there) its.completion
+      rw (before, here, there, its.completion, its.disarmed)
+      (or_none p.completing MultipleIrpCompleteRequests (PacketSubject n))
 
   full_as : (n : ℕ) (p : Packet) → packet_of shared n ≡ Some p →
       nat_le (stack_size r.past n) (depth r.past n) ≡ is_full (packet_of shared n)
@@ -71,18 +92,19 @@ module _ (r : Run) (tells : PastTells r) (owning : OwningTells) where
       (λ held. (owning.lock shared.locks t l).1 (tells.owner t l held))
       (λ own. tells.holder t l ((owning.lock shared.locks t l).0 own))
 
-  level_as : (t : ℕ) → at_dispatch r.past t ≡ owns_any shared.locks t
-  level_as t =
-      both_ways (at_dispatch r.past t) (owns_any shared.locks t)
+  any_as : (t : ℕ) → holds_any r.past t ≡ owns_any shared.locks t
+  any_as t =
+      both_ways (holds_any r.past t) (owns_any shared.locks t)
       (λ high. (owning.any shared.locks t).1 (tells.raised t high))
-      (λ own. let some : OwnsSome shared.locks t = (owning.any shared.locks t).0 own in tells.raises t some.0 some.1)
+      (λ own. let some : OwnsSome shared.locks t = (owning.any shared.locks t).0 own
+      in tells.raises t some.0 some.1)
 
   pub known : Known r.world.shared r.past
   known =
       record {
         gone = tells.gone;
-        taken = λ n issued. taken_as n (packet_of shared n) refl issued;
+        completes = λ n issued. completed_as n (packet_of shared n) refl issued;
         full = full_as;
         locks = owned_as;
-        level = level_as;
+        level = λ actor. ap (λ (b : Bool). is_dispatch_level actor.root || b) (any_as actor.thread);
       }

@@ -1,6 +1,6 @@
 pub mod Lists
+pub mod Stacks
 pub mod Devices
-pub mod Room
 pub mod Known
 pub mod Effects
 pub mod Compare

@@ -1,2 +1,3 @@
-pub mod Rest
+pub mod Frames
+pub mod Ran
 pub mod Step

@@ -1,9 +1,10 @@
--- An event as a machine does it that keeps no trace: it reads the bug checks from the packets and the
--- locks that it holds, and tells from its reply whether it stops.
-use Rattle.std.specs.Prelude.{ℕ, ◌+◌, ◌-◌, ◌&&◌, ◌||◌, not, Bool, true, false, List, [], ◌∷◌, ◌++◌, length, Option, None, Some, is_none, nat_lt, nat_le, take, slice_get, slice_set, if◌then◌else◌}
+-- An event as a machine does it that keeps no trace: it reads the bug checks from the packets and
+-- the locks that it holds, and tells from its reply whether it stops.
+use Rattle.std.specs.Prelude.{ℕ, ◌+◌, ◌-◌, ◌&&◌, ◌||◌, not, Bool, true, false, List, [], ◌∷◌, ◌++◌, length, Option, None, Some, is_none, nat_lt, take, slice_get, if◌then◌else◌}
 use Rattle.model.specs.declared.world.Frame.{Frame}
 use Rattle.model.specs.declared.world.Thread.{Thread}
 use Rattle.model.specs.declared.world.Packet.{Packet}
+use Rattle.model.specs.declared.limits.TheConstants.{MAX_FRAMES}
 use Rattle.model.specs.declared.status.Status.{Status}
 use Rattle.model.specs.declared.event.Event.{Event}
 use Rattle.model.specs.declared.event.Event.TheVariants.{Issue, Step}
@@ -12,13 +13,14 @@ use Rattle.model.specs.declared.event.BugCheck.TheVariants.{IrqlNotLessOrEqual, 
 use Rattle.model.specs.declared.event.Subject.TheVariants.{Packet as PacketSubject, Lock as LockSubject, Cell}
 use Rattle.model.specs.declared.event.Reply.{Reply}
 use Rattle.model.specs.declared.event.Reply.TheVariants.{Idle, Refused, Bug as BugCheckReply, Wrong}
-use Rattle.model.specs.Action.{Action, Acquires, Releases, TouchesPaged, Touches, Calls, Completes}
-use Rattle.model.specs.Effect.{Outcome, Change, frame_effect, top_of, told_to, issue_on, finished_or}
-use Rattle.model.specs.Fault.{bug_if, first_or}
+use Rattle.model.specs.Action.{Action, Executes, Acquires, Releases, TouchesPaged, Touches, Issues, Calls, Ups, Completes, Continues, Lends, Exchanges, Marks, Leaves, Returns, TopsOut, GoesWrong}
+use Rattle.model.specs.Effect.{Outcome, Change, frame_effect, top_of, told_to, kept_below, with_stack, with_thread, issue_on, finished_or}
+use Rattle.model.specs.Fault.{bug_if, first_or, is_dispatch_level}
 use Rattle.model.specs.Machine.{Machine}
 use Rattle.model.specs.Set.{Set}
 use Rattle.model.specs.World.{Shared, World, packet_of}
 use Rattle.irql_locks.specs.Owns.{owns, owns_any}
+use Rattle.checked.specs.declared.frame.Runner.{Runner}
 
 -- a packet was issued and isn't live: it has topped out
 abbrev pub is_gone : Shared → ℕ → Bool
@@ -34,53 +36,83 @@ abbrev pub is_full : Option Packet → Bool
 is_full None = false
 is_full (Some p) = not (nat_lt p.depth (length p.locations.items))
 
+-- a thread is at DISPATCH_LEVEL: where it owns a lock, and else where its lowest frame is
+abbrev pub is_raised : Shared → Runner → Bool
+is_raised s r = is_dispatch_level r.root || owns_any s.locks r.thread
+
 -- the bug check of a thread's action, read from the packets and the locks
-abbrev pub fault_now : Shared → ℕ → Action → Option Bug
-fault_now s t (Acquires l) = bug_if (owns s.locks t l) SpinLockAlreadyOwned (LockSubject l)
-fault_now s t (Releases l) = bug_if (not (owns s.locks t l)) SpinLockNotOwned (LockSubject l)
-fault_now s t (TouchesPaged c) = bug_if (owns_any s.locks t) IrqlNotLessOrEqual (Cell c)
-fault_now s t (Touches n) = bug_if (is_gone s n) IrqlNotLessOrEqual (PacketSubject n)
-fault_now s t (Calls n) = bug_if (is_full (packet_of s n)) NoMoreIrpStackLocations (PacketSubject n)
-fault_now s t (Completes n) = bug_if (is_gone s n || is_held (packet_of s n)) MultipleIrpCompleteRequests (PacketSubject n)
-fault_now s t _ = None
+abbrev pub fault_now : Shared → Runner → Action → Option Bug
+fault_now s r (Acquires l) = bug_if (owns s.locks r.thread l) SpinLockAlreadyOwned (LockSubject l)
+fault_now s r (Releases l) = bug_if (not (owns s.locks r.thread l)) SpinLockNotOwned (LockSubject l)
+fault_now s r (TouchesPaged c) = bug_if (is_raised s r) IrqlNotLessOrEqual (Cell c)
+fault_now s r (Touches n) = bug_if (is_gone s n) IrqlNotLessOrEqual (PacketSubject n)
+fault_now s r (Calls n) = bug_if (is_full (packet_of s n)) NoMoreIrpStackLocations (PacketSubject n)
+fault_now s r (Completes n) =
+    bug_if (is_gone s n || is_held (packet_of s n)) MultipleIrpCompleteRequests (PacketSubject n)
+fault_now s r Executes = None
+fault_now s r (Issues n stack) = None
+fault_now s r (Ups n) = None
+fault_now s r (Continues n) = None
+fault_now s r (Lends n) = None
+fault_now s r (Exchanges n stores) = None
+fault_now s r (Marks n) = None
+fault_now s r (Leaves n) = None
+fault_now s r (Returns status) = None
+fault_now s r (TopsOut n) = None
+fault_now s r GoesWrong = None
 
 -- the first bug check of a step's actions
-abbrev pub first_now : Shared → ℕ → List Action → Option Bug
-first_now s t [] = None
-first_now s t (action ∷ actions) = first_or (fault_now s t action) (first_now s t actions)
+abbrev pub first_now : Shared → Runner → List Action → Option Bug
+first_now s r [] = None
+first_now s r (action ∷ actions) = first_or (fault_now s r action) (first_now s r actions)
 
--- what a frame's step leaves: the shared part, the frames that stand in its place, the reply, and the
--- status that the frame below is told
+-- what a frame's step leaves: the shared part, the frames that stand in its place, the reply,
+-- whether the frame below goes too, and the status that the one then below is told
 pub record Left : Type 0 where
   pub shared : Shared
   pub frames : List Frame
   pub reply : Reply
+  pub taken_below : Bool
   pub told : Option Status
 
 -- nothing changes
 abbrev pub stays : Shared → Frame → Reply → Left
-stays s f reply = record { shared = s; frames = f ∷ []; reply = reply; told = None }
+stays s f reply =
+    record { shared = s; frames = f ∷ []; reply = reply; taken_below = false; told = None }
 
--- a step with a bug check changes nothing
+-- a step with a bug check, or with a wrong operand, changes nothing
+abbrev pub unless_wrong : Shared → Frame → Outcome → Reply → Left
+unless_wrong s f o (Wrong place) = stays s f (Wrong place)
+unless_wrong s f o _ =
+    record {
+      shared = o.shared;
+      frames = o.frames;
+      reply = o.reply;
+      taken_below = o.taken_below;
+      told = o.told;
+    }
+
 abbrev pub left_by : Shared → Frame → Outcome → Option Bug → Left
 left_by s f o (Some bug) = stays s f (BugCheckReply bug)
-left_by s f o None = record { shared = o.shared; frames = o.frames; reply = o.reply; told = o.told }
+left_by s f o None = unless_wrong s f o o.reply
 
-abbrev pub judged : Shared → ℕ → Frame → Outcome → Left
-judged s t f o = left_by s f o (first_now s t o.actions)
+abbrev pub judged : Shared → Runner → Frame → Outcome → Left
+judged s r f o = left_by s f o (first_now s r o.actions)
 
 -- a step that would leave a 33rd frame on its thread is refused
 abbrev pub fits : ℕ → Shared → Frame → Left → List Frame → Left
 fits below s f left [] = left
 fits below s f left (g ∷ []) = left
-fits below s f left (g ∷ h ∷ frames) = if nat_le (below + length (g ∷ h ∷ frames)) 32 then left else stays s f Refused
+fits below s f left (g ∷ h ∷ frames) =
+    if nat_lt MAX_FRAMES (below + length (g ∷ h ∷ frames)) then stays s f Refused else left
 
-abbrev pub bounded : ℕ → Shared → Frame → Left → Left
-bounded below s f left = fits below s f left left.frames
+abbrev pub bounded : List Frame → Shared → Frame → Left → Left
+bounded below s f left = fits (length (kept_below below left.taken_below)) s f left left.frames
 
 -- a step of a thread's frame, over these frames
-abbrev pub frame_now : Set → Shared → ℕ → List Frame → Frame → Left
-frame_now set s t below f = bounded (length below) s f (judged s t f (frame_effect set s t (top_of below) f))
+abbrev pub frame_now : Set → Shared → Runner → List Frame → Frame → Left
+frame_now set s r below f =
+    bounded below s f (judged s r f (frame_effect set s r.thread (top_of below) f))
 
 -- what a thread's step leaves: the shared part, the thread, and the reply
 pub record Moved : Type 0 where
@@ -88,16 +120,23 @@ pub record Moved : Type 0 where
   pub thread : Thread
   pub reply : Reply
 
-abbrev pub moved_to : Shared → List Frame → Reply → Moved
-moved_to s frames reply =
-    record { shared = s; thread = record { frames = record { items = frames } }; reply = finished_or frames reply }
+abbrev pub moved_to : Shared → Thread → List Frame → Reply → Moved
+moved_to s thread frames reply =
+    record { shared = s; thread = with_stack thread frames; reply = finished_or frames reply }
 
-abbrev pub moved_by : Set → List Frame → Left → Moved
-moved_by set below left = moved_to left.shared (told_to set below left.told ++ left.frames) left.reply
+abbrev pub moved_by : Set → Thread → List Frame → Left → Moved
+moved_by set thread below left =
+    moved_to left.shared thread
+    (told_to set (kept_below below left.taken_below) left.told ++ left.frames) left.reply
+
+-- who runs a thread's top frame
+abbrev pub runner : ℕ → Thread → Runner
+runner t thread = record { thread = t; root = thread.root }
 
 abbrev pub top_now : Set → Shared → ℕ → Thread → List Frame → Option Frame → Moved
 top_now set s t thread below None = record { shared = s; thread = thread; reply = Idle }
-top_now set s t thread below (Some f) = moved_by set below (frame_now set s t below f)
+top_now set s t thread below (Some f) =
+    moved_by set thread below (frame_now set s (runner t thread) below f)
 
 abbrev pub thread_now : Set → Shared → ℕ → Thread → Moved
 thread_now set s t thread =
@@ -111,7 +150,7 @@ pub record Ended : Type 0 where
   pub reply : Reply
 
 abbrev pub step_ended : World → ℕ → Moved → Ended
-step_ended w t m = record { world = record { threads = slice_set w.threads t m.thread; shared = m.shared }; reply = m.reply }
+step_ended w t m = record { world = with_thread w t m.shared m.thread; reply = m.reply }
 
 abbrev pub step_now : Set → World → ℕ → Option Thread → Ended
 step_now set w t None = record { world = w; reply = Refused }
@@ -131,13 +170,23 @@ is_stop (BugCheckReply bug) = true
 is_stop (Wrong place) = true
 is_stop _ = false
 
--- what an event leaves of the machine: the machine and the reply
+-- what a machine holds beside its set: a world, and whether it has stopped
+pub record State : Type 0 where
+  pub world : World
+  pub stopped : Bool
+
+abbrev pub machine_of : Set → State → Machine
+machine_of set state = record { set = set; world = state.world; stopped = state.stopped }
+
+-- what an event leaves of it, and the reply
 pub record Taken : Type 0 where
-  pub machine : Machine
+  pub state : State
   pub reply : Reply
 
-abbrev pub taken : Machine → Ended → Taken
-taken m e = record { machine = record { set = m.set; world = e.world; stopped = is_stop e.reply }; reply = e.reply }
+abbrev pub taken : Ended → Taken
+taken e = record { state = record { world = e.world; stopped = is_stop e.reply }; reply = e.reply }
 
-abbrev pub machine_now : Machine → Event → Taken
-machine_now m e = if m.stopped then record { machine = m; reply = Refused } else taken m (event_now m.set m.world e)
+abbrev pub state_now : Set → State → Event → Taken
+state_now set state e =
+    if state.stopped then record { state = state; reply = Refused }
+    else taken (event_now set state.world e)

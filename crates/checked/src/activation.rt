@@ -1,23 +1,24 @@
 //! Routines that begin, and what they are told.
 
 ghost use Rattle.std.specs.Prelude.{◌≡◌, Some, slice_get};
-ghost use Rattle.checked.specs.Rest.{begun_by};
+ghost use Rattle.checked.specs.Ran.{frame_over};
+ghost use Rattle.model.specs.declared.world.Frame.TheVariants.{Routine as RoutineFrame};
 ghost use Rattle.model.specs.World.{entered as entered_of};
 ghost use Rattle.model.specs.Effect.{serving_for as serving_for_of, dispatched as dispatched_of, completes_with, operand_of, answered_in, answered};
 
-use crate::frame::Beginning;
+use crate::frame::Over;
 use arrayvec::ArrayVec;
 use image::{DriverSet, Instr};
-use model::limits::DEFAULT_ROUTINE;
+use model::limits::{DEFAULT_ROUTINE, REGISTERS};
 use model::status::{Major, Status};
 use model::world::{Activation, Completion, Value};
 
-/// A routine that begins, and is handed a packet in its first register.
-pub fn entered(driver: u8, routine: u8, device: u8, packet: u64) -> Activation
-    ensures { result ≡ entered_of driver routine device packet }
+/// A routine that begins, with what it is handed in its first register.
+pub fn entered(driver: u8, routine: u8, device: u8, first: Value) -> Activation
+    ensures { result ≡ entered_of driver routine device first }
 {
-    let mut registers = [Value::Blank; 16];
-    registers[0] = Value::Ref(packet);
+    let mut registers = [Value::Blank; REGISTERS];
+    registers[0] = first;
     Activation {
         driver,
         routine,
@@ -39,13 +40,14 @@ fn serving_for(set: &DriverSet, driver: u8, major: Option<Major>) -> u8
 }
 
 /// The dispatch routine begins that serves what a packet asks of a device.
-pub fn dispatched(set: &DriverSet, device: u8, major: Option<Major>, packet: u64) -> Beginning
-    ensures { begun_by result ≡ dispatched_of set.now device (slice_get set.now.devices device) major packet }
+pub fn dispatched(set: &DriverSet, device: u8, major: Option<Major>, packet: u64) -> Over
+    ensures { let target = slice_get set.now.devices device in
+        frame_over result ≡ RoutineFrame (dispatched_of set.now device target major packet) }
 {
     let driver = match set.devices().get(device as usize) {
         Some(target) => target.driver,
         None => {
-            return Beginning {
+            return Over::Routine {
                 driver: 0,
                 routine: DEFAULT_ROUTINE,
                 device,
@@ -54,7 +56,7 @@ pub fn dispatched(set: &DriverSet, device: u8, major: Option<Major>, packet: u64
         }
     };
     let routine = serving_for(set, driver, major);
-    Beginning {
+    Over::Routine {
         driver,
         routine,
         device,
@@ -63,14 +65,14 @@ pub fn dispatched(set: &DriverSet, device: u8, major: Option<Major>, packet: u64
 }
 
 /// A completion routine begins, for the device whose driver set it.
-pub fn completing(set: &DriverSet, completion: Completion, packet: u64) -> Beginning
-    ensures { begun_by result ≡ completes_with set.now completion packet }
+pub fn completing(set: &DriverSet, completion: Completion, packet: u64) -> Over
+    ensures { frame_over result ≡ RoutineFrame (completes_with set.now completion packet) }
 {
     let driver = match set.devices().get(completion.device as usize) {
         Some(device) => device.driver,
         None => 0,
     };
-    Beginning {
+    Over::Routine {
         driver,
         routine: completion.routine,
         device: completion.device,

@@ -1,19 +1,43 @@
-//! What a step leaves of the frame that ran.
+//! The frames of a thread, and what a step leaves of the one that ran.
 
-ghost use Rattle.std.specs.Prelude.{◌≡◌, ◌≤◌, ◌+◌, nat_le, Some, None};
+ghost use Rattle.std.specs.Prelude.{◌≡◌};
+ghost use Rattle.checked.specs.Ran.{frame_over as frame_over_of, is_last as is_last_over, left_of, wrong_reply};
+ghost use Rattle.checked.specs.Step.{frame_now};
 
+use crate::activation::{answer, entered};
+use crate::routine;
+use crate::shared::Shared;
+use image::DriverSet;
 use model::event::{Bug, BugCheck, Place, Reply, Subject};
 use model::limits::MAX_FRAMES;
 use model::status::Status;
-use model::world::Activation;
+use model::world::{Activation, Irql, Value};
+use std::marker::Model;
 
-/// A routine that begins, and is handed a packet.
+/// One frame of a thread: a routine that runs, or the I/O manager's. It is a struct, and no enum,
+/// so that a routine is stepped where it stands.
+#[derive(Drop)]
+pub struct Frame {
+    /// The packet that the I/O manager completes, where the frame is its.
+    completes: Option<u64>,
+    /// The routine that runs, where it isn't.
+    activation: Activation,
+}
+
+impl Model for Frame {
+    ghost use Rattle.model.specs.declared.world.Frame.{Frame};
+    ghost use Rattle.checked.specs.Frames.{shown};
+
+    ghost Value = { Frame };
+
+    ghost view = { λ f. shown f.completes f.activation };
+}
+
+/// Who runs: a thread by its number, and the level of its lowest frame.
 #[derive(Clone, Copy)]
-pub struct Beginning {
-    pub driver: u8,
-    pub routine: u8,
-    pub device: u8,
-    pub packet: u64,
+pub struct Runner {
+    pub thread: u8,
+    pub root: Irql,
 }
 
 /// A frame that is put over the one that ran.
@@ -21,85 +45,113 @@ pub struct Beginning {
 pub enum Over {
     /// The I/O manager's, which completes the packet of this number.
     Manager(u64),
-    /// That of a routine.
-    Routine(Beginning),
+    /// That of a routine, which is handed a packet.
+    Routine {
+        driver: u8,
+        routine: u8,
+        device: u8,
+        packet: u64,
+    },
 }
 
 /// What stands in the place of a frame after its step.
 #[derive(Clone, Copy)]
-pub enum Rest {
+pub enum Ran {
     /// The frame.
-    Same,
+    Stays(Reply),
     /// The frame, and this one over it.
     Under(Over),
     /// Nothing.
-    Gone,
+    Gone(Reply),
+    /// Nothing, and the frame below is told this status.
+    Returned(Status),
 }
 
-/// A frame that ran: what stands in its place, the reply, and the status that the frame below is told.
-#[derive(Clone, Copy)]
-pub struct Ran {
-    pub rest: Rest,
-    pub reply: Reply,
-    pub told: Option<Status>,
-}
-
-impl Ran {
-    /// The frame stands.
-    pub fn stays(reply: Reply) -> Ran
-        ensures { result ≡ record { rest = Rest.Same; reply = reply; told = None } }
-    {
-        Ran {
-            rest: Rest::Same,
-            reply,
-            told: None,
-        }
-    }
-
-    /// The frame stands, and another one over it.
-    pub fn under(over: Over) -> Ran
-        ensures { result ≡ record { rest = Rest.Under over; reply = Reply.Stepped; told = None } }
-    {
-        Ran {
-            rest: Rest::Under(over),
-            reply: Reply::Stepped,
-            told: None,
-        }
-    }
-
-    /// The frame is gone.
-    pub fn gone(reply: Reply) -> Ran
-        ensures { result ≡ record { rest = Rest.Gone; reply = reply; told = None } }
-    {
-        Ran {
-            rest: Rest::Gone,
-            reply,
-            told: None,
-        }
-    }
-
-    /// The frame is gone, and has returned a status to the one below.
-    pub fn returned(status: Status) -> Ran
-        ensures { result ≡ record { rest = Rest.Gone; reply = Reply.Stepped; told = Some status } }
-    {
-        Ran {
-            rest: Rest::Gone,
-            reply: Reply::Stepped,
-            told: Some(status),
+impl Default for Frame {
+    fn default() -> Frame {
+        Frame {
+            completes: Some(0),
+            activation: entered(0, 0, 0, Value::Blank),
         }
     }
 }
 
-/// Whether another frame may stand over one that stands over so many.
-pub fn has_room(below: usize) -> bool
-    ensures { result ≡ nat_le (below + 2) 32 }
+impl Frame {
+    ghost use Rattle.model.specs.declared.world.Frame.TheVariants.{Routine as RoutineFrame};
+    ghost use Rattle.checked.specs.Frames.{told_frame, walked_packet};
+
+    /// The frame of a routine.
+    pub fn routine(activation: Activation) -> Frame
+        ensures { result ≡ RoutineFrame activation }
+    {
+        Frame {
+            completes: None,
+            activation,
+        }
+    }
+
+    /// A frame that is put over another one.
+    pub fn over(over: Over) -> Frame
+        ensures { result ≡ frame_over_of over }
+    {
+        match over {
+            Over::Manager(n) => Frame {
+                completes: Some(n),
+                activation: entered(0, 0, 0, Value::Blank),
+            },
+            Over::Routine {
+                driver,
+                routine,
+                device,
+                packet,
+            } => Frame::routine(entered(driver, routine, device, Value::Ref(packet))),
+        }
+    }
+
+    /// The packet that the I/O manager completes, where the frame is its.
+    pub fn completed_packet(&self) -> Option<u64>
+        ensures { result ≡ walked_packet self.now }
+    {
+        self.completes
+    }
+
+    /// A step of the frame, over the frames `below`.
+    pub fn step(
+        &mut self,
+        set: &DriverSet,
+        shared: &mut Shared,
+        runner: Runner,
+        below: &[Frame],
+    ) -> Ran
+        ensures { left_of shared.new self.new result
+            ≡ frame_now set.now shared.old runner below.now self.old }
+    {
+        match self.completes {
+            Some(n) => shared.walk(set, below, n),
+            None => routine::step(set, shared, runner, below, &mut self.activation),
+        }
+    }
+
+    /// The frame is told the status that a lower driver returned, if it is a routine's.
+    pub fn tell(&mut self, set: &DriverSet, status: Status)
+        ensures { self.new ≡ told_frame set.now status self.old }
+    {
+        if self.completes.is_none() {
+            answer(set, &mut self.activation, status);
+        }
+    }
+}
+
+/// Whether there is no room for another frame over one that stands over so many.
+pub fn is_last(below: usize) -> bool
+    ensures { result ≡ is_last_over below }
 {
-    below <= MAX_FRAMES - 2
+    below > MAX_FRAMES - 2
 }
 
 /// The routine goes wrong at its position.
 pub fn wrong_at(a: &Activation) -> Reply
-    ensures { result ≡ Reply.Wrong (record { driver = a.now.driver; routine = a.now.routine; position = a.now.position }) }
+    ensures { result ≡ wrong_reply a.now }
 {
     Reply::Wrong(Place {
         driver: a.driver,

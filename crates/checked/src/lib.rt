@@ -8,11 +8,9 @@ mod local;
 pub mod machine;
 mod routine;
 mod shared;
+mod state;
 mod thread;
 mod world;
 
 pub use machine::Checked;
-pub use world::World;
-
-#[cfg(test)]
-mod tests;
+pub use state::State;

@@ -1,31 +1,35 @@
 //! Steps of a routine.
 
 ghost use Rattle.std.specs.Prelude.{◌≡◌, ◌<◌};
-ghost use Rattle.checked.specs.Rest.{left_of, instruction_now, LeavesOver};
+ghost use Rattle.model.specs.declared.limits.TheConstants.{MAX_INSTRUCTIONS};
+ghost use Rattle.checked.specs.Ran.{left_of, instruction_now, LeavesOver};
 ghost use Rattle.checked.specs.Step.{frame_now};
+ghost use Rattle.model.specs.declared.world.Frame.TheVariants.{Routine as RoutineFrame};
 ghost use Rattle.model.specs.Effect.{return_effect, top_of};
 ghost use Rattle.model.specs.Set.{sort_of};
 
-use crate::frame::{Ran, wrong_at};
+use crate::frame::{Frame, Ran, Runner, wrong_at};
 use crate::local;
 use crate::shared::Shared;
 use crate::shared::locks::spin_lock;
 use image::{DriverSet, Instr, Return, Sort};
 use model::event::Lock;
-use model::world::{Activation, Frame, Value};
+use model::world::{Activation, Value};
 
 /// `ret ..`: the routine returns, in a form of its sort. It stands over the frames `below`.
 fn leave(set: &DriverSet, shared: &Shared, below: &[Frame], a: &Activation, form: Return) -> Ran
-    ensures { LeavesOver below.now shared.now a.now (return_effect shared.now a.now (top_of below.now) (sort_of set.now a.now.driver a.now.routine) form) shared.now a.now result }
+    ensures { let sort = sort_of set.now a.now.driver a.now.routine in
+        let returned = return_effect shared.now a.now (top_of below.now) sort form in
+        LeavesOver below.now shared.now a.now returned shared.now a.now result }
 {
     match (set.sort(a.driver, a.routine), form) {
-        (Sort::Dispatch, Return::WithStatus(status)) => Ran::returned(status),
+        (Sort::Dispatch, Return::WithStatus(status)) => Ran::Returned(status),
         (Sort::Dispatch, Return::Lower(r)) => match local::status_in(a.registers[r.index()]) {
-            Some(status) => Ran::returned(status),
-            None => Ran::stays(wrong_at(a)),
+            Some(status) => Ran::Returned(status),
+            None => Ran::Stays(wrong_at(a)),
         },
         (Sort::Propagate, Return::Continue) => shared.go_on(below),
-        _ => Ran::stays(wrong_at(a)),
+        _ => Ran::Stays(wrong_at(a)),
     }
 }
 
@@ -33,13 +37,14 @@ fn leave(set: &DriverSet, shared: &Shared, below: &[Frame], a: &Activation, form
 fn execute(
     set: &DriverSet,
     shared: &mut Shared,
-    thread: u8,
+    runner: Runner,
     below: &[Frame],
     a: &mut Activation,
     instruction: Instr,
 ) -> Ran
-    requires { a.old.position < 1024 }
-    ensures { left_of shared.new (Frame.Routine a.new) result ≡ instruction_now set.now shared.old thread below.now a.old instruction }
+    requires { a.old.position < MAX_INSTRUCTIONS }
+    ensures { left_of shared.new (RoutineFrame a.new) result
+        ≡ instruction_now set.now shared.old runner below.now a.old instruction }
 {
     match instruction {
         Instr::Const(r, number) => local::set(r, Value::Num(u64::from(number)), a),
@@ -54,15 +59,15 @@ fn execute(
         Instr::End => local::end_turn(a),
         Instr::Load(r, cell) => shared.load(r, cell, a),
         Instr::Store(cell, r) => shared.store(cell, r, a),
-        Instr::LoadPaged(r, cell) => shared.load_paged(thread, r, cell, a),
-        Instr::StorePaged(cell, r) => shared.store_paged(thread, cell, r, a),
+        Instr::LoadPaged(r, cell) => shared.load_paged(runner, r, cell, a),
+        Instr::StorePaged(cell, r) => shared.store_paged(runner, cell, r, a),
         Instr::Get(r, s, field) => shared.get(r, s, field, a),
         Instr::Put(s, r) => shared.put(s, r, a),
         Instr::Mark(r) => shared.mark(r, a),
-        Instr::Acquire(lock) => shared.acquire(thread, spin_lock(a, lock), a),
-        Instr::Release(lock) => shared.release(thread, spin_lock(a, lock), a),
-        Instr::AcquireCancel => shared.acquire(thread, Lock::SystemCancel, a),
-        Instr::ReleaseCancel => shared.release(thread, Lock::SystemCancel, a),
+        Instr::Acquire(lock) => shared.acquire(runner, spin_lock(a, lock), a),
+        Instr::Release(lock) => shared.release(runner, spin_lock(a, lock), a),
+        Instr::AcquireCancel => shared.acquire(runner, Lock::SystemCancel, a),
+        Instr::ReleaseCancel => shared.release(runner, Lock::SystemCancel, a),
         Instr::Pass(r) => shared.pass(set, below, r, a),
         Instr::Call(r, routine) => shared.call(set, below, r, routine, a),
         Instr::IfPending(r, label) => shared.jump_if_pending(r, label, a),
@@ -71,18 +76,20 @@ fn execute(
     }
 }
 
-/// Executes the instruction at the position of a thread's routine, which stands over the frames `below`.
+/// Executes the instruction at the position of a thread's routine, which stands over the frames
+/// `below`.
 pub fn step(
     set: &DriverSet,
     shared: &mut Shared,
-    thread: u8,
+    runner: Runner,
     below: &[Frame],
     a: &mut Activation,
 ) -> Ran
-    ensures { left_of shared.new (Frame.Routine a.new) result ≡ frame_now set.now shared.old thread below.now (Frame.Routine a.old) }
+    ensures { left_of shared.new (RoutineFrame a.new) result
+        ≡ frame_now set.now shared.old runner below.now (RoutineFrame a.old) }
 {
     match set.instruction(a.driver, a.routine, a.position) {
-        Some(instruction) => execute(set, shared, thread, below, a, instruction),
-        None => Ran::stays(wrong_at(a)),
+        Some(instruction) => execute(set, shared, runner, below, a, instruction),
+        None => Ran::Stays(wrong_at(a)),
     }
 }

@@ -1,12 +1,15 @@
 //! What the threads of a run share.
 
 ghost use Rattle.std.specs.Prelude.{◌≡◌, ◌≤◌, IfOk, IsTrue};
+ghost use Rattle.model.specs.declared.limits.TheConstants.{MAX_STACK};
 
+use crate::frame::Runner;
+use image::Device;
 use iomgr::PacketTable;
 use irql_locks::LockTable;
 use model::limits::CELLS;
 use model::status::Major;
-use model::world::{Cells, Value};
+use model::world::{Cells, Irql, Value};
 use std::alloc::{AllocError, Global};
 use std::marker::Model;
 
@@ -29,14 +32,18 @@ impl Model for Shared {
 
     ghost Value = { Shared };
 
-    ghost view = { λ s. record { packets = s.packet_table.packets; issued = s.packet_table.issued; locks = s.lock_table; cells = s.cell_list.items } };
+    ghost view = { λ s. record {
+      packets = s.packet_table.packets;
+      issued = s.packet_table.issued;
+      locks = s.lock_table;
+      cells = s.cell_list.items;
+    } };
 }
 
 impl Shared {
-    ghost use Rattle.model.specs.Effect.{can_issue};
-    ghost use Rattle.model.specs.World.{unused, new_packet, packet_in};
-    ghost use Rattle.checked.specs.Rest.{with_issued};
-    ghost use Rattle.checked.specs.Step.{is_gone};
+    ghost use Rattle.model.specs.Effect.{can_issue, with_new_packet};
+    ghost use Rattle.model.specs.World.{unused, packet_in};
+    ghost use Rattle.checked.specs.Step.{is_gone, is_raised};
 
     /// What is there before the first event, for so many devices. An error where memory is refused;
     /// all that is ever needed is taken here.
@@ -61,14 +68,23 @@ impl Shared {
         self.packet_table.can_issue()
     }
 
-    /// Issues a packet to a device with this stack size, 1 to 16, and answers its number.
-    pub fn issue(&mut self, device: u8, major: Major, argument: u64, stack: u8) -> u64
+    /// Issues a packet to the device of a number, of a stack size of 1 to 16, and answers its
+    /// number.
+    pub fn issue(&mut self, number: u8, device: Device, major: Major, argument: u64) -> u64
         requires room { IsTrue (can_issue self.old) }
-        requires stack { stack ≤ 16 }
+        requires stack { device.stack ≤ MAX_STACK }
         ensures number { result ≡ self.old.issued }
-        ensures added { self.new ≡ with_issued self.old (new_packet self.old.issued device major argument stack) }
+        ensures added { self.new ≡ with_new_packet self.old number device major argument }
     {
-        self.packet_table.issue(device, major, argument, stack)
+        self.packet_table
+            .issue(number, major, argument, device.stack)
+    }
+
+    /// Whether a thread is at DISPATCH_LEVEL.
+    fn is_raised(&self, runner: Runner) -> bool
+        ensures { result ≡ is_raised self.now runner }
+    {
+        self.lock_table.level(runner.thread, runner.root) == Irql::Dispatch
     }
 
     /// The packet that a value refers to: one that was issued, live or not.

@@ -1,128 +1,125 @@
-//! Steps of a thread.
+//! A thread: its frames, and their steps.
 
-ghost use Rattle.std.specs.Prelude.{◌≡◌, ◌+◌, ◌<◌, ◌≤◌, ◌∷◌, ◌++◌, Some, length};
-ghost use Rattle.checked.specs.Rest.{frame_over, frames_left};
-ghost use Rattle.checked.specs.Step.{thread_now, moved_by, moved_to, frame_now};
-ghost use Rattle.model.specs.Effect.{told_to};
+ghost use Rattle.std.specs.Prelude.{◌≡◌, ◌-◌, Some, true, length, take};
+ghost use Rattle.checked.specs.Step.{thread_now};
+ghost use Rattle.model.specs.Effect.{is_idle, rooted, told_to, with_stack, finished_or};
 
-use crate::frame::{Over, Ran, Rest};
+use crate::frame::{Frame, Ran, Runner};
 use crate::shared::Shared;
-use crate::{activation, routine};
 use arrayvec::ArrayVec;
 use image::DriverSet;
 use model::event::Reply;
+use model::limits::MAX_FRAMES;
 use model::status::Status;
-use model::world::{Frame, Thread};
+use model::world::{Activation, Irql};
+use std::marker::Model;
 
-/// The frame that is put over another one.
-fn frame_over(over: Over) -> Frame
-    ensures { result ≡ frame_over over }
-{
-    match over {
-        Over::Manager(n) => Frame::Walk(n),
-        Over::Routine(begins) => Frame::Routine(activation::entered(
-            begins.driver,
-            begins.routine,
-            begins.device,
-            begins.packet,
-        )),
-    }
+/// A thread: its frames, the lowest first, and the level of the lowest. A thread without frames is
+/// idle, at PASSIVE_LEVEL.
+#[derive(Drop)]
+pub struct Thread {
+    root: Irql,
+    frames: ArrayVec<Frame, MAX_FRAMES>,
 }
 
-/// Puts back what stands in the place of a frame that was taken off.
-fn put_back(frames: &mut ArrayVec<Frame, 32>, frame: Frame, rest: Rest)
-    requires { length frames.old.items + length (frames_left frame rest) ≤ 32 }
-    ensures { frames.new.items ≡ frames.old.items ++ frames_left frame rest }
-{
-    match rest {
-        Rest::Same => frames.push(frame),
-        Rest::Under(over) => {
-            frames.push(frame);
-            frames.push(frame_over(over));
-        }
-        Rest::Gone => {}
-    }
+impl Model for Thread {
+    ghost use Rattle.model.specs.declared.world.Thread.{Thread};
+
+    ghost Value = { Thread };
+
+    ghost view = { λ t. record { root = t.root; frames = record { items = t.frames.items } } };
 }
 
 /// The routine on the top, if one stands there, is told the status that a lower driver returned.
-fn tell(set: &DriverSet, frames: &mut ArrayVec<Frame, 32>, status: Status)
-    ensures told { frames.new.items ≡ told_to set.now frames.old.items (Some status) }
-    ensures count { length frames.new.items ≡ length frames.old.items }
+fn tell(set: &DriverSet, frames: &mut ArrayVec<Frame, MAX_FRAMES>, status: Status)
+    ensures { frames.new.items ≡ told_to set.now frames.old.items (Some status) }
 {
-    let _depth = frames.len();
-    let Some(top) = frames.pop() else {
-        return;
-    };
-    match top {
-        Frame::Routine(mut caller) => {
-            activation::answer(set, &mut caller, status);
-            frames.push(Frame::Routine(caller));
+    let top = frames.len().saturating_sub(1);
+    if let Some(caller) = frames.get_mut(top) {
+        caller.tell(set, status);
+    }
+}
+
+impl Thread {
+    ghost use Rattle.model.specs.World.{idle_thread};
+
+    /// A thread without frames.
+    pub fn idle() -> Thread
+        ensures { result ≡ idle_thread }
+    {
+        Thread {
+            root: Irql::Passive,
+            frames: ArrayVec::new(),
         }
-        Frame::Walk(n) => frames.push(Frame::Walk(n)),
     }
-}
 
-/// Puts back what a frame that was taken off has left, and answers its reply.
-fn settle(set: &DriverSet, frames: &mut ArrayVec<Frame, 32>, frame: Frame, ran: Ran) -> Reply
-    requires { length frames.old.items + length (frames_left frame ran.rest) ≤ 32 }
-    ensures frames { frames.new.items ≡ told_to set.now frames.old.items ran.told ++ frames_left frame ran.rest }
-    ensures reply { result ≡ ran.reply }
-{
-    let Ran { rest, reply, told } = ran;
-    if let Some(status) = told {
-        tell(set, frames, status);
+    /// Whether it has no frames.
+    pub fn is_idle(&self) -> bool
+        ensures { result ≡ is_idle self.now }
+    {
+        self.frames.is_empty()
     }
-    put_back(frames, frame, rest);
-    reply
-}
 
-/// A step of the frame that was taken off the top of a thread's others. The reply doesn't yet tell
-/// whether the thread has finished.
-fn step_frame(
-    set: &DriverSet,
-    shared: &mut Shared,
-    thread: u8,
-    frames: &mut ArrayVec<Frame, 32>,
-    top: Frame,
-) -> Reply
-    requires { length frames.old.items < 32 }
-    ensures { let below = frames.old.items in
-        moved_to shared.new frames.new.items result ≡ moved_by set.now below (frame_now set.now shared.old thread below top) }
-{
-    match top {
-        Frame::Routine(mut activation) => {
-            let ran = routine::step(set, shared, thread, frames.as_slice(), &mut activation);
-            match ran {
-                // Most steps: the frame stands, and no other one is told anything.
-                Ran {
-                    rest: Rest::Same,
-                    reply,
-                    told: None,
-                } => {
-                    frames.push(Frame::Routine(activation));
-                    reply
-                }
-                _ => settle(set, frames, Frame::Routine(activation), ran),
+    /// A routine begins at a level, on an idle thread.
+    pub fn begin(&mut self, level: Irql, root: Activation)
+        requires { is_idle self.old ≡ true }
+        ensures { self.new ≡ rooted self.old level root }
+    {
+        self.root = level;
+        self.frames.push(Frame::routine(root));
+    }
+
+    /// The top frame goes.
+    fn pop(&mut self)
+        ensures { let below = take (length self.old.frames.items - 1) self.old.frames.items in
+            self.new ≡ record self.old { frames = record { items = below } } }
+    {
+        let top = self.frames.len().saturating_sub(1);
+        self.frames.truncate(top);
+    }
+
+    /// After a step: a thread that it left without frames has finished, and is idle.
+    fn finish(&mut self, reply: Reply) -> Reply
+        ensures thread { self.new ≡ with_stack self.old self.old.frames.items }
+        ensures reply { result ≡ finished_or self.old.frames.items reply }
+    {
+        if !self.frames.is_empty() {
+            return reply;
+        }
+        self.root = Irql::Passive;
+        match reply {
+            Reply::Stepped => Reply::Finished,
+            _ => reply,
+        }
+    }
+
+    /// A step of the top frame of the thread of this number, if it has one.
+    pub fn step(&mut self, set: &DriverSet, shared: &mut Shared, number: u8) -> Reply
+        ensures { record { shared = shared.new; thread = self.new; reply = result }
+            ≡ thread_now set.now shared.old number self.old }
+    {
+        let runner = Runner {
+            thread: number,
+            root: self.root,
+        };
+        let Some((top, below)) = self.frames.as_mut_slice().split_last_mut() else {
+            return Reply::Idle;
+        };
+        match top.step(set, shared, runner, below) {
+            Ran::Stays(reply) => reply,
+            Ran::Under(over) => {
+                self.frames.push(Frame::over(over));
+                Reply::Stepped
+            }
+            Ran::Gone(reply) => {
+                self.pop();
+                self.finish(reply)
+            }
+            Ran::Returned(status) => {
+                self.pop();
+                tell(set, &mut self.frames, status);
+                self.finish(Reply::Stepped)
             }
         }
-        Frame::Walk(n) => {
-            let ran = shared.walk(set, frames.as_slice(), n);
-            settle(set, frames, Frame::Walk(n), ran)
-        }
-    }
-}
-
-/// A step of the top frame of the thread of this number, if it has one.
-pub fn step(set: &DriverSet, shared: &mut Shared, number: u8, thread: &mut Thread) -> Reply
-    ensures { record { shared = shared.new; thread = thread.new; reply = result } ≡ thread_now set.now shared.old number thread.old }
-{
-    let _depth = thread.frames.len();
-    let Some(top) = thread.frames.pop() else {
-        return Reply::Idle;
-    };
-    let reply = step_frame(set, shared, number, &mut thread.frames, top);
-    match reply {
-        Reply::Stepped if thread.frames.is_empty() => Reply::Finished,
-        _ => reply,
     }
 }

@@ -1,17 +1,17 @@
 //! The world of a run, and what an event does to it.
 
-ghost use Rattle.std.specs.Prelude.{◌≡◌, ◌≤◌, ◌∷◌, [], IfOk, IfSome, slice_get, length};
+ghost use Rattle.std.specs.Prelude.{◌≡◌, ◌≤◌, IfOk, IfSome, slice_get};
+ghost use Rattle.model.specs.declared.limits.TheConstants.{MAX_STACK};
 ghost use Rattle.checked.specs.Step.{event_now, step_now};
 ghost use Rattle.model.specs.World.{opening};
 
 use crate::activation::entered;
 use crate::shared::Shared;
-use crate::thread;
-use arrayvec::ArrayVec;
+use crate::thread::Thread;
 use image::{Device, DriverSet};
 use model::event::{Event, Reply};
 use model::status::Major;
-use model::world::{Activation, Frame, Thread};
+use model::world::{Irql, Value};
 use std::alloc::{AllocError, Global};
 use std::marker::Model;
 
@@ -33,30 +33,20 @@ impl Model for World {
 /// The device of a number, if there is one.
 fn device_of(set: &DriverSet, number: u8) -> Option<Device>
     ensures device { result ≡ slice_get set.now.devices number }
-    ensures stack { IfSome (slice_get set.now.devices number) (λ d. d.stack ≤ 16) }
+    ensures stack { IfSome (slice_get set.now.devices number) (λ d. d.stack ≤ MAX_STACK) }
 {
     set.devices().get(number as usize).copied()
 }
 
-/// A routine begins on an idle thread.
-fn begin(thread: &mut Thread, root: Activation)
-    requires { length thread.old.frames.items ≡ 0 }
-    ensures { thread.new ≡ record { frames = record { items = Frame.Routine root ∷ [] } } }
-{
-    thread.frames.push(Frame::Routine(root));
-}
-
 impl World {
-    /// So many devices and idle threads, before the first event. All memory that a run ever needs is
-    /// taken here: an error where some of it is refused.
+    /// So many devices and idle threads, before the first event. All memory that a run ever needs
+    /// is taken here: an error where some of it is refused.
     pub fn new(alloc: Global, devices: usize, threads: u8) -> Result<World, AllocError>
         ensures { IfOk result (λ w. w ≡ opening devices threads) }
     {
         let mut thread_list = Vec::with_capacity(alloc, threads as usize)?;
         for _thread in 0..threads {
-            thread_list.push(Thread {
-                frames: ArrayVec::new(),
-            })?;
+            thread_list.push(Thread::idle())?;
         }
         let shared = Shared::new(alloc, devices)?;
         Ok(World {
@@ -66,7 +56,7 @@ impl World {
     }
 
     /// What an event does, and its reply. After a bug check or a wrong operand nothing has changed.
-    pub(crate) fn perform(&mut self, set: &DriverSet, event: &Event) -> Reply
+    pub fn perform(&mut self, set: &DriverSet, event: &Event) -> Reply
         ensures { record { world = self.new; reply = result } ≡ event_now set.now self.old event.now }
     {
         match *event {
@@ -93,7 +83,7 @@ impl World {
             record { world = self.new; reply = result } ≡ event_now set.now self.old event }
     {
         let idle = match self.thread_list.get(thread as usize) {
-            Some(caller) => caller.frames.is_empty(),
+            Some(caller) => caller.is_idle(),
             None => return Reply::Refused,
         };
         let Some(target) = device_of(set, device) else {
@@ -103,9 +93,9 @@ impl World {
             return Reply::Refused;
         }
         let routine = set.handler(target.driver, major);
-        let packet = self.shared.issue(device, major, argument, target.stack);
-        let root = entered(target.driver, routine, device, packet);
-        begin(&mut self.thread_list[thread as usize], root);
+        let packet = self.shared.issue(device, target, major, argument);
+        let root = entered(target.driver, routine, device, Value::Ref(packet));
+        self.thread_list[thread as usize].begin(Irql::Passive, root);
         Reply::Started(packet)
     }
 
@@ -115,7 +105,7 @@ impl World {
             record { world = self.new; reply = result } ≡ step_now set.now self.old thread stepped }
     {
         match self.thread_list.get_mut(thread as usize) {
-            Some(stepped) => thread::step(set, &mut self.shared, thread, stepped),
+            Some(stepped) => stepped.step(set, &mut self.shared, thread),
             None => Reply::Refused,
         }
     }

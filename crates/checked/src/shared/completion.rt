@@ -1,25 +1,29 @@
 //! The completion of packets.
 
-ghost use Rattle.std.specs.Prelude.{◌≡◌, ◌<◌, ℕ, is_some, length, option_and_then};
+ghost use Rattle.std.specs.Prelude.{◌≡◌, ◌<◌, is_some, option_and_then};
+ghost use Rattle.model.specs.declared.limits.TheConstants.{MAX_INSTRUCTIONS};
 ghost use Rattle.model.specs.Effect.{top_of};
+ghost use Rattle.checked.specs.declared.frame.Runner.{Runner};
+ghost use Rattle.model.specs.declared.world.Frame.TheVariants.{Walk as WalkFrame};
 
 use super::Shared;
 use crate::activation;
-use crate::frame::{Over, Ran, has_room, packet_bug, wrong_at};
+use crate::frame::{Frame, Over, Ran, is_last, packet_bug, wrong_at};
 use image::{DriverSet, Register};
 use iomgr::WalkStep;
 use model::event::{BugCheck, Reply};
 use model::status::Status;
-use model::world::{Activation, Frame};
+use model::world::Activation;
 
 impl Shared {
-    ghost use Rattle.checked.specs.Rest.{left_of, LeavesOver};
+    ghost use Rattle.checked.specs.Ran.{left_of, LeavesOver};
     ghost use Rattle.checked.specs.Step.{bounded, judged, frame_now};
     ghost use Rattle.model.specs.Effect.{complete_effect, continued};
     ghost use Rattle.model.specs.World.{packet_in, packet_of, register, current_location, completion_of};
 
-    /// `complete r STATUS`: IoCompleteRequest on the packet in the register. The I/O manager's frame
-    /// then stands over the routine's, which stands over the frames `below`.
+    /// `complete r STATUS`: IoCompleteRequest on the packet in the register. The I/O manager's
+    /// frame then stands over the routine's, which stands over the frames `below`.
+    #[tactic(auto, using(crate::proofs::Lists::set_back))]
     pub fn complete(
         &mut self,
         below: &[Frame],
@@ -27,47 +31,46 @@ impl Shared {
         status: Status,
         a: &mut Activation,
     ) -> Ran
-        requires { a.old.position < 1024 }
-        ensures { LeavesOver below.now self.old a.old (complete_effect self.old a.old status (packet_in self.old (register a.old r))) self.new a.new result }
+        requires { a.old.position < MAX_INSTRUCTIONS }
+        ensures { let named = packet_in self.old (register a.old r) in
+            let completed = complete_effect self.old a.old status named in
+            LeavesOver below.now self.old a.old completed self.new a.new result }
     {
         let Some(n) = self.packet_in(a.registers[r.index()]) else {
-            return Ran::stays(wrong_at(a));
+            return Ran::Stays(wrong_at(a));
         };
-        let held = match self.packet_table.find(n) {
-            Some(packet) => packet.is_completing(),
-            None => true,
+        let Some(packet) = self.packet_table.find_mut(n) else {
+            return Ran::Stays(packet_bug(BugCheck::MultipleIrpCompleteRequests, n));
         };
-        if held {
-            return Ran::stays(packet_bug(BugCheck::MultipleIrpCompleteRequests, n));
+        if packet.is_completing() {
+            return Ran::Stays(packet_bug(BugCheck::MultipleIrpCompleteRequests, n));
         }
-        if !has_room(below.len()) {
-            return Ran::stays(Reply::Refused);
+        if is_last(below.len()) {
+            return Ran::Stays(Reply::Refused);
         }
-        if let Some(packet) = self.packet_table.find_mut(n) {
-            packet.complete(status);
-        }
+        packet.complete(status);
         a.position += 1;
-        Ran::under(Over::Manager(n))
+        Ran::Under(Over::Manager(n))
     }
 
-    /// A step of the I/O manager, over the frames `below`, which completes the packet of this number.
+    /// A step of the I/O manager, over the frames `below`, which completes the packet of this
+    /// number.
     pub fn walk(&mut self, set: &DriverSet, below: &[Frame], n: u64) -> Ran
-        ensures { (t : ℕ) → left_of self.new (Frame.Walk n) result ≡ frame_now set.now self.old t below.now (Frame.Walk n) }
+        ensures { (r : Runner)
+            → left_of self.new (WalkFrame n) result ≡ frame_now set.now self.old r below.now (WalkFrame n) }
     {
-        if self.is_gone(n) {
-            return Ran::stays(packet_bug(BugCheck::IrqlNotLessOrEqual, n));
-        }
-        if self.runs_routine(n) && !has_room(below.len()) {
-            return Ran::stays(Reply::Refused);
+        if is_last(below.len()) && self.runs_routine(n) {
+            return Ran::Stays(Reply::Refused);
         }
         match self.packet_table.walk(n) {
-            // A packet that was never issued can't have topped out; no run completes one.
-            WalkStep::Missing => Ran::gone(Reply::Stepped),
-            WalkStep::Runs(completion) => {
-                Ran::under(Over::Routine(activation::completing(set, completion, n)))
+            WalkStep::Missing if n < self.packet_table.issued() => {
+                Ran::Stays(packet_bug(BugCheck::IrqlNotLessOrEqual, n))
             }
-            WalkStep::Ascends { marked: _ } => Ran::stays(Reply::Stepped),
-            WalkStep::TopsOut { status, info } => Ran::gone(Reply::Topped {
+            // A packet that was never issued can't have topped out; no run completes one.
+            WalkStep::Missing => Ran::Gone(Reply::Stepped),
+            WalkStep::Runs(completion) => { Ran::Under(activation::completing(set, completion, n)) }
+            WalkStep::Ascends { marked: _ } => Ran::Stays(Reply::Stepped),
+            WalkStep::TopsOut { status, info } => Ran::Gone(Reply::Topped {
                 packet: n,
                 status,
                 info,
@@ -77,7 +80,8 @@ impl Shared {
 
     /// Whether a completion routine runs when completion leaves the current location of a packet.
     fn runs_routine(&self, n: u64) -> bool
-        ensures { result ≡ is_some (completion_of (option_and_then (λ p. current_location p) (packet_of self.now n))) }
+        ensures { let current = option_and_then (λ p. current_location p) (packet_of self.now n) in
+            result ≡ is_some (completion_of current) }
     {
         match self.packet_table.find(n) {
             Some(packet) => packet.completion().is_some(),
@@ -87,13 +91,16 @@ impl Shared {
 
     /// `ret continue`: the completion of the packet goes on that the frame below completes.
     pub fn go_on(&self, below: &[Frame]) -> Ran
-        ensures { (t : ℕ) (f : Frame) → left_of self.now f result ≡ bounded (length below.now) self.now f (judged self.now t f (continued self.now (top_of below.now))) }
+        ensures { let onward = continued self.now (top_of below.now) in
+            (r : Runner) (f : Frame)
+            → left_of self.now f result ≡ bounded below.now self.now f (judged self.now r f onward) }
     {
-        match below.get(below.len().saturating_sub(1)) {
-            Some(Frame::Walk(n)) if self.is_gone(*n) => {
-                Ran::stays(packet_bug(BugCheck::IrqlNotLessOrEqual, *n))
+        let under = below.get(below.len().saturating_sub(1));
+        match under.and_then(|frame| frame.completed_packet()) {
+            Some(n) if self.is_gone(n) => {
+                Ran::Stays(packet_bug(BugCheck::IrqlNotLessOrEqual, n))
             }
-            _ => Ran::gone(Reply::Stepped),
+            _ => Ran::Gone(Reply::Stepped),
         }
     }
 }

@@ -1,10 +1,11 @@
 //! Locks, as instructions acquire and release them.
 
 ghost use Rattle.std.specs.Prelude.{◌≡◌, ◌<◌};
+ghost use Rattle.model.specs.declared.limits.TheConstants.{MAX_INSTRUCTIONS};
 ghost use Rattle.model.specs.Effect.{spin_lock as spin_lock_of};
 
 use super::Shared;
-use crate::frame::{Ran, wrong_at};
+use crate::frame::{Ran, Runner, wrong_at};
 use image::SpinLock;
 use model::event::{Bug, BugCheck, Lock, OfDevice, Reply, Subject};
 use model::world::Activation;
@@ -30,41 +31,45 @@ fn bug(check: BugCheck, lock: Lock) -> Reply
 }
 
 impl Shared {
-    ghost use Rattle.checked.specs.Rest.{LeavesOn};
+    ghost use Rattle.checked.specs.Ran.{LeavesOn};
     ghost use Rattle.model.specs.Effect.{acquire_effect, release_effect};
     ghost use Rattle.model.specs.World.{owner_of};
 
     /// `acquire l` and `acqc`: the thread acquires a lock, or waits for its owner.
-    pub fn acquire(&mut self, thread: u8, lock: Lock, a: &mut Activation) -> Ran
-        requires { a.old.position < 1024 }
-        ensures { LeavesOn thread self.old a.old (acquire_effect self.old thread a.old lock (owner_of self.old.locks lock)) self.new a.new result }
+    pub fn acquire(&mut self, runner: Runner, lock: Lock, a: &mut Activation) -> Ran
+        requires { a.old.position < MAX_INSTRUCTIONS }
+        ensures { let owner = owner_of self.old.locks lock in
+            let acquired = acquire_effect self.old runner.thread a.old lock owner in
+            LeavesOn runner self.old a.old acquired self.new a.new result }
     {
         let Some(owner) = self.lock_table.owner(lock) else {
-            return Ran::stays(wrong_at(a));
+            return Ran::Stays(wrong_at(a));
         };
-        if owner == Some(thread) {
-            return Ran::stays(bug(BugCheck::SpinLockAlreadyOwned, lock));
+        if owner == Some(runner.thread) {
+            return Ran::Stays(bug(BugCheck::SpinLockAlreadyOwned, lock));
         }
-        if !self.lock_table.acquire(lock, thread) {
-            return Ran::stays(Reply::Waited);
+        if !self.lock_table.acquire(lock, runner.thread) {
+            return Ran::Stays(Reply::Waited);
         }
         a.position += 1;
-        Ran::stays(Reply::Stepped)
+        Ran::Stays(Reply::Stepped)
     }
 
     /// `release l` and `relc`: the thread releases a lock that it owns.
-    pub fn release(&mut self, thread: u8, lock: Lock, a: &mut Activation) -> Ran
-        requires { a.old.position < 1024 }
-        ensures { LeavesOn thread self.old a.old (release_effect self.old a.old lock (owner_of self.old.locks lock)) self.new a.new result }
+    pub fn release(&mut self, runner: Runner, lock: Lock, a: &mut Activation) -> Ran
+        requires { a.old.position < MAX_INSTRUCTIONS }
+        ensures { let released = release_effect self.old a.old lock (owner_of self.old.locks lock)
+            in
+            LeavesOn runner self.old a.old released self.new a.new result }
     {
         let Some(owner) = self.lock_table.owner(lock) else {
-            return Ran::stays(wrong_at(a));
+            return Ran::Stays(wrong_at(a));
         };
-        if owner != Some(thread) {
-            return Ran::stays(bug(BugCheck::SpinLockNotOwned, lock));
+        if owner != Some(runner.thread) {
+            return Ran::Stays(bug(BugCheck::SpinLockNotOwned, lock));
         }
         self.lock_table.release(lock);
         a.position += 1;
-        Ran::stays(Reply::Stepped)
+        Ran::Stays(Reply::Stepped)
     }
 }

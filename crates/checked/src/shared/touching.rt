@@ -1,6 +1,7 @@
 //! Instructions that look at a packet or write to it.
 
 ghost use Rattle.std.specs.Prelude.{◌<◌};
+ghost use Rattle.model.specs.declared.limits.TheConstants.{MAX_INSTRUCTIONS};
 
 use super::Shared;
 use crate::frame::{Ran, packet_bug, wrong_at};
@@ -10,79 +11,84 @@ use model::event::{BugCheck, Reply};
 use model::world::{Activation, Value};
 
 impl Shared {
-    ghost use Rattle.checked.specs.Rest.{Leaves};
+    ghost use Rattle.checked.specs.Ran.{Leaves};
     ghost use Rattle.model.specs.Effect.{get_effect, put_effect, mark_effect, look_effect};
     ghost use Rattle.model.specs.World.{packet_in, register, number_in as number_in_of};
 
     /// `get r s F`: r becomes a field of the packet in s.
     pub fn get(&self, r: Register, s: Register, field: Field, a: &mut Activation) -> Ran
-        requires { a.old.position < 1024 }
-        ensures { Leaves self.now a.old (get_effect self.now a.old r field (packet_in self.now (register a.old s))) self.now a.new result }
+        requires { a.old.position < MAX_INSTRUCTIONS }
+        ensures { let named = packet_in self.now (register a.old s) in
+            Leaves self.now a.old (get_effect self.now a.old r field named) self.now a.new result }
     {
         let Some(n) = self.packet_in(a.registers[s.index()]) else {
-            return Ran::stays(wrong_at(a));
+            return Ran::Stays(wrong_at(a));
         };
         let number = match self.packet_table.find(n) {
             Some(packet) => packet.field(field),
-            None => return Ran::stays(packet_bug(BugCheck::IrqlNotLessOrEqual, n)),
+            None => return Ran::Stays(packet_bug(BugCheck::IrqlNotLessOrEqual, n)),
         };
         a.registers[r.index()] = Value::Num(number);
         a.position += 1;
-        Ran::stays(Reply::Stepped)
+        Ran::Stays(Reply::Stepped)
     }
 
     /// `put s r`: IoStatus.Information of the packet in s becomes the number in r.
     pub fn put(&mut self, s: Register, r: Register, a: &mut Activation) -> Ran
-        requires { a.old.position < 1024 }
-        ensures { Leaves self.old a.old (put_effect self.old a.old (number_in_of (register a.old r)) (packet_in self.old (register a.old s))) self.new a.new result }
+        requires { a.old.position < MAX_INSTRUCTIONS }
+        ensures { let number = number_in_of (register a.old r) in
+            let named = packet_in self.old (register a.old s) in
+            Leaves self.old a.old (put_effect self.old a.old number named) self.new a.new result }
     {
         let Some(number) = number_in(a.registers[r.index()]) else {
-            return Ran::stays(wrong_at(a));
+            return Ran::Stays(wrong_at(a));
         };
         let Some(n) = self.packet_in(a.registers[s.index()]) else {
-            return Ran::stays(wrong_at(a));
+            return Ran::Stays(wrong_at(a));
         };
         let Some(packet) = self.packet_table.find_mut(n) else {
-            return Ran::stays(packet_bug(BugCheck::IrqlNotLessOrEqual, n));
+            return Ran::Stays(packet_bug(BugCheck::IrqlNotLessOrEqual, n));
         };
         packet.set_info(number);
         a.position += 1;
-        Ran::stays(Reply::Stepped)
+        Ran::Stays(Reply::Stepped)
     }
 
     /// `mark r`: IoMarkIrpPending on the packet in the register.
     pub fn mark(&mut self, r: Register, a: &mut Activation) -> Ran
-        requires { a.old.position < 1024 }
-        ensures { Leaves self.old a.old (mark_effect self.old a.old (packet_in self.old (register a.old r))) self.new a.new result }
+        requires { a.old.position < MAX_INSTRUCTIONS }
+        ensures { let named = packet_in self.old (register a.old r) in
+            Leaves self.old a.old (mark_effect self.old a.old named) self.new a.new result }
     {
         let Some(n) = self.packet_in(a.registers[r.index()]) else {
-            return Ran::stays(wrong_at(a));
+            return Ran::Stays(wrong_at(a));
         };
         let Some(packet) = self.packet_table.find_mut(n) else {
-            return Ran::stays(packet_bug(BugCheck::IrqlNotLessOrEqual, n));
+            return Ran::Stays(packet_bug(BugCheck::IrqlNotLessOrEqual, n));
         };
         packet.mark();
         a.position += 1;
-        Ran::stays(Reply::Stepped)
+        Ran::Stays(Reply::Stepped)
     }
 
     /// `ifpending r L`: jumps if Irp->PendingReturned is set.
     pub fn jump_if_pending(&self, r: Register, label: u16, a: &mut Activation) -> Ran
-        requires { a.old.position < 1024 }
-        ensures { Leaves self.now a.old (look_effect self.now a.old label (packet_in self.now (register a.old r))) self.now a.new result }
+        requires { a.old.position < MAX_INSTRUCTIONS }
+        ensures { let named = packet_in self.now (register a.old r) in
+            Leaves self.now a.old (look_effect self.now a.old label named) self.now a.new result }
     {
         let Some(n) = self.packet_in(a.registers[r.index()]) else {
-            return Ran::stays(wrong_at(a));
+            return Ran::Stays(wrong_at(a));
         };
         let pending = match self.packet_table.find(n) {
             Some(packet) => packet.pending_returned(),
-            None => return Ran::stays(packet_bug(BugCheck::IrqlNotLessOrEqual, n)),
+            None => return Ran::Stays(packet_bug(BugCheck::IrqlNotLessOrEqual, n)),
         };
         if pending {
             a.position = label;
-            return Ran::stays(Reply::Stepped);
+            return Ran::Stays(Reply::Stepped);
         }
         a.position += 1;
-        Ran::stays(Reply::Stepped)
+        Ran::Stays(Reply::Stepped)
     }
 }

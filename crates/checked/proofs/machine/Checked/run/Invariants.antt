@@ -3,4 +3,8 @@ use Rattle.model.specs.Machine.{Shows}
 use Rattle.checked.proofs.machine.Checked.run.Given as goal
 
 abbrev pub invariant-loop-event : goal.invariant-loop-event
-invariant-loop-event l = record { set : l.machine.set ≡ l.fn.set; shows : Shows l.machine l.threads (take l.event-index l.events) }
+invariant-loop-event l =
+    record {
+      set : l.machine.set ≡ l.fn.set;
+      shows : Shows l.machine l.threads (take l.event-index l.events);
+    }

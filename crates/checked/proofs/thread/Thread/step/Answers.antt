@@ -1,0 +1,65 @@
+use Rattle.std.proofs.Common.{◌≡◌, None, Some, ap, ◌∙◌}
+use Rattle.std.specs.List.{IsLastAndRest}
+use Rattle.model.specs.declared.world.Thread.{Thread}
+use Rattle.model.specs.declared.event.Reply.TheVariants.{Stepped}
+use Rattle.checked.proofs.Stacks.{moved_stays, moved_under, moved_gone, popped}
+use Rattle.checked.proofs.thread.Thread.step.Goals as goal
+
+pub returns-in-Stays : goal.returns-in-Stays
+returns-in-Stays c =
+    let thread : Thread = record { root = c.self.inside.root; frames = c.self.inside.frames } in
+    let split : IsLastAndRest thread.frames.items c.in-Some.top.now c.in-Some.below.now =
+    rw c.as_mut_slice.ensures.value at c.in-Some.ensures.cases in
+    rw (← c.self.view_is)
+    (moved_stays c.args.set.now c.args.shared.now c.args.number thread c.in-Some.below.now
+    c.in-Some.top.now split c.step.new.shared c.step.new.self c.in-Stays.reply
+    c.in-Stays.ensures)
+
+pub returns-in-Under : goal.returns-in-Under
+returns-in-Under c =
+    let thread : Thread = record { root = c.self.inside.root; frames = c.self.inside.frames } in
+    let split : IsLastAndRest thread.frames.items c.in-Some.top.now c.in-Some.below.now =
+    rw c.as_mut_slice.ensures.value at c.in-Some.ensures.cases in
+    rw (← c.self.view_is)
+    (moved_under c.args.set.now c.args.shared.now c.args.number thread c.in-Some.below.now
+    c.in-Some.top.now split c.step.new.shared c.step.new.self c.over.result
+    c.push.new.self.items (rw (← c.over.ensures) at c.in-Under.ensures) c.push.ensures.items)
+
+pub returns-in-Gone : goal.returns-in-Gone
+returns-in-Gone c =
+    let thread : Thread = record { root = c.self.inside.root; frames = c.self.inside.frames } in
+    let split : IsLastAndRest thread.frames.items c.in-Some.top.now c.in-Some.below.now =
+    rw c.as_mut_slice.ensures.value at c.in-Some.ensures.cases in
+    rw (
+      ← c.self.view_is,
+      c.finish.ensures.thread,
+      c.finish.ensures.reply,
+      c.pop.ensures,
+      popped c.args.set.now c.args.shared.now c.args.number thread c.in-Some.below.now
+          c.in-Some.top.now split c.step.new.self,
+    )
+    (moved_gone c.args.set.now c.args.shared.now c.args.number thread c.in-Some.below.now
+    c.in-Some.top.now split c.step.new.shared c.in-Gone.reply None c.in-Gone.ensures)
+
+pub returns-in-Returned : goal.returns-in-Returned
+returns-in-Returned c =
+    let thread : Thread = record { root = c.self.inside.root; frames = c.self.inside.frames } in
+    let split : IsLastAndRest thread.frames.items c.in-Some.top.now c.in-Some.below.now =
+    rw c.as_mut_slice.ensures.value at c.in-Some.ensures.cases in
+    let lower : c.self-in-Returned.inside.frames.items ≡ c.in-Some.below.now =
+    ap (λ (t : Thread). t.frames.items) (c.self-in-Returned.view_is ∙ c.pop-in-Returned.ensures)
+    ∙ popped c.args.set.now c.args.shared.now c.args.number thread c.in-Some.below.now
+    c.in-Some.top.now split c.step.new.self in
+    let root : c.self-in-Returned.inside.root ≡ c.self.inside.root =
+    ap (λ (t : Thread). t.root) (c.self-in-Returned.view_is ∙ c.pop-in-Returned.ensures) in
+    rw (
+      ← c.self.view_is,
+      c.finish-in-Returned.ensures.thread,
+      c.finish-in-Returned.ensures.reply,
+      c.tell.ensures,
+      lower,
+      root,
+    )
+    (moved_gone c.args.set.now c.args.shared.now c.args.number thread c.in-Some.below.now
+    c.in-Some.top.now split c.step.new.shared Stepped (Some c.in-Returned.status)
+    c.in-Returned.ensures)

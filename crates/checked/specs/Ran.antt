@@ -1,0 +1,74 @@
+-- What the machine's own account of a frame's step says.
+use Rattle.std.specs.Prelude.{ℕ, ◌≡◌, ◌+◌, Bool, false, List, [], ◌∷◌, None, Some, nat_lt}
+use Rattle.model.specs.declared.event.Reply.{Reply}
+use Rattle.model.specs.declared.event.Reply.TheVariants.{Stepped, Wrong}
+use Rattle.model.specs.declared.limits.TheConstants.{MAX_FRAMES}
+use Rattle.model.specs.declared.world.Activation.{Activation}
+use Rattle.model.specs.declared.world.Frame.{Frame}
+use Rattle.model.specs.declared.world.Frame.TheVariants.{Routine, Walk}
+use Rattle.model.specs.declared.world.Value.TheVariants.{Ref}
+use Rattle.model.specs.declared.instr.Instr.{Instr}
+use Rattle.model.specs.Effect.{Outcome, instruction_effect, top_of}
+use Rattle.model.specs.Set.{Set}
+use Rattle.model.specs.World.{Shared, entered}
+use Rattle.checked.specs.declared.frame.Over.{Over}
+use Rattle.checked.specs.declared.frame.Over.TheVariants.{Manager, Routine as RoutineOver}
+use Rattle.checked.specs.declared.frame.Ran.{Ran}
+use Rattle.checked.specs.declared.frame.Ran.TheVariants.{Stays, Under, Gone, Returned}
+use Rattle.checked.specs.declared.frame.Runner.{Runner}
+use Rattle.checked.specs.Step.{Left, judged, bounded, stays}
+
+-- a frame that is put over another
+abbrev pub frame_over : Over → Frame
+frame_over (Manager n) = Walk n
+frame_over (RoutineOver driver routine device packet) =
+    Routine (entered driver routine device (Ref packet))
+
+-- the reply of a routine that goes wrong
+abbrev pub wrong_reply : Activation → Reply
+wrong_reply a = Wrong (record { driver = a.driver; routine = a.routine; position = a.position })
+
+-- there is no room for another frame over one that stands over so many
+abbrev pub is_last : ℕ → Bool
+is_last below = nat_lt MAX_FRAMES (below + 2)
+
+-- what a step has left, of a frame that is now f
+abbrev pub left_of : Shared → Frame → Ran → Left
+left_of s f (Stays reply) = stays s f reply
+left_of s f (Under over) =
+    record {
+      shared = s;
+      frames = f ∷ frame_over over ∷ [];
+      reply = Stepped;
+      taken_below = false;
+      told = None;
+    }
+left_of s f (Gone reply) =
+    record { shared = s; frames = []; reply = reply; taken_below = false; told = None }
+left_of s f (Returned status) =
+    record { shared = s; frames = []; reply = Stepped; taken_below = false; told = Some status }
+
+-- what an instruction of a thread's activation has to leave, over these frames
+abbrev pub instruction_now : Set → Shared → Runner → List Frame → Activation → Instr → Left
+instruction_now set s r below a i =
+    bounded below s (Routine a)
+    (judged s r (Routine a) (instruction_effect set s r.thread (top_of below) a i))
+
+-- an instruction with this outcome has left that, on a thread
+abbrev pub LeavesOn : Runner → Shared → Activation → Outcome → Shared → Activation → Ran → Type 0
+LeavesOn r s a o after b ran = left_of after (Routine b) ran ≡ judged s r (Routine a) o
+
+-- on any thread
+abbrev pub Leaves : Shared → Activation → Outcome → Shared → Activation → Ran → Type 0
+Leaves s a o after b ran = (r : Runner) → LeavesOn r s a o after b ran
+
+-- on any thread, whatever is shared: that stays
+abbrev pub LeavesShared : Activation → (Shared → Outcome) → Activation → Ran → Type 0
+LeavesShared a o b ran = (s : Shared) → Leaves s a (o s) s b ran
+
+-- on any thread, over these frames
+abbrev pub LeavesOver : List Frame → Shared → Activation → Outcome → Shared → Activation → Ran
+    → Type 0
+LeavesOver below s a o after b ran =
+    (r : Runner) → left_of after (Routine b) ran ≡ bounded below s (Routine a)
+    (judged s r (Routine a) o)

@@ -1,0 +1,80 @@
+//! What a machine holds beside the set that it runs.
+
+ghost use Rattle.std.specs.Prelude.{◌≡◌, ◌≤◌, false, length, IfOk};
+ghost use Rattle.checked.specs.Step.{machine_of, state_now};
+ghost use Rattle.model.specs.Machine.{Applies};
+ghost use Rattle.model.specs.Sound.{IsSound};
+ghost use Rattle.model.specs.World.{opening};
+
+use crate::world::World;
+use image::DriverSet;
+use irql_locks::owning_tells;
+use model::event::{Event, Reply};
+use model::memory::OutOfMemory;
+use run_laws::the_past_tells_of_the_world;
+use std::alloc::Global;
+use std::marker::Model;
+
+/// The state of a run: its world, and whether it has stopped. Whose machine it is holds the driver
+/// set.
+#[derive(Drop)]
+pub struct State {
+    current: World,
+    halted: bool,
+}
+
+impl Model for State {
+    ghost use Rattle.checked.specs.Step.{State};
+
+    ghost Value = { State };
+
+    ghost view = { λ s. record { world = s.current; stopped = s.halted } };
+}
+
+impl State {
+    /// Before the first event, on so many threads. All memory that a run ever needs is taken here.
+    pub fn new(alloc: Global, set: &DriverSet, threads: u8) -> Result<State, OutOfMemory>
+        ensures state { let first = opening (length set.now.devices) threads in
+            IfOk result (λ state. state ≡ record { world = first; stopped = false }) }
+        ensures sound { IsSound set.now }
+    {
+        match World::new(alloc, set.devices().len(), threads) {
+            Ok(current) => Ok(State {
+                current,
+                halted: false,
+            }),
+            Err(_refused) => Err(OutOfMemory),
+        }
+    }
+
+    /// Applies an event, and answers as the run of the set does that this state shows. After a bug
+    /// check or a wrong operand it has stopped, and refuses every event.
+    pub fn apply(&mut self, set: &DriverSet, event: &Event) -> Reply
+        requires { IsSound set.now }
+        ensures { let before = machine_of set.now self.old in
+            Applies before event.now (machine_of set.now self.new) result }
+    {
+        the_past_tells_of_the_world();
+        owning_tells();
+        self.advance(set, event)
+    }
+
+    /// The same by what the state holds, and not by the trace of its run.
+    fn advance(&mut self, set: &DriverSet, event: &Event) -> Reply
+        ensures { record { state = self.new; reply = result } ≡ state_now set.now self.old event.now }
+    {
+        if self.halted {
+            return Reply::Refused;
+        }
+        let reply = self.current.perform(set, event);
+        self.halted = matches!(reply, Reply::Bug(_) | Reply::Wrong(_));
+        reply
+    }
+
+    /// Whether it has stopped, at a bug check or a wrong operand.
+    pub fn stopped(&self) -> bool
+        ensures { result ≡ self.now.stopped }
+    {
+        self.halted
+    }
+}
