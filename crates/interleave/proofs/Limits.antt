@@ -17,19 +17,23 @@ use Rattle.interleave.specs.declared.schedule.ScheduleKind.{ScheduleKind}
 use Rattle.interleave.specs.declared.schedule.ScheduleKind.TheVariants.{UnknownWord, TooLong}
 
 -- a fact of each branch
-if_some : {A : Type 0} (P : A → Type 0) (b : Bool) (a : A) → (b ≡ true → P a) → IfSome (if b then Some a else None) P
+if_some : {A : Type 0} (P : A → Type 0) (b : Bool) (a : A) → (b ≡ true → P a)
+    → IfSome (if b then Some a else None) P
 if_some P true a here = here refl
 if_some P false a here = tt
 
-if_ok : {A E : Type 0} (P : A → Type 0) (b : Bool) (r : Result A E) (e : E) → (b ≡ true → IfOk r P) → IfOk (if b then r else Err e) P
+if_ok : {A E : Type 0} (P : A → Type 0) (b : Bool) (r : Result A E) (e : E) → (b ≡ true → IfOk r P)
+    → IfOk (if b then r else Err e) P
 if_ok P true r e here = here refl
 if_ok P false r e here = tt
 
 -- a number that was read is within its range
-within_bounds : (least most : ℕ) (n : Numeral) → IfSome (within least most n) (λ m. (least ≤ m) × (m ≤ most))
+within_bounds : (least most : ℕ) (n : Numeral)
+    → IfSome (within least most n) (λ m. (least ≤ m) × (m ≤ most))
 within_bounds least most (Number n) =
     if_some (λ m. (least ≤ m) × (m ≤ most)) (nat_le least n && nat_le n most) n
-    (λ both. let parts = and_parts (nat_le least n) (nat_le n most) both in (leb-true least n parts.0, leb-true n most parts.1))
+    (λ both. let parts = and_parts (nat_le least n) (nat_le n most) both
+    in (leb-true least n parts.0, leb-true n most parts.1))
 within_bounds least most TooLarge = tt
 within_bounds least most Other = tt
 
@@ -44,14 +48,18 @@ ranged_bounds (Some k) here = here
 threads_line_bounds : (operands : List (List ℕ)) → IfOk (threads_line operands) IsThreads
 threads_line_bounds [] = tt
 threads_line_bounds (count ∷ []) =
-    if_ok IsThreads (is_number count) (ranged (number_within 1 32 count)) UnknownWord (λ _. ranged_bounds (number_within 1 32 count) (within_bounds 1 32 (number_in count)))
+    if_ok IsThreads (is_number count) (ranged (number_within 1 32 count)) UnknownWord
+    (λ _. ranged_bounds (number_within 1 32 count) (within_bounds 1 32 (number_in count)))
 threads_line_bounds (count ∷ more ∷ rest) = tt
 
 opening_bounds : (tokens : List (List ℕ)) → IfOk (opening_of tokens) IsThreads
 opening_bounds [] = tt
-opening_bounds (word ∷ operands) = if_ok IsThreads (bytes_eq word (codes "threads")) (threads_line operands) UnknownWord (λ _. threads_line_bounds operands)
+opening_bounds (word ∷ operands) =
+    if_ok IsThreads (bytes_eq word (codes "threads")) (threads_line operands) UnknownWord
+    (λ _. threads_line_bounds operands)
 
-and_then_bounds : {A B : Type 0} (P : B → Type 0) (next : A → Result B ScheduleKind) (r : Result A ScheduleKind) → ((a : A) → IfOk (next a) P) → IfOk (and_then next r) P
+and_then_bounds : {A B : Type 0} (P : B → Type 0) (next : A → Result B ScheduleKind)
+    (r : Result A ScheduleKind) → ((a : A) → IfOk (next a) P) → IfOk (and_then next r) P
 and_then_bounds P next (Ok a) later = later a
 and_then_bounds P next (Err kind) later = tt
 
@@ -59,45 +67,63 @@ threads_bounds : (line : List ℕ) → IfOk (opening_line line) IsThreads
 threads_bounds line = and_then_bounds IsThreads opening_of (checked_tokens line) opening_bounds
 
 -- a line takes the events to 1,000,000 at most
-lengthened_bound : (events : List Event) (r : Option Repeated) → length events ≤ 1000000 → IfOk (lengthened events r) (λ more. length more ≤ 1000000)
+lengthened_bound : (events : List Event) (r : Option Repeated) → length events ≤ 1000000
+    → IfOk (lengthened events r) (λ more. length more ≤ 1000000)
 lengthened_bound events None few = few
 lengthened_bound events (Some r) few =
     let total = length events + r.count in
-    let longer : length (events ++ replicate r.count r.event) ≡ total = simp (length-append, length-replicate) refl in
-    if_ok (λ (more : List Event). length more ≤ 1000000) (nat_le total 1000000) (Ok (events ++ replicate r.count r.event)) TooLong
+    let longer : length (events ++ replicate r.count r.event) ≡ total =
+    simp (length-append, length-replicate) refl in
+    if_ok (λ (more : List Event). length more ≤ 1000000) (nat_le total 1000000)
+    (Ok (events ++ replicate r.count r.event)) TooLong
     (λ small. let most = leb-true total 1000000 small in omega (arith, longer))
 
-after_bound : (events : List Event) (r : Result (Option Repeated) ScheduleKind) → length events ≤ 1000000 → IfOk (and_then (lengthened events) r) (λ more. length more ≤ 1000000)
+after_bound : (events : List Event) (r : Result (Option Repeated) ScheduleKind)
+    → length events ≤ 1000000
+    → IfOk (and_then (lengthened events) r) (λ more. length more ≤ 1000000)
 after_bound events (Ok r) few = lengthened_bound events r few
 after_bound events (Err kind) few = tt
 
 -- what follows a line, where it follows from what the line gives
-line_bound : {A B : Type 0} (P : A → Type 0) (Q : B → Type 0) (n : ℕ) (r : Result A ScheduleKind) (next : A → Result B ScheduleFault)
+line_bound : {A B : Type 0} (P : A → Type 0) (Q : B → Type 0) (n : ℕ) (r : Result A ScheduleKind)
+    (next : A → Result B ScheduleFault)
     → IfOk r P → ((a : A) → P a → IfOk (next a) Q) → IfOk (at_line n r next) Q
 line_bound P Q n (Ok a) next here later = later a here
 line_bound P Q n (Err kind) next here later = tt
 
-listing_bound : (events : List Event) (n : ℕ) (lines : List (List ℕ)) → length events ≤ 1000000 → IfOk (listing events n lines) (λ more. length more ≤ 1000000)
+listing_bound : (events : List Event) (n : ℕ) (lines : List (List ℕ)) → length events ≤ 1000000
+    → IfOk (listing events n lines) (λ more. length more ≤ 1000000)
 listing_bound events n [] few = few
 listing_bound events n (line ∷ lines) few =
-    line_bound (λ (more : List Event). length more ≤ 1000000) (λ (more : List Event). length more ≤ 1000000) n (events_after events line) (λ more. listing more (n + 1) lines)
-    (after_bound events (event_line line) few) (λ more short. listing_bound more (n + 1) lines short)
+    line_bound (λ (more : List Event). length more ≤ 1000000)
+    (λ (more : List Event). length more ≤ 1000000) n (events_after events line)
+    (λ more. listing more (n + 1) lines)
+    (after_bound events (event_line line) few)
+    (λ more short. listing_bound more (n + 1) lines short)
 
-threads_within : (k : ℕ) (r : Result (List Event) ScheduleFault) → 1 ≤ k → k ≤ 32 → IfOk r (λ events. length events ≤ 1000000) → IfOk (with_threads k r) IsWithinLimits
-threads_within k (Ok events) some most few = record { some_threads = some; most_threads = most; most_events = few }
+threads_within : (k : ℕ) (r : Result (List Event) ScheduleFault) → 1 ≤ k → k ≤ 32
+    → IfOk r (λ events. length events ≤ 1000000) → IfOk (with_threads k r) IsWithinLimits
+threads_within k (Ok events) some most few =
+    record { some_threads = some; most_threads = most; most_events = few }
 threads_within k (Err fault) some most few = tt
 
-opened_within : (n : ℕ) (lines : List (List ℕ)) (t : Option ℕ) (later : Result Schedule ScheduleFault)
+opened_within : (n : ℕ) (lines : List (List ℕ)) (t : Option ℕ)
+    (later : Result Schedule ScheduleFault)
     → IsThreads t → IfOk later IsWithinLimits → IfOk (opened n lines t later) IsWithinLimits
-opened_within n lines (Some k) later here there = threads_within k (listing [] n lines) here.0 here.1 (listing_bound [] n lines (omega arith))
+opened_within n lines (Some k) later here there =
+    threads_within k (listing [] n lines) here.0 here.1 (listing_bound [] n lines (omega arith))
 opened_within n lines None later here there = there
 
 opening_within : (n : ℕ) (lines : List (List ℕ)) → IfOk (opening n lines) IsWithinLimits
 opening_within n [] = tt
 opening_within n (line ∷ lines) =
-    line_bound (λ (t : Option ℕ). IsThreads t) IsWithinLimits n (opening_line line) (λ t. opened (n + 1) lines t (opening (n + 1) lines))
-    (threads_bounds line) (λ t here. opened_within (n + 1) lines t (opening (n + 1) lines) here (opening_within (n + 1) lines))
+    line_bound (λ (t : Option ℕ). IsThreads t) IsWithinLimits n (opening_line line)
+    (λ t. opened (n + 1) lines t (opening (n + 1) lines))
+    (threads_bounds line)
+    (λ t here. opened_within (n + 1) lines t (opening (n + 1) lines) here
+    (opening_within (n + 1) lines))
 
 -- a schedule that a text lists is within the limits
-pub listed_within : (text : List ℕ) (schedule : Schedule) → Lists text schedule → IsWithinLimits schedule
+pub listed_within : (text : List ℕ) (schedule : Schedule) → Lists text schedule
+    → IsWithinLimits schedule
 listed_within text schedule lists = rw lists at (opening_within 1 (lines_of text))

@@ -1,3 +1,4 @@
+pub mod Events
 pub mod Line
 pub mod Listing
 pub mod Meaning

@@ -1,11 +1,11 @@
 -- One line of a schedule: what it stands for, or the least kind of what is wrong with it.
 use Rattle.std.specs.Prelude.{ℕ, ◌^◌, ◌-◌, ◌&&◌, nat_le, List, [], ◌∷◌, bytes_eq, codes, Option, Some, None, Result, Ok, Err, if◌then◌else◌}
-use Rattle.std.specs.List.{list_all}
 use Rattle.model.specs.declared.event.Event.TheVariants.{Issue, Step}
 use Rattle.model.specs.declared.status.Major.{Major}
-use Rattle.model.specs.declared.status.Major.TheVariants.{Read, Write, Control}
-use Rattle.text.specs.Cut.{is_clean, tokens_of}
-use Rattle.text.specs.Class.{is_number, is_token}
+use Rattle.text.specs.Cut.{tokens_of}
+use Rattle.text.specs.Class.{is_number}
+use Rattle.text.specs.Lexical.{is_lexical}
+use Rattle.text.specs.Major.{major_of}
 use Rattle.text.specs.Number.{number_in}
 use Rattle.text.specs.declared.number.Numeral.{Numeral}
 use Rattle.text.specs.declared.number.Numeral.TheVariants.{Other, TooLarge, Number}
@@ -22,13 +22,6 @@ within least most Other = None
 -- the number that a token writes, from least to most
 abbrev pub number_within : ℕ → ℕ → List ℕ → Option ℕ
 number_within least most token = within least most (number_in token)
-
--- the major function that a word names
-abbrev pub major_of : List ℕ → Option Major
-major_of word =
-    if bytes_eq word (codes "READ") then Some Read else
-    (if bytes_eq word (codes "WRITE") then Some Write else
-    (if bytes_eq word (codes "CONTROL") then Some Control else None))
 
 -- what a line of a good form stands for, or that a number of it is out of range
 abbrev pub ranged : {A : Type 0} → Option A → Result (Option A) ScheduleKind
@@ -47,26 +40,31 @@ threads_line _ = Err UnknownWord
 -- the line that says how many threads there are, or None for a blank one
 abbrev pub opening_of : List (List ℕ) → Result (Option ℕ) ScheduleKind
 opening_of [] = Ok None
-opening_of (word ∷ operands) = if bytes_eq word (codes "threads") then threads_line operands else Err UnknownWord
+opening_of (word ∷ operands) = if bytes_eq word (codes "threads") then threads_line operands
+    else Err UnknownWord
 
 -- the request of these numbers, once
 abbrev pub request : Option ℕ → Option ℕ → Major → Option ℕ → Option Repeated
-request (Some thread) (Some device) major (Some argument) = Some (record { event = Issue thread device major argument; count = 1 })
+request (Some thread) (Some device) major (Some argument) =
+    Some (record { event = Issue thread device major argument; count = 1 })
 request _ _ _ _ = None
 
 -- the request, if its numbers are in range
 abbrev pub issues : List ℕ → List ℕ → Major → List ℕ → Option Repeated
 issues thread device major argument =
-    request (number_within 0 255 thread) (number_within 0 255 device) major (number_within 0 (2 ^ 64 - 1) argument)
+    request (number_within 0 255 thread) (number_within 0 255 device) major
+    (number_within 0 (2 ^ 64 - 1) argument)
 
-abbrev pub issue_as : List ℕ → List ℕ → Option Major → List ℕ → Result (Option Repeated) ScheduleKind
+abbrev pub issue_as : List ℕ → List ℕ → Option Major → List ℕ
+    → Result (Option Repeated) ScheduleKind
 issue_as thread device None argument = Err UnknownWord
 issue_as thread device (Some major) argument = ranged (issues thread device major argument)
 
 -- a request to a device
 abbrev pub issue_of : List ℕ → List ℕ → List ℕ → List ℕ → Result (Option Repeated) ScheduleKind
 issue_of thread device major argument =
-    if is_number thread && is_number device && is_number argument then issue_as thread device (major_of major) argument else Err UnknownWord
+    if is_number thread && is_number device && is_number argument
+    then issue_as thread device (major_of major) argument else Err UnknownWord
 
 -- `issue T D MAJOR ARG`
 abbrev pub issue_line : List (List ℕ) → Result (Option Repeated) ScheduleKind
@@ -84,7 +82,8 @@ steps thread count = stepping (number_within 0 255 thread) (number_within 1 1000
 
 -- so many steps of a thread
 abbrev pub steps_of : List ℕ → List ℕ → Result (Option Repeated) ScheduleKind
-steps_of thread count = if is_number thread && is_number count then ranged (steps thread count) else Err UnknownWord
+steps_of thread count = if is_number thread && is_number count then ranged (steps thread count)
+    else Err UnknownWord
 
 -- `step T K`, or `step T` for one step
 abbrev pub step_line : List (List ℕ) → Result (Option Repeated) ScheduleKind
@@ -101,10 +100,11 @@ event_of (word ∷ operands) =
 
 -- the tokens of a line, if its bytes and tokens are all allowed
 abbrev pub checked_tokens : List ℕ → Result (List (List ℕ)) ScheduleKind
-checked_tokens line = if is_clean line && list_all is_token (tokens_of line) then Ok (tokens_of line) else Err Lex
+checked_tokens line = if is_lexical line then Ok (tokens_of line) else Err Lex
 
 -- one reading after another, up to the first fault
-abbrev pub and_then : {A B : Type 0} → (A → Result B ScheduleKind) → Result A ScheduleKind → Result B ScheduleKind
+abbrev pub and_then : {A B : Type 0} → (A → Result B ScheduleKind) → Result A ScheduleKind
+    → Result B ScheduleKind
 and_then next (Ok a) = next a
 and_then next (Err kind) = Err kind
 

@@ -1,4 +1,5 @@
--- A text as a schedule: the threads and events that it lists, or its first faulty line with the least kind of what is wrong there.
+-- A text as a schedule: the threads and events that it lists, or its first faulty line with the
+-- least kind of what is wrong there.
 use Rattle.std.specs.Prelude.{◌≡◌, ◌⊎◌, ℕ, ◌+◌, ◌≤◌, nat_le, List, [], ◌∷◌, ◌++◌, length, replicate, Option, Some, None, Result, Ok, Err, if◌then◌else◌}
 use Rattle.model.specs.declared.event.Event.{Event}
 use Rattle.text.specs.Cut.{lines_of}
@@ -12,21 +13,24 @@ use Rattle.interleave.specs.declared.schedule.ScheduleKind.TheVariants.{UnknownW
 -- the events with those of a line after them, at most 1,000,000
 abbrev pub lengthened : List Event → Option Repeated → Result (List Event) ScheduleKind
 lengthened events None = Ok events
-lengthened events (Some r) = if nat_le (length events + r.count) 1000000 then Ok (events ++ replicate r.count r.event) else Err TooLong
+lengthened events (Some r) = if nat_le (length events + r.count) 1000000
+    then Ok (events ++ replicate r.count r.event) else Err TooLong
 
 -- the events after a line
 abbrev pub events_after : List Event → List ℕ → Result (List Event) ScheduleKind
 events_after events line = and_then (lengthened events) (event_line line)
 
 -- what follows a line of this number, or that the line is faulty
-abbrev pub at_line : {A B : Type 0} → ℕ → Result A ScheduleKind → (A → Result B ScheduleFault) → Result B ScheduleFault
+abbrev pub at_line : {A B : Type 0} → ℕ → Result A ScheduleKind → (A → Result B ScheduleFault)
+    → Result B ScheduleFault
 at_line n (Ok a) next = next a
 at_line n (Err kind) next = Err (record { line = n; kind = kind })
 
 -- the events with those of these lines after them, of which the first has the number n
 abbrev pub listing : List Event → ℕ → List (List ℕ) → Result (List Event) ScheduleFault
 listing events n [] = Ok events
-listing events n (line ∷ lines) = at_line n (events_after events line) (λ more. listing more (n + 1) lines)
+listing events n (line ∷ lines) =
+    at_line n (events_after events line) (λ more. listing more (n + 1) lines)
 
 -- a schedule of so many threads and these events
 abbrev pub with_threads : ℕ → Result (List Event) ScheduleFault → Result Schedule ScheduleFault
@@ -34,14 +38,16 @@ with_threads threads (Ok events) = Ok (record { threads = threads; events = even
 with_threads threads (Err fault) = Err fault
 
 -- where a line says how many threads there are, the rest lists events; a blank line is passed over
-abbrev pub opened : ℕ → List (List ℕ) → Option ℕ → Result Schedule ScheduleFault → Result Schedule ScheduleFault
+abbrev pub opened : ℕ → List (List ℕ) → Option ℕ → Result Schedule ScheduleFault
+    → Result Schedule ScheduleFault
 opened n lines (Some threads) later = with_threads threads (listing [] n lines)
 opened n lines None later = later
 
 -- the schedule of these lines, of which the first has the number n
 abbrev pub opening : ℕ → List (List ℕ) → Result Schedule ScheduleFault
 opening n [] = Err (record { line = n; kind = UnknownWord })
-opening n (line ∷ lines) = at_line n (opening_line line) (λ threads. opened (n + 1) lines threads (opening (n + 1) lines))
+opening n (line ∷ lines) =
+    at_line n (opening_line line) (λ threads. opened (n + 1) lines threads (opening (n + 1) lines))
 
 -- the schedule that a text lists, or its first fault
 abbrev pub schedule_in : List ℕ → Result Schedule ScheduleFault

@@ -17,7 +17,8 @@ times (Some r) = replicate r.count r.event
 -- the lines stand for these events, line after line
 abbrev pub Tell : List (List ℕ) → List Event → Type 0
 Tell [] events = events ≡ []
-Tell (line ∷ lines) events = (r : Option Repeated) × (rest : List Event) × (event_line line ≡ Ok r) × (events ≡ times r ++ rest) × Tell lines rest
+Tell (line ∷ lines) events = (r : Option Repeated) × (rest : List Event) × (event_line line ≡ Ok r)
+    × (events ≡ times r ++ rest) × Tell lines rest
 
 -- a line without a token
 abbrev pub IsBlank : List ℕ → Type 0
@@ -38,11 +39,17 @@ pub record IsListing (text : List ℕ) (schedule : Schedule) : Type 0 where
   pub tells : Tell rest schedule.events
   pub few : length schedule.events ≤ 1000000
 
--- where the first fault of lines is, of which the first has the number n: none of them has a token, the first with one is faulty, or a later one is
+-- where the first fault of lines is, of which the first has the number n: none of them has a token,
+-- the first with one is faulty, or a later one is
 pub data IsFirstFault (n : ℕ) (lines : List (List ℕ)) (fault : ScheduleFault) : Type 0 where
-  Blank : All IsBlank lines → fault ≡ record { line = n + length lines; kind = UnknownWord } → IsFirstFault n lines fault
-  InOpening : (blanks : List (List ℕ)) (line : List ℕ) (rest : List (List ℕ)) → lines ≡ blanks ++ line ∷ rest → All IsBlank blanks
-      → opening_line line ≡ Err fault.kind → fault.line ≡ n + length blanks → IsFirstFault n lines fault
-  InEvents : (blanks before : List (List ℕ)) (line : List ℕ) (rest : List (List ℕ)) (threads : ℕ) (events : List Event)
-      → Opens lines blanks threads (before ++ line ∷ rest) → Tell before events → events_after events line ≡ Err fault.kind
+  Blank : All IsBlank lines → fault ≡ record { line = n + length lines; kind = UnknownWord }
+      → IsFirstFault n lines fault
+  InOpening : (blanks : List (List ℕ)) (line : List ℕ) (rest : List (List ℕ))
+      → lines ≡ blanks ++ line ∷ rest → All IsBlank blanks
+      → opening_line line ≡ Err fault.kind → fault.line ≡ n + length blanks
+      → IsFirstFault n lines fault
+  InEvents : (blanks before : List (List ℕ)) (line : List ℕ) (rest : List (List ℕ)) (threads : ℕ)
+      (events : List Event)
+      → Opens lines blanks threads (before ++ line ∷ rest) → Tell before events
+      → events_after events line ≡ Err fault.kind
       → fault.line ≡ n + length blanks + 1 + length before → IsFirstFault n lines fault

@@ -1,10 +1,9 @@
 -- Runs of accepted sets: what they show keeps the rules.
-use Rattle.std.specs.Prelude.{ℕ, ◌≢◌, ◌++◌, List, [], ◌∷◌}
-use Rattle.model.specs.declared.event.Bug.{Bug}
+use Rattle.std.specs.Prelude.{ℕ, ◌≡◌, ◌≢◌, ◌<◌, ◌++◌, List, [], ◌∷◌}
 use Rattle.model.specs.declared.event.Event.{Event}
-use Rattle.model.specs.declared.event.Place.{Place}
+use Rattle.model.specs.declared.event.Event.TheVariants.{Step}
 use Rattle.model.specs.declared.event.Reply.{Reply}
-use Rattle.model.specs.declared.event.Reply.TheVariants.{Bug as BugCheckReply, Wrong}
+use Rattle.model.specs.declared.event.Reply.TheVariants.{Refused}
 use Rattle.model.specs.Machine.{Machine, Shows}
 use Rattle.run_laws.specs.Rules.{KeepsTheRules}
 
@@ -16,4 +15,11 @@ pub record IsRun (m : Machine) : Type 0 where
 
 -- whatever run it showed, that run with the event added keeps the rules
 abbrev pub RulesKept : Machine → Event → Type 0
-RulesKept m e = (threads : ℕ) (events : List Event) → Shows m threads events → KeepsTheRules m.set threads (events ++ e ∷ [])
+RulesKept m e = (threads : ℕ) (events : List Event) → Shows m threads events
+    → KeepsTheRules m.set threads (events ++ e ∷ [])
+
+-- and where the event was a step of a thread that the run has, it was not refused
+abbrev pub StepsThreads : Machine → Event → Reply → Type 0
+StepsThreads m e reply =
+    (threads : ℕ) (events : List Event) (t : ℕ) → Shows m threads events → t < threads → e ≡ Step t
+    → reply ≢ Refused

@@ -5,5 +5,3 @@ pub mod parse;
 pub mod read;
 pub mod run;
 pub mod schedule;
-#[cfg(test)]
-mod tests;

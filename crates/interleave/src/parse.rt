@@ -5,10 +5,8 @@ ghost use Rattle.interleave.specs.Listing.{IsFaultOf, IsWithinLimits, Lists, eve
 ghost use Rattle.interleave.specs.Meaning.{IsListing, IsFirstFault};
 ghost use Rattle.text.specs.Cut.{lines_of};
 
-use crate::read::{Repeated, event_line, opening_line};
-use crate::schedule::{MAX_EVENTS, Schedule, ScheduleFault, ScheduleKind};
-use model::event::Event;
-use model::items::Items;
+use crate::read::{event_line, opening_line};
+use crate::schedule::{Events, MAX_EVENTS, Schedule, ScheduleFault, ScheduleKind};
 use std::alloc::{AllocError, Global};
 use text::cut::lines;
 use text::piece::Piece;
@@ -52,7 +50,7 @@ fn schedule_in(alloc: Global, text: &[u8]) -> Result<Result<Schedule, ScheduleFa
             match list(alloc, rest, opening.lines as u64 + 1)? {
                 Ok(events) => Ok(Ok(Schedule {
                     threads: opening.threads,
-                    events: Items::of(events),
+                    events,
                 })),
                 Err(fault) => Ok(Err(fault)),
             }
@@ -73,7 +71,11 @@ fn find_opening(
     alloc: Global,
     lines: &[Piece],
 ) -> Result<Result<Opening, ScheduleFault>, AllocError>
-    ensures { IfOk result (λ r. MatchResult r (λ o. (o.lines ≤ length lines.now) × (opening 1 lines.now ≡ with_threads o.threads (listing [] (o.lines + 1) (drop o.lines lines.now)))) (λ fault. opening 1 lines.now ≡ Err fault)) }
+    ensures { IfOk result
+        (λ r. MatchResult r (λ o. (o.lines ≤ length lines.now)
+        × (opening 1 lines.now ≡ with_threads o.threads
+        (listing [] (o.lines + 1) (drop o.lines lines.now))))
+        (λ fault. opening 1 lines.now ≡ Err fault)) }
 {
     for (i, line) in lines.iter().enumerate() {
         match opening_line(alloc, line.bytes())? {
@@ -103,11 +105,13 @@ fn list(
     alloc: Global,
     lines: &[Piece],
     first: u64,
-) -> Result<Result<Vec<Event>, ScheduleFault>, AllocError>
+) -> Result<Result<Events, ScheduleFault>, AllocError>
     requires { first + length lines.now < 2 ^ 64 }
-    ensures { IfOk result (λ r. MatchResult r (λ events. listing [] first lines.now ≡ Ok events.items) (λ fault. listing [] first lines.now ≡ Err fault)) }
+    ensures { IfOk result
+        (λ r. MatchResult r (λ events. listing [] first lines.now ≡ Ok events)
+        (λ fault. listing [] first lines.now ≡ Err fault)) }
 {
-    let mut events = Vec::new(alloc);
+    let mut events = Events::new(alloc);
     for (i, line) in lines.iter().enumerate() {
         match add_line(alloc, &mut events, line.bytes())? {
             Ok(()) => {}
@@ -125,10 +129,12 @@ fn list(
 /// Adds the events of a line.
 fn add_line(
     alloc: Global,
-    events: &mut Vec<Event>,
+    events: &mut Events,
     line: &[u8],
 ) -> Result<Result<(), ScheduleKind>, AllocError>
-    ensures { IfOk result (λ r. MatchResult r (λ _. events_after events.old.items line.now ≡ Ok events.new.items) (λ kind. events_after events.old.items line.now ≡ Err kind)) }
+    ensures { IfOk result
+        (λ r. MatchResult r (λ _. events_after events.old line.now ≡ Ok events.new)
+        (λ kind. events_after events.old line.now ≡ Err kind)) }
 {
     match event_line(alloc, line)? {
         Ok(Some(repeated)) => match events.len().checked_add(repeated.count) {
@@ -136,7 +142,7 @@ fn add_line(
                 if length > MAX_EVENTS {
                     return Ok(Err(ScheduleKind::TooLong));
                 }
-                repeat(events, repeated)?;
+                events.push(repeated)?;
                 Ok(Ok(()))
             }
             None => Ok(Err(ScheduleKind::TooLong)),
@@ -144,13 +150,4 @@ fn add_line(
         Ok(None) => Ok(Ok(())),
         Err(kind) => Ok(Err(kind)),
     }
-}
-
-/// Adds an event as many times as it happens.
-fn repeat(events: &mut Vec<Event>, repeated: Repeated) -> Result<(), AllocError>
-    requires { vec_len events.old + repeated.count < 2 ^ 64 }
-    ensures { OnOk result (events.new.items ≡ events.old.items ++ replicate repeated.count repeated.event) }
-{
-    let length = events.len();
-    events.resize(length + repeated.count, repeated.event)
 }

@@ -3,7 +3,7 @@
 ghost use Rattle.std.specs.Prelude.{◌≡◌, ◌≤◌, IfOk, IfSome, MatchResult};
 ghost use Rattle.std.specs.List.{list_all};
 ghost use Rattle.text.specs.Class.{is_token};
-ghost use Rattle.interleave.specs.Line.{checked_tokens, event_line, event_of, issue_line, issue_of, issues, major_of, number_within, opening_line, opening_of, step_line, steps, steps_of, threads_line, threads_of};
+ghost use Rattle.interleave.specs.Line.{checked_tokens, event_line, event_of, issue_line, issue_of, issues, number_within, opening_line, opening_of, step_line, steps, steps_of, threads_line, threads_of};
 
 use crate::schedule::ScheduleKind;
 use model::event::Event;
@@ -12,6 +12,7 @@ use model::status::Major;
 use std::alloc::{AllocError, Global};
 use text::class::{is, is_number, is_token};
 use text::cut::{is_clean, tokens};
+use text::major::major_of;
 use text::number::{Numeral, number};
 use text::piece::Piece;
 
@@ -65,10 +66,12 @@ fn checked_tokens<'a>(
     alloc: Global,
     line: &'a [u8],
 ) -> Result<Result<Vec<Piece<'a>>, ScheduleKind>, AllocError>
-    ensures { IfOk result (λ r. MatchResult r (λ tokens. checked_tokens line.now ≡ Ok tokens.items) (λ kind. checked_tokens line.now ≡ Err kind)) }
+    ensures { IfOk result
+        (λ r. MatchResult r (λ tokens. checked_tokens line.now ≡ Ok tokens.items)
+        (λ kind. checked_tokens line.now ≡ Err kind)) }
 {
     let tokens = tokens(alloc, line)?;
-    if is_clean(line) && are_tokens(tokens.as_slice()) {
+    if is_clean(line) && are_of_form(tokens.as_slice()) {
         Ok(Ok(tokens))
     } else {
         Ok(Err(ScheduleKind::Lex))
@@ -76,7 +79,7 @@ fn checked_tokens<'a>(
 }
 
 /// Whether each piece is of a token's form.
-fn are_tokens(pieces: &[Piece]) -> bool
+fn are_of_form(pieces: &[Piece]) -> bool
     ensures { result ≡ list_all is_token pieces.now }
 {
     pieces.iter().all(|piece| is_token(piece.bytes()))
@@ -230,21 +233,6 @@ fn steps(thread: &[u8], count: &[u8]) -> Option<Repeated>
         event,
         count: count as usize,
     })
-}
-
-/// The major function that a word names.
-fn major_of(word: &[u8]) -> Option<Major>
-    ensures { result ≡ major_of word.now }
-{
-    if is(word, b"READ") {
-        Some(Major::Read)
-    } else if is(word, b"WRITE") {
-        Some(Major::Write)
-    } else if is(word, b"CONTROL") {
-        Some(Major::Control)
-    } else {
-        None
-    }
 }
 
 /// The number that a token writes, if it is in this range.

@@ -13,4 +13,6 @@ returns-in-Err-clause-meaning c = meaning c.args.text.now
 
 -- the fault is what the reading gave
 pub returns-in-Ok-Err-clause-fault : goal.returns-in-Ok-Err-clause-fault
-returns-in-Ok-Err-clause-fault c = λ _. first_fault c.args.text.now c.in-Ok-Err.fault (sym (rw c.in-Ok-Err.field-0-is at c.in-Ok-Err.ensures))
+returns-in-Ok-Err-clause-fault c =
+    λ _. first_fault c.args.text.now c.in-Ok-Err.fault
+    (sym (rw c.in-Ok-Err.field-0-is at c.in-Ok-Err.ensures))

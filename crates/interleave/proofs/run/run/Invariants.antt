@@ -3,4 +3,8 @@ use Rattle.model.specs.Machine.{Shows}
 use Rattle.interleave.proofs.run.run.Given as goal
 
 abbrev pub invariant-loop-event : goal.invariant-loop-event
-invariant-loop-event l = record { set : l.run.set ≡ l.fn.accepted; shows : Shows l.run l.threads (take l.event-index l.events) }
+invariant-loop-event l =
+    record {
+      set : l.run.set ≡ l.fn.accepted;
+      shows : Shows l.run l.threads (take l.event-index l.events);
+    }
