@@ -1,16 +1,53 @@
--- The line of a fault of an input.
-use Rattle.std.specs.Prelude.{ℕ, List, [], ◌∷◌, codes}
+-- The lines of faults of inputs, and of what else keeps a program from its answer.
+use Rattle.std.specs.Prelude.{ℕ, List, [], ◌∷◌, ◌++◌, codes}
 use Rattle.std.specs.Fmt.{decimal}
-use Rattle.report.specs.declared.fault.Input.{Input}
-use Rattle.report.specs.declared.fault.Input.TheVariants.{Text, Schedule}
+use Rattle.asm.specs.Laws.{kind_number}
+use Rattle.asm.specs.declared.fault.AsmFault.{AsmFault}
+use Rattle.asm.specs.declared.fault.AsmKind.{AsmKind}
+use Rattle.asm.specs.declared.fault.AsmKind.TheVariants as asm_kind
+use Rattle.interleave.specs.declared.schedule.ScheduleFault.{ScheduleFault}
+use Rattle.interleave.specs.declared.schedule.ScheduleKind.{ScheduleKind}
+use Rattle.interleave.specs.declared.schedule.ScheduleKind.TheVariants as schedule_kind
 use Rattle.report.specs.Line.{line_of}
 
--- what the input is called
-abbrev pub input_text : Input → List ℕ
-input_text Text = codes "text"
-input_text Schedule = codes "schedule"
+-- the name of a kind of fault of the text of a set
+abbrev pub text_kind_name : AsmKind → List ℕ
+text_kind_name asm_kind.Lex = codes "Lex"
+text_kind_name asm_kind.UnknownWord = codes "UnknownWord"
+text_kind_name asm_kind.DuplicateName = codes "DuplicateName"
+text_kind_name asm_kind.UnknownName = codes "UnknownName"
+text_kind_name asm_kind.OutOfRange = codes "OutOfRange"
+text_kind_name asm_kind.Unclosed = codes "Unclosed"
+text_kind_name asm_kind.OverLimit = codes "OverLimit"
+text_kind_name asm_kind.Memory = codes "Memory"
 
--- the line of a fault: the input, number and name of its kind, and where it is
-abbrev pub fault_line : Input → ℕ → List ℕ → ℕ → List ℕ
-fault_line input number name line =
-    line_of (input_text input ∷ codes "fault" ∷ decimal number ∷ name ∷ codes "line" ∷ decimal line ∷ [])
+-- the number and the name of a kind of fault of a schedule
+abbrev pub schedule_kind_number : ScheduleKind → ℕ
+schedule_kind_number schedule_kind.Lex = 1
+schedule_kind_number schedule_kind.UnknownWord = 2
+schedule_kind_number schedule_kind.OutOfRange = 3
+schedule_kind_number schedule_kind.TooLong = 4
+schedule_kind_number schedule_kind.Memory = 5
+
+abbrev pub schedule_kind_name : ScheduleKind → List ℕ
+schedule_kind_name schedule_kind.Lex = codes "Lex"
+schedule_kind_name schedule_kind.UnknownWord = codes "UnknownWord"
+schedule_kind_name schedule_kind.OutOfRange = codes "OutOfRange"
+schedule_kind_name schedule_kind.TooLong = codes "TooLong"
+schedule_kind_name schedule_kind.Memory = codes "Memory"
+
+-- what follows the name of the input: number and name of the kind of fault, and its line
+abbrev pub fault_line : ℕ → List ℕ → ℕ → List ℕ
+fault_line number name line =
+    32 ∷ line_of (codes "fault" ∷ decimal number ∷ name ∷ codes "line" ∷ decimal line ∷ [])
+
+-- the line of a fault of the text of a set
+abbrev pub text_fault_line : AsmFault → List ℕ
+text_fault_line fault =
+    codes "text" ++ fault_line (kind_number fault.kind) (text_kind_name fault.kind) fault.line
+
+-- the line of a fault of a schedule
+abbrev pub schedule_fault_line : ScheduleFault → List ℕ
+schedule_fault_line fault =
+    codes "schedule" ++ fault_line (schedule_kind_number fault.kind) (schedule_kind_name fault.kind)
+    fault.line

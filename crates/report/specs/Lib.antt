@@ -1,4 +1,5 @@
 pub mod Line
+pub mod Lines
 pub mod Number
 pub mod Reply
 pub mod Verdict

@@ -1,7 +1,7 @@
 -- How numbers are written, but for decimal ones.
 use Rattle.std.specs.Prelude.{ℕ, zero, suc, ◌+◌, ◌/◌, ◌%◌, List, [], ◌∷◌, ◌++◌, codes, nat_lt, if◌then◌else◌}
 use Rattle.model.specs.declared.event.BugCheck.{BugCheck}
-use Rattle.model.specs.declared.event.BugCheck.TheVariants.{IrqlNotLessOrEqual, SpinLockAlreadyOwned, SpinLockNotOwned, NoMoreIrpStackLocations, MultipleIrpCompleteRequests}
+use Rattle.model.specs.declared.event.BugCheck.TheVariants.{IrqlNotLessOrEqual, SpinLockAlreadyOwned, SpinLockNotOwned, NoMoreIrpStackLocations, MultipleIrpCompleteRequests, CancelStateInCompletedIrp}
 use Rattle.model.specs.declared.status.Status.{Status}
 use Rattle.model.specs.Status.{status_code}
 
@@ -25,6 +25,7 @@ bug_check_code SpinLockAlreadyOwned = 0x0F
 bug_check_code SpinLockNotOwned = 0x10
 bug_check_code NoMoreIrpStackLocations = 0x35
 bug_check_code MultipleIrpCompleteRequests = 0x44
+bug_check_code CancelStateInCompletedIrp = 0x48
 
 -- a bug check: `0x` and two digits
 abbrev pub bug_check_text : BugCheck → List ℕ

@@ -29,14 +29,16 @@ subject_words (Cell cell) = codes "cell" ∷ of_device_text cell ∷ []
 
 -- a place: driver, routine and position
 abbrev pub place_text : Place → List ℕ
-place_text place = decimal place.driver ++ 46 ∷ (decimal place.routine ++ 46 ∷ decimal place.position)
+place_text place =
+    decimal place.driver ++ 46 ∷ (decimal place.routine ++ 46 ∷ decimal place.position)
 
 -- a reply
 abbrev pub reply_words : Reply → List (List ℕ)
 reply_words (Started n) = codes "started" ∷ decimal n ∷ []
 reply_words Stepped = codes "stepped" ∷ []
 reply_words Finished = codes "finished" ∷ []
-reply_words (Topped n status info) = codes "topped" ∷ decimal n ∷ status_text status ∷ decimal info ∷ []
+reply_words (Topped n status info) = codes "topped" ∷ decimal n ∷ status_text status ∷ decimal info
+    ∷ []
 reply_words Waited = codes "waited" ∷ []
 reply_words Idle = codes "idle" ∷ []
 reply_words Refused = codes "refused" ∷ []
@@ -46,3 +48,7 @@ reply_words (Wrong place) = codes "wrong" ∷ place_text place ∷ []
 -- the line of the event of a number
 abbrev pub reply_line : ℕ → Reply → List ℕ
 reply_line number reply = line_of (decimal number ∷ reply_words reply)
+
+-- the line of a step
+abbrev pub stepped_line : ℕ → List ℕ
+stepped_line number = decimal number ++ codes " stepped\n"

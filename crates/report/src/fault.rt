@@ -1,9 +1,13 @@
 //! The lines of what keeps a program from its answer.
 
-ghost use Rattle.std.specs.Prelude.{◌≡◌, IfOk, string_bytes};
-ghost use Rattle.report.specs.Fault.{fault_line, input_text};
+ghost use Rattle.std.specs.Prelude.{◌≡◌, ◌+◌, ◌≤◌, ◌++◌, length};
+ghost use Rattle.asm.specs.Laws.{kind_number};
+ghost use Rattle.report.specs.Fault.{fault_line, schedule_fault_line, schedule_kind_name, schedule_kind_number, text_fault_line, text_kind_name};
+ghost use Rattle.report.specs.Lines.{HasRoom};
 
-use std::alloc::{AllocError, Global};
+use crate::lines::{Lines, ROOM};
+use asm::{AsmFault, AsmKind};
+use interleave::schedule::{ScheduleFault, ScheduleKind};
 
 /// A read failed, or an input can't be opened.
 pub const READ_FAILED: &str = "read failed\n";
@@ -12,39 +16,91 @@ pub const WRITE_FAILED: &str = "write failed\n";
 /// A growth was refused.
 pub const OUT_OF_MEMORY: &str = "out of memory\n";
 
-/// What a fault was found in.
-#[derive(Clone, Copy, Debug, PartialEq, Eq)]
-pub enum Input {
-    /// The text of a driver set.
-    Text,
-    /// A schedule.
-    Schedule,
+/// Bytes of the name of a kind of fault, at most.
+const LONGEST_NAME: usize = 13;
+
+/// Bytes of the line of a fault after the input's name, at most.
+const LONGEST_FAULT: usize = 100;
+
+impl Lines {
+    /// Adds the line of a fault of the text of a driver set: number and name of its kind, and its
+    /// line, from 1.
+    pub fn text_fault(&mut self, fault: AsmFault)
+        requires { HasRoom self.old }
+        ensures { self.new ≡ self.old ++ text_fault_line fault }
+    {
+        let AsmFault { line, kind } = fault;
+        self.text(b"text");
+        self.fault(text_kind_number(kind), text_kind_name(kind), line);
+    }
+
+    /// Adds the line of a fault of the text of a schedule, likewise.
+    pub fn schedule_fault(&mut self, fault: ScheduleFault)
+        requires { HasRoom self.old }
+        ensures { self.new ≡ self.old ++ schedule_fault_line fault }
+    {
+        let ScheduleFault { line, kind } = fault;
+        self.text(b"schedule");
+        self.fault(schedule_kind_number(kind), schedule_kind_name(kind), line);
+    }
+
+    /// Adds what follows the input's name in the line of a fault.
+    fn fault(&mut self, number: u8, name: &str, line: u64)
+        requires room { length self.old + LONGEST_FAULT ≤ ROOM }
+        requires short { length name.now ≤ LONGEST_NAME }
+        ensures { self.new ≡ self.old ++ fault_line number name.now line }
+    {
+        self.text(b" fault ");
+        self.number(number as u64);
+        self.text(b" ");
+        self.text(name.as_bytes());
+        self.text(b" line ");
+        self.number(line);
+        self.text(b"\n");
+    }
 }
 
-/// The line of a fault of an input: number and name of its kind, and its line, from 1.
-///
-/// # Errors
-///
-/// When memory runs out.
-pub fn fault_line(
-    alloc: Global,
-    input: Input,
-    number: u8,
-    name: &str,
-    line: u64,
-) -> Result<String, AllocError>
-    ensures { IfOk result (λ text. string_bytes text ≡ fault_line input number name.now line) }
+/// The number of a kind of fault of the text of a set.
+fn text_kind_number(kind: AsmKind) -> u8
+    ensures { result ≡ kind_number kind }
 {
-    let input = input_name(input);
-    format!(in alloc; "{input} fault {number} {name} line {line}\n")
+    kind as u8
 }
 
-/// What the input is called.
-fn input_name(input: Input) -> &'static str
-    ensures { result.now ≡ input_text input }
+/// The name of a kind of fault of the text of a set.
+fn text_kind_name(kind: AsmKind) -> &'static str
+    ensures name { result.now ≡ text_kind_name kind }
+    ensures short { length result.now ≤ LONGEST_NAME }
 {
-    match input {
-        Input::Text => "text",
-        Input::Schedule => "schedule",
+    match kind {
+        AsmKind::Lex => "Lex",
+        AsmKind::UnknownWord => "UnknownWord",
+        AsmKind::DuplicateName => "DuplicateName",
+        AsmKind::UnknownName => "UnknownName",
+        AsmKind::OutOfRange => "OutOfRange",
+        AsmKind::Unclosed => "Unclosed",
+        AsmKind::OverLimit => "OverLimit",
+        AsmKind::Memory => "Memory",
+    }
+}
+
+/// The number of a kind of fault of a schedule.
+fn schedule_kind_number(kind: ScheduleKind) -> u8
+    ensures { result ≡ schedule_kind_number kind }
+{
+    kind as u8
+}
+
+/// The name of a kind of fault of a schedule.
+fn schedule_kind_name(kind: ScheduleKind) -> &'static str
+    ensures name { result.now ≡ schedule_kind_name kind }
+    ensures short { length result.now ≤ LONGEST_NAME }
+{
+    match kind {
+        ScheduleKind::Lex => "Lex",
+        ScheduleKind::UnknownWord => "UnknownWord",
+        ScheduleKind::OutOfRange => "OutOfRange",
+        ScheduleKind::TooLong => "TooLong",
+        ScheduleKind::Memory => "Memory",
     }
 }

@@ -1,139 +1,135 @@
 //! The lines of a trace.
 
-ghost use Rattle.std.specs.Prelude.{◌≡◌, ◌++◌, IfOk, OnOk, string_bytes, decimal};
-ghost use Rattle.report.specs.Reply.{reply_line};
+ghost use Rattle.std.specs.Prelude.{◌≡◌, ◌+◌, ◌≤◌, ◌++◌, ◌∷◌, [], codes, decimal, length};
+ghost use Rattle.report.specs.Lines.{HasRoom};
+ghost use Rattle.report.specs.Line.{line_of};
+ghost use Rattle.report.specs.Number.{bug_check_text};
+ghost use Rattle.report.specs.Reply.{of_device_text, reply_line, subject_words};
 
-use crate::number::{BugCheckText, OfDeviceText, PlaceText, StatusText};
-use itoa::Buffer;
-use model::event::{Bug, BugCheck, Lock, OfDevice, Reply, Subject};
+use crate::event_number::EventNumber;
+use crate::lines::{Lines, ROOM};
+use crate::words::{bug_check_text, status_text};
+use model::event::{Bug, Lock, OfDevice, Place, Reply, Subject};
 use model::status::Status;
-use std::alloc::{AllocError, Global};
 
-/// Adds the line of the event of a number to a text: the number, and what the run answered.
-///
-/// # Errors
-///
-/// When memory runs out.
-pub fn push_reply_line(
-    alloc: Global,
-    text: &mut String,
-    number: u64,
-    reply: &Reply,
-) -> Result<(), AllocError>
-    ensures { OnOk result (string_bytes text.new ≡ string_bytes text.old ++ reply_line number reply.now) }
-{
-    match *reply {
-        Reply::Started(packet) => {
-            let line = format!(in alloc; "{number} started {packet}\n")?;
-            text.push_str(line.as_str())
-        }
-        Reply::Stepped => push_word(text, number, " stepped\n"),
-        Reply::Finished => push_word(text, number, " finished\n"),
-        Reply::Topped {
-            packet,
-            status,
-            info,
-        } => push_topped(alloc, text, number, packet, status, info),
-        Reply::Waited => push_word(text, number, " waited\n"),
-        Reply::Idle => push_word(text, number, " idle\n"),
-        Reply::Refused => push_word(text, number, " refused\n"),
-        Reply::Bug(bug) => {
-            let line = bug_line(alloc, number, bug)?;
-            text.push_str(line.as_str())
-        }
-        Reply::Wrong(place) => {
-            let place = PlaceText(place);
-            let line = format!(in alloc; "{number} wrong {place}\n")?;
-            text.push_str(line.as_str())
+/// Bytes of a reply that is a word, at most.
+const LONGEST_WORD: usize = 16;
+
+/// Bytes of what a bug check is about, at most.
+const LONGEST_SUBJECT: usize = 70;
+
+/// Bytes of a spin lock or a cell of a device, at most.
+const LONGEST_OF_DEVICE: usize = 60;
+
+impl Lines {
+    /// Adds the line of the event of a number: the number, and what the run answered.
+    #[inline]
+    pub fn reply(&mut self, number: &EventNumber, reply: &Reply)
+        requires { HasRoom self.old }
+        ensures { self.new ≡ self.old ++ reply_line number.now reply.now }
+    {
+        match *reply {
+            Reply::Stepped => self.text(number.stepped()),
+            Reply::Finished => self.word(number, b" finished\n"),
+            Reply::Waited => self.word(number, b" waited\n"),
+            Reply::Idle => self.word(number, b" idle\n"),
+            Reply::Refused => self.word(number, b" refused\n"),
+            Reply::Started(packet) => self.started(number, packet),
+            Reply::Topped {
+                packet,
+                status,
+                info,
+            } => self.topped(number, packet, status, info),
+            Reply::Bug(bug) => self.bug(number, bug),
+            Reply::Wrong(place) => self.wrong(number, place),
         }
     }
-}
 
-/// Adds a number and the rest of its line to a text.
-fn push_word(text: &mut String, number: u64, rest: &str) -> Result<(), AllocError>
-    ensures { OnOk result (string_bytes text.new ≡ string_bytes text.old ++ decimal number ++ rest.now) }
-{
-    let mut digits = Buffer::new();
-    text.push_str(digits.format(number))?;
-    text.push_str(rest)
-}
-
-fn push_topped(
-    alloc: Global,
-    text: &mut String,
-    number: u64,
-    packet: u64,
-    status: Status,
-    info: u64,
-) -> Result<(), AllocError>
-    ensures { OnOk result (string_bytes text.new ≡ string_bytes text.old ++ reply_line number (Reply.Topped packet status info)) }
-{
-    let status = StatusText(status);
-    let line = format!(in alloc; "{number} topped {packet} {status} {info}\n")?;
-    text.push_str(line.as_str())
-}
-
-fn bug_line(alloc: Global, number: u64, bug: Bug) -> Result<String, AllocError>
-    ensures { IfOk result (λ line. string_bytes line ≡ reply_line number (Reply.Bug bug)) }
-{
-    let Bug { check, subject } = bug;
-    match subject {
-        Subject::Packet(packet) => packet_line(alloc, number, check, packet),
-        Subject::Lock(lock) => lock_line(alloc, number, check, lock),
-        Subject::Cell(cell) => cell_line(alloc, number, check, cell),
+    /// Adds a number and the rest of its line.
+    fn word(&mut self, number: &EventNumber, rest: &[u8])
+        requires room { HasRoom self.old }
+        requires short { length rest.now ≤ LONGEST_WORD }
+        ensures { self.new ≡ self.old ++ (decimal number.now ++ rest.now) }
+    {
+        self.text(number.digits());
+        self.text(rest);
     }
-}
 
-fn packet_line(
-    alloc: Global,
-    number: u64,
-    check: BugCheck,
-    packet: u64,
-) -> Result<String, AllocError>
-    ensures { IfOk result (λ line. string_bytes line ≡ reply_line number (Reply.Bug (record { check = check; subject = Subject.Packet packet }))) }
-{
-    let check = BugCheckText(check);
-    format!(in alloc; "{number} bug {check} packet {packet}\n")
-}
-
-fn lock_line(alloc: Global, number: u64, check: BugCheck, lock: Lock) -> Result<String, AllocError>
-    ensures { IfOk result (λ line. string_bytes line ≡ reply_line number (Reply.Bug (record { check = check; subject = Subject.Lock lock }))) }
-{
-    match lock {
-        Lock::SystemCancel => cancel_lock_line(alloc, number, check),
-        Lock::Spin(lock) => spin_lock_line(alloc, number, check, lock),
+    fn started(&mut self, number: &EventNumber, packet: u64)
+        requires { HasRoom self.old }
+        ensures { self.new ≡ self.old ++ reply_line number.now (Reply.Started packet) }
+    {
+        self.text(number.digits());
+        self.text(b" started ");
+        self.number(packet);
+        self.text(b"\n");
     }
-}
 
-fn cancel_lock_line(alloc: Global, number: u64, check: BugCheck) -> Result<String, AllocError>
-    ensures { IfOk result (λ line. string_bytes line ≡ reply_line number (Reply.Bug (record { check = check; subject = Subject.Lock Lock.SystemCancel }))) }
-{
-    let check = BugCheckText(check);
-    format!(in alloc; "{number} bug {check} lock cancel\n")
-}
+    fn topped(&mut self, number: &EventNumber, packet: u64, status: Status, info: u64)
+        requires { HasRoom self.old }
+        ensures { self.new ≡ self.old ++ reply_line number.now (Reply.Topped packet status info) }
+    {
+        self.text(number.digits());
+        self.text(b" topped ");
+        self.number(packet);
+        self.text(b" ");
+        self.text(status_text(status).as_bytes());
+        self.text(b" ");
+        self.number(info);
+        self.text(b"\n");
+    }
 
-fn spin_lock_line(
-    alloc: Global,
-    number: u64,
-    check: BugCheck,
-    lock: OfDevice,
-) -> Result<String, AllocError>
-    ensures { IfOk result (λ line. string_bytes line ≡ reply_line number (Reply.Bug (record { check = check; subject = Subject.Lock (Lock.Spin lock) }))) }
-{
-    let check = BugCheckText(check);
-    let lock = OfDeviceText(lock);
-    format!(in alloc; "{number} bug {check} lock {lock}\n")
-}
+    fn wrong(&mut self, number: &EventNumber, place: Place)
+        requires { HasRoom self.old }
+        ensures { self.new ≡ self.old ++ reply_line number.now (Reply.Wrong place) }
+    {
+        self.text(number.digits());
+        self.text(b" wrong ");
+        self.number(place.driver as u64);
+        self.text(b".");
+        self.number(place.routine as u64);
+        self.text(b".");
+        self.number(place.position as u64);
+        self.text(b"\n");
+    }
 
-fn cell_line(
-    alloc: Global,
-    number: u64,
-    check: BugCheck,
-    cell: OfDevice,
-) -> Result<String, AllocError>
-    ensures { IfOk result (λ line. string_bytes line ≡ reply_line number (Reply.Bug (record { check = check; subject = Subject.Cell cell }))) }
-{
-    let check = BugCheckText(check);
-    let cell = OfDeviceText(cell);
-    format!(in alloc; "{number} bug {check} cell {cell}\n")
+    fn bug(&mut self, number: &EventNumber, bug: Bug)
+        requires { HasRoom self.old }
+        ensures { self.new ≡ self.old ++ reply_line number.now (Reply.Bug bug) }
+    {
+        self.text(number.digits());
+        self.text(b" bug ");
+        self.text(bug_check_text(bug.check).as_bytes());
+        self.text(b" ");
+        self.subject(bug.subject);
+    }
+
+    /// Adds what a bug check is about, to the line's end.
+    fn subject(&mut self, subject: Subject)
+        requires { length self.old + LONGEST_SUBJECT ≤ ROOM }
+        ensures { self.new ≡ self.old ++ line_of (subject_words subject) }
+    {
+        match subject {
+            Subject::Packet(packet) => {
+                self.text(b"packet ");
+                self.number(packet);
+                self.text(b"\n");
+            }
+            Subject::Lock(Lock::SystemCancel) => self.text(b"lock cancel\n"),
+            Subject::Lock(Lock::Spin(lock)) => self.of_device(b"lock ", lock),
+            Subject::Cell(cell) => self.of_device(b"cell ", cell),
+        }
+    }
+
+    /// Adds a spin lock or a cell of a device, to the line's end.
+    fn of_device(&mut self, sort: &[u8], thing: OfDevice)
+        requires { length self.old + length sort.now + LONGEST_OF_DEVICE ≤ ROOM }
+        ensures { self.new ≡ self.old ++ (sort.now ++ (of_device_text thing ++ 10 ∷ [])) }
+    {
+        self.text(sort);
+        self.number(thing.device as u64);
+        self.text(b".");
+        self.number(thing.number as u64);
+        self.text(b"\n");
+    }
 }

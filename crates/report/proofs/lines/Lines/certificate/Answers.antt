@@ -1,0 +1,17 @@
+use Rattle.std.proofs.Common.{append_assoc, refl}
+use Rattle.report.proofs.lines.Lines.certificate.Goals as goal
+
+pub returns : goal.returns
+returns c =
+    rw (
+      c.text-6.ensures.added,
+      c.number-3.ensures.added,
+      c.text-5.ensures.added,
+      c.text-4.ensures.added,
+      c.text-3.ensures.added,
+      c.number-2.ensures.added,
+      c.text-2.ensures.added,
+      c.number.ensures.added,
+      c.text.ensures.added,
+    )
+    (simp (append_assoc, c.sort_text.ensures, c.as_bytes.ensures.value) refl)
