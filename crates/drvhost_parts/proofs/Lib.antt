@@ -1,2 +1,6 @@
 pub mod Flag
+pub mod Writing
+pub mod Jobs
 pub mod Following
+pub mod Judging
+pub mod One

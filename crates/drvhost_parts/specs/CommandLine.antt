@@ -15,7 +15,8 @@ file_argument id = record (new_rule id) { required = true; action = Some Set }
 
 -- `--unchecked`
 abbrev pub unchecked_flag : Rule
-unchecked_flag = record (new_rule (codes "unchecked")) { long = Some (codes "unchecked"); action = Some SetTrue }
+unchecked_flag =
+    record (new_rule (codes "unchecked")) { long = Some (codes "unchecked"); action = Some SetTrue }
 
 -- `check FILE`
 abbrev pub check_command : App
@@ -24,14 +25,17 @@ check_command = with_rule (new_app (codes "check")) (file_argument (codes "FILE"
 -- `trace FILE SCHEDULE [--unchecked]`
 abbrev pub trace_command : App
 trace_command =
-    with_rule (with_rule (with_rule (new_app (codes "trace")) (file_argument (codes "FILE"))) (file_argument (codes "SCHEDULE"))) unchecked_flag
+    with_rule (with_rule (with_rule (new_app (codes "trace")) (file_argument (codes "FILE")))
+    (file_argument (codes "SCHEDULE"))) unchecked_flag
 
 -- the program, whose own name isn't among the words
 abbrev pub named_program : App
 named_program = new_app (codes "drvhost")
 
 abbrev pub bare_program : App
-bare_program = record named_program { top = record named_program.top { no_binary_name = true; subcommand_required = true } }
+bare_program =
+    record named_program
+    { top = record named_program.top { no_binary_name = true; subcommand_required = true } }
 
 abbrev pub program : App
 program = with_subcommand (with_subcommand bare_program check_command.top) trace_command.top
@@ -44,9 +48,12 @@ pub record IsFlag (value : Option Text) (verification : Verification) : Type 0 w
 
 -- a subcommand with its matches names a task
 abbrev pub NamesTask : Text × List Row → Job → Type 0
-NamesTask found (Check set) = (found.0 ≡ codes "check") × (first_of (codes "FILE") found.1 ≡ Some set.now)
+NamesTask found (Check set) = (found.0 ≡ codes "check")
+    × (first_of (codes "FILE") found.1 ≡ Some set.now)
 NamesTask found (Trace set schedule verification) =
-    (found.0 ≡ codes "trace") × (first_of (codes "FILE") found.1 ≡ Some set.now) × (first_of (codes "SCHEDULE") found.1 ≡ Some schedule.now) × IsFlag (one_of (codes "unchecked") found.1) verification
+    (found.0 ≡ codes "trace") × (first_of (codes "FILE") found.1 ≡ Some set.now)
+    × (first_of (codes "SCHEDULE") found.1 ≡ Some schedule.now)
+    × IsFlag (one_of (codes "unchecked") found.1) verification
 
 -- the matches name a task
 abbrev pub Names : Option (Text × List Row) → Job → Type 0

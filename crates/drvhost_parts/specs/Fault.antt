@@ -1,15 +1,22 @@
--- What a fault says of the devices, and the exit status that it is answered with.
-use Rattle.std.specs.Prelude.{ℕ, ◌≡◌, ◌+◌, ◌⊎◌, Result, Ok, Err}
+-- What a fault says of the devices, and how it is answered.
+use Rattle.std.specs.Prelude.{ℕ, ⊤, ◌≡◌, ◌++◌, List, [], codes, Option, Result, Ok, Err}
+use Rattle.std.specs.Io.KnownBytes.{Keeps}
 use Rattle.asm.specs.declared.fault.AsmFault.{AsmFault}
 use Rattle.asm.specs.declared.fault.AsmKind.{AsmKind}
 use Rattle.asm.specs.declared.fault.AsmKind.TheVariants as asm_kind
+use Rattle.asm.specs.Reading.{set_in}
+use Rattle.interleave.specs.declared.schedule.Schedule.{Schedule}
 use Rattle.interleave.specs.declared.schedule.ScheduleFault.{ScheduleFault}
 use Rattle.interleave.specs.declared.schedule.ScheduleKind.{ScheduleKind}
 use Rattle.interleave.specs.declared.schedule.ScheduleKind.TheVariants as schedule_kind
+use Rattle.interleave.specs.Listing.{schedule_in}
+use Rattle.model.specs.Set.{Set}
+use Rattle.report.specs.Fault.{schedule_fault_line, text_fault_line}
 use Rattle.drvhost_parts.specs.declared.fault.End.{End}
-use Rattle.drvhost_parts.specs.declared.fault.End.TheVariants.{Complete, Stopped}
 use Rattle.drvhost_parts.specs.declared.fault.Fault.{Fault}
-use Rattle.drvhost_parts.specs.declared.fault.Fault.TheVariants.{Read, Write, Memory, Text, Schedule}
+use Rattle.drvhost_parts.specs.declared.fault.Fault.TheVariants.{Read, Write, Memory, Text, Schedule as OfSchedule}
+use Rattle.drvhost_parts.specs.Answer.{Answer, end_status, ended, faulty}
+use Rattle.drvhost_parts.specs.Device.{Adds, Holds, TakesBeginning}
 
 -- how many reads failed
 abbrev pub failed_reads : Fault → ℕ
@@ -35,32 +42,23 @@ abbrev pub fault_status : Fault → ℕ
 fault_status Memory = 3
 fault_status _ = 2
 
--- the exit status for a fault that was told: where there was no memory to name the fault of an input,
--- that is told in its place
-abbrev pub IsFaultStatus : Fault → ℕ → Type 0
-IsFaultStatus (Text fault) status = (status ≡ 2) ⊎ (status ≡ 3)
-IsFaultStatus (Schedule fault) status = (status ≡ 2) ⊎ (status ≡ 3)
-IsFaultStatus fault status = status ≡ fault_status fault
+-- the exit status for a job
+abbrev pub status_of : Result End Fault → ℕ
+status_of (Ok end) = end_status end
+status_of (Err fault) = fault_status fault
 
--- the exit status for how a job ended
-abbrev pub end_status : End → ℕ
-end_status Complete = 0
-end_status Stopped = 1
+-- what is told of a fault
+abbrev pub fault_told : Fault → List ℕ
+fault_told Read = codes "read failed\n"
+fault_told Write = codes "write failed\n"
+fault_told Memory = codes "out of memory\n"
+fault_told (Text fault) = text_fault_line fault
+fault_told (OfSchedule fault) = schedule_fault_line fault
 
-abbrev pub IsStatusOf : Result End Fault → ℕ → Type 0
-IsStatusOf (Ok end) status = status ≡ end_status end
-IsStatusOf (Err fault) status = IsFaultStatus fault status
-
--- a job ended in some way that answers the status and that the devices' counts of failures agree
--- with: a failed read or write is answered exactly where one failed, and at most one did
-pub record Answer (reads_before reads_after writes_before writes_after status : ℕ) (end : Result End Fault) : Type 0 where
-  pub status_is : IsStatusOf end status
-  pub reads : reads_after ≡ reads_before + reads_failed end
-  pub writes : writes_after ≡ writes_before + writes_failed end
-
-abbrev pub AnswersBy : ℕ → ℕ → ℕ → ℕ → ℕ → Type 0
-AnswersBy reads_before reads_after writes_before writes_after status =
-    (end : Result End Fault) × Answer reads_before reads_after writes_before writes_after status end
+-- what is told of a job
+abbrev pub told_of : Result End Fault → List ℕ
+told_of (Ok end) = []
+told_of (Err fault) = fault_told fault
 
 -- a fault of memory is one of its own
 abbrev pub text_fault_of : AsmKind → AsmFault → Fault
@@ -72,7 +70,44 @@ text_fault fault = text_fault_of fault.kind fault
 
 abbrev pub schedule_fault_of : ScheduleKind → ScheduleFault → Fault
 schedule_fault_of schedule_kind.Memory fault = Memory
-schedule_fault_of kind fault = Schedule fault
+schedule_fault_of kind fault = OfSchedule fault
 
 abbrev pub schedule_fault : ScheduleFault → Fault
 schedule_fault fault = schedule_fault_of fault.kind fault
+
+-- a set was read: it is the one that the text of a source names, or the text's first fault is told
+abbrev pub ReadsSet : Option (List ℕ) → Result Set Fault → Type 0
+ReadsSet held (Ok set) = (text : List ℕ) × Holds held text × (set_in text ≡ Ok set)
+ReadsSet held (Err (Text fault)) = (text : List ℕ) × Holds held text × (set_in text ≡ Err fault)
+ReadsSet held (Err Read) = ⊤
+ReadsSet held (Err Memory) = ⊤
+ReadsSet held (Err Write) = ⊥
+ReadsSet held (Err (OfSchedule fault)) = ⊥
+
+-- a schedule was read likewise
+abbrev pub ReadsSchedule : Option (List ℕ) → Result Schedule Fault → Type 0
+ReadsSchedule held (Ok schedule) =
+    (text : List ℕ) × Holds held text × (schedule_in text ≡ Ok schedule)
+ReadsSchedule held (Err (OfSchedule fault)) =
+    (text : List ℕ) × Holds held text × (schedule_in text ≡ Err fault)
+ReadsSchedule held (Err Read) = ⊤
+ReadsSchedule held (Err Memory) = ⊤
+ReadsSchedule held (Err Write) = ⊥
+ReadsSchedule held (Err (Text fault)) = ⊥
+
+-- a job has come to its end or to a fault, where these answers are right, with lines that gathered
+-- before and gather now: the output of a right answer was added; a write failed, and a beginning of
+-- it went out; an input is rightly told as faulty; or a read failed or memory ran out, and nothing
+-- went out
+abbrev pub Goes : (Answer → Type 0) → Option (List ℕ) → Option (List ℕ) → List ℕ → List ℕ
+    → Result End Fault → Type 0
+Goes Right before after gathered left (Ok end) =
+    (text : List ℕ) × Right (ended end text) × Adds before after gathered left text
+Goes Right before after gathered left (Err Write) =
+    (answer : Answer) × Right answer × TakesBeginning before after (gathered ++ answer.output)
+Goes Right before after gathered left (Err (Text fault)) =
+    Right (faulty (text_fault_line fault)) × Keeps before after
+Goes Right before after gathered left (Err (OfSchedule fault)) =
+    Right (faulty (schedule_fault_line fault)) × Keeps before after
+Goes Right before after gathered left (Err Read) = Keeps before after
+Goes Right before after gathered left (Err Memory) = Keeps before after

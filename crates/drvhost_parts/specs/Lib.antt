@@ -1,5 +1,6 @@
 pub mod CommandLine
 pub mod Device
+pub mod Answer
 pub mod Fault
-pub mod Following
-pub mod Verdict
+pub mod Ends
+pub mod Laws

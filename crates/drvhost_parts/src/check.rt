@@ -1,18 +1,21 @@
 //! The verdict on a driver set.
 
-ghost use Rattle.std.specs.Prelude.{◌≡◌, ◌≢◌, ◌+◌, ◌<◌, IfOk, length, string_bytes};
-ghost use Rattle.model.specs.Typable.{IsFirstFault};
-ghost use Rattle.drvhost_parts.specs.Device.{CanCount};
-ghost use Rattle.drvhost_parts.specs.Fault.{AnswersBy, reads_failed, writes_failed};
-ghost use Rattle.drvhost_parts.specs.Verdict.{IsVerdict};
+ghost use Rattle.std.specs.Prelude.{◌≡◌, ◌≢◌, ◌+◌, ◌++◌, [], IfErr, IfOk, OnErr, OnOk, Some, slice_get};
+ghost use Rattle.model.specs.Sound.{DriverFits};
+ghost use Rattle.report.specs.Lines.{HasRoom};
+ghost use Rattle.report.specs.Verdict.{refusal_line};
+ghost use Rattle.drvhost_parts.specs.Answer.{IsVerdict, acceptance, routine_lines};
+ghost use Rattle.drvhost_parts.specs.Device.{Adds, CanCount, Says, TakesBeginning};
+ghost use Rattle.drvhost_parts.specs.Ends.{Answers, IsCheckOf};
+ghost use Rattle.drvhost_parts.specs.Fault.{Goes, ReadsSet, reads_failed, writes_failed};
 
 use crate::device::{Sink, Source};
-use crate::fault::{End, Fault, finish, of_text};
-use crate::transfer::{read_whole, write_text};
+use crate::fault::{End, Fault, finish, no_memory, of_text};
+use crate::transfer::{make_room, read_whole, write_lines};
 use image::DriverSet;
 use model::abs::{Refusal, Rule};
-use model::memory::OutOfMemory;
-use report::verdict::{ACCEPTED, certificate_line, refusal_line};
+use model::set::Driver;
+use report::lines::Lines;
 use std::alloc::{AllocError, Global};
 use verifier::{Accepted, verify};
 
@@ -28,29 +31,47 @@ pub fn check<S: Source, O: Sink, E: Sink>(
     requires set { CanCount (S.failures set.old) }
     requires out { CanCount (O.failures out.old) }
     requires err { CanCount (E.failures err.old) }
-    ensures { AnswersBy (S.failures set.old) (S.failures set.new) (O.failures out.old) (O.failures out.new) result }
+    ensures { Answers (IsCheckOf (S.remaining set.old))
+        (S.failures set.old) (S.failures set.new) (O.failures out.old) (O.failures out.new)
+        (O.contents out.old) (O.contents out.new)
+        (Says (E.failures err.old) (E.failures err.new) (E.contents err.old) (E.contents err.new))
+        result }
 {
-    let end = check_set(alloc, set, out);
-    finish(alloc, end, err)
+    match Lines::new(alloc) {
+        Ok(mut lines) => {
+            let end = check_set(alloc, set, &mut lines, out);
+            finish(end, &mut lines, err)
+        }
+        Err(AllocError) => no_memory(err),
+    }
 }
 
-fn check_set<S: Source, O: Sink>(alloc: Global, set: &mut S, out: &mut O) -> Result<End, Fault>
+/// Judges the set that the text of a source names, and writes the verdict.
+fn check_set<S: Source, O: Sink>(
+    alloc: Global,
+    set: &mut S,
+    lines: &mut Lines,
+    out: &mut O,
+) -> Result<End, Fault>
     requires set { CanCount (S.failures set.old) }
     requires out { CanCount (O.failures out.old) }
+    requires empty { lines.old ≡ [] }
+    ensures goes { Goes (IsCheckOf (S.remaining set.old)) (O.contents out.old) (O.contents out.new)
+        [] [] result }
     ensures reads { S.failures set.new ≡ S.failures set.old + reads_failed result }
     ensures writes { O.failures out.new ≡ O.failures out.old + writes_failed result }
 {
     let set = read_set(alloc, set)?;
-    let Verdict { end, text } = judge(alloc, set)?;
-    write_text(out, text.as_str())?;
+    let end = judge(alloc, set, lines, out)?;
+    write_lines(lines, out)?;
     Ok(end)
 }
 
 /// The set that the text of a source names.
 pub(crate) fn read_set<S: Source>(alloc: Global, source: &mut S) -> Result<DriverSet, Fault>
     requires { CanCount (S.failures source.old) }
+    ensures set { ReadsSet (S.remaining source.old) result }
     ensures reads { S.failures source.new ≡ S.failures source.old + reads_failed result }
-    ensures writes { writes_failed result ≡ 0 }
 {
     let text = read_whole(alloc, source)?;
     match asm::assemble(alloc, text.as_slice()) {
@@ -59,75 +80,84 @@ pub(crate) fn read_set<S: Source>(alloc: Global, source: &mut S) -> Result<Drive
     }
 }
 
-/// The verdict on a set: how the job ends, and what is written.
-#[derive(Drop)]
-pub struct Verdict {
-    pub end: End,
-    pub text: String,
-}
-
-/// Judges a set: the lines of an accepted one, or the line of a refusal.
-///
-/// # Errors
-///
-/// When memory runs out.
-pub fn judge(alloc: Global, set: DriverSet) -> Result<Verdict, OutOfMemory>
-    ensures { IfOk result (λ verdict. IsVerdict set verdict.end (string_bytes verdict.text)) }
+/// Judges a set: adds the lines of an accepted one, or the line of a refusal.
+fn judge<O: Sink>(
+    alloc: Global,
+    set: DriverSet,
+    lines: &mut Lines,
+    out: &mut O,
+) -> Result<End, Fault>
+    requires out { CanCount (O.failures out.old) }
+    requires empty { lines.old ≡ [] }
+    ensures goes { Goes (IsVerdict set) (O.contents out.old) (O.contents out.new) [] lines.new
+        result }
+    ensures reads { reads_failed result ≡ 0 }
+    ensures writes { O.failures out.new ≡ O.failures out.old + writes_failed result }
 {
     match verify(alloc, set) {
         Ok(accepted) => {
-            let text = acceptance(alloc, &accepted)?;
-            Ok(Verdict {
-                end: End::Complete,
-                text,
-            })
+            accept(&accepted, lines, out)?;
+            Ok(End::Complete)
         }
-        Err((set, refusal)) => refused(alloc, &set, &refusal),
+        Err((_set, refusal)) => refuse(&refusal, lines),
     }
 }
 
-/// The verdict on a refused set.
-pub(crate) fn refused(
-    alloc: Global,
-    set: &DriverSet,
-    refusal: &Refusal,
-) -> Result<Verdict, OutOfMemory>
-    requires { refusal.now.rule ≢ Rule.Memory → IsFirstFault set.now refusal.now }
-    ensures { IfOk result (λ verdict. IsVerdict set.now verdict.end (string_bytes verdict.text)) }
+/// Adds the line of a refusal; one for want of memory is no verdict.
+pub(crate) fn refuse(refusal: &Refusal, lines: &mut Lines) -> Result<End, Fault>
+    requires { HasRoom lines.old }
+    ensures refused { IfOk result (λ end. (end ≡ End.Stopped) × (refusal.now.rule ≢ Rule.Memory)
+        × (lines.new ≡ lines.old ++ refusal_line refusal.now)) }
+    ensures memory { IfErr result (λ fault. fault ≡ Fault.Memory) }
 {
     if refusal.rule == Rule::Memory {
-        return Err(OutOfMemory);
+        return Err(Fault::Memory);
     }
-    let text = refusal_line(alloc, refusal)?;
-    Ok(Verdict {
-        end: End::Stopped,
-        text,
-    })
+    lines.refusal(refusal);
+    Ok(End::Stopped)
 }
 
-/// The text for an accepted set: a line for each routine, in order.
-fn acceptance(alloc: Global, accepted: &Accepted) -> Result<String, AllocError> {
-    let mut text = String::from_str(alloc, ACCEPTED)?;
-    for number in 0..accepted.set().drivers().len() {
-        add_certificates(alloc, &mut text, accepted, number)?;
-    }
-    Ok(text)
-}
-
-/// Adds the lines of the routines of a driver.
-fn add_certificates(
-    alloc: Global,
-    text: &mut String,
-    accepted: &Accepted,
-    driver: usize,
-) -> Result<(), AllocError>
-    requires { driver < length accepted.now.drivers }
+/// Adds the lines of an accepted set: a line for each routine, in order.
+fn accept<O: Sink>(accepted: &Accepted, lines: &mut Lines, out: &mut O) -> Result<(), Fault>
+    requires out { CanCount (O.failures out.old) }
+    requires empty { lines.old ≡ [] }
+    ensures added { OnOk result
+        (Adds (O.contents out.old) (O.contents out.new) [] lines.new (acceptance accepted.now)) }
+    ensures broken { OnErr result
+        (TakesBeginning (O.contents out.old) (O.contents out.new) (acceptance accepted.now)) }
+    ensures fault { IfErr result (λ fault. fault ≡ Fault.Write) }
+    ensures writes { O.failures out.new ≡ O.failures out.old + writes_failed result }
 {
-    let routines = accepted.set().drivers()[driver].routines.as_slice();
-    for (number, routine) in routines.iter().enumerate() {
-        let certificate = accepted.cert(driver as u8, number as u8);
-        let line = certificate_line(alloc, driver as u8, number as u8, routine.sort, certificate)?;
-        text.push_str(line.as_str())?;
+    lines.accepted();
+    for (number, driver) in accepted.set().drivers().iter().enumerate() {
+        certify(accepted, number as u8, driver, lines, out)?;
+    }
+    Ok(())
+}
+
+/// Adds the lines of the routines of the driver of a number.
+fn certify<O: Sink>(
+    accepted: &Accepted,
+    number: u8,
+    driver: &Driver,
+    lines: &mut Lines,
+    out: &mut O,
+) -> Result<(), Fault>
+    requires driver { slice_get accepted.now.drivers number ≡ Some driver.now }
+    requires fits { DriverFits driver.now }
+    requires out { CanCount (O.failures out.old) }
+    ensures added { OnOk result (Adds (O.contents out.old) (O.contents out.new) lines.old lines.new
+        (routine_lines accepted.now number 0 driver.now.routines)) }
+    ensures broken { OnErr result (TakesBeginning (O.contents out.old) (O.contents out.new)
+        (lines.old ++ routine_lines accepted.now number 0 driver.now.routines)) }
+    ensures fault { IfErr result (λ fault. fault ≡ Fault.Write) }
+    ensures writes { O.failures out.new ≡ O.failures out.old + writes_failed result }
+{
+    let routines = driver.routines.as_slice();
+    for (place, routine) in routines.iter().enumerate() {
+        make_room(lines, out)?;
+        let certificate = accepted.cert(number, place as u8);
+        lines.certificate(number, place as u8, routine.sort, certificate);
     }
     Ok(())
 }

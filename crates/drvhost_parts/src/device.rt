@@ -1,7 +1,8 @@
 //! What the program reads from and writes to.
 
-ghost use Rattle.std.specs.Prelude.{◌≡◌, ◌≤◌, ◌<◌, ℕ, IfOk, length};
-ghost use Rattle.drvhost_parts.specs.Device.{CanCount, Counts};
+ghost use Rattle.std.specs.Prelude.{◌≡◌, ◌≤◌, ◌<◌, ℕ, IfOk, List, Option, length};
+ghost use Rattle.std.specs.Io.KnownBytes.{ReadConsumes, WriteAppends};
+ghost use Rattle.drvhost_parts.specs.Device.{CanCount, Counts, held_by};
 
 use std::io::{Read, Write};
 
@@ -13,6 +14,9 @@ pub struct Failed;
 pub trait Source {
     ghost failures: { Self → ℕ };
 
+    // The bytes that reads give from here on, where they are known.
+    ghost remaining: { Self → Option (List ℕ) };
+
     /// How often a read of it has failed so far.
     fn failures(&self) -> u64
         ensures { result ≡ failures self.now };
@@ -21,12 +25,16 @@ pub trait Source {
     fn read(&mut self, into: &mut [u8]) -> Result<usize, Failed>
         requires { CanCount (failures self.old) }
         ensures within { IfOk result (λ count. count ≤ length into.old) }
-        ensures counted { Counts (failures self.old) result (failures self.new) };
+        ensures counted { Counts (failures self.old) result (failures self.new) }
+        ensures bytes { ReadConsumes (remaining self.old) (remaining self.new) result into.new };
 }
 
 /// Something to write bytes to.
 pub trait Sink {
     ghost failures: { Self → ℕ };
+
+    // The bytes that were written to it so far, where they are known.
+    ghost contents: { Self → Option (List ℕ) };
 
     /// How often a write to it has failed so far.
     fn failures(&self) -> u64
@@ -38,7 +46,8 @@ pub trait Sink {
         requires { CanCount (failures self.old) }
         ensures within { IfOk result (λ count. count ≤ length bytes.now) }
         ensures some { IfOk result (λ count. 0 < length bytes.now → 0 < count) }
-        ensures counted { Counts (failures self.old) result (failures self.new) };
+        ensures counted { Counts (failures self.old) result (failures self.new) }
+        ensures bytes { WriteAppends (contents self.old) (contents self.new) result bytes.now };
 }
 
 /// A reader as a source: a file, the standard input, or bytes in memory.
@@ -52,7 +61,8 @@ impl<R: Read> Reader<R> {
     /// The source over a reader. Where there is none, as for a file that can't be opened, each read
     /// fails.
     pub fn new(reader: Option<R>) -> Reader<R>
-        ensures { ⟦<Reader<R> as Source>⟧.failures result ≡ 0 }
+        ensures failures { ⟦<Reader<R> as Source>⟧.failures result ≡ 0 }
+        ensures remaining { ⟦<Reader<R> as Source>⟧.remaining result ≡ held_by R.remaining reader }
     {
         Reader {
             reader,
@@ -63,6 +73,8 @@ impl<R: Read> Reader<R> {
 
 impl<R: Read> Source for Reader<R> {
     ghost failures = { λ source. source.failures };
+
+    ghost remaining = { λ source. held_by R.remaining source.reader };
 
     fn failures(&self) -> u64 {
         self.failures
@@ -89,7 +101,8 @@ pub struct Writer<W> {
 impl<W: Write> Writer<W> {
     /// The sink over a writer.
     pub fn new(writer: W) -> Writer<W>
-        ensures { ⟦<Writer<W> as Sink>⟧.failures result ≡ 0 }
+        ensures failures { ⟦<Writer<W> as Sink>⟧.failures result ≡ 0 }
+        ensures contents { ⟦<Writer<W> as Sink>⟧.contents result ≡ W.contents writer }
     {
         Writer {
             writer,
@@ -107,6 +120,8 @@ impl<W: Write> Writer<W> {
 
 impl<W: Write> Sink for Writer<W> {
     ghost failures = { λ sink. sink.failures };
+
+    ghost contents = { λ sink. W.contents sink.writer };
 
     fn failures(&self) -> u64 {
         self.failures

@@ -1,16 +1,18 @@
 //! What keeps a job from its answer, and how it is told.
 
-ghost use Rattle.std.specs.Prelude.{◌≡◌, ◌⊎◌};
-ghost use Rattle.drvhost_parts.specs.Device.{CanCount};
-ghost use Rattle.drvhost_parts.specs.Fault.{IsFaultStatus, IsStatusOf, end_status, fault_status, schedule_fault, text_fault};
+ghost use Rattle.std.specs.Prelude.{◌≡◌};
+ghost use Rattle.drvhost_parts.specs.Answer.{end_status};
+ghost use Rattle.drvhost_parts.specs.Device.{CanCount, Says};
+ghost use Rattle.drvhost_parts.specs.Fault.{fault_status, fault_told, schedule_fault, status_of, text_fault, told_of};
 
 use crate::device::Sink;
 use crate::transfer::write_whole;
 use asm::{AsmFault, AsmKind};
 use interleave::schedule::{ScheduleFault, ScheduleKind};
 use model::memory::OutOfMemory;
-use report::fault::{Input, OUT_OF_MEMORY, READ_FAILED, WRITE_FAILED, fault_line};
-use std::alloc::{AllocError, Global};
+use report::fault::{OUT_OF_MEMORY, READ_FAILED, WRITE_FAILED};
+use report::lines::Lines;
+use std::alloc::AllocError;
 
 /// How a job that met no fault ended.
 #[derive(Clone, Copy)]
@@ -102,83 +104,61 @@ pub(crate) fn of_schedule(fault: ScheduleFault) -> Fault
 
 /// Ends a job: a fault is told on the error writer. The answer is the exit status, which stays the
 /// same where the error writer fails.
-pub(crate) fn finish<E: Sink>(alloc: Global, end: Result<End, Fault>, err: &mut E) -> u8
+pub(crate) fn finish<E: Sink>(end: Result<End, Fault>, lines: &mut Lines, err: &mut E) -> u8
     requires { CanCount (E.failures err.old) }
-    ensures { IsStatusOf end result }
+    ensures status { result ≡ status_of end }
+    ensures told { Says (E.failures err.old) (E.failures err.new) (E.contents err.old)
+        (E.contents err.new) (told_of end) }
 {
     match end {
         Ok(end) => end.status(),
-        Err(fault) => tell(alloc, fault, err),
+        Err(fault) => {
+            tell(fault, lines, err);
+            fault.status()
+        }
     }
 }
 
-/// Tells a fault on the error writer, and answers with the exit status for it.
-fn tell<E: Sink>(alloc: Global, fault: Fault, err: &mut E) -> u8
+/// Tells a fault on the error writer.
+fn tell<E: Sink>(fault: Fault, lines: &mut Lines, err: &mut E)
     requires { CanCount (E.failures err.old) }
-    ensures { IsFaultStatus fault result }
+    ensures { Says (E.failures err.old) (E.failures err.new) (E.contents err.old)
+        (E.contents err.new) (fault_told fault) }
 {
     match fault {
-        Fault::Read => say(err, READ_FAILED),
-        Fault::Write => say(err, WRITE_FAILED),
-        Fault::Memory => say(err, OUT_OF_MEMORY),
-        Fault::Text(AsmFault { line, kind }) => {
-            let name = text_kind_name(kind);
-            return tell_line(fault_line(alloc, Input::Text, kind as u8, name, line), err);
+        Fault::Read => say(err, READ_FAILED.as_bytes()),
+        Fault::Write => say(err, WRITE_FAILED.as_bytes()),
+        Fault::Memory => say(err, OUT_OF_MEMORY.as_bytes()),
+        Fault::Text(fault) => {
+            lines.clear();
+            lines.text_fault(fault);
+            say(err, lines.bytes());
         }
-        Fault::Schedule(ScheduleFault { line, kind }) => {
-            let name = schedule_kind_name(kind);
-            return tell_line(
-                fault_line(alloc, Input::Schedule, kind as u8, name, line),
-                err,
-            );
+        Fault::Schedule(fault) => {
+            lines.clear();
+            lines.schedule_fault(fault);
+            say(err, lines.bytes());
         }
     }
-    fault.status()
 }
 
-/// Tells the line of a faulty input. Where there was no memory for it, that is told.
-fn tell_line<E: Sink>(line: Result<String, AllocError>, err: &mut E) -> u8
+/// Tells that memory ran out before anything else was done, and answers with the exit status for
+/// it.
+pub(crate) fn no_memory<E: Sink>(err: &mut E) -> u8
     requires { CanCount (E.failures err.old) }
-    ensures { (result ≡ 2) ⊎ (result ≡ 3) }
+    ensures status { result ≡ fault_status Fault.Memory }
+    ensures told { Says (E.failures err.old) (E.failures err.new) (E.contents err.old)
+        (E.contents err.new) (fault_told Fault.Memory) }
 {
-    match line {
-        Ok(line) => {
-            say(err, line.as_str());
-            2
-        }
-        Err(AllocError) => {
-            say(err, OUT_OF_MEMORY);
-            3
-        }
-    }
+    say(err, OUT_OF_MEMORY.as_bytes());
+    Fault::Memory.status()
 }
 
 /// Writes to the error writer; there is no one left to tell where that fails.
-pub(crate) fn say<E: Sink>(err: &mut E, text: &str)
+pub(crate) fn say<E: Sink>(err: &mut E, text: &[u8])
     requires { CanCount (E.failures err.old) }
+    ensures { Says (E.failures err.old) (E.failures err.new) (E.contents err.old)
+        (E.contents err.new) text.now }
 {
-    let _ = write_whole(err, text.as_bytes());
-}
-
-fn text_kind_name(kind: AsmKind) -> &'static str {
-    match kind {
-        AsmKind::Lex => "Lex",
-        AsmKind::UnknownWord => "UnknownWord",
-        AsmKind::DuplicateName => "DuplicateName",
-        AsmKind::UnknownName => "UnknownName",
-        AsmKind::OutOfRange => "OutOfRange",
-        AsmKind::Unclosed => "Unclosed",
-        AsmKind::OverLimit => "OverLimit",
-        AsmKind::Memory => "Memory",
-    }
-}
-
-fn schedule_kind_name(kind: ScheduleKind) -> &'static str {
-    match kind {
-        ScheduleKind::Lex => "Lex",
-        ScheduleKind::UnknownWord => "UnknownWord",
-        ScheduleKind::OutOfRange => "OutOfRange",
-        ScheduleKind::TooLong => "TooLong",
-        ScheduleKind::Memory => "Memory",
-    }
+    let _ = write_whole(err, text);
 }

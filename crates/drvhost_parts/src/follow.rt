@@ -1,112 +1,84 @@
 //! Runs that are followed event by event, and the lines of their replies.
 
-ghost use Rattle.std.specs.Prelude.{◌≡◌, ◌+◌, ◌<◌, ◌^◌, Bool, false, if◌then◌else◌, IfOk, OnOk, length};
-ghost use Rattle.model.specs.Machine.{Applies, Machine as Shown};
+ghost use Rattle.std.specs.Prelude.{◌≡◌, ◌+◌, [], Ok, length};
+ghost use Rattle.interleave.specs.Listing.{IsWithinLimits};
+ghost use Rattle.model.specs.Machine.{Applies, Machine as Shown, Shows};
+ghost use Rattle.drvhost_parts.specs.Answer.{is_last, ran};
 ghost use Rattle.drvhost_parts.specs.Device.{CanCount};
-ghost use Rattle.drvhost_parts.specs.Fault.{reads_failed, writes_failed};
-ghost use Rattle.drvhost_parts.specs.Following.{Ran};
+ghost use Rattle.drvhost_parts.specs.Fault.{Goes, reads_failed, writes_failed};
 
 use crate::device::Sink;
 use crate::fault::{End, Fault};
-use crate::transfer::write_text;
+use crate::transfer::make_room;
 use checked::Checked;
 use interleave::run::AcceptedRun;
+use interleave::schedule::Schedule;
 use model::event::{Event, Reply};
-use report::reply::push_reply_line;
-use std::alloc::{AllocError, Global};
-
-/// Events whose lines are written in one call.
-const EVENTS_A_BLOCK: usize = 4096;
+use report::event_number::EventNumber;
+use report::lines::Lines;
 
 /// Something that runs events, one by one.
 pub(crate) trait Machine {
-    ghost stopped: { Self → Bool };
-
     ghost shown: { Self → Shown };
 
     /// Runs the next event, and answers its reply.
     fn perform(&mut self, event: &Event) -> Reply
         ensures { Applies (shown self.old) event.now (shown self.new) result };
-
-    /// Whether it has stopped, at a bug check or a wrong operand.
-    fn has_stopped(&self) -> bool
-        ensures { result ≡ stopped self.now };
 }
 
 impl Machine for Checked {
-    ghost stopped = { λ machine. machine.stopped };
-
     ghost shown = { λ machine. machine };
 
+    #[inline]
     fn perform(&mut self, event: &Event) -> Reply {
         self.apply(event)
     }
-
-    fn has_stopped(&self) -> bool {
-        self.stopped()
-    }
 }
 
-/// The run of an accepted set never stops.
 impl Machine for AcceptedRun {
-    ghost stopped = { λ run. false };
-
     ghost shown = { λ run. run };
 
+    #[inline]
     fn perform(&mut self, event: &Event) -> Reply {
         self.apply(event)
     }
-
-    fn has_stopped(&self) -> bool {
-        false
-    }
 }
 
-/// Runs the events, up to one that stops the run, and writes their lines.
+/// Runs the events of a schedule, up to one that stops the run, and adds their lines. Lines that
+/// fill their room are written.
 pub(crate) fn follow<M: Machine, O: Sink>(
-    alloc: Global,
     machine: &mut M,
-    events: &[Event],
+    schedule: &Schedule,
+    lines: &mut Lines,
     out: &mut O,
 ) -> Result<End, Fault>
-    requires count { CanCount (O.failures out.old) }
-    requires fresh { M.stopped machine.old ≡ false }
+    requires begun { Shows (M.shown machine.old) schedule.now.threads [] }
+    requires limits { IsWithinLimits schedule.now }
+    requires out { CanCount (O.failures out.old) }
+    requires empty { lines.old ≡ [] }
+    ensures goes { Goes (λ answer. answer ≡ ran (M.shown machine.old).set (Ok schedule.now))
+        (O.contents out.old) (O.contents out.new) [] lines.new result }
     ensures reads { reads_failed result ≡ 0 }
     ensures writes { O.failures out.new ≡ O.failures out.old + writes_failed result }
-    ensures stopped { IfOk result (λ end. end ≡ (if M.stopped machine.new then End.Stopped else End.Complete)) }
 {
-    let total = events.len();
-    let mut rest = events;
-    while !rest.is_empty() {
-        let (block, after) = rest.split_at(rest.len().min(EVENTS_A_BLOCK));
-        let text = follow_block(alloc, machine, total - rest.len(), block)?;
-        write_text(out, text.as_str())?;
-        if machine.has_stopped() {
+    let mut number = EventNumber::first();
+    let mut upcoming = schedule.events.upcoming();
+    while let Some(event) = upcoming.next_event() {
+        make_room(lines, out)?;
+        let reply = machine.perform(&event);
+        lines.reply(&number, &reply);
+        if is_last(&reply) {
             return Ok(End::Stopped);
         }
-        rest = after;
+        number.advance();
     }
     Ok(End::Complete)
 }
 
-/// Runs the events of a block, the first of which has this number, up to one that stops the run, and
-/// gives their lines.
-fn follow_block<M: Machine>(
-    alloc: Global,
-    machine: &mut M,
-    first: usize,
-    events: &[Event],
-) -> Result<String, AllocError>
-    requires { first + length events.now < 2 ^ 64 }
-    ensures { OnOk result (Ran (M.shown machine.old) events.now (M.shown machine.new) (M.stopped machine.new)) }
+/// Whether the run ends with this reply: a bug check, or a wrong operand.
+#[inline]
+fn is_last(reply: &Reply) -> bool
+    ensures { result ≡ is_last reply.now }
 {
-    let mut text = String::new(alloc);
-    for (offset, event) in events.iter().enumerate() {
-        let reply = machine.perform(event);
-        push_reply_line(alloc, &mut text, (first + offset) as u64, &reply)?;
-        if machine.has_stopped() {
-            break;
-        }
-    }
-    Ok(text)
+    matches!(reply, Reply::Bug(_) | Reply::Wrong(_))
 }

@@ -15,6 +15,9 @@ use std::alloc::{AllocError, Global};
 use std::fmt;
 use thiserror::Error;
 
+/// The program's name, in the texts of usage and help.
+const NAME: &str = "drvhost";
+
 /// Whether a set has to be accepted before it runs.
 #[derive(Clone, Copy, Debug, PartialEq, Eq)]
 pub enum Verification {
@@ -67,7 +70,8 @@ impl<'a> Job<'a> {
     ///
     /// `Usage` where they name none or ask for help, `Memory` when memory runs out.
     pub fn of(alloc: Global, words: &'a [&'a str]) -> Result<Job<'a>, JobFault>
-        ensures task { IfOk result (Names (subcommand_of program (map (λ word. word.now) words.entry.now))) }
+        ensures task { IfOk result
+            (Names (subcommand_of program (map (λ word. word.now) words.entry.now))) }
         ensures taken { OnOk result (fault_of program (map (λ word. word.now) words.entry.now) ≡ []) }
         ensures refused { IfErr result (λ fault. takes program (map (λ word. word.now) words.entry.now) ≡ true
             → (job : Job) → Names (subcommand_of program (map (λ word. word.now) words.entry.now)) job → fault ≡ JobFault.Memory) }
@@ -83,8 +87,8 @@ impl<'a> Job<'a> {
     }
 }
 
-/// Answers words that name no task: writes the text for the user, and gives the exit status, 2 for a
-/// wrong command line and 3 where memory ran out.
+/// Answers words that name no task: writes the text for the user, and gives the exit status, 2 for
+/// a wrong command line and 3 where memory ran out.
 pub fn refuse_words<E: Sink>(fault: &JobFault, err: &mut E) -> u8
     requires { CanCount (E.failures err.old) }
     ensures { result ≡ job_fault_status fault.now }
@@ -93,7 +97,7 @@ pub fn refuse_words<E: Sink>(fault: &JobFault, err: &mut E) -> u8
         JobFault::Usage(text) => (text.as_str(), 2),
         JobFault::Memory => (OUT_OF_MEMORY, 3),
     };
-    say(err, text);
+    say(err, text.as_bytes());
     status
 }
 
@@ -116,7 +120,8 @@ fn program<'a>(alloc: Global) -> Result<Command<'a>, AllocError>
 {
     let check = check_command(alloc)?;
     let trace = trace_command(alloc)?;
-    let program = Command::new(alloc, "drvhost")
+    let program = Command::new(alloc, NAME)
+        .bin_name(NAME)?
         .no_binary_name(true)
         .subcommand_required(true);
     program.subcommand(check)?.subcommand(trace)
@@ -180,7 +185,8 @@ fn named<'a>(matches: &ArgMatches<'a>) -> Option<Job<'a>>
 
 fn check_named<'a>(matches: &ArgMatches<'a>) -> Option<Job<'a>>
     ensures some { IfSome result (NamesTask (codes "check", rows_of (found_of matches.now))) }
-    ensures none { IfNone result ((job : Job) → NamesTask (codes "check", rows_of (found_of matches.now)) job → ⊥) }
+    ensures none { IfNone result
+        ((job : Job) → NamesTask (codes "check", rows_of (found_of matches.now)) job → ⊥) }
 {
     let set = argument(matches, "FILE")?;
     Some(Job::Check { set })
@@ -188,7 +194,8 @@ fn check_named<'a>(matches: &ArgMatches<'a>) -> Option<Job<'a>>
 
 fn trace_named<'a>(matches: &ArgMatches<'a>) -> Option<Job<'a>>
     ensures some { IfSome result (NamesTask (codes "trace", rows_of (found_of matches.now))) }
-    ensures none { IfNone result ((job : Job) → NamesTask (codes "trace", rows_of (found_of matches.now)) job → ⊥) }
+    ensures none { IfNone result
+        ((job : Job) → NamesTask (codes "trace", rows_of (found_of matches.now)) job → ⊥) }
 {
     let set = argument(matches, "FILE")?;
     let schedule = argument(matches, "SCHEDULE")?;
@@ -202,7 +209,8 @@ fn trace_named<'a>(matches: &ArgMatches<'a>) -> Option<Job<'a>>
 
 /// The value of an argument.
 fn argument<'a>(matches: &ArgMatches<'a>, id: &str) -> Option<&'a str>
-    ensures { option_map (λ value. value.now) result ≡ first_of id.now (rows_of (found_of matches.now)) }
+    ensures { option_map (λ value. value.now) result ≡ first_of id.now
+        (rows_of (found_of matches.now)) }
 {
     matches.get_str(id)
 }

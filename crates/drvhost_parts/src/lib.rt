@@ -7,5 +7,6 @@ pub mod device;
 pub mod fault;
 mod follow;
 pub mod job;
+pub mod laws;
 pub mod trace;
 mod transfer;

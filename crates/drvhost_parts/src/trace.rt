@@ -1,22 +1,24 @@
 //! The trace of a run.
 
-ghost use Rattle.std.specs.Prelude.{◌≡◌, ◌+◌, IfOk};
+ghost use Rattle.std.specs.Prelude.{◌≡◌, ◌+◌, [], IfOk};
 ghost use Rattle.interleave.specs.Listing.{IsWithinLimits};
-ghost use Rattle.drvhost_parts.specs.Device.{CanCount};
-ghost use Rattle.drvhost_parts.specs.Fault.{AnswersBy, reads_failed, writes_failed};
+ghost use Rattle.drvhost_parts.specs.Device.{CanCount, Says};
+ghost use Rattle.drvhost_parts.specs.Ends.{Answers, IsRunOf, IsTraceOf, IsTraceOfSet, IsVerifiedRunOf};
+ghost use Rattle.drvhost_parts.specs.Fault.{Goes, ReadsSchedule, reads_failed, writes_failed};
 
-use crate::check::{Verdict, read_set, refused};
+use crate::check::{read_set, refuse};
 use crate::device::{Sink, Source};
-use crate::fault::{End, Fault, finish, of_schedule};
+use crate::fault::{End, Fault, finish, no_memory, of_schedule};
 use crate::follow::follow;
 use crate::job::Verification;
-use crate::transfer::{read_whole, write_text};
+use crate::transfer::{read_whole, write_lines};
 use checked::Checked;
 use image::DriverSet;
 use interleave::parse::parse_schedule;
 use interleave::run::AcceptedRun;
 use interleave::schedule::Schedule;
-use std::alloc::Global;
+use report::lines::Lines;
+use std::alloc::{AllocError, Global};
 use verifier::{Accepted, verify};
 
 /// Runs a driver set by a schedule, and writes a line for each event, up to the first bug check or
@@ -37,10 +39,19 @@ pub fn trace<S: Source, P: Source, O: Sink, E: Sink>(
     requires schedule { CanCount (P.failures schedule.old) }
     requires out { CanCount (O.failures out.old) }
     requires err { CanCount (E.failures err.old) }
-    ensures { AnswersBy (S.failures set.old + P.failures schedule.old) (S.failures set.new + P.failures schedule.new) (O.failures out.old) (O.failures out.new) result }
+    ensures { Answers (IsTraceOf verification (S.remaining set.old) (P.remaining schedule.old))
+        (S.failures set.old + P.failures schedule.old) (S.failures set.new + P.failures schedule.new)
+        (O.failures out.old) (O.failures out.new) (O.contents out.old) (O.contents out.new)
+        (Says (E.failures err.old) (E.failures err.new) (E.contents err.old) (E.contents err.new))
+        result }
 {
-    let end = trace_set(alloc, set, schedule, verification, out);
-    finish(alloc, end, err)
+    match Lines::new(alloc) {
+        Ok(mut lines) => {
+            let end = trace_set(alloc, set, schedule, verification, &mut lines, out);
+            finish(end, &mut lines, err)
+        }
+        Err(AllocError) => no_memory(err),
+    }
 }
 
 fn trace_set<S: Source, P: Source, O: Sink>(
@@ -48,25 +59,67 @@ fn trace_set<S: Source, P: Source, O: Sink>(
     set: &mut S,
     schedule: &mut P,
     verification: Verification,
+    lines: &mut Lines,
     out: &mut O,
 ) -> Result<End, Fault>
     requires set { CanCount (S.failures set.old) }
     requires schedule { CanCount (P.failures schedule.old) }
     requires out { CanCount (O.failures out.old) }
-    ensures reads { S.failures set.new + P.failures schedule.new ≡ S.failures set.old + P.failures schedule.old + reads_failed result }
+    requires empty { lines.old ≡ [] }
+    ensures goes { Goes (IsTraceOf verification (S.remaining set.old) (P.remaining schedule.old))
+        (O.contents out.old) (O.contents out.new) [] [] result }
+    ensures reads { S.failures set.new + P.failures schedule.new ≡ S.failures set.old + P.failures
+        schedule.old + reads_failed result }
     ensures writes { O.failures out.new ≡ O.failures out.old + writes_failed result }
 {
     let set = read_set(alloc, set)?;
-    if verification == Verification::Skipped {
-        return trace_unverified(alloc, set, schedule, out);
+    let end = trace_as(alloc, set, schedule, verification, lines, out)?;
+    write_lines(lines, out)?;
+    Ok(end)
+}
+
+/// Runs a set, if it needn't be accepted or is.
+fn trace_as<P: Source, O: Sink>(
+    alloc: Global,
+    set: DriverSet,
+    schedule: &mut P,
+    verification: Verification,
+    lines: &mut Lines,
+    out: &mut O,
+) -> Result<End, Fault>
+    requires schedule { CanCount (P.failures schedule.old) }
+    requires out { CanCount (O.failures out.old) }
+    requires empty { lines.old ≡ [] }
+    ensures goes { Goes (IsTraceOfSet verification set (P.remaining schedule.old))
+        (O.contents out.old) (O.contents out.new) [] lines.new result }
+    ensures reads { P.failures schedule.new ≡ P.failures schedule.old + reads_failed result }
+    ensures writes { O.failures out.new ≡ O.failures out.old + writes_failed result }
+{
+    match verification {
+        Verification::Required => trace_verified(alloc, set, schedule, lines, out),
+        Verification::Skipped => trace_unverified(alloc, set, schedule, lines, out),
     }
+}
+
+/// Runs a set if it is accepted, to the end of its schedule.
+fn trace_verified<P: Source, O: Sink>(
+    alloc: Global,
+    set: DriverSet,
+    schedule: &mut P,
+    lines: &mut Lines,
+    out: &mut O,
+) -> Result<End, Fault>
+    requires schedule { CanCount (P.failures schedule.old) }
+    requires out { CanCount (O.failures out.old) }
+    requires empty { lines.old ≡ [] }
+    ensures goes { Goes (IsVerifiedRunOf set (P.remaining schedule.old)) (O.contents out.old)
+        (O.contents out.new) [] lines.new result }
+    ensures reads { P.failures schedule.new ≡ P.failures schedule.old + reads_failed result }
+    ensures writes { O.failures out.new ≡ O.failures out.old + writes_failed result }
+{
     match verify(alloc, set) {
-        Ok(accepted) => trace_accepted(alloc, accepted, schedule, out),
-        Err((set, refusal)) => {
-            let Verdict { end, text } = refused(alloc, &set, &refusal)?;
-            write_text(out, text.as_str())?;
-            Ok(end)
-        }
+        Ok(accepted) => trace_accepted(alloc, accepted, schedule, lines, out),
+        Err((_set, refusal)) => refuse(&refusal, lines),
     }
 }
 
@@ -75,17 +128,20 @@ fn trace_accepted<P: Source, O: Sink>(
     alloc: Global,
     accepted: Accepted,
     schedule: &mut P,
+    lines: &mut Lines,
     out: &mut O,
 ) -> Result<End, Fault>
     requires schedule { CanCount (P.failures schedule.old) }
     requires out { CanCount (O.failures out.old) }
+    requires empty { lines.old ≡ [] }
+    ensures goes { Goes (IsRunOf accepted (P.remaining schedule.old)) (O.contents out.old)
+        (O.contents out.new) [] lines.new result }
     ensures reads { P.failures schedule.new ≡ P.failures schedule.old + reads_failed result }
     ensures writes { O.failures out.new ≡ O.failures out.old + writes_failed result }
-    ensures complete { IfOk result (λ end. end ≡ End.Complete) }
 {
     let schedule = read_schedule(alloc, schedule)?;
     match AcceptedRun::new(alloc, accepted, schedule.threads) {
-        Ok(mut run) => follow(alloc, &mut run, schedule.events.as_slice(), out),
+        Ok(mut run) => follow(&mut run, &schedule, lines, out),
         Err((_accepted, _refused)) => Err(Fault::Memory),
     }
 }
@@ -95,16 +151,20 @@ fn trace_unverified<P: Source, O: Sink>(
     alloc: Global,
     set: DriverSet,
     schedule: &mut P,
+    lines: &mut Lines,
     out: &mut O,
 ) -> Result<End, Fault>
     requires schedule { CanCount (P.failures schedule.old) }
     requires out { CanCount (O.failures out.old) }
+    requires empty { lines.old ≡ [] }
+    ensures goes { Goes (IsRunOf set (P.remaining schedule.old)) (O.contents out.old)
+        (O.contents out.new) [] lines.new result }
     ensures reads { P.failures schedule.new ≡ P.failures schedule.old + reads_failed result }
     ensures writes { O.failures out.new ≡ O.failures out.old + writes_failed result }
 {
     let schedule = read_schedule(alloc, schedule)?;
     match Checked::new(alloc, set, schedule.threads) {
-        Ok(mut machine) => follow(alloc, &mut machine, schedule.events.as_slice(), out),
+        Ok(mut machine) => follow(&mut machine, &schedule, lines, out),
         Err((_set, _refused)) => Err(Fault::Memory),
     }
 }
@@ -112,8 +172,8 @@ fn trace_unverified<P: Source, O: Sink>(
 /// The schedule that the text of a source lists.
 fn read_schedule<P: Source>(alloc: Global, source: &mut P) -> Result<Schedule, Fault>
     requires { CanCount (P.failures source.old) }
+    ensures schedule { ReadsSchedule (P.remaining source.old) result }
     ensures reads { P.failures source.new ≡ P.failures source.old + reads_failed result }
-    ensures writes { writes_failed result ≡ 0 }
     ensures limits { IfOk result IsWithinLimits }
 {
     let text = read_whole(alloc, source)?;

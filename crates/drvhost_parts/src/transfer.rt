@@ -1,21 +1,24 @@
 //! Whole inputs and outputs, over devices that move some bytes a call.
 
-ghost use Rattle.std.specs.Prelude.{◌≡◌, ◌+◌, IfOk, vec_len};
-ghost use Rattle.drvhost_parts.specs.Device.{CanCount, Counts};
+ghost use Rattle.std.specs.Prelude.{◌≡◌, ◌+◌, ◌⊎◌, [], IfErr, IfOk, OnErr, OnOk, vec_len};
+ghost use Rattle.report.specs.Lines.{HasRoom};
+ghost use Rattle.drvhost_parts.specs.Device.{Adds, CanCount, Counts, Holds, TakesBeginning, Writes};
 ghost use Rattle.drvhost_parts.specs.Fault.{reads_failed, writes_failed};
 
 use crate::device::{Failed, Sink, Source};
 use crate::fault::Fault;
+use report::lines::Lines;
 use std::alloc::{AllocError, Global};
 
-/// Bytes moved a call, at most.
-pub(crate) const BLOCK: usize = 65_536;
+/// Bytes read a call, at most.
+const BLOCK: usize = 65_536;
 
 /// The bytes of a source, up to its end.
 pub(crate) fn read_whole<S: Source>(alloc: Global, source: &mut S) -> Result<Vec<u8>, Fault>
     requires { CanCount (S.failures source.old) }
+    ensures bytes { IfOk result (λ bytes. Holds (S.remaining source.old) bytes.items) }
+    ensures fault { IfErr result (λ fault. (fault ≡ Fault.Read) ⊎ (fault ≡ Fault.Memory)) }
     ensures reads { S.failures source.new ≡ S.failures source.old + reads_failed result }
-    ensures writes { writes_failed result ≡ 0 }
 {
     let mut bytes = Vec::new(alloc);
     let mut block = zeros(alloc, BLOCK)?;
@@ -24,11 +27,12 @@ pub(crate) fn read_whole<S: Source>(alloc: Global, source: &mut S) -> Result<Vec
             return Err(Fault::Read);
         };
         if count == 0 {
-            break;
+            return Ok(bytes);
         }
         bytes.extend_from_slice(&block[..count])?;
     }
-    Ok(bytes)
+    // So many bytes have no memory.
+    Err(Fault::Memory)
 }
 
 fn zeros(alloc: Global, count: usize) -> Result<Vec<u8>, AllocError>
@@ -37,14 +41,35 @@ fn zeros(alloc: Global, count: usize) -> Result<Vec<u8>, AllocError>
     vec![in alloc; 0; count]
 }
 
-/// Writes a text to a sink.
-pub(crate) fn write_text<K: Sink>(sink: &mut K, text: &str) -> Result<(), Fault>
+/// Makes room for one line more: lines that have gathered are written where they fill their room.
+#[inline]
+pub(crate) fn make_room<K: Sink>(lines: &mut Lines, sink: &mut K) -> Result<(), Fault>
     requires { CanCount (K.failures sink.old) }
-    ensures reads { reads_failed result ≡ 0 }
+    ensures room { OnOk result (HasRoom lines.new) }
+    ensures written { OnOk result (Adds (K.contents sink.old) (K.contents sink.new) lines.old lines.new []) }
+    ensures broken { OnErr result (TakesBeginning (K.contents sink.old) (K.contents sink.new) lines.old) }
+    ensures fault { IfErr result (λ fault. fault ≡ Fault.Write) }
     ensures writes { K.failures sink.new ≡ K.failures sink.old + writes_failed result }
 {
-    match write_whole(sink, text.as_bytes()) {
-        Ok(()) => Ok(()),
+    if lines.has_room() {
+        return Ok(());
+    }
+    write_lines(lines, sink)
+}
+
+/// Writes the lines that have gathered to a sink, and forgets them.
+pub(crate) fn write_lines<K: Sink>(lines: &mut Lines, sink: &mut K) -> Result<(), Fault>
+    requires { CanCount (K.failures sink.old) }
+    ensures forgotten { OnOk result (lines.new ≡ []) }
+    ensures written { Writes (K.contents sink.old) result (K.contents sink.new) lines.old }
+    ensures fault { IfErr result (λ fault. fault ≡ Fault.Write) }
+    ensures writes { K.failures sink.new ≡ K.failures sink.old + writes_failed result }
+{
+    match write_whole(sink, lines.bytes()) {
+        Ok(()) => {
+            lines.clear();
+            Ok(())
+        }
         Err(Failed) => Err(Fault::Write),
     }
 }
@@ -52,12 +77,14 @@ pub(crate) fn write_text<K: Sink>(sink: &mut K, text: &str) -> Result<(), Fault>
 /// Writes all the bytes to a sink.
 pub(crate) fn write_whole<K: Sink>(sink: &mut K, bytes: &[u8]) -> Result<(), Failed>
     requires { CanCount (K.failures sink.old) }
-    ensures { Counts (K.failures sink.old) result (K.failures sink.new) }
+    ensures written { Writes (K.contents sink.old) result (K.contents sink.new) bytes.now }
+    ensures counted { Counts (K.failures sink.old) result (K.failures sink.new) }
 {
     let mut rest = bytes;
     while !rest.is_empty() {
         let count = sink.write(rest)?;
-        rest = &rest[count..];
+        let (_written, after) = rest.split_at(count);
+        rest = after;
     }
     Ok(())
 }

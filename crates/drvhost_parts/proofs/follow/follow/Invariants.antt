@@ -1,8 +1,21 @@
-use Rattle.std.proofs.Common.{◌≡◌, ◌≤◌, false, length}
+use Rattle.std.proofs.Common.{◌≡◌, ◌+◌, length}
+use Rattle.model.specs.Run.{begun}
+use Rattle.drvhost_parts.specs.Answer.{replies}
+use Rattle.drvhost_parts.proofs.Following.{Followed}
 use Rattle.drvhost_parts.proofs.follow.follow.Given as goal
 
-abbrev pub decreases-loop-rest : goal.decreases-loop-rest
-decreases-loop-rest g l = length l.rest
+abbrev pub invariant-loop-event : goal.invariant-loop-event
+invariant-loop-event g l =
+    let set = (g.M.Machine.shown l.initial.machine).set in
+    record {
+      numbered : l.number + length l.upcoming ≡ length l.schedule.events;
+      fine : g.O.Sink.failures l.out ≡ g.O.Sink.failures l.initial.out;
+      followed :
+          Followed set l.schedule.threads
+          (replies set (begun set l.schedule.threads) l.schedule.events)
+          (g.M.Machine.shown l.machine) l.number l.upcoming
+          (g.O.Sink.contents l.initial.out) (g.O.Sink.contents l.out) l.lines;
+    }
 
-abbrev pub invariant-loop-rest : goal.invariant-loop-rest
-invariant-loop-rest g l = (length l.rest ≤ l.total) × (g.O.Sink.failures l.out ≡ g.O.Sink.failures l.initial.out) × (g.M.Machine.stopped l.machine ≡ false)
+abbrev pub decreases-loop-event : goal.decreases-loop-event
+decreases-loop-event g l = length l.upcoming

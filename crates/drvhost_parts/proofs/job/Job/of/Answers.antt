@@ -12,25 +12,33 @@ is_exact : is_simple_and_free program ≡ true
 unfolding clap_on_literals
 is_exact = refl
 
-same_faults : (a : App) (words : List Text) → a ≡ program → fault_of a words ≡ fault_of program words
+same_faults : (a : App) (words : List Text) → a ≡ program
+    → fault_of a words ≡ fault_of program words
 same_faults a words e = ap (λ (b : App). fault_of b words) e
 
 same_taken : (a : App) (words : List Text) → a ≡ program → takes a words ≡ takes program words
 same_taken a words e = ap (λ (b : App). takes b words) e
 
 -- a fault of memory says nothing of the words
-of_memory : (r : Result Job JobFault) (A : Type 0) (B : Job → Type 0) → IsErrAnd r (λ fault. fault ≡ Memory) → IfErr r (λ fault. A → (job : Job) → B job → fault ≡ Memory)
+of_memory : (r : Result Job JobFault) (A : Type 0) (B : Job → Type 0)
+    → IsErrAnd r (λ fault. fault ≡ Memory)
+    → IfErr r (λ fault. A → (job : Job) → B job → fault ≡ Memory)
 of_memory (Ok job) A B h = tt
 of_memory (Err fault) A B h = λ _ _ _. h
 
 pub returns-in-Some-clause-taken : goal.returns-in-Some-clause-taken
 returns-in-Some-clause-taken c =
     let app = c.in_ok-program.ensures in
-    let exact : is_simple_and_free (app_of c.in_ok-program.program) ≡ true = ap is_simple_and_free app ∙ is_exact in
+    let exact : is_simple_and_free (app_of c.in_ok-program.program) ≡ true =
+    ap is_simple_and_free app ∙ is_exact in
     sym (same_faults _ _ app) ∙ c.in-Ok.ensures.kinds exact
 
-pub returns-in_err-render_usage-in-None-clause-refused : goal.returns-in_err-render_usage-in-None-clause-refused
-returns-in_err-render_usage-in-None-clause-refused c = of_memory _ _ _ c.from_residual-in_err-render_usage-in-None.ensures.1
+pub returns-in_err-render_usage-in-None-clause-refused
+    : goal.returns-in_err-render_usage-in-None-clause-refused
+returns-in_err-render_usage-in-None-clause-refused c =
+    of_memory _ _ _ c.from_residual-in_err-render_usage-in-None.ensures.1
 
 pub returns-clause-refused : goal.returns-clause-refused
-returns-clause-refused c = λ taken job names. c.refused.ensures (c.in-Err.ensures.passes (same_taken _ _ c.in_ok-program.ensures ∙ taken))
+returns-clause-refused c =
+    λ taken job names. c.refused.ensures
+    (c.in-Err.ensures.passes (same_taken _ _ c.in_ok-program.ensures ∙ taken))

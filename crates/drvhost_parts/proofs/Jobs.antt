@@ -1,0 +1,173 @@
+-- How a job goes where its parts do, and how a command ends.
+use Rattle.std.proofs.Common.{◌≡◌, ◌∙◌, ◌≢◌, ℕ, List, [], ◌++◌, ◌⊎◌, inl, inr, Option, Result, Ok, Err, IfOk, IfErr, refl, sym, ap, subst}
+use Rattle.std.proofs.lemmas.List.{append-nil}
+use Rattle.std.specs.Io.KnownBytes.{Appends}
+use Rattle.asm.specs.declared.fault.AsmFault.{AsmFault}
+use Rattle.interleave.specs.declared.schedule.Schedule.{Schedule}
+use Rattle.interleave.specs.declared.schedule.ScheduleFault.{ScheduleFault}
+use Rattle.interleave.specs.Listing.{schedule_in}
+use Rattle.model.specs.declared.abs.Refusal.{Refusal}
+use Rattle.model.specs.declared.abs.Rule.TheVariants as Rule
+use Rattle.model.specs.Set.{Set}
+use Rattle.model.specs.Typable.{IsFirstFault, at_start}
+use Rattle.report.specs.Verdict.{refusal_line}
+use Rattle.report.specs.Fault.{schedule_fault_line, text_fault_line}
+use Rattle.drvhost_parts.specs.declared.fault.End.{End}
+use Rattle.drvhost_parts.specs.declared.fault.End.TheVariants.{Stopped}
+use Rattle.drvhost_parts.specs.declared.fault.Fault.{Fault}
+use Rattle.drvhost_parts.specs.declared.fault.Fault.TheVariants.{Read, Write, Memory, Text, Schedule as OfSchedule}
+use Rattle.drvhost_parts.specs.declared.job.Verification.{Verification}
+use Rattle.drvhost_parts.specs.declared.job.Verification.TheVariants.{Required, Skipped}
+use Rattle.drvhost_parts.specs.Answer.{Answer, IsJudged, IsRefused, IsTraced, IsVerdict, ended, faulty, ran}
+use Rattle.drvhost_parts.specs.Device.{Holds, TakesBeginning}
+use Rattle.drvhost_parts.specs.Ends.{Ends, IsCheckOf, IsRunOf, IsTraceOf, IsTraceOfSet, Rightly, ReadFailed, WriteFailed, OutOfMemory}
+use Rattle.drvhost_parts.specs.Fault.{Goes, ReadsSchedule, ReadsSet, reads_failed, status_of, told_of, writes_failed}
+use Rattle.drvhost_parts.proofs.Writing.{adds_all, adds_breaks, appends_none, held_text, keeps_same}
+
+-- where more answers are right
+pub goes_rightly : (R Q : Answer → Type 0) (b n : Option (List ℕ)) (g l : List ℕ)
+    (end : Result End Fault) → ((answer : Answer) → R answer → Q answer) → Goes R b n g l end
+    → Goes Q b n g l end
+goes_rightly R Q b n g l (Ok end) on h = (h.0, on (ended end h.0) h.1, h.2)
+goes_rightly R Q b n g l (Err Read) on h = h
+goes_rightly R Q b n g l (Err Write) on h = (h.0, on h.0 h.1, h.2)
+goes_rightly R Q b n g l (Err Memory) on h = h
+goes_rightly R Q b n g l (Err (Text fault)) on h = (on _ h.0, h.1)
+goes_rightly R Q b n g l (Err (OfSchedule fault)) on h = (on _ h.0, h.1)
+
+-- after a fault it doesn't matter what gathers
+pub goes_left : (R : Answer → Type 0) (b n : Option (List ℕ)) (l k : List ℕ) (fault : Fault)
+    → Goes R b n [] l (Err fault) → Goes R b n [] k (Err fault)
+goes_left R b n l k Read h = h
+goes_left R b n l k Write h = h
+goes_left R b n l k Memory h = h
+goes_left R b n l k (Text fault) h = h
+goes_left R b n l k (OfSchedule fault) h = h
+
+-- where the lines that gathered are written, or a beginning of them
+pub goes_written : (R : Answer → Type 0) (b m n : Option (List ℕ)) (l : List ℕ) (end : End)
+    → Goes R b m [] l (Ok end) → Appends m n l → Goes R b n [] [] (Ok end)
+goes_written R b m n l end h p = (h.0, h.1, adds_all b m n [] l h.0 h.2 p)
+
+pub goes_broken : (R : Answer → Type 0) (b m n : Option (List ℕ)) (l : List ℕ) (end : End)
+    → Goes R b m [] l (Ok end) → TakesBeginning m n l → Goes R b n [] [] (Err Write)
+goes_broken R b m n l end h p =
+    let broken : TakesBeginning b n (h.0 ++ []) = adds_breaks b m n [] l h.0 [] h.2 p in
+    let P : List ℕ → Type 0 = TakesBeginning b n in
+    (ended end h.0, h.1, subst P (append-nil h.0) broken)
+
+-- an answer for the set that a text names
+pub judged_on : (held : Option (List ℕ)) (set : Set) → ReadsSet held (Ok set) → (answer : Answer)
+    → IsVerdict set answer → IsCheckOf held answer
+judged_on held set (text, holds, names) answer right =
+    let P : Result Set AsmFault → Type 0 = λ r. IsJudged r answer in
+    (text, holds, subst P (sym names) right)
+
+traced_as : (v : Verification) (held scheduled : Option (List ℕ)) (set : Set) (schedule : List ℕ)
+    (answer : Answer) → ReadsSet held (Ok set) → Holds scheduled schedule
+    → IsTraced v (Ok set) (schedule_in schedule) answer → IsTraceOf v held scheduled answer
+traced_as v held scheduled set schedule answer (text, holds, names) there right =
+    let P : Result Set AsmFault → Type 0 = λ r. IsTraced v r (schedule_in schedule) answer in
+    (text, schedule, holds, there, subst P (sym names) right)
+
+pub traced_on : (v : Verification) (held scheduled : Option (List ℕ)) (set : Set)
+    → ReadsSet held (Ok set) → (answer : Answer) → IsTraceOfSet v set scheduled answer
+    → IsTraceOf v held scheduled answer
+traced_on Required held scheduled set read answer (inl (typable, (schedule, there, right))) =
+    traced_as Required held scheduled set schedule answer read there (inl (typable, right))
+traced_on Required held scheduled set read answer (inr refused) =
+    let some = held_text scheduled in
+    traced_as Required held scheduled set some.0 answer read some.1 (inr refused)
+traced_on Skipped held scheduled set read answer (schedule, there, right) =
+    traced_as Skipped held scheduled set schedule answer read there right
+
+-- the set can't be read
+pub check_unread : (held b : Option (List ℕ)) (g l : List ℕ) (fault : Fault)
+    → ReadsSet held (Err fault) → Goes (IsCheckOf held) b b g l (Err fault)
+check_unread held b g l Read h = keeps_same b
+check_unread held b g l Write h = absurd h
+check_unread held b g l Memory h = keeps_same b
+check_unread held b g l (Text fault) (text, holds, first) =
+    let P : Result Set AsmFault → Type 0 = λ r. IsJudged r (faulty (text_fault_line fault)) in
+    ((text, holds, subst P (sym first) refl), keeps_same b)
+check_unread held b g l (OfSchedule fault) h = absurd h
+
+traced_faulty : (v : Verification) (fault : AsmFault) (schedule : Result Schedule ScheduleFault)
+    → IsTraced v (Err fault) schedule (faulty (text_fault_line fault))
+traced_faulty Required fault schedule = refl
+traced_faulty Skipped fault schedule = refl
+
+pub trace_unread : (v : Verification) (held scheduled b : Option (List ℕ)) (g l : List ℕ)
+    (fault : Fault) → ReadsSet held (Err fault)
+    → Goes (IsTraceOf v held scheduled) b b g l (Err fault)
+trace_unread v held scheduled b g l Read h = keeps_same b
+trace_unread v held scheduled b g l Write h = absurd h
+trace_unread v held scheduled b g l Memory h = keeps_same b
+trace_unread v held scheduled b g l (Text fault) (text, holds, first) =
+    let some = held_text scheduled in
+    let P : Result Set AsmFault → Type 0 =
+    λ r. IsTraced v r (schedule_in some.0) (faulty (text_fault_line fault)) in (
+      (
+        text,
+        some.0,
+        holds,
+        some.1,
+        subst P (sym first) (traced_faulty v fault (schedule_in some.0)),
+      ),
+      keeps_same b,
+    )
+trace_unread v held scheduled b g l (OfSchedule fault) h = absurd h
+
+-- the schedule can't be read
+pub run_unread : (set : Set) (scheduled b : Option (List ℕ)) (g l : List ℕ) (fault : Fault)
+    → ReadsSchedule scheduled (Err fault) → Goes (IsRunOf set scheduled) b b g l (Err fault)
+run_unread set scheduled b g l Read h = keeps_same b
+run_unread set scheduled b g l Write h = absurd h
+run_unread set scheduled b g l Memory h = keeps_same b
+run_unread set scheduled b g l (Text fault) h = absurd h
+run_unread set scheduled b g l (OfSchedule fault) (text, holds, first) =
+    let P : Result Schedule ScheduleFault → Type 0 =
+    λ r. faulty (schedule_fault_line fault) ≡ ran set r in
+    ((text, holds, subst P (sym first) refl), keeps_same b)
+
+pub run_on : (set : Set) (scheduled : Option (List ℕ)) (schedule : Schedule)
+    → ReadsSchedule scheduled (Ok schedule) → (answer : Answer) → answer ≡ ran set (Ok schedule)
+    → IsRunOf set scheduled answer
+run_on set scheduled schedule (text, holds, lists) answer right =
+    let P : Result Schedule ScheduleFault → Type 0 = λ r. answer ≡ ran set r in
+    (text, holds, subst P (sym lists) right)
+
+-- the line of a refusal is added, unless there was no memory for a verdict
+pub goes_refused : (set : Set) (refusal : Refusal) (b : Option (List ℕ)) (l : List ℕ)
+    (end : Result End Fault) → (refusal ≡ at_start Rule.Memory) ⊎ IsFirstFault set refusal
+    → IfOk end (λ e. (e ≡ Stopped) × (refusal.rule ≢ Rule.Memory) × (l ≡ refusal_line refusal))
+    → IfErr end (λ fault. fault ≡ Memory)
+    → Goes (IsRefused set) b b [] l end
+goes_refused set refusal b l (Ok end) (inl e) h i = absurd (h.1 (ap (λ r. r.rule) e))
+goes_refused set refusal b l (Ok end) (inr first) h i = (
+  l,
+  record {
+    refusal = refusal;
+    first = first;
+    is = ap (λ x. ended x l) h.0
+        ∙ ap (λ x. ended Stopped x) h.2;
+  },
+  record { written = []; appended = appends_none b b (keeps_same b); whole = refl },
+)
+goes_refused set refusal b l (Err fault) e h i =
+    let P : Fault → Type 0 = λ f. Goes (IsRefused set) b b [] l (Err f) in
+    subst P (sym i) (keeps_same b)
+
+-- how a command ends
+pub ends_of : (R : Answer → Type 0) (b n : Option (List ℕ)) (end : Result End Fault)
+    → Goes R b n [] [] end → Ends R (reads_failed end) (writes_failed end) b n (status_of end)
+    (told_of end)
+ends_of R b n (Ok end) h =
+    let all : h.0 ≡ h.2.written = h.2.whole ∙ append-nil h.2.written in
+    let P : List ℕ → Type 0 = Appends b n in
+    Rightly (ended end h.0) h.1 refl refl refl refl (subst P (sym all) h.2.appended)
+ends_of R b n (Err Read) h = ReadFailed refl refl refl refl h
+ends_of R b n (Err Write) h = WriteFailed h.0 h.1 refl refl refl refl h.2
+ends_of R b n (Err Memory) h = OutOfMemory refl refl refl refl h
+ends_of R b n (Err (Text fault)) h = Rightly _ h.0 refl refl refl refl (appends_none b n h.1)
+ends_of R b n (Err (OfSchedule fault)) h = Rightly _ h.0 refl refl refl refl (appends_none b n h.1)

@@ -1,0 +1,92 @@
+-- What a source gave and a sink took, call after call.
+use Rattle.std.proofs.Common.{◌∙◌, ℕ, List, [], ◌++◌, Option, Some, None, refl, sym, ap, append_assoc}
+use Rattle.std.proofs.lemmas.List.{append-nil}
+use Rattle.std.specs.Io.KnownBytes.{Appends, Consumes, IsAtEnd, Keeps}
+use Rattle.drvhost_parts.specs.Device.{Adds, Holds, TakesBeginning}
+
+pub keeps_same : (a : Option (List ℕ)) → Keeps a a
+keeps_same None = tt
+keeps_same (Some xs) = refl
+
+pub appends_none : (a b : Option (List ℕ)) → Keeps a b → Appends a b []
+appends_none None b h = tt
+appends_none (Some xs) None h = h
+appends_none (Some xs) (Some ys) h = h ∙ sym (append-nil xs)
+
+pub appends_more : (a b c : Option (List ℕ)) (xs ys : List ℕ) → Appends a b xs → Appends b c ys
+    → Appends a c (xs ++ ys)
+appends_more None b c xs ys p q = tt
+appends_more (Some l) None c xs ys p q = absurd p
+appends_more (Some l) (Some m) None xs ys p q = q
+appends_more (Some l) (Some m) (Some n) xs ys p q = q ∙ ap (λ t. t ++ ys) p ∙ append_assoc l xs ys
+
+pub consumes_none : (a : Option (List ℕ)) → Consumes a a []
+consumes_none None = tt
+consumes_none (Some xs) = refl
+
+pub consumes_more : (a b c : Option (List ℕ)) (xs ys : List ℕ) → Consumes a b xs → Consumes b c ys
+    → Consumes a c (xs ++ ys)
+consumes_more None b c xs ys p q = tt
+consumes_more (Some l) None c xs ys p q = absurd p
+consumes_more (Some l) (Some m) None xs ys p q = q
+consumes_more (Some l) (Some m) (Some n) xs ys p q = p ∙ ap (λ t. xs ++ t) q
+    ∙ sym (append_assoc xs ys n)
+
+-- what was read to the end is what the source held
+pub holds_all : (a b : Option (List ℕ)) (xs : List ℕ) → Consumes a b xs → IsAtEnd b → Holds a xs
+holds_all None b xs p h = tt
+holds_all (Some l) None xs p h = absurd p
+holds_all (Some l) (Some m) xs p h = sym (p ∙ ap (λ t. xs ++ t) h ∙ append-nil xs)
+
+-- every source may hold something
+pub held_text : (a : Option (List ℕ)) → (text : List ℕ) × Holds a text
+held_text None = ([], tt)
+held_text (Some xs) = (xs, refl)
+
+-- lines that gather
+pub adds_none : (b : Option (List ℕ)) (l : List ℕ) → Adds b b l l []
+adds_none b l =
+    record { written = []; appended = appends_none b b (keeps_same b); whole = append-nil l }
+
+pub adds_line : (b m : Option (List ℕ)) (g l t line : List ℕ) → Adds b m g l t
+    → Adds b m g (l ++ line) (t ++ line)
+adds_line b m g l t line a =
+    record {
+      written = a.written;
+      appended = a.appended;
+      whole = sym (append_assoc g t line) ∙ ap (λ x. x ++ line) a.whole
+          ∙ append_assoc a.written l line;
+    }
+
+pub adds_more : (b m n : Option (List ℕ)) (g l k t u : List ℕ) → Adds b m g l t → Adds m n l k u
+    → Adds b n g k (t ++ u)
+adds_more b m n g l k t u a d =
+    record {
+      written = a.written ++ d.written;
+      appended = appends_more b m n a.written d.written a.appended d.appended;
+      whole = sym (append_assoc g t u) ∙ ap (λ x. x ++ u) a.whole ∙ append_assoc a.written l u
+          ∙ ap (λ x. a.written ++ x) d.whole ∙ sym (append_assoc a.written d.written k);
+    }
+
+-- where the gathered lines are all written, or a beginning of them
+pub adds_all : (b m n : Option (List ℕ)) (g l t : List ℕ) → Adds b m g l t → Appends m n l
+    → Adds b n g [] t
+adds_all b m n g l t a p =
+    record {
+      written = a.written ++ l;
+      appended = appends_more b m n a.written l a.appended p;
+      whole = a.whole ∙ sym (append-nil (a.written ++ l));
+    }
+
+pub adds_breaks : (b m n : Option (List ℕ)) (g l t more : List ℕ) → Adds b m g l t
+    → TakesBeginning m n l → TakesBeginning b n (g ++ (t ++ more))
+adds_breaks b m n g l t more a p =
+    record {
+      part = a.written ++ p.part;
+      rest = p.rest ++ more;
+      split = sym (append_assoc g t more)
+          ∙ ap (λ x. x ++ more) (a.whole ∙ ap (λ x. a.written ++ x) p.split
+          ∙ sym (append_assoc a.written p.part p.rest))
+          ∙ append_assoc (a.written ++ p.part) p.rest more;
+      appended = appends_more b m n a.written p.part a.appended p.appended;
+    }

@@ -1,0 +1,57 @@
+use Rattle.std.proofs.Common.{[], Err, Ok}
+use Rattle.std.proofs.lemmas.Result.{err_from_is_err_and}
+use Rattle.drvhost_parts.specs.Answer.{IsVerdict}
+use Rattle.drvhost_parts.specs.Ends.{IsCheckOf}
+use Rattle.drvhost_parts.proofs.Jobs.{check_unread, goes_broken, goes_left, goes_rightly, goes_written, judged_on}
+use Rattle.drvhost_parts.proofs.check.check_set.Goals as goal
+
+pub returns-in_err-set-clause-goes : goal.returns-in_err-set-clause-goes
+returns-in_err-set-clause-goes g c =
+    let p = err_from_is_err_and c.from_residual.result c.from_residual.ensures.1 in
+    let held = g.S.Source.remaining c.args.set.now in
+    rw (p.1, p.2)
+    (check_unread held (g.O.Sink.contents c.args.out.now) [] [] c.in_err-set.field-0.0
+    c.in_err-set.ensures.set)
+
+pub returns-in_err-end-clause-goes : goal.returns-in_err-end-clause-goes
+returns-in_err-end-clause-goes g c =
+    let p = err_from_is_err_and c.from_residual-in_err-end.result
+    c.from_residual-in_err-end.ensures.1 in
+    let held = g.S.Source.remaining c.args.set.now in
+    let set = c.in_ok-set.set in
+    let before = g.O.Sink.contents c.args.out.now in
+    let after = g.O.Sink.contents c.judge.new.out in
+    rw (p.1, p.2)
+    (goes_rightly (IsVerdict set) (IsCheckOf held) before after [] [] (Err c.in_err-end.field-0.0)
+    (judged_on held set c.in_ok-set.ensures.set)
+    (goes_left (IsVerdict set) before after c.judge.new.lines [] c.in_err-end.field-0.0
+    c.in_err-end.ensures.goes))
+
+pub returns-in_err-write_lines-clause-goes : goal.returns-in_err-write_lines-clause-goes
+returns-in_err-write_lines-clause-goes g c =
+    let p = err_from_is_err_and c.from_residual-in_err-write_lines.result
+    c.from_residual-in_err-write_lines.ensures.1 in
+    let held = g.S.Source.remaining c.args.set.now in
+    let set = c.in_ok-set.set in
+    let before = g.O.Sink.contents c.args.out.now in
+    let between = g.O.Sink.contents c.judge.new.out in
+    let end = c.in_ok-end.end in
+    rw (p.1, p.2, c.in_err-write_lines.ensures.fault)
+    (goes_broken (IsCheckOf held) before between (g.O.Sink.contents c.write_lines.new.sink)
+    c.judge.new.lines end
+    (goes_rightly (IsVerdict set) (IsCheckOf held) before between [] c.judge.new.lines (Ok end)
+    (judged_on held set c.in_ok-set.ensures.set) c.in_ok-end.ensures.goes)
+    c.in_err-write_lines.ensures.written)
+
+pub returns-clause-goes : goal.returns-clause-goes
+returns-clause-goes g c =
+    let held = g.S.Source.remaining c.args.set.now in
+    let set = c.in_ok-set.set in
+    let before = g.O.Sink.contents c.args.out.now in
+    let between = g.O.Sink.contents c.judge.new.out in
+    let end = c.in_ok-end.end in
+    goes_written (IsCheckOf held) before between (g.O.Sink.contents c.write_lines.new.sink)
+    c.judge.new.lines end
+    (goes_rightly (IsVerdict set) (IsCheckOf held) before between [] c.judge.new.lines (Ok end)
+    (judged_on held set c.in_ok-set.ensures.set) c.in_ok-end.ensures.goes)
+    c.in_ok-write_lines.ensures.written

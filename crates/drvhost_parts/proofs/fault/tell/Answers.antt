@@ -1,0 +1,12 @@
+use Rattle.drvhost_parts.proofs.fault.tell.Goals as goal
+
+pub returns-in-Text : goal.returns-in-Text
+returns-in-Text g c =
+    rw c.in-Text.is
+    (rw (c.bytes.ensures, c.text_fault.ensures, c.clear.ensures) at c.say-in-Text.ensures)
+
+pub returns-in-Schedule : goal.returns-in-Schedule
+returns-in-Schedule g c =
+    rw c.in-Schedule.is
+    (rw (c.bytes-in-Schedule.ensures, c.schedule_fault.ensures, c.clear-in-Schedule.ensures) at
+    c.say-in-Schedule.ensures)

@@ -1,0 +1,121 @@
+-- What `check` and `trace` answer for the bytes of their files.
+use Rattle.std.specs.Prelude.{ℕ, ◌≡◌, ◌+◌, ◌⊎◌, ◌++◌, Bool, true, false, if◌then◌else◌, List, [], ◌∷◌, Result, Ok, Err}
+use Rattle.std.specs.List.{list_any}
+use Rattle.asm.specs.declared.fault.AsmFault.{AsmFault}
+use Rattle.asm.specs.Reading.{set_in}
+use Rattle.interleave.specs.declared.schedule.Schedule.{Schedule}
+use Rattle.interleave.specs.declared.schedule.ScheduleFault.{ScheduleFault}
+use Rattle.interleave.specs.Listing.{schedule_in}
+use Rattle.model.specs.declared.abs.Refusal.{Refusal}
+use Rattle.model.specs.declared.event.Event.{Event}
+use Rattle.model.specs.declared.event.Reply.{Reply}
+use Rattle.model.specs.declared.event.Reply.TheVariants.{Bug, Wrong}
+use Rattle.model.specs.declared.set.Driver.{Driver}
+use Rattle.model.specs.declared.set.Routine.{Routine}
+use Rattle.model.specs.Certificate.{certificate_of}
+use Rattle.model.specs.Run.{Run, begun, step}
+use Rattle.model.specs.Set.{Set}
+use Rattle.model.specs.Typable.{IsTypable, IsFirstFault}
+use Rattle.report.specs.Fault.{schedule_fault_line, text_fault_line}
+use Rattle.report.specs.Reply.{reply_line}
+use Rattle.report.specs.Verdict.{accepted_line, certificate_line, refusal_line}
+use Rattle.drvhost_parts.specs.declared.fault.End.{End}
+use Rattle.drvhost_parts.specs.declared.fault.End.TheVariants.{Complete, Stopped}
+use Rattle.drvhost_parts.specs.declared.job.Verification.{Verification}
+use Rattle.drvhost_parts.specs.declared.job.Verification.TheVariants.{Required, Skipped}
+
+-- an answer: the exit status, the standard output and the error output
+pub record Answer : Type 0 where
+  pub status : ℕ
+  pub output : List ℕ
+  pub told : List ℕ
+
+-- the exit status for how a job ended
+abbrev pub end_status : End → ℕ
+end_status Complete = 0
+end_status Stopped = 1
+
+-- a job that met no fault ended so, with this text
+abbrev pub ended : End → List ℕ → Answer
+ended end text = record { status = end_status end; output = text; told = [] }
+
+-- an input is faulty, and this line tells it
+abbrev pub faulty : List ℕ → Answer
+faulty line = record { status = 2; output = []; told = line }
+
+-- a line for each routine of a driver, the first of which has this number
+abbrev pub routine_lines : Set → ℕ → ℕ → List Routine → List ℕ
+routine_lines set driver number [] = []
+routine_lines set driver number (routine ∷ routines) =
+    certificate_line driver number routine.sort (certificate_of set driver number)
+    ++ routine_lines set driver (number + 1) routines
+
+-- a line for each routine of drivers, the first of which has this number
+abbrev pub driver_lines : Set → ℕ → List Driver → List ℕ
+driver_lines set number [] = []
+driver_lines set number (driver ∷ drivers) =
+    routine_lines set number 0 driver.routines ++ driver_lines set (number + 1) drivers
+
+-- an accepted set: that, and the certificates of its routines
+abbrev pub acceptance : Set → List ℕ
+acceptance set = accepted_line ++ driver_lines set 0 set.drivers
+
+-- a refused set: its first fault
+pub record IsRefused (set : Set) (answer : Answer) : Type 0 where
+  pub refusal : Refusal
+  pub first : IsFirstFault set refusal
+  pub is : answer ≡ ended Stopped (refusal_line refusal)
+
+-- the verdict on a set
+abbrev pub IsVerdict : Set → Answer → Type 0
+IsVerdict set answer =
+    (IsTypable set × (answer ≡ ended Complete (acceptance set))) ⊎ IsRefused set answer
+
+-- a reply with which a trace ends: a bug check, or a wrong operand
+abbrev pub is_last : Reply → Bool
+is_last (Bug bug) = true
+is_last (Wrong place) = true
+is_last _ = false
+
+-- the replies to events, up to and with the last one
+abbrev pub replies : Set → Run → List Event → List Reply
+replies set r [] = []
+replies set r (e ∷ events) =
+    (step set r e).reply
+    ∷ (if is_last (step set r e).reply then [] else replies set (step set r e).run events)
+
+-- a line for each reply, the first of which has this number
+abbrev pub reply_lines : ℕ → List Reply → List ℕ
+reply_lines number [] = []
+reply_lines number (reply ∷ rest) = reply_line number reply ++ reply_lines (number + 1) rest
+
+-- the trace that these replies make: stopped, if one of them is the last
+abbrev pub trace_of : List Reply → Answer
+trace_of all = ended (if list_any is_last all then Stopped else Complete) (reply_lines 0 all)
+
+-- the trace of a set by a schedule, or the fault of the schedule
+abbrev pub ran : Set → Result Schedule ScheduleFault → Answer
+ran set (Ok schedule) = trace_of (replies set (begun set schedule.threads) schedule.events)
+ran set (Err fault) = faulty (schedule_fault_line fault)
+
+-- what `check` answers for the set that a text names, or for the text's first fault
+abbrev pub IsJudged : Result Set AsmFault → Answer → Type 0
+IsJudged (Ok set) answer = IsVerdict set answer
+IsJudged (Err fault) answer = answer ≡ faulty (text_fault_line fault)
+
+-- what `trace` answers for it: a set that has to be accepted, and isn't, is not run
+abbrev pub IsTraced : Verification → Result Set AsmFault → Result Schedule ScheduleFault → Answer
+    → Type 0
+IsTraced Required (Ok set) schedule answer =
+    (IsTypable set × (answer ≡ ran set schedule)) ⊎ IsRefused set answer
+IsTraced Skipped (Ok set) schedule answer = answer ≡ ran set schedule
+IsTraced verification (Err fault) schedule answer = answer ≡ faulty (text_fault_line fault)
+
+-- what `check` answers for the bytes of its file
+abbrev pub IsCheck : List ℕ → Answer → Type 0
+IsCheck set answer = IsJudged (set_in set) answer
+
+-- what `trace` answers for the bytes of its files
+abbrev pub IsTrace : Verification → List ℕ → List ℕ → Answer → Type 0
+IsTrace verification set schedule answer =
+    IsTraced verification (set_in set) (schedule_in schedule) answer

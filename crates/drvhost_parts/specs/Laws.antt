@@ -1,0 +1,15 @@
+-- The answer for the bytes of the files is one.
+use Rattle.std.specs.Prelude.{ℕ, ◌≡◌, List}
+use Rattle.drvhost_parts.specs.declared.job.Verification.{Verification}
+use Rattle.drvhost_parts.specs.Answer.{Answer, IsCheck, IsTrace}
+
+-- two answers of `check` for the same bytes are equal
+abbrev pub CheckIsOne : Type 0
+CheckIsOne =
+    (set : List ℕ) (one other : Answer) → IsCheck set one → IsCheck set other → one ≡ other
+
+-- two answers of `trace` likewise
+abbrev pub TraceIsOne : Type 0
+TraceIsOne =
+    (verification : Verification) (set schedule : List ℕ) (one other : Answer)
+    → IsTrace verification set schedule one → IsTrace verification set schedule other → one ≡ other

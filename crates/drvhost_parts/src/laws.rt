@@ -1,0 +1,13 @@
+//! A law of the answers, over their definitions alone. Nothing runs here.
+
+ghost use Rattle.drvhost_parts.specs.Laws.{CheckIsOne, TraceIsOne};
+
+use verifier::laws::first_fault_is_one;
+
+/// For the bytes of its files `check` has one right answer, and so has `trace`.
+pub fn answer_is_one()
+    ensures check { CheckIsOne }
+    ensures trace { TraceIsOne }
+{
+    first_fault_is_one();
+}
