@@ -1,6 +1,6 @@
 //! Devices that move few bytes a call, or fail at a chosen call.
 
-ghost use Rattle.std.specs.Prelude.{◌≡◌};
+ghost use Rattle.std.specs.Prelude.{◌≡◌, None, Some};
 
 use drvhost_parts::device::{Failed, Sink, Source};
 use std::alloc::Global;
@@ -31,6 +31,8 @@ impl<'a> Slow<'a> {
 
 impl Source for Slow<'_> {
     ghost failures = { λ source. source.failures };
+
+    ghost remaining = { λ _. None };
 
     fn failures(&self) -> u64 {
         self.failures
@@ -76,6 +78,8 @@ impl Narrow {
 impl Sink for Narrow {
     ghost failures = { λ sink. sink.failures };
 
+    ghost contents = { λ sink. Some sink.written.items };
+
     fn failures(&self) -> u64 {
         self.failures
     }
@@ -91,7 +95,7 @@ impl Sink for Narrow {
 }
 
 /// Counts a call, and says whether it is the one that fails.
-fn is_failing(good: &mut Option<usize>) -> bool {
+pub(crate) fn is_failing(good: &mut Option<usize>) -> bool {
     match *good {
         None => false,
         Some(0) => true,

@@ -1,9 +1,7 @@
-//! Tests that cross crates: the program's library on worked sets and schedules, over devices in memory, and the
-//! run of an accepted set.
+//! The tests: the program's library on texts, sets and schedules, over devices in memory, and runs
+//! by their own calls. Their vectors come from outside, and no clause of a contract says them.
 #![tactic(auto)]
 
-#[cfg(test)]
-mod accepted;
 #[cfg(test)]
 mod case;
 #[cfg(test)]
@@ -13,8 +11,20 @@ mod devices;
 #[cfg(test)]
 mod failures;
 #[cfg(test)]
+mod limits;
+#[cfg(test)]
+mod readers;
+#[cfg(test)]
 mod routines;
 #[cfg(test)]
+mod rules;
+#[cfg(test)]
+mod runs;
+#[cfg(test)]
+mod schedules;
+#[cfg(test)]
 mod stacks;
+#[cfg(test)]
+mod texts;
 #[cfg(test)]
 mod worked;

@@ -1,4 +1,5 @@
-//! Dispatch routines that compute, branch, loop and lock: their verdicts and their unchecked traces.
+//! Dispatch routines that compute, branch, loop and lock: their verdicts and their unchecked
+//! traces.
 
 use crate::case::{is_judged_so, runs_so};
 use drvhost_parts::job::Verification;
@@ -19,7 +20,7 @@ const ONE_STEP: &str = "threads 1\nissue 0 0 READ 0\nstep 0\n";
 
 const TWO_STEPS: &str = "threads 1\nissue 0 0 READ 0\nstep 0 2\n";
 
-static COMPUTING: [Worked; 6] = [
+static COMPUTING: [Worked; 8] = [
     Worked {
         name: "a loop of two turns",
         code: "loop 2\nclear r1\nend\ncomplete r0 SUCCESS\nret SUCCESS\n",
@@ -55,6 +56,26 @@ static COMPUTING: [Worked; 6] = [
         trace: (
             0,
             "0 started 0\n1 stepped\n2 stepped\n3 stepped\n4 stepped\n5 stepped\n6 topped 0 0x00000000 12\n7 finished\n",
+        ),
+    },
+    Worked {
+        name: "cells, a moved number, both sorts of lock, a jump that is taken",
+        code: "const r1 7\nmov r2 r1\nclear r1\nstore c15 r2\nload r1 c15\nstorep p0 r1\nloadp r3 p0\nadd r3 r1\nget r4 r0 ARG\njlt r4 r3 abcdefghijklmnopqrstuvwxyz_12345\nabcdefghijklmnopqrstuvwxyz_12345: put r0 r3\nacqc\nrelc\nacquire l7\nrelease l7\nget r5 r0 INFO\nput r0 r5\ncomplete r0 CANCELLED\nret CANCELLED\n",
+        verdict: (0, "accepted\ndriver 0 routine 0 dispatch certificate 19\n"),
+        schedule: "threads 1\nissue 0 0 READ 3\nstep 0 20\n",
+        trace: (
+            0,
+            "0 started 0\n1 stepped\n2 stepped\n3 stepped\n4 stepped\n5 stepped\n6 stepped\n7 stepped\n8 stepped\n9 stepped\n10 stepped\n11 stepped\n12 stepped\n13 stepped\n14 stepped\n15 stepped\n16 stepped\n17 stepped\n18 stepped\n19 topped 0 0xC0000120 14\n20 finished\n",
+        ),
+    },
+    Worked {
+        name: "the largest argument",
+        code: "get r1 r0 ARG\nput r0 r1\ncomplete r0 SUCCESS\nret SUCCESS\n",
+        verdict: (0, "accepted\ndriver 0 routine 0 dispatch certificate 4\n"),
+        schedule: "threads 1\nissue 0 0 READ 0xFfffffffffffffff\nstep 0 5\n",
+        trace: (
+            0,
+            "0 started 0\n1 stepped\n2 stepped\n3 stepped\n4 topped 0 0x00000000 18446744073709551615\n5 finished\n",
         ),
     },
     Worked {

@@ -1,0 +1,136 @@
+//! Schedules: the line that tells their first fault, and one without events.
+
+use crate::case::runs_so;
+use drvhost_parts::job::Verification;
+
+const SET: &str =
+    "driver d\ndispatch READ f\nroutine f dispatch\ncomplete r0 SUCCESS\nret SUCCESS\nendr\nendd\ndevice v d 1\n";
+
+/// A schedule, and the fault that is told of it.
+struct Faulty {
+    schedule: &'static str,
+    told: &'static str,
+}
+
+static SCHEDULES: [Faulty; 22] = [
+    Faulty {
+        schedule: "",
+        told: "schedule fault 2 UnknownWord line 1\n",
+    },
+    Faulty {
+        schedule: "\n; threads 1\n",
+        told: "schedule fault 2 UnknownWord line 3\n",
+    },
+    Faulty {
+        schedule: "step 300\nthreads 1",
+        told: "schedule fault 2 UnknownWord line 1\n",
+    },
+    Faulty {
+        schedule: "THREADS 1",
+        told: "schedule fault 2 UnknownWord line 1\n",
+    },
+    Faulty {
+        schedule: "threads: 1",
+        told: "schedule fault 2 UnknownWord line 1\n",
+    },
+    Faulty {
+        schedule: "threads x",
+        told: "schedule fault 2 UnknownWord line 1\n",
+    },
+    Faulty {
+        schedule: "threads 1 2",
+        told: "schedule fault 2 UnknownWord line 1\n",
+    },
+    Faulty {
+        schedule: "threads 40 x",
+        told: "schedule fault 2 UnknownWord line 1\n",
+    },
+    Faulty {
+        schedule: "threads 0",
+        told: "schedule fault 3 OutOfRange line 1\n",
+    },
+    Faulty {
+        schedule: "threads 33",
+        told: "schedule fault 3 OutOfRange line 1\n",
+    },
+    Faulty {
+        schedule: "threads 99999999999999999999999",
+        told: "schedule fault 3 OutOfRange line 1\n",
+    },
+    Faulty {
+        schedule: "threads 1\nthreads 1",
+        told: "schedule fault 2 UnknownWord line 2\n",
+    },
+    Faulty {
+        schedule: "threads 1\nstep 0 0",
+        told: "schedule fault 3 OutOfRange line 2\n",
+    },
+    Faulty {
+        schedule: "threads 1\nstep 0 1000001",
+        told: "schedule fault 3 OutOfRange line 2\n",
+    },
+    Faulty {
+        schedule: "threads 1\nstep 0 1000000\nstep 0",
+        told: "schedule fault 4 TooLong line 3\n",
+    },
+    Faulty {
+        schedule: "threads 1\nstep 0 1000000\nstep 256",
+        told: "schedule fault 3 OutOfRange line 3\n",
+    },
+    Faulty {
+        schedule: "threads 1\nissue 0 256 READ 7",
+        told: "schedule fault 3 OutOfRange line 2\n",
+    },
+    Faulty {
+        schedule: "threads 1\nissue 0 0 READ 18446744073709551616",
+        told: "schedule fault 3 OutOfRange line 2\n",
+    },
+    Faulty {
+        schedule: "threads 1\nissue 0 0 MOO 18446744073709551616",
+        told: "schedule fault 2 UnknownWord line 2\n",
+    },
+    Faulty {
+        schedule: "threads 1\nissue 0 0 READ",
+        told: "schedule fault 2 UnknownWord line 2\n",
+    },
+    Faulty {
+        schedule: "threads 1\nstep 300 1000001 A1\nzz",
+        told: "schedule fault 1 Lex line 2\n",
+    },
+    Faulty {
+        schedule: "threads 1\nstep 0\nzz ; \x7f",
+        told: "schedule fault 1 Lex line 3\n",
+    },
+];
+
+#[test]
+fn faulty_schedules(rt: HostRuntime) {
+    for faulty in SCHEDULES.iter() {
+        let text = faulty.schedule;
+        let is_told = runs_so(
+            rt.alloc(),
+            SET,
+            text,
+            Verification::Required,
+            2,
+            "",
+            faulty.told,
+        );
+        assert!(rt; is_told, "{text}");
+    }
+}
+
+/// The most threads, and no event.
+#[test]
+fn nothing_happens(rt: HostRuntime) {
+    let is_run = runs_so(
+        rt.alloc(),
+        SET,
+        "threads 32",
+        Verification::Required,
+        0,
+        "",
+        "",
+    );
+    assert!(rt; is_run);
+}
