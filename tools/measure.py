@@ -1,8 +1,8 @@
 #!/usr/bin/env python3
-"""measure.py PROGRAM OTHER [RUNS]: times PROGRAM against OTHER, a second program that answers the same
-commands, on inputs at the limits, and prints the least of RUNS times (3 if left out) and the ratio.
-Both must answer the same bytes."""
-import os, subprocess, sys, tempfile, time
+"""measure.py [--runs N] PROGRAM OTHER ..: times programs that answer the same commands, on inputs at the
+limits, each writing to /dev/null, in turn. Prints the least of N times of each (5 if left out), in
+milliseconds, and its ratio to that of the first. All must answer the same bytes."""
+import argparse, os, subprocess, sys, tempfile, time
 
 def routine(name, instructions):
     body = ['const r%d %d' % (1 + i % 15, i) for i in range(instructions - 2)]
@@ -64,31 +64,39 @@ def cases():
         one_routine(['loop 100', 'loop 150', 'acquire l0', 'load r1 c0', 'store c0 r1', 'release l0', 'clear r1', 'end', 'end', 'complete r0 SUCCESS', 'ret SUCCESS']), \
         ['threads 4'] + ['issue %d 0 READ 0' % t for t in range(4)] + ['step %d' % (i % 4) for i in range(300000)]
 
-def least(program, words, runs):
-    best, out = None, None
-    for _ in range(runs):
-        begin = time.perf_counter()
-        done = subprocess.run([program] + words, stdin=subprocess.DEVNULL, capture_output=True)
-        spent = time.perf_counter() - begin
-        best = spent if best is None else min(best, spent)
-        out = (done.returncode, done.stdout, done.stderr)
-    return best, out
+def spent(program, words):
+    begin = time.perf_counter()
+    subprocess.run([program] + words, stdin=subprocess.DEVNULL, stdout=subprocess.DEVNULL, stderr=subprocess.DEVNULL)
+    return time.perf_counter() - begin
+
+def answer(program, words):
+    done = subprocess.run([program] + words, stdin=subprocess.DEVNULL, capture_output=True)
+    return done.returncode, done.stdout, done.stderr
+
+def written(folder, name, lines):
+    path = os.path.join(folder, name)
+    with open(path, 'w') as file:
+        file.write('\n'.join(lines) + '\n')
+    return path
 
 def main():
-    program, other = os.path.abspath(sys.argv[1]), os.path.abspath(sys.argv[2])
-    runs = int(sys.argv[3]) if len(sys.argv) > 3 else 3
+    parser = argparse.ArgumentParser(description=__doc__)
+    parser.add_argument('--runs', type=int, default=5)
+    parser.add_argument('programs', nargs='+')
+    given = parser.parse_args()
+    programs = [os.path.abspath(program) for program in given.programs]
+    differ = False
     with tempfile.TemporaryDirectory() as folder:
         for name, command, text, schedule in cases():
-            words = [command, os.path.join(folder, 'set')]
-            with open(words[1], 'w') as file:
-                file.write('\n'.join(text) + '\n')
+            words = [command, written(folder, 'set', text)]
             if schedule is not None:
-                words.append(os.path.join(folder, 'schedule'))
-                with open(words[2], 'w') as file:
-                    file.write('\n'.join(schedule) + '\n')
-            ours, first = least(program, words, runs)
-            theirs, second = least(other, words, runs)
-            same = 'same answer' if first == second else 'ANSWERS DIFFER'
-            print('%-48s %7.3f s %7.3f s  ratio %5.2f  %s' % (name, ours, theirs, ours / theirs, same))
+                words.append(written(folder, 'schedule', schedule))
+            answers = [answer(program, words) for program in programs]
+            times = [1000 * min(each) for each in zip(*([spent(program, words) for program in programs] for _ in range(given.runs)))]
+            others = ''.join('%9.1f (%5.2f)' % (one, one / times[0]) for one in times[1:])
+            same = all(one == answers[0] for one in answers)
+            differ = differ or not same
+            print('%-48s %8.1f ms%s  %s' % (name, times[0], others, 'same answer' if same else 'ANSWERS DIFFER'), flush=True)
+    sys.exit(1 if differ else 0)
 
 main()
