@@ -8,7 +8,7 @@ use Rattle.model.specs.declared.set.Routine.{Routine}
 use Rattle.model.specs.declared.set.Sort.{Sort}
 use Rattle.model.specs.Set.{Set}
 use Rattle.asm_line.specs.declared.line.Body.{Body}
-use Rattle.asm_line.specs.declared.line.Body.TheVariants.{OpenDriver, CloseDriver, OpenRoutine, CloseRoutine, Step}
+use Rattle.asm_line.specs.declared.line.Body.TheVariants.{Blank, OpenDriver, CloseDriver, Handle, OpenRoutine, CloseRoutine, AddDevice, Step}
 use Rattle.asm_line.specs.declared.line.Line.{Line}
 use Rattle.asm.specs.declared.routines.Role.TheVariants.{Completion}
 use Rattle.asm.specs.Outline.{routine_named, with_label, with_routine}
@@ -24,7 +24,13 @@ is_labelled (Some label) name = bytes_eq name label
 abbrev pub place_at : List ℕ → ℕ → Option (List ℕ) → Body → (ℕ → Option ℕ) → Option ℕ
 place_at name p label (Step instr used) later =
     if is_labelled label name then Some p else later (p + 1)
-place_at name p label _ later = later p
+place_at name p label Blank later = later p
+place_at name p label (OpenDriver other) later = later p
+place_at name p label CloseDriver later = later p
+place_at name p label (Handle major routine) later = later p
+place_at name p label (OpenRoutine other sort) later = later p
+place_at name p label CloseRoutine later = later p
+place_at name p label (AddDevice other driver stack lower) later = later p
 
 -- the position that a label names: that of the instruction on its line
 abbrev pub label_place : List ℕ → ℕ → List Line → Option ℕ
@@ -50,7 +56,14 @@ abbrev pub instruction_on : List (List ℕ) → List Sort → List Line → Body
 instruction_on names sorts routine (Step (Some i) used) =
     Some (with_routine (with_label i (jump_place routine used.label))
     (call_number names sorts used.routine))
-instruction_on names sorts routine _ = None
+instruction_on names sorts routine (Step None used) = None
+instruction_on names sorts routine Blank = None
+instruction_on names sorts routine (OpenDriver name) = None
+instruction_on names sorts routine CloseDriver = None
+instruction_on names sorts routine (Handle major handler) = None
+instruction_on names sorts routine (OpenRoutine name sort) = None
+instruction_on names sorts routine CloseRoutine = None
+instruction_on names sorts routine (AddDevice name driver stack lower) = None
 
 -- the instructions on some of the lines of a routine
 abbrev pub instructions_on : List (List ℕ) → List Sort → List Line → List Line → List Instr
@@ -62,7 +75,13 @@ instructions_on names sorts routine (l ∷ ls) =
 -- a line and those after it, unless it ends the routine
 abbrev pub unless_end : Line → Body → List Line → List Line
 unless_end l CloseRoutine after = []
-unless_end l _ after = l ∷ after
+unless_end l Blank after = l ∷ after
+unless_end l (OpenDriver name) after = l ∷ after
+unless_end l CloseDriver after = l ∷ after
+unless_end l (Handle major routine) after = l ∷ after
+unless_end l (OpenRoutine name sort) after = l ∷ after
+unless_end l (AddDevice name driver stack lower) after = l ∷ after
+unless_end l (Step instr used) after = l ∷ after
 
 -- the lines from here to the end of the routine
 abbrev pub routine_lines : List Line → List Line
@@ -78,7 +97,12 @@ routine_code names sorts ls = instructions_on names sorts (routine_lines ls) (ro
 abbrev pub codes_from : Body → List Instr → List (List Instr) → List (List Instr)
 codes_from CloseDriver code after = []
 codes_from (OpenRoutine name sort) code after = code ∷ after
-codes_from _ code after = after
+codes_from Blank code after = after
+codes_from (OpenDriver name) code after = after
+codes_from (Handle major routine) code after = after
+codes_from CloseRoutine code after = after
+codes_from (AddDevice name driver stack lower) code after = after
+codes_from (Step instr used) code after = after
 
 -- the codes of the routines from here to the end of the driver, of whose routines the names and
 -- sorts are given
@@ -95,7 +119,13 @@ driver_code ls = routine_codes (routines_ahead ls) (sorts_ahead ls) ls
 abbrev pub drivers_from : Body → List (List Instr) → List (List (List Instr))
     → List (List (List Instr))
 drivers_from (OpenDriver name) codes after = codes ∷ after
-drivers_from _ codes after = after
+drivers_from Blank codes after = after
+drivers_from CloseDriver codes after = after
+drivers_from (Handle major routine) codes after = after
+drivers_from (OpenRoutine name sort) codes after = after
+drivers_from CloseRoutine codes after = after
+drivers_from (AddDevice name driver stack lower) codes after = after
+drivers_from (Step instr used) codes after = after
 
 -- the codes of the drivers that the lines open
 abbrev pub driver_codes : List Line → List (List (List Instr))

@@ -9,7 +9,7 @@ use Rattle.asm.specs.declared.fault.AsmFault.{AsmFault}
 use Rattle.asm.specs.declared.fault.AsmKind.{AsmKind}
 use Rattle.asm.specs.declared.fault.AsmKind.TheVariants.{Lex, UnknownWord, DuplicateName, UnknownName, OutOfRange, Unclosed, OverLimit, Memory}
 use Rattle.asm_line.specs.declared.line.Body.{Body}
-use Rattle.asm_line.specs.declared.line.Body.TheVariants.{OpenDriver, CloseDriver, Handle, OpenRoutine, CloseRoutine, AddDevice, Step}
+use Rattle.asm_line.specs.declared.line.Body.TheVariants.{Blank, OpenDriver, CloseDriver, Handle, OpenRoutine, CloseRoutine, AddDevice, Step}
 use Rattle.asm_line.specs.declared.line.Line.{Line}
 use Rattle.asm.specs.declared.routines.Role.TheVariants.{Handler, Completion}
 use Rattle.asm_line.specs.Line.{line_of, read_line}
@@ -44,7 +44,9 @@ shows o raw UnknownWord = is_unknown o (line_of (tokens_of raw))
 shows o raw DuplicateName = is_line (λ l. is_again o l.label l.body) (line_of (tokens_of raw))
 shows o raw OutOfRange = is_line (λ l. is_out_of_range l.body) (line_of (tokens_of raw))
 shows o raw OverLimit = is_line (λ l. not (has_room o l.body)) (line_of (tokens_of raw))
-shows o raw _ = false
+shows o raw UnknownName = false
+shows o raw Unclosed = false
+shows o raw Memory = false
 
 -- of the kinds of fault that the line has, this is the least
 pub record IsLeastKind (o : Outline) (raw : List ℕ) (kind : AsmKind) : Type 0 where
@@ -86,7 +88,12 @@ pub record IsEndFault (o : Outline) (n : ℕ) (raws : List (List ℕ)) (fault : 
 abbrev pub named_ahead : Body → List (List ℕ) → List (List ℕ)
 named_ahead CloseDriver after = []
 named_ahead (OpenRoutine name sort) after = name ∷ after
-named_ahead _ after = after
+named_ahead Blank after = after
+named_ahead (OpenDriver name) after = after
+named_ahead (Handle major routine) after = after
+named_ahead CloseRoutine after = after
+named_ahead (AddDevice name driver stack lower) after = after
+named_ahead (Step instr used) after = after
 
 -- the names of the routines from here to the end of the driver
 abbrev pub routines_ahead : List Line → List (List ℕ)
@@ -97,7 +104,12 @@ routines_ahead (l ∷ ls) = named_ahead l.body (routines_ahead ls)
 abbrev pub sorted_ahead : Body → List Sort → List Sort
 sorted_ahead CloseDriver after = []
 sorted_ahead (OpenRoutine name sort) after = sort ∷ after
-sorted_ahead _ after = after
+sorted_ahead Blank after = after
+sorted_ahead (OpenDriver name) after = after
+sorted_ahead (Handle major routine) after = after
+sorted_ahead CloseRoutine after = after
+sorted_ahead (AddDevice name driver stack lower) after = after
+sorted_ahead (Step instr used) after = after
 
 -- the sorts of the routines from here to the end of the driver
 abbrev pub sorts_ahead : List Line → List Sort
@@ -108,7 +120,12 @@ sorts_ahead (l ∷ ls) = sorted_ahead l.body (sorts_ahead ls)
 abbrev pub labelled_ahead : Option (List ℕ) → Body → List (List ℕ) → List (List ℕ)
 labelled_ahead label CloseRoutine after = []
 labelled_ahead label (Step instr used) after = option_to_list label ++ after
-labelled_ahead label _ after = after
+labelled_ahead label Blank after = after
+labelled_ahead label (OpenDriver name) after = after
+labelled_ahead label CloseDriver after = after
+labelled_ahead label (Handle major routine) after = after
+labelled_ahead label (OpenRoutine name sort) after = after
+labelled_ahead label (AddDevice name driver stack lower) after = after
 
 -- the labels from here to the end of the routine
 abbrev pub labels_ahead : List Line → List (List ℕ)
@@ -132,27 +149,57 @@ nothing_named = record { drivers = []; devices = []; routines = []; sorts = []; 
 -- the names of the drivers before the next line
 abbrev pub drivers_after : List (List ℕ) → Body → List (List ℕ)
 drivers_after drivers (OpenDriver name) = drivers ++ name ∷ []
-drivers_after drivers _ = drivers
+drivers_after drivers Blank = drivers
+drivers_after drivers CloseDriver = drivers
+drivers_after drivers (Handle major routine) = drivers
+drivers_after drivers (OpenRoutine name sort) = drivers
+drivers_after drivers CloseRoutine = drivers
+drivers_after drivers (AddDevice name driver stack lower) = drivers
+drivers_after drivers (Step instr used) = drivers
 
 -- the names of the devices before the next line
 abbrev pub devices_after : List (List ℕ) → Body → List (List ℕ)
 devices_after devices (AddDevice name driver stack lower) = devices ++ name ∷ []
-devices_after devices _ = devices
+devices_after devices Blank = devices
+devices_after devices (OpenDriver name) = devices
+devices_after devices CloseDriver = devices
+devices_after devices (Handle major routine) = devices
+devices_after devices (OpenRoutine name sort) = devices
+devices_after devices CloseRoutine = devices
+devices_after devices (Step instr used) = devices
 
 -- the names of the routines in the driver around the next line
 abbrev pub routines_around : List (List ℕ) → Body → List Line → List (List ℕ)
 routines_around routines (OpenDriver name) next = routines_ahead next
-routines_around routines _ next = routines
+routines_around routines Blank next = routines
+routines_around routines CloseDriver next = routines
+routines_around routines (Handle major routine) next = routines
+routines_around routines (OpenRoutine name sort) next = routines
+routines_around routines CloseRoutine next = routines
+routines_around routines (AddDevice name driver stack lower) next = routines
+routines_around routines (Step instr used) next = routines
 
 -- the sorts of the routines in the driver around the next line
 abbrev pub sorts_around : List Sort → Body → List Line → List Sort
 sorts_around sorts (OpenDriver name) next = sorts_ahead next
-sorts_around sorts _ next = sorts
+sorts_around sorts Blank next = sorts
+sorts_around sorts CloseDriver next = sorts
+sorts_around sorts (Handle major routine) next = sorts
+sorts_around sorts (OpenRoutine name sort) next = sorts
+sorts_around sorts CloseRoutine next = sorts
+sorts_around sorts (AddDevice name driver stack lower) next = sorts
+sorts_around sorts (Step instr used) next = sorts
 
 -- the labels in the routine around the next line
 abbrev pub labels_around : List (List ℕ) → Body → List Line → List (List ℕ)
 labels_around labels (OpenRoutine name sort) next = labels_ahead next
-labels_around labels _ next = labels
+labels_around labels Blank next = labels
+labels_around labels (OpenDriver name) next = labels
+labels_around labels CloseDriver next = labels
+labels_around labels (Handle major routine) next = labels
+labels_around labels CloseRoutine next = labels
+labels_around labels (AddDevice name driver stack lower) next = labels
+labels_around labels (Step instr used) next = labels
 
 -- the names that the next line may use
 abbrev pub scope_after : Scope → Body → List Line → Scope
@@ -185,7 +232,11 @@ unknown_at s n (AddDevice name driver stack lower) after =
     if is_among s.drivers driver && is_known s.devices lower then after else Some n
 unknown_at s n (Step instr used) after =
     if is_known s.labels used.label && is_callable s used.routine then after else Some n
-unknown_at s n _ after = after
+unknown_at s n Blank after = after
+unknown_at s n (OpenDriver name) after = after
+unknown_at s n CloseDriver after = after
+unknown_at s n (OpenRoutine name sort) after = after
+unknown_at s n CloseRoutine after = after
 
 -- the first line from number n on that uses a name which nothing has; given are the names that the
 -- first of them may use

@@ -2,7 +2,7 @@
 use Rattle.std.specs.Prelude.{ℕ, ◌≡◌, ◌<◌, ◌≤◌, All, map, slice_get, unwrap_or, ◌+◌, min, Bool, true, false, not, ◌&&◌, nat_lt, nat_le, bytes_eq, List, [], ◌∷◌, ◌++◌, length, Option, Some, None, is_some, is_none, option_map, option_and_then, option_to_list, position, if◌then◌else◌}
 use Rattle.std.specs.List.{list_any}
 use Rattle.model.specs.declared.instr.Instr.{Instr}
-use Rattle.model.specs.declared.instr.Instr.TheVariants.{JumpIfZero, JumpIfLess, Jump, Call, IfPending}
+use Rattle.model.specs.declared.instr.Instr.TheVariants.{Const, Move, Clear, Add, Subtract, JumpIfZero, JumpIfLess, Jump, Loop, End, Load, Store, LoadPaged, StorePaged, Get, Put, Mark, Acquire, Release, AcquireCancel, ReleaseCancel, Pass, Call, Complete, IfPending, Ret}
 use Rattle.model.specs.declared.limits.TheConstants.{MAX_DEVICES, MAX_DRIVERS, MAX_INSTRUCTIONS, MAX_ROUTINES, MAX_STACK}
 use Rattle.model.specs.declared.set.Device.{Device}
 use Rattle.model.specs.declared.set.Driver.{Driver}
@@ -86,13 +86,26 @@ number_of names name = position (bytes_eq name) names
 abbrev pub stands : Place → Body → Bool
 stands place Blank = true
 stands Outside (OpenDriver name) = true
+stands Outside CloseDriver = false
+stands Outside (Handle major routine) = false
+stands Outside (OpenRoutine name sort) = false
+stands Outside CloseRoutine = false
 stands Outside (AddDevice name driver stack lower) = true
+stands Outside (Step instr used) = false
+stands InDriver (OpenDriver name) = false
 stands InDriver CloseDriver = true
 stands InDriver (Handle major routine) = true
 stands InDriver (OpenRoutine name sort) = true
+stands InDriver CloseRoutine = false
+stands InDriver (AddDevice name driver stack lower) = false
+stands InDriver (Step instr used) = false
+stands InRoutine (OpenDriver name) = false
+stands InRoutine CloseDriver = false
+stands InRoutine (Handle major routine) = false
+stands InRoutine (OpenRoutine name sort) = false
 stands InRoutine CloseRoutine = true
+stands InRoutine (AddDevice name driver stack lower) = false
 stands InRoutine (Step instr used) = true
-stands _ _ = false
 
 -- the routine that serves a major function in the open driver, as its line names it
 abbrev pub handler_of : Outline → Major → Option Use
@@ -112,7 +125,9 @@ is_again o label (Handle major routine) = is_some (handler_of o major)
 is_again o label (OpenRoutine name sort) = is_among o.routine_names name
 is_again o label (AddDevice name driver stack lower) = is_among o.device_names name
 is_again o label (Step instr used) = is_known_label o.labels label
-is_again o label _ = false
+is_again o label Blank = false
+is_again o label CloseDriver = false
+is_again o label CloseRoutine = false
 
 -- a device may have this stack size
 abbrev pub is_stack_size : ℕ → Bool
@@ -122,7 +137,12 @@ is_stack_size n = nat_le 1 n && nat_le n MAX_STACK
 abbrev pub is_out_of_range : Body → Bool
 is_out_of_range (AddDevice name driver stack lower) = not (is_stack_size stack)
 is_out_of_range (Step instr used) = is_none instr
-is_out_of_range _ = false
+is_out_of_range Blank = false
+is_out_of_range (OpenDriver name) = false
+is_out_of_range CloseDriver = false
+is_out_of_range (Handle major routine) = false
+is_out_of_range (OpenRoutine name sort) = false
+is_out_of_range CloseRoutine = false
 
 -- there is room for what the line adds
 abbrev pub has_room : Outline → Body → Bool
@@ -130,7 +150,10 @@ has_room o (OpenDriver name) = nat_lt (length o.driver_names) MAX_DRIVERS
 has_room o (AddDevice name driver stack lower) = nat_lt (length o.device_names) MAX_DEVICES
 has_room o (OpenRoutine name sort) = nat_lt (length o.routine_names) MAX_ROUTINES
 has_room o (Step instr used) = nat_lt (length o.steps) MAX_INSTRUCTIONS
-has_room o _ = true
+has_room o Blank = true
+has_room o CloseDriver = true
+has_room o (Handle major routine) = true
+has_room o CloseRoutine = true
 
 -- the line's fault in its context: the least kind of those that it has
 abbrev pub misfit : Outline → Line → Option AsmKind
@@ -165,8 +188,9 @@ driver_opened o name = record o { place = InDriver; driver_names = o.driver_name
 -- routines of this sort are for this role
 abbrev pub serves : Role → Sort → Bool
 serves Handler Dispatch = true
+serves Handler Propagate = false
+serves Completion Dispatch = false
 serves Completion Propagate = true
-serves _ _ = false
 
 -- the number, if there is a sort and it is for the role
 abbrev pub number_for : Role → ℕ → Option Sort → Option ℕ
@@ -197,7 +221,31 @@ routine_called o call =
 -- the instruction with this routine in place of its own, if it is a `call`
 abbrev pub with_routine : Instr → Option ℕ → Instr
 with_routine (Call r old) routine = Call r routine
-with_routine i routine = i
+with_routine (Const r value) routine = Const r value
+with_routine (Move r q) routine = Move r q
+with_routine (Clear r) routine = Clear r
+with_routine (Add r q) routine = Add r q
+with_routine (Subtract r q) routine = Subtract r q
+with_routine (JumpIfZero r old) routine = JumpIfZero r old
+with_routine (JumpIfLess r s old) routine = JumpIfLess r s old
+with_routine (Jump old) routine = Jump old
+with_routine (Loop turns) routine = Loop turns
+with_routine End routine = End
+with_routine (Load r cell) routine = Load r cell
+with_routine (Store cell r) routine = Store cell r
+with_routine (LoadPaged r cell) routine = LoadPaged r cell
+with_routine (StorePaged cell r) routine = StorePaged cell r
+with_routine (Get r q field) routine = Get r q field
+with_routine (Put q r) routine = Put q r
+with_routine (Mark r) routine = Mark r
+with_routine (Acquire lock) routine = Acquire lock
+with_routine (Release lock) routine = Release lock
+with_routine AcquireCancel routine = AcquireCancel
+with_routine ReleaseCancel routine = ReleaseCancel
+with_routine (Pass r) routine = Pass r
+with_routine (Complete r status) routine = Complete r status
+with_routine (IfPending r old) routine = IfPending r old
+with_routine (Ret what) routine = Ret what
 
 -- an instruction of the open driver; if it is a call, with the number of its routine
 abbrev pub called : Outline → Linked → Instr
@@ -290,7 +338,28 @@ with_label (JumpIfZero r old) label = JumpIfZero r label
 with_label (JumpIfLess r s old) label = JumpIfLess r s label
 with_label (Jump old) label = Jump label
 with_label (IfPending r old) label = IfPending r label
-with_label i label = i
+with_label (Const r value) label = Const r value
+with_label (Move r q) label = Move r q
+with_label (Clear r) label = Clear r
+with_label (Add r q) label = Add r q
+with_label (Subtract r q) label = Subtract r q
+with_label (Loop turns) label = Loop turns
+with_label End label = End
+with_label (Load r cell) label = Load r cell
+with_label (Store cell r) label = Store cell r
+with_label (LoadPaged r cell) label = LoadPaged r cell
+with_label (StorePaged cell r) label = StorePaged cell r
+with_label (Get r q field) label = Get r q field
+with_label (Put q r) label = Put q r
+with_label (Mark r) label = Mark r
+with_label (Acquire lock) label = Acquire lock
+with_label (Release lock) label = Release lock
+with_label AcquireCancel label = AcquireCancel
+with_label ReleaseCancel label = ReleaseCancel
+with_label (Pass r) label = Pass r
+with_label (Call r old) label = Call r old
+with_label (Complete r status) label = Complete r status
+with_label (Ret what) label = Ret what
 
 -- an instruction with the position of its label
 abbrev pub resolved : List (List ℕ) → List ℕ → StepOf → Linked

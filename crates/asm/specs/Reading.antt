@@ -3,7 +3,7 @@ use Rattle.std.specs.Prelude.{ℕ, ◌≡◌, ◌+◌, List, [], ◌∷◌, Opti
 use Rattle.text.specs.Cut.{lines_of}
 use Rattle.model.specs.Set.{Set}
 use Rattle.asm.specs.declared.draft.Place.{Place}
-use Rattle.asm.specs.declared.draft.Place.TheVariants.{Outside}
+use Rattle.asm.specs.declared.draft.Place.TheVariants.{Outside, InDriver, InRoutine}
 use Rattle.asm.specs.declared.fault.AsmFault.{AsmFault}
 use Rattle.asm.specs.declared.fault.AsmKind.{AsmKind}
 use Rattle.asm.specs.declared.fault.AsmKind.TheVariants.{Lex, UnknownWord, UnknownName, Unclosed, Memory}
@@ -35,7 +35,8 @@ read_on o n raw = placed o n (read_line raw)
 -- the end of the text, where the next line would have the number n
 abbrev pub ended : Outline → ℕ → Place → Result Outline AsmFault
 ended o n Outside = Ok o
-ended o n _ = Err (record { line = n; kind = Unclosed })
+ended o n InDriver = Err (record { line = n; kind = Unclosed })
+ended o n InRoutine = Err (record { line = n; kind = Unclosed })
 
 -- what follows a line, whose number is n
 abbrev pub after_line : ℕ → Result Outline AsmKind → (Outline → Result Outline AsmFault)

@@ -55,7 +55,13 @@ body_of (t ∷ ts) = ended (body t (beginning ts))
 -- only an instruction may have a label
 abbrev pub labelled : List ℕ → Body → Option Line
 labelled label (Step instr used) = Some (record { label = Some label; body = Step instr used })
-labelled label _ = None
+labelled label Blank = None
+labelled label (OpenDriver name) = None
+labelled label CloseDriver = None
+labelled label (Handle major routine) = None
+labelled label (OpenRoutine name sort) = None
+labelled label CloseRoutine = None
+labelled label (AddDevice name driver stack lower) = None
 
 -- the line of these tokens, of which the first may be a label
 abbrev pub line_with : List (List ℕ) → Option (List ℕ) → List (List ℕ) → Option Line
@@ -74,4 +80,11 @@ read_line raw = if is_lexical raw then ok_or (line_of (tokens_of raw)) UnknownWo
 -- the operands of the line's instruction, if it has one, are those of a sound set
 abbrev pub BodyFits : Body → Type 0
 BodyFits (Step (Some instr) used) = OperandFits instr
-BodyFits _ = ⊤
+BodyFits (Step None used) = ⊤
+BodyFits Blank = ⊤
+BodyFits (OpenDriver name) = ⊤
+BodyFits CloseDriver = ⊤
+BodyFits (Handle major routine) = ⊤
+BodyFits (OpenRoutine name sort) = ⊤
+BodyFits CloseRoutine = ⊤
+BodyFits (AddDevice name driver stack lower) = ⊤

@@ -12,7 +12,7 @@ use Rattle.model.specs.declared.event.Bug.{Bug}
 use Rattle.model.specs.declared.event.BugCheck.TheVariants.{IrqlNotLessOrEqual, SpinLockAlreadyOwned, SpinLockNotOwned, NoMoreIrpStackLocations, MultipleIrpCompleteRequests}
 use Rattle.model.specs.declared.event.Subject.TheVariants.{Packet as PacketSubject, Lock as LockSubject, Cell}
 use Rattle.model.specs.declared.event.Reply.{Reply}
-use Rattle.model.specs.declared.event.Reply.TheVariants.{Idle, Refused, Bug as BugCheckReply, Wrong}
+use Rattle.model.specs.declared.event.Reply.TheVariants.{Started, Stepped, Finished, Topped, Waited, Idle, Refused, Bug as BugCheckReply, Wrong}
 use Rattle.model.specs.Action.{Action, Executes, Acquires, Releases, TouchesPaged, Touches, Issues, Calls, Ups, Completes, Continues, Lends, Exchanges, Marks, Leaves, Returns, TopsOut, GoesWrong}
 use Rattle.model.specs.Effect.{Outcome, Change, frame_effect, top_of, told_to, kept_below, with_stack, with_thread, issue_on, finished_or}
 use Rattle.model.specs.Fault.{bug_if, first_or, is_dispatch_level}
@@ -80,10 +80,9 @@ abbrev pub stays : Shared → Frame → Reply → Left
 stays s f reply =
     record { shared = s; frames = f ∷ []; reply = reply; taken_below = false; told = None }
 
--- a step with a bug check, or with a wrong operand, changes nothing
-abbrev pub unless_wrong : Shared → Frame → Outcome → Reply → Left
-unless_wrong s f o (Wrong place) = stays s f (Wrong place)
-unless_wrong s f o _ =
+-- what an outcome leaves
+abbrev pub moves : Outcome → Left
+moves o =
     record {
       shared = o.shared;
       frames = o.frames;
@@ -91,6 +90,18 @@ unless_wrong s f o _ =
       taken_below = o.taken_below;
       told = o.told;
     }
+
+-- a step with a bug check, or with a wrong operand, changes nothing
+abbrev pub unless_wrong : Shared → Frame → Outcome → Reply → Left
+unless_wrong s f o (Wrong place) = stays s f (Wrong place)
+unless_wrong s f o (Started packet) = moves o
+unless_wrong s f o Stepped = moves o
+unless_wrong s f o Finished = moves o
+unless_wrong s f o (Topped packet status info) = moves o
+unless_wrong s f o Waited = moves o
+unless_wrong s f o Idle = moves o
+unless_wrong s f o Refused = moves o
+unless_wrong s f o (BugCheckReply bug) = moves o
 
 abbrev pub left_by : Shared → Frame → Outcome → Option Bug → Left
 left_by s f o (Some bug) = stays s f (BugCheckReply bug)
@@ -168,7 +179,13 @@ event_now set w (Step t) = step_now set w t (slice_get w.threads t)
 abbrev pub is_stop : Reply → Bool
 is_stop (BugCheckReply bug) = true
 is_stop (Wrong place) = true
-is_stop _ = false
+is_stop (Started packet) = false
+is_stop Stepped = false
+is_stop Finished = false
+is_stop (Topped packet status info) = false
+is_stop Waited = false
+is_stop Idle = false
+is_stop Refused = false
 
 -- what a machine holds beside its set: a world, and whether it has stopped
 pub record State : Type 0 where

@@ -9,7 +9,7 @@ use Rattle.interleave.specs.Listing.{schedule_in}
 use Rattle.model.specs.declared.abs.Refusal.{Refusal}
 use Rattle.model.specs.declared.event.Event.{Event}
 use Rattle.model.specs.declared.event.Reply.{Reply}
-use Rattle.model.specs.declared.event.Reply.TheVariants.{Bug, Wrong}
+use Rattle.model.specs.declared.event.Reply.TheVariants.{Started, Stepped, Finished, Topped, Waited, Idle, Refused, Bug, Wrong}
 use Rattle.model.specs.declared.set.Driver.{Driver}
 use Rattle.model.specs.declared.set.Routine.{Routine}
 use Rattle.model.specs.Certificate.{certificate_of}
@@ -75,7 +75,13 @@ IsVerdict set answer =
 abbrev pub is_last : Reply → Bool
 is_last (Bug bug) = true
 is_last (Wrong place) = true
-is_last _ = false
+is_last (Started packet) = false
+is_last Stepped = false
+is_last Finished = false
+is_last (Topped packet status info) = false
+is_last Waited = false
+is_last Idle = false
+is_last Refused = false
 
 -- the replies to events, up to and with the last one
 abbrev pub replies : Set → Run → List Event → List Reply
@@ -109,7 +115,8 @@ abbrev pub IsTraced : Verification → Result Set AsmFault → Result Schedule S
 IsTraced Required (Ok set) schedule answer =
     (IsTypable set × (answer ≡ ran set schedule)) ⊎ IsRefused set answer
 IsTraced Skipped (Ok set) schedule answer = answer ≡ ran set schedule
-IsTraced verification (Err fault) schedule answer = answer ≡ faulty (text_fault_line fault)
+IsTraced Required (Err fault) schedule answer = answer ≡ faulty (text_fault_line fault)
+IsTraced Skipped (Err fault) schedule answer = answer ≡ faulty (text_fault_line fault)
 
 -- what `check` answers for the bytes of its file
 abbrev pub IsCheck : List ℕ → Answer → Type 0

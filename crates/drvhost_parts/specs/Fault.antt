@@ -21,12 +21,18 @@ use Rattle.drvhost_parts.specs.Device.{Adds, Holds, TakesBeginning}
 -- how many reads failed
 abbrev pub failed_reads : Fault → ℕ
 failed_reads Read = 1
-failed_reads _ = 0
+failed_reads Write = 0
+failed_reads Memory = 0
+failed_reads (Text fault) = 0
+failed_reads (OfSchedule fault) = 0
 
 -- how many writes failed
 abbrev pub failed_writes : Fault → ℕ
 failed_writes Write = 1
-failed_writes _ = 0
+failed_writes Read = 0
+failed_writes Memory = 0
+failed_writes (Text fault) = 0
+failed_writes (OfSchedule fault) = 0
 
 -- the same of a call that may end in a fault
 abbrev pub reads_failed : {T : Type 0} → Result T Fault → ℕ
@@ -40,7 +46,10 @@ writes_failed (Err fault) = failed_writes fault
 -- the exit status for a fault
 abbrev pub fault_status : Fault → ℕ
 fault_status Memory = 3
-fault_status _ = 2
+fault_status Read = 2
+fault_status Write = 2
+fault_status (Text fault) = 2
+fault_status (OfSchedule fault) = 2
 
 -- the exit status for a job
 abbrev pub status_of : Result End Fault → ℕ
@@ -63,14 +72,23 @@ told_of (Err fault) = fault_told fault
 -- a fault of memory is one of its own
 abbrev pub text_fault_of : AsmKind → AsmFault → Fault
 text_fault_of asm_kind.Memory fault = Memory
-text_fault_of kind fault = Text fault
+text_fault_of asm_kind.Lex fault = Text fault
+text_fault_of asm_kind.UnknownWord fault = Text fault
+text_fault_of asm_kind.DuplicateName fault = Text fault
+text_fault_of asm_kind.UnknownName fault = Text fault
+text_fault_of asm_kind.OutOfRange fault = Text fault
+text_fault_of asm_kind.Unclosed fault = Text fault
+text_fault_of asm_kind.OverLimit fault = Text fault
 
 abbrev pub text_fault : AsmFault → Fault
 text_fault fault = text_fault_of fault.kind fault
 
 abbrev pub schedule_fault_of : ScheduleKind → ScheduleFault → Fault
 schedule_fault_of schedule_kind.Memory fault = Memory
-schedule_fault_of kind fault = OfSchedule fault
+schedule_fault_of schedule_kind.Lex fault = OfSchedule fault
+schedule_fault_of schedule_kind.UnknownWord fault = OfSchedule fault
+schedule_fault_of schedule_kind.OutOfRange fault = OfSchedule fault
+schedule_fault_of schedule_kind.TooLong fault = OfSchedule fault
 
 abbrev pub schedule_fault : ScheduleFault → Fault
 schedule_fault fault = schedule_fault_of fault.kind fault

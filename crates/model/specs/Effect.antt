@@ -30,7 +30,7 @@ use Rattle.model.specs.declared.event.OfDevice.{OfDevice}
 use Rattle.model.specs.declared.event.Event.{Event}
 use Rattle.model.specs.declared.event.Event.TheVariants.{Issue, Step}
 use Rattle.model.specs.declared.event.Reply.{Reply}
-use Rattle.model.specs.declared.event.Reply.TheVariants.{Started, Stepped, Finished, Topped, Waited, Idle, Refused, Wrong}
+use Rattle.model.specs.declared.event.Reply.TheVariants.{Started, Stepped, Finished, Topped, Waited, Idle, Refused, Bug as BugCheckReply, Wrong}
 use Rattle.model.specs.Action.{Action, Executes, Acquires, Releases, TouchesPaged, Touches, Issues, Calls, Ups, Completes, Marks, Leaves, Returns, TopsOut, GoesWrong}
 use Rattle.model.specs.Set.{Set, serving, instruction_at, sort_of, lower_of, default_number}
 use Rattle.model.specs.World.{Shared, World, owner_of, with_owner, with_locks, with_cells, packet_of, with_packet, without_packet, packet_in, number_in, status_in, register, next, at_label, with_register, innermost, outer_loops, with_loops, field_of, with_info, mark_current, current_location, sent_down, shared_with, left_location, moved_up, carried_up, completion_of, asked_of, completed, new_packet, entered}
@@ -470,7 +470,14 @@ unchanged w reply = record { world = w; actions = []; reply = reply; over = fals
 -- a step that leaves its thread without frames has finished it
 abbrev pub finished_or : List Frame → Reply → Reply
 finished_or [] Stepped = Finished
-finished_or [] reply = reply
+finished_or [] (Started packet) = Started packet
+finished_or [] Finished = Finished
+finished_or [] (Topped packet status info) = Topped packet status info
+finished_or [] Waited = Waited
+finished_or [] Idle = Idle
+finished_or [] Refused = Refused
+finished_or [] (BugCheckReply bug) = BugCheckReply bug
+finished_or [] (Wrong place) = Wrong place
 finished_or (f ∷ frames) reply = reply
 
 -- a thread with other frames: one that is left without any is idle, at PASSIVE_LEVEL

@@ -25,7 +25,21 @@ is_lock (Spin l) (Spin m) = nat_eq l.device m.device && nat_eq l.number m.number
 abbrev pub holds_after : Action → Bool → Lock → Bool → Bool
 holds_after (Acquires m) its_own l before = if its_own && is_lock m l then true else before
 holds_after (Releases m) its_own l before = if its_own && is_lock m l then false else before
-holds_after _ its_own l before = before
+holds_after Executes its_own l before = before
+holds_after (TouchesPaged cell) its_own l before = before
+holds_after (Touches packet) its_own l before = before
+holds_after (Issues packet stack) its_own l before = before
+holds_after (Calls packet) its_own l before = before
+holds_after (Ups packet) its_own l before = before
+holds_after (Completes packet) its_own l before = before
+holds_after (Continues packet) its_own l before = before
+holds_after (Lends packet) its_own l before = before
+holds_after (Exchanges packet stores) its_own l before = before
+holds_after (Marks packet) its_own l before = before
+holds_after (Leaves packet) its_own l before = before
+holds_after (Returns status) its_own l before = before
+holds_after (TopsOut packet) its_own l before = before
+holds_after GoesWrong its_own l before = before
 
 abbrev pub holds : List Entry → ℕ → Lock → Bool
 holds [] t l = false
@@ -34,7 +48,22 @@ holds (e ∷ past) t l = holds_after e.action (nat_eq e.actor.thread t) l (holds
 -- the locks that were ever acquired
 abbrev pub with_acquired : Action → List Lock → List Lock
 with_acquired (Acquires l) locks = l ∷ locks
-with_acquired _ locks = locks
+with_acquired Executes locks = locks
+with_acquired (Releases lock) locks = locks
+with_acquired (TouchesPaged cell) locks = locks
+with_acquired (Touches packet) locks = locks
+with_acquired (Issues packet stack) locks = locks
+with_acquired (Calls packet) locks = locks
+with_acquired (Ups packet) locks = locks
+with_acquired (Completes packet) locks = locks
+with_acquired (Continues packet) locks = locks
+with_acquired (Lends packet) locks = locks
+with_acquired (Exchanges packet stores) locks = locks
+with_acquired (Marks packet) locks = locks
+with_acquired (Leaves packet) locks = locks
+with_acquired (Returns status) locks = locks
+with_acquired (TopsOut packet) locks = locks
+with_acquired GoesWrong locks = locks
 
 abbrev pub acquired : List Entry → List Lock
 acquired [] = []
@@ -56,7 +85,22 @@ at_dispatch past actor = is_dispatch_level actor.root || holds_any past actor.th
 -- a packet has topped out
 abbrev pub tops : Action → ℕ → Bool → Bool
 tops (TopsOut m) n before = nat_eq m n || before
-tops _ n before = before
+tops Executes n before = before
+tops (Acquires lock) n before = before
+tops (Releases lock) n before = before
+tops (TouchesPaged cell) n before = before
+tops (Touches packet) n before = before
+tops (Issues packet stack) n before = before
+tops (Calls packet) n before = before
+tops (Ups packet) n before = before
+tops (Completes packet) n before = before
+tops (Continues packet) n before = before
+tops (Lends packet) n before = before
+tops (Exchanges packet stores) n before = before
+tops (Marks packet) n before = before
+tops (Leaves packet) n before = before
+tops (Returns status) n before = before
+tops GoesWrong n before = before
 
 abbrev pub topped : List Entry → ℕ → Bool
 topped [] n = false
@@ -67,7 +111,20 @@ abbrev pub completes : Action → ℕ → Bool → Bool
 completes (Completes m) n before = if nat_eq m n then true else before
 completes (Continues m) n before = if nat_eq m n then true else before
 completes (Lends m) n before = if nat_eq m n then false else before
-completes _ n before = before
+completes Executes n before = before
+completes (Acquires lock) n before = before
+completes (Releases lock) n before = before
+completes (TouchesPaged cell) n before = before
+completes (Touches packet) n before = before
+completes (Issues packet stack) n before = before
+completes (Calls packet) n before = before
+completes (Ups packet) n before = before
+completes (Exchanges packet stores) n before = before
+completes (Marks packet) n before = before
+completes (Leaves packet) n before = before
+completes (Returns status) n before = before
+completes (TopsOut packet) n before = before
+completes GoesWrong n before = before
 
 abbrev pub completing : List Entry → ℕ → Bool
 completing [] n = false
@@ -76,7 +133,22 @@ completing (e ∷ past) n = completes e.action n (completing past n)
 -- a packet has a cancel routine: its last exchange stored one
 abbrev pub arms : Action → ℕ → Bool → Bool
 arms (Exchanges m stores) n before = if nat_eq m n then stores else before
-arms _ n before = before
+arms Executes n before = before
+arms (Acquires lock) n before = before
+arms (Releases lock) n before = before
+arms (TouchesPaged cell) n before = before
+arms (Touches packet) n before = before
+arms (Issues packet stack) n before = before
+arms (Calls packet) n before = before
+arms (Ups packet) n before = before
+arms (Completes packet) n before = before
+arms (Continues packet) n before = before
+arms (Lends packet) n before = before
+arms (Marks packet) n before = before
+arms (Leaves packet) n before = before
+arms (Returns status) n before = before
+arms (TopsOut packet) n before = before
+arms GoesWrong n before = before
 
 abbrev pub armed : List Entry → ℕ → Bool
 armed [] n = false
@@ -85,7 +157,22 @@ armed (e ∷ past) n = arms e.action n (armed past n)
 -- how many locations a packet has, and how far down it was sent: its issue and calls less its ups
 abbrev pub stack_after : Action → ℕ → ℕ → ℕ
 stack_after (Issues m stack) n before = if nat_eq m n then stack else before
-stack_after _ n before = before
+stack_after Executes n before = before
+stack_after (Acquires lock) n before = before
+stack_after (Releases lock) n before = before
+stack_after (TouchesPaged cell) n before = before
+stack_after (Touches packet) n before = before
+stack_after (Calls packet) n before = before
+stack_after (Ups packet) n before = before
+stack_after (Completes packet) n before = before
+stack_after (Continues packet) n before = before
+stack_after (Lends packet) n before = before
+stack_after (Exchanges packet stores) n before = before
+stack_after (Marks packet) n before = before
+stack_after (Leaves packet) n before = before
+stack_after (Returns status) n before = before
+stack_after (TopsOut packet) n before = before
+stack_after GoesWrong n before = before
 
 abbrev pub stack_size : List Entry → ℕ → ℕ
 stack_size [] n = 0
@@ -95,7 +182,20 @@ abbrev pub depth_after : Action → ℕ → ℕ → ℕ
 depth_after (Issues m stack) n before = if nat_eq m n then 1 else before
 depth_after (Calls m) n before = if nat_eq m n then before + 1 else before
 depth_after (Ups m) n before = if nat_eq m n then before - 1 else before
-depth_after _ n before = before
+depth_after Executes n before = before
+depth_after (Acquires lock) n before = before
+depth_after (Releases lock) n before = before
+depth_after (TouchesPaged cell) n before = before
+depth_after (Touches packet) n before = before
+depth_after (Completes packet) n before = before
+depth_after (Continues packet) n before = before
+depth_after (Lends packet) n before = before
+depth_after (Exchanges packet stores) n before = before
+depth_after (Marks packet) n before = before
+depth_after (Leaves packet) n before = before
+depth_after (Returns status) n before = before
+depth_after (TopsOut packet) n before = before
+depth_after GoesWrong n before = before
 
 abbrev pub depth : List Entry → ℕ → ℕ
 depth [] n = 0

@@ -21,7 +21,7 @@ use Rattle.model.specs.declared.instr.Return.TheVariants.{WithStatus, Lower as L
 use Rattle.model.specs.declared.set.Sort.{Sort}
 use Rattle.model.specs.declared.set.Sort.TheVariants.{Dispatch, Propagate}
 use Rattle.model.specs.declared.status.Status.{Status}
-use Rattle.model.specs.declared.status.Status.TheVariants.{Pending as PendingStatus}
+use Rattle.model.specs.declared.status.Status.TheVariants.{Success, Pending as PendingStatus, Busy, Unsuccessful, InvalidParameter, InvalidDeviceRequest, Cancelled}
 use Rattle.model.specs.Forwarding.{lacks_lower, is_too_small}
 use Rattle.model.specs.declared.limits.TheConstants.{REGISTERS, SPIN_LOCKS}
 use Rattle.model.specs.Set.{Set, Member, Flow, Onward, Branches, Jumps, Opens, Closes, Leaves, flow_of}
@@ -170,7 +170,12 @@ is_completion Propagate = true
 
 abbrev pub is_pending : Status → Bool
 is_pending PendingStatus = true
-is_pending _ = false
+is_pending Success = false
+is_pending Busy = false
+is_pending Unsuccessful = false
+is_pending InvalidParameter = false
+is_pending InvalidDeviceRequest = false
+is_pending Cancelled = false
 
 -- a register that may be written over
 abbrev pub free_kind : Kind → Option Rule

@@ -15,7 +15,7 @@ use Rattle.model.specs.declared.event.Event.{Event}
 use Rattle.model.specs.declared.event.Event.TheVariants.{Issue, Step}
 use Rattle.model.specs.declared.event.Bug.{Bug}
 use Rattle.model.specs.declared.event.Reply.{Reply}
-use Rattle.model.specs.declared.event.Reply.TheVariants.{Refused, Bug as BugCheckReply, Wrong}
+use Rattle.model.specs.declared.event.Reply.TheVariants.{Started, Stepped, Finished, Topped, Waited, Idle, Refused, Bug as BugCheckReply, Wrong}
 use Rattle.model.specs.Effect.{Change, effect}
 use Rattle.model.specs.Fault.{first_fault}
 use Rattle.model.specs.Set.{Set, sort_of}
@@ -156,10 +156,21 @@ goes set r t past c =
       reply = c.reply;
     }
 
--- a wrong operand stops the run; a step that would pass a bound is refused
+-- a step that would pass a bound is refused
+abbrev pub unless_over : Set → Run → ℕ → List Entry → Change → Answered
+unless_over set r t past c = if c.over then refused r else goes set r t past c
+
+-- a wrong operand stops the run
 abbrev pub unless_wrong : Set → Run → ℕ → List Entry → Change → Reply → Answered
 unless_wrong set r t past c (Wrong place) = stops r past (Wrong place)
-unless_wrong set r t past c _ = if c.over then refused r else goes set r t past c
+unless_wrong set r t past c (Started packet) = unless_over set r t past c
+unless_wrong set r t past c Stepped = unless_over set r t past c
+unless_wrong set r t past c Finished = unless_over set r t past c
+unless_wrong set r t past c (Topped packet status info) = unless_over set r t past c
+unless_wrong set r t past c Waited = unless_over set r t past c
+unless_wrong set r t past c Idle = unless_over set r t past c
+unless_wrong set r t past c Refused = unless_over set r t past c
+unless_wrong set r t past c (BugCheckReply bug) = unless_over set r t past c
 
 -- a bug check stops the run. No event both makes one and goes wrong: a step that goes wrong does
 -- nothing else

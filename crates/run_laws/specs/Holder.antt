@@ -12,7 +12,7 @@ use Rattle.model.specs.declared.world.Frame.TheVariants.{Routine, Walk}
 use Rattle.model.specs.declared.world.Packet.{Packet}
 use Rattle.model.specs.declared.world.Thread.{Thread}
 use Rattle.model.specs.declared.world.Value.{Value}
-use Rattle.model.specs.declared.world.Value.TheVariants.{Ref}
+use Rattle.model.specs.declared.world.Value.TheVariants.{Blank, Num, Ref, Status as StatusValue}
 use Rattle.model.specs.Fault.{topped}
 use Rattle.model.specs.LocalRule.{is_right}
 use Rattle.model.specs.Paths.{Arrives}
@@ -25,7 +25,9 @@ use Rattle.model.specs.World.{packet_of}
 -- 1 where a value refers to a packet, else 0
 abbrev pub names : Value → ℕ → ℕ
 names (Ref m) n = if nat_eq m n then 1 else 0
-names _ n = 0
+names Blank n = 0
+names (Num number) n = 0
+names (StatusValue status) n = 0
 
 -- how many registers have a right to a packet: it is theirs by their kind
 abbrev pub right : Kind → Value → ℕ → ℕ
