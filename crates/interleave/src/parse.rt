@@ -44,7 +44,7 @@ fn schedule_in(alloc: Global, text: &[u8]) -> Result<Result<Schedule, ScheduleFa
     ensures { IfOk result (λ r. r ≡ schedule_in text.now) }
 {
     let lines = lines(alloc, text)?;
-    match find_opening(alloc, lines.as_slice())? {
+    match find_opening(lines.as_slice()) {
         Ok(opening) => {
             let rest = &lines[opening.lines..];
             match list(alloc, rest, opening.lines as u64 + 1)? {
@@ -67,37 +67,33 @@ struct Opening {
 }
 
 /// The line that says how many threads there are.
-fn find_opening(
-    alloc: Global,
-    lines: &[Piece],
-) -> Result<Result<Opening, ScheduleFault>, AllocError>
-    ensures { IfOk result
-        (λ r. MatchResult r (λ o. (o.lines ≤ length lines.now)
+fn find_opening(lines: &[Piece]) -> Result<Opening, ScheduleFault>
+    ensures { MatchResult result (λ o. (o.lines ≤ length lines.now)
         × (opening 1 lines.now ≡ with_threads o.threads
         (listing [] (o.lines + 1) (drop o.lines lines.now))))
-        (λ fault. opening 1 lines.now ≡ Err fault)) }
+        (λ fault. opening 1 lines.now ≡ Err fault) }
 {
     for (i, line) in lines.iter().enumerate() {
-        match opening_line(alloc, line.bytes())? {
+        match opening_line(line.bytes()) {
             Ok(Some(threads)) => {
-                return Ok(Ok(Opening {
+                return Ok(Opening {
                     threads,
                     lines: i + 1,
-                }));
+                });
             }
             Ok(None) => {}
             Err(kind) => {
-                return Ok(Err(ScheduleFault {
+                return Err(ScheduleFault {
                     line: i as u64 + 1,
                     kind,
-                }));
+                });
             }
         }
     }
-    Ok(Err(ScheduleFault {
+    Err(ScheduleFault {
         line: lines.len() as u64 + 1,
         kind: ScheduleKind::UnknownWord,
-    }))
+    })
 }
 
 /// The events of lines of which the first has this number.
@@ -113,7 +109,7 @@ fn list(
 {
     let mut events = Events::new(alloc);
     for (i, line) in lines.iter().enumerate() {
-        match add_line(alloc, &mut events, line.bytes())? {
+        match add_line(&mut events, line.bytes())? {
             Ok(()) => {}
             Err(kind) => {
                 return Ok(Err(ScheduleFault {
@@ -127,16 +123,12 @@ fn list(
 }
 
 /// Adds the events of a line.
-fn add_line(
-    alloc: Global,
-    events: &mut Events,
-    line: &[u8],
-) -> Result<Result<(), ScheduleKind>, AllocError>
+fn add_line(events: &mut Events, line: &[u8]) -> Result<Result<(), ScheduleKind>, AllocError>
     ensures { IfOk result
         (λ r. MatchResult r (λ _. events_after events.old line.now ≡ Ok events.new)
         (λ kind. events_after events.old line.now ≡ Err kind)) }
 {
-    match event_line(alloc, line)? {
+    match event_line(line) {
         Ok(Some(repeated)) => match events.len().checked_add(repeated.count) {
             Some(length) => {
                 if length > MAX_EVENTS {

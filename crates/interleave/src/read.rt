@@ -1,20 +1,17 @@
 //! One line of a schedule.
 
-ghost use Rattle.std.specs.Prelude.{◌≡◌, ◌≤◌, IfOk, IfSome, MatchResult};
-ghost use Rattle.std.specs.List.{list_all};
-ghost use Rattle.text.specs.Class.{is_token};
+ghost use Rattle.std.specs.Prelude.{◌≡◌, ◌≤◌, IfSome};
 ghost use Rattle.interleave.specs.Line.{checked_tokens, event_line, event_of, issue_line, issue_of, issues, number_within, opening_line, opening_of, step_line, steps, steps_of, threads_line, threads_of};
 
 use crate::schedule::ScheduleKind;
 use model::event::Event;
 use model::limits::MAX_THREADS;
 use model::status::Major;
-use std::alloc::{AllocError, Global};
-use text::class::{is, is_number, is_token};
-use text::cut::{is_clean, tokens};
+use text::class::{is, is_number};
+use text::cut::is_clean;
 use text::major::major_of;
 use text::number::{Numeral, number};
-use text::piece::Piece;
+use text::token::Tokens;
 
 /// An event that happens a number of times, one after another.
 #[derive(Clone, Copy)]
@@ -31,68 +28,44 @@ const MAX_REPEATS: u64 = 1_000_000;
 ///
 /// # Errors
 ///
-/// When memory runs out; inside, the least kind of what is wrong with the line.
-pub fn opening_line(
-    alloc: Global,
-    line: &[u8],
-) -> Result<Result<Option<u8>, ScheduleKind>, AllocError>
-    ensures { IfOk result (λ r. r ≡ opening_line line.now) }
+/// The least kind of what is wrong with the line.
+pub fn opening_line(line: &[u8]) -> Result<Option<u8>, ScheduleKind>
+    ensures { result ≡ opening_line line.now }
 {
-    match checked_tokens(alloc, line)? {
-        Ok(tokens) => Ok(opening_of(tokens.as_slice())),
-        Err(kind) => Ok(Err(kind)),
-    }
+    opening_of(checked_tokens(line)?)
 }
 
 /// The events that a later line stands for, or `None` if it is blank.
 ///
 /// # Errors
 ///
-/// When memory runs out; inside, the least kind of what is wrong with the line.
-pub fn event_line(
-    alloc: Global,
-    line: &[u8],
-) -> Result<Result<Option<Repeated>, ScheduleKind>, AllocError>
-    ensures { IfOk result (λ r. r ≡ event_line line.now) }
+/// The least kind of what is wrong with the line.
+pub fn event_line(line: &[u8]) -> Result<Option<Repeated>, ScheduleKind>
+    ensures { result ≡ event_line line.now }
 {
-    match checked_tokens(alloc, line)? {
-        Ok(tokens) => Ok(event_of(tokens.as_slice())),
-        Err(kind) => Ok(Err(kind)),
-    }
+    event_of(checked_tokens(line)?)
 }
 
 /// The tokens of a line whose bytes and tokens are all allowed.
-fn checked_tokens<'a>(
-    alloc: Global,
-    line: &'a [u8],
-) -> Result<Result<Vec<Piece<'a>>, ScheduleKind>, AllocError>
-    ensures { IfOk result
-        (λ r. MatchResult r (λ tokens. checked_tokens line.now ≡ Ok tokens.items)
-        (λ kind. checked_tokens line.now ≡ Err kind)) }
+fn checked_tokens(line: &[u8]) -> Result<Tokens<'_>, ScheduleKind>
+    ensures { result ≡ checked_tokens line.now }
 {
-    let tokens = tokens(alloc, line)?;
-    if is_clean(line) && are_of_form(tokens.as_slice()) {
-        Ok(Ok(tokens))
+    let tokens = Tokens::of(line);
+    if is_clean(line) && tokens.are_of_form() {
+        Ok(tokens)
     } else {
-        Ok(Err(ScheduleKind::Lex))
+        Err(ScheduleKind::Lex)
     }
 }
 
-/// Whether each piece is of a token's form.
-fn are_of_form(pieces: &[Piece]) -> bool
-    ensures { result ≡ list_all is_token pieces.now }
-{
-    pieces.iter().all(|piece| is_token(piece.bytes()))
-}
-
 /// The line that says how many threads there are.
-fn opening_of(tokens: &[Piece]) -> Result<Option<u8>, ScheduleKind>
-    ensures { result ≡ opening_of tokens.now }
+fn opening_of(mut tokens: Tokens) -> Result<Option<u8>, ScheduleKind>
+    ensures { result ≡ opening_of tokens.entry }
 {
-    match tokens.split_first() {
-        Some((word, operands)) => {
-            if is(word.bytes(), b"threads") {
-                threads_line(operands)
+    match tokens.next() {
+        Some(word) => {
+            if is(word, b"threads") {
+                threads_line(tokens)
             } else {
                 Err(ScheduleKind::UnknownWord)
             }
@@ -102,11 +75,11 @@ fn opening_of(tokens: &[Piece]) -> Result<Option<u8>, ScheduleKind>
 }
 
 /// `threads K`.
-fn threads_line(operands: &[Piece]) -> Result<Option<u8>, ScheduleKind>
-    ensures { result ≡ threads_line operands.now }
+fn threads_line(mut operands: Tokens) -> Result<Option<u8>, ScheduleKind>
+    ensures { result ≡ threads_line operands.entry }
 {
-    match operands {
-        [count] => threads_of(count.bytes()),
+    match (operands.next(), operands.next()) {
+        (Some(count), None) => threads_of(count),
         _ => Err(ScheduleKind::UnknownWord),
     }
 }
@@ -125,15 +98,15 @@ fn threads_of(count: &[u8]) -> Result<Option<u8>, ScheduleKind>
 }
 
 /// A line that stands for events.
-fn event_of(tokens: &[Piece]) -> Result<Option<Repeated>, ScheduleKind>
-    ensures { result ≡ event_of tokens.now }
+fn event_of(mut tokens: Tokens) -> Result<Option<Repeated>, ScheduleKind>
+    ensures { result ≡ event_of tokens.entry }
 {
-    match tokens.split_first() {
-        Some((word, operands)) => {
-            if is(word.bytes(), b"issue") {
-                issue_line(operands)
-            } else if is(word.bytes(), b"step") {
-                step_line(operands)
+    match tokens.next() {
+        Some(word) => {
+            if is(word, b"issue") {
+                issue_line(tokens)
+            } else if is(word, b"step") {
+                step_line(tokens)
             } else {
                 Err(ScheduleKind::UnknownWord)
             }
@@ -143,17 +116,13 @@ fn event_of(tokens: &[Piece]) -> Result<Option<Repeated>, ScheduleKind>
 }
 
 /// `issue T D MAJOR ARG`.
-fn issue_line(operands: &[Piece]) -> Result<Option<Repeated>, ScheduleKind>
-    ensures { result ≡ issue_line operands.now }
+fn issue_line(mut operands: Tokens) -> Result<Option<Repeated>, ScheduleKind>
+    ensures { result ≡ issue_line operands.entry }
 {
-    match operands {
-        [thread, device, major, argument] => {
-            issue_of(
-                thread.bytes(),
-                device.bytes(),
-                major.bytes(),
-                argument.bytes(),
-            )
+    let four = (operands.next(), operands.next(), operands.next(), operands.next());
+    match (four, operands.next()) {
+        ((Some(thread), Some(device), Some(major), Some(argument)), None) => {
+            issue_of(thread, device, major, argument)
         }
         _ => Err(ScheduleKind::UnknownWord),
     }
@@ -197,12 +166,12 @@ fn issues(thread: &[u8], device: &[u8], major: Major, argument: &[u8]) -> Option
 }
 
 /// `step T K`, or `step T` for one step.
-fn step_line(operands: &[Piece]) -> Result<Option<Repeated>, ScheduleKind>
-    ensures { result ≡ step_line operands.now }
+fn step_line(mut operands: Tokens) -> Result<Option<Repeated>, ScheduleKind>
+    ensures { result ≡ step_line operands.entry }
 {
-    match operands {
-        [thread] => steps_of(thread.bytes(), b"1"),
-        [thread, count] => steps_of(thread.bytes(), count.bytes()),
+    match (operands.next(), operands.next(), operands.next()) {
+        (Some(thread), None, None) => steps_of(thread, b"1"),
+        (Some(thread), Some(count), None) => steps_of(thread, count),
         _ => Err(ScheduleKind::UnknownWord),
     }
 }

@@ -1,10 +1,9 @@
-//! A text cut into lines, and a line into tokens.
+//! A text cut into lines.
 
 ghost use Rattle.std.specs.Prelude.{◌≡◌, ◌++◌, [], IfOk, OnOk};
-ghost use Rattle.text.specs.Cut.{closed, is_clean, is_written, lines_of, tokens_of};
+ghost use Rattle.text.specs.Cut.{closed, is_clean, is_written, lines_of};
 
 use crate::piece::Piece;
-use crate::token::Tokens;
 use std::alloc::{AllocError, Global};
 
 /// The lines of a text, in order, without their LF. Bytes after the last LF are a line; nothing
@@ -26,22 +25,6 @@ pub fn lines<'a>(alloc: Global, text: &'a [u8]) -> Result<Vec<Piece<'a>>, AllocE
         }
     }
     close(&mut found, &text[start..])?;
-    Ok(found)
-}
-
-/// The tokens of a line, in order.
-///
-/// # Errors
-///
-/// When memory runs out.
-pub fn tokens<'a>(alloc: Global, line: &'a [u8]) -> Result<Vec<Piece<'a>>, AllocError>
-    ensures { IfOk result (λ tokens. tokens.items ≡ tokens_of line.now) }
-{
-    let mut found = Vec::new(alloc);
-    let mut left = Tokens::of(line);
-    while let Some(token) = left.next() {
-        found.push(Piece::of(token))?;
-    }
     Ok(found)
 }
 
