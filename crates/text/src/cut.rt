@@ -49,5 +49,9 @@ fn is_written(byte: u8) -> bool
 pub fn is_clean(line: &[u8]) -> bool
     ensures { result ≡ is_clean line.now }
 {
-    line.iter().all(|byte| is_written(*byte))
+    let mut clean = true;
+    for byte in line {
+        clean &= is_written(*byte);
+    }
+    clean
 }
