@@ -148,7 +148,7 @@ pub fn level_fault(state: &Abs, sort: Sort) -> Option<Rule>
 {
     match sort {
         Sort::Dispatch => broken_if(holds_lock(state), Rule::Level),
-        Sort::Propagate => Some(Rule::Level),
+        Sort::Dpc | Sort::Propagate => Some(Rule::Level),
     }
 }
 
@@ -244,8 +244,8 @@ pub fn is_pending(status: Status) -> bool
     matches!(status, Status::Pending)
 }
 
-/// A completion routine neither completes nor forwards.
-pub fn completion_sort_fault(sort: Sort) -> Option<Rule>
+/// A completion routine doesn't complete.
+fn completion_sort_fault(sort: Sort) -> Option<Rule>
     ensures { result ≡ completion_sort_fault sort }
 {
     broken_if(is_completion(sort), Rule::Completion)
@@ -255,7 +255,7 @@ fn is_completion(sort: Sort) -> bool
     ensures { result ≡ is_completion sort }
 {
     match sort {
-        Sort::Dispatch => false,
+        Sort::Dispatch | Sort::Dpc => false,
         Sort::Propagate => true,
     }
 }

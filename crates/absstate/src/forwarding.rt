@@ -4,9 +4,10 @@
 ghost use Rattle.std.specs.Prelude.{◌≡◌, ◌≤◌};
 ghost use Rattle.model.specs.Forwarding.{lacks_lower, is_too_small, device_under, is_under};
 ghost use Rattle.model.specs.LocalRule.{kind_of, least_of, broken_if, demanded, forward_fault};
+ghost use Rattle.model.specs.LocalRule.{forward_sort_fault};
 ghost use Rattle.model.specs.LocalRule.{a_new_one, one_handed_or_owned};
 
-use crate::fault::{Wanted, broken_if, completion_sort_fault, demanded, holds_lock, least};
+use crate::fault::{Wanted, broken_if, demanded, holds_lock, least};
 use crate::state::kind;
 use image::DriverSet;
 use model::abs::{Abs, Rule};
@@ -47,8 +48,8 @@ pub fn call_fault(
     least(packet, forward_fault(state, sort, set, driver, 1))
 }
 
-/// A packet is forwarded while no lock is held, by no completion routine, from devices that all
-/// have a lower one and stack locations for it and so many more.
+/// A packet is forwarded by a dispatch routine, while no lock is held, from devices that all have a
+/// lower one and stack locations for it and so many more.
 fn forward_fault(
     state: &Abs,
     sort: Sort,
@@ -62,7 +63,18 @@ fn forward_fault(
     let small = broken_if(is_too_small(set, driver, locations), Rule::StackTooSmall);
     let under = least(small, broken_if(lacks_lower(set, driver), Rule::NoLower));
     let held = broken_if(holds_lock(state), Rule::LockHeld);
-    least(held, least(completion_sort_fault(sort), under))
+    least(held, least(forward_sort_fault(sort), under))
+}
+
+/// Only a dispatch routine forwards.
+fn forward_sort_fault(sort: Sort) -> Option<Rule>
+    ensures { result ≡ forward_sort_fault sort }
+{
+    match sort {
+        Sort::Dispatch => None,
+        Sort::Dpc => Some(Rule::Sort),
+        Sort::Propagate => Some(Rule::Completion),
+    }
 }
 
 /// Whether a device of the driver has no lower one.

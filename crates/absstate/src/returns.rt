@@ -29,7 +29,7 @@ fn duty_fault(state: &Abs, form: &Return) -> Option<Rule>
     match *form {
         Return::WithStatus(status) => status_fault(state.duty, status),
         Return::Lower(register) => lower_fault(state, register),
-        Return::Continue => None,
+        Return::Continue | Return::Void => None,
     }
 }
 
@@ -76,9 +76,15 @@ fn form_fault(sort: Sort, form: &Return) -> Option<Rule>
 {
     match (sort, *form) {
         (Sort::Dispatch, Return::WithStatus(_) | Return::Lower(_)) => None,
-        (Sort::Dispatch, Return::Continue) => Some(Rule::Sort),
+        (Sort::Dispatch, Return::Continue | Return::Void) => Some(Rule::Sort),
+        (Sort::Dpc, Return::Void) => None,
+        (Sort::Dpc, Return::WithStatus(_) | Return::Lower(_) | Return::Continue) => {
+            Some(Rule::Sort)
+        }
         (Sort::Propagate, Return::Continue) => None,
-        (Sort::Propagate, Return::WithStatus(_) | Return::Lower(_)) => Some(Rule::Sort),
+        (Sort::Propagate, Return::WithStatus(_) | Return::Lower(_) | Return::Void) => {
+            Some(Rule::Sort)
+        }
     }
 }
 
@@ -87,7 +93,7 @@ fn settled_fault(sort: Sort, settled: Settled) -> Option<Rule>
     ensures { result ≡ settled_fault sort settled }
 {
     match sort {
-        Sort::Dispatch => None,
+        Sort::Dispatch | Sort::Dpc => None,
         Sort::Propagate => broken_if(!is_settled(settled), Rule::Completion),
     }
 }

@@ -11,12 +11,13 @@ use model::limits::{REGISTERS, SPIN_LOCKS};
 use model::set::Sort;
 
 /// The state in which a routine of a sort is entered, if it may be: it finds its packet in the
-/// first register.
+/// first register, but for a DPC routine, which is handed none.
 pub fn entry_state(sort: Sort) -> Option<Abs>
     ensures { result ≡ entry_of_sort sort }
 {
     match sort {
         Sort::Dispatch => Some(entered_with(Kind::New, Duty::Fresh, Settled::Settled)),
+        Sort::Dpc => Some(entered_with(Kind::Blank, Duty::NoDuty, Settled::Settled)),
         Sort::Propagate => Some(entered_with(Kind::View, Duty::NoDuty, Settled::Open)),
     }
 }

@@ -9,11 +9,11 @@ use Rattle.std.proofs.lemmas.List.Quantifiers.{position-Some}
 use Rattle.std.proofs.lemmas.Bool.{ltb-true}
 use Rattle.std.proofs.lemmas.Bool.Decides.{nat_tests}
 use Rattle.model.specs.declared.set.Device.{Device}
-use Rattle.model.specs.Sound.{DriverFits, DeviceFits, DevicesFit, RoutineFits, HandlerFits, LabelFits, OperandFits, CallFits, CallsFit, HasSort, IsDispatch, IsCompletion, IsSound}
+use Rattle.model.specs.Sound.{DriverFits, DeviceFits, DevicesFit, RoutineFits, HandlerFits, DpcFits, LabelFits, OperandFits, CallFits, CallsFit, HasSort, IsDispatch, IsCompletion, IsDpc, IsSound}
 use Rattle.model.specs.declared.status.Major.{Major}
 use Rattle.model.specs.declared.status.Major.TheVariants.{Read, Write, Control}
 use Rattle.model.specs.declared.set.Sort.{Sort}
-use Rattle.model.specs.declared.set.Sort.TheVariants.{Dispatch, Propagate}
+use Rattle.model.specs.declared.set.Sort.TheVariants.{Dispatch, Dpc, Propagate}
 use Rattle.model.specs.declared.instr.Instr.{Instr}
 use Rattle.model.specs.declared.instr.Instr.TheVariants.{JumpIfZero, JumpIfLess, Jump, IfPending, Call}
 use Rattle.model.specs.declared.limits.TheConstants.{MAX_DEVICES, MAX_DRIVERS, MAX_INSTRUCTIONS, MAX_ROUTINES, MAX_STACK}
@@ -25,13 +25,13 @@ use Rattle.asm.specs.declared.draft.Step.{Step}
 use Rattle.asm.specs.declared.draft.Use.{Use}
 use Rattle.asm.specs.declared.fault.AsmKind.TheVariants.{UnknownWord, DuplicateName, OutOfRange, OverLimit}
 use Rattle.asm_line.specs.declared.line.Body.{Body}
-use Rattle.asm_line.specs.declared.line.Body.TheVariants.{Blank, OpenDriver, CloseDriver, Handle, OpenRoutine, CloseRoutine, AddDevice, Step as TakeStep}
+use Rattle.asm_line.specs.declared.line.Body.TheVariants.{Blank, OpenDriver, CloseDriver, Handle, HandleDpc, OpenRoutine, CloseRoutine, AddDevice, Step as TakeStep}
 use Rattle.asm_line.specs.declared.line.Line.{Line}
 use Rattle.asm_line.specs.declared.line.UsedNames.{UsedNames}
 use Rattle.asm_line.specs.Line.{BodyFits}
 use Rattle.asm.specs.declared.routines.Role.{Role}
-use Rattle.asm.specs.declared.routines.Role.TheVariants.{Handler, Completion}
-use Rattle.asm.specs.Outline.{Outline, with_label, with_routine, label_added, call_place, resolved, target_position, used_at, nothing_read, misfit, stands, is_again, is_among, is_out_of_range, is_stack_size, has_room, noted, number_of, number_used, number_for, routine_named, routine_called, handler_in, called, finished, finished_driver, missed, missed_from, missed_routine, earliest, driver_opened, driver_closed, handled, routine_opened, routine_closed, open_drivers, open_routines, open_sort, device_added, stepped, ClosedFits, DevicesKnown, IsFitting, IsOrderly}
+use Rattle.asm.specs.declared.routines.Role.TheVariants.{Handler, Completion, Dpc as DpcRole}
+use Rattle.asm.specs.Outline.{Outline, with_label, with_routine, label_added, call_place, resolved, target_position, used_at, nothing_read, misfit, stands, is_again, is_among, is_out_of_range, is_stack_size, has_room, noted, number_of, number_used, number_for, routine_named, routine_called, entry_in, called, finished, finished_driver, missed, missed_from, missed_routine, earliest, driver_opened, driver_closed, handled, dpc_handled, routine_opened, routine_closed, open_drivers, open_routines, open_sort, device_added, stepped, ClosedFits, DevicesKnown, IsFitting, IsOrderly}
 
 -- no kind is chosen only where each test passes
 none_chosen : (a b c d : Bool)
@@ -218,6 +218,7 @@ sort_kept P o number sort sorts is h =
 abbrev SortFor : Role → Sort → Type 0
 SortFor Handler sort = IsDispatch sort
 SortFor Completion sort = IsCompletion sort
+SortFor DpcRole sort = IsDpc sort
 
 number_has_sort : (o : Outline) (role : Role) (number : ℕ) (sort : Option Sort)
     → map sort_at o.routines ≡ o.sorts → slice_get o.sorts number ≡ sort
@@ -226,10 +227,16 @@ number_has_sort : (o : Outline) (role : Role) (number : ℕ) (sort : Option Sort
 number_has_sort o role number None sorts is = tt
 number_has_sort o Handler number (Some Dispatch) sorts is =
     sort_kept IsDispatch o number Dispatch sorts is tt
+number_has_sort o Handler number (Some Dpc) sorts is = tt
 number_has_sort o Handler number (Some Propagate) sorts is = tt
 number_has_sort o Completion number (Some Dispatch) sorts is = tt
+number_has_sort o Completion number (Some Dpc) sorts is = tt
 number_has_sort o Completion number (Some Propagate) sorts is =
     sort_kept IsCompletion o number Propagate sorts is tt
+number_has_sort o DpcRole number (Some Dispatch) sorts is = tt
+number_has_sort o DpcRole number (Some Dpc) sorts is =
+    sort_kept IsDpc o number Dpc sorts is tt
+number_has_sort o DpcRole number (Some Propagate) sorts is = tt
 
 named_has_sort : (o : Outline) (role : Role) (number : Option ℕ) → map sort_at o.routines ≡ o.sorts
     → IfSome (option_and_then (λ n. number_for role n (slice_get o.sorts n)) number)
@@ -238,9 +245,14 @@ named_has_sort o role None sorts = tt
 named_has_sort o role (Some n) sorts = number_has_sort o role n (slice_get o.sorts n) sorts refl
 
 handler_fits : (o : Outline) (u : Option Use) → map sort_at o.routines ≡ o.sorts
-    → HandlerFits (map (finished o) o.routines) (handler_in o.routine_names o.sorts u)
+    → HandlerFits (map (finished o) o.routines) (entry_in o.routine_names o.sorts Handler u)
 handler_fits o None sorts = tt
 handler_fits o (Some u) sorts = named_has_sort o Handler (number_of o.routine_names u.name) sorts
+
+dpc_fits : (o : Outline) (u : Option Use) → map sort_at o.routines ≡ o.sorts
+    → DpcFits (map (finished o) o.routines) (entry_in o.routine_names o.sorts DpcRole u)
+dpc_fits o None sorts = tt
+dpc_fits o (Some u) sorts = named_has_sort o DpcRole (number_of o.routine_names u.name) sorts
 
 -- so is the routine of a call
 use_fits : (o : Outline) (u : Option Use) → map sort_at o.routines ≡ o.sorts
@@ -274,6 +286,7 @@ finished_driver_fits o same sorts h =
       read = handler_fits o o.read sorts;
       write = handler_fits o o.write sorts;
       control = handler_fits o o.control sorts;
+      dpc = dpc_fits o o.dpc sorts;
       calls = All-map (CallsFit (map (finished o) o.routines)) (finished o) o.routines
           (λ i d inside. calls_fit o (get_or o.routines i d) sorts);
     }
@@ -361,6 +374,23 @@ handled_orderly o u Control h =
       sorts_known = h.sorts_known;
       drivers_fit = h.drivers_fit;
       devices_known = same_devices o (handled o u Control) refl refl refl refl h.devices_known;
+      routines_fit = h.routines_fit;
+    }
+
+dpc_handled_orderly : (o : Outline) (u : Use) → IsOrderly o → IsOrderly (dpc_handled o u)
+dpc_handled_orderly o u h =
+    record {
+      few_drivers = h.few_drivers;
+      few_devices = h.few_devices;
+      few_routines = h.few_routines;
+      few_steps = h.few_steps;
+      positions_fit = h.positions_fit;
+      operands_fit = h.operands_fit;
+      driver_count = h.driver_count;
+      routine_count = h.routine_count;
+      sorts_known = h.sorts_known;
+      drivers_fit = h.drivers_fit;
+      devices_known = same_devices o (dpc_handled o u) refl refl refl refl h.devices_known;
       routines_fit = h.routines_fit;
     }
 
@@ -649,6 +679,8 @@ orderly_with o n label (OpenDriver name) place size room operand h =
 orderly_with o n label CloseDriver place size room operand h = driver_closed_orderly o place h
 orderly_with o n label (Handle major routine) place size room operand h =
     handled_orderly o (record { line = n; name = routine }) major h
+orderly_with o n label (HandleDpc routine) place size room operand h =
+    dpc_handled_orderly o (record { line = n; name = routine }) h
 orderly_with o n label (OpenRoutine name sort) place size room operand h =
     routine_opened_orderly o name sort place (ltb-true (length o.routine_names) MAX_ROUTINES room) h
 orderly_with o n label CloseRoutine place size room operand h = routine_closed_orderly o place h

@@ -10,12 +10,12 @@ use Rattle.asm.specs.declared.draft.Place.TheVariants.{Outside, InDriver, InRout
 use Rattle.asm.specs.declared.draft.Step.{Step}
 use Rattle.asm.specs.declared.draft.Use.{Use}
 use Rattle.asm_line.specs.declared.line.Body.{Body}
-use Rattle.asm_line.specs.declared.line.Body.TheVariants.{Blank, OpenDriver, CloseDriver, Handle, OpenRoutine, CloseRoutine, AddDevice, Step as TakeStep}
+use Rattle.asm_line.specs.declared.line.Body.TheVariants.{Blank, OpenDriver, CloseDriver, Handle, HandleDpc, OpenRoutine, CloseRoutine, AddDevice, Step as TakeStep}
 use Rattle.asm_line.specs.declared.line.Line.{Line}
 use Rattle.asm_line.specs.declared.line.UsedNames.{UsedNames}
-use Rattle.asm.specs.declared.routines.Role.TheVariants.{Handler, Completion}
+use Rattle.asm.specs.declared.routines.Role.TheVariants.{Handler, Completion, Dpc}
 use Rattle.model.specs.declared.instr.Instr.{Instr}
-use Rattle.asm.specs.Outline.{Outline, nothing_read, call_place, device_added, driver_closed, driver_opened, earliest, handled, handler_of, has_routine, is_again, is_among, is_out_of_range, missed, missed_calls, missed_entry, missed_from, missed_handler, missed_use, noted, routine_closed, routine_opened, stands, stepped, used_at}
+use Rattle.asm.specs.Outline.{Outline, nothing_read, call_place, device_added, dpc_handled, driver_closed, driver_opened, earliest, handled, handler_of, has_routine, is_again, is_among, is_out_of_range, missed, missed_calls, missed_entry, missed_from, missed_handler, missed_use, noted, routine_closed, routine_opened, stands, stepped, used_at}
 use Rattle.asm.specs.Laws.{Scope, nothing_named, scope_after, drivers_after, devices_after, is_known, labelled_ahead, labels_ahead, labels_around, named_ahead, routines_ahead, routines_around, sorted_ahead, sorts_ahead, sorts_around, is_callable, unknown_at, unknown_from, Reads}
 use Rattle.asm.proofs.Orderly.{fitting}
 
@@ -66,6 +66,8 @@ line_or_later : (s : Scope) (n : ℕ) (body : Body) (after : Option ℕ) → IfS
     → IfSome (unknown_at s n body after) (λ m. n ≤ m)
 line_or_later s n (Handle major routine) after h =
     chosen_line (has_routine s.routines s.sorts Handler routine) n after h
+line_or_later s n (HandleDpc routine) after h =
+    chosen_line (has_routine s.routines s.sorts Dpc routine) n after h
 line_or_later s n (AddDevice name driver stack lower) after h =
     chosen_line (is_among s.drivers driver && is_known s.devices lower) n after h
 line_or_later s n (TakeStep instr used) after h =
@@ -127,6 +129,7 @@ record IsEmpty (o : Outline) : Type 0 where
   read : o.read ≡ None
   write : o.write ≡ None
   control : o.control ≡ None
+  dpc : o.dpc ≡ None
 
 -- no routine is open
 record IsIdle (o : Outline) : Type 0 where
@@ -421,7 +424,7 @@ driver_opened_turn o name here ahead old n ls stood h =
         busy = λ is. cc;
         idle = λ closed. record { labels = idle.labels; steps = idle.steps };
       };
-      same = rw (empty.calls, empty.read, empty.write, empty.control, idle.steps) refl;
+      same = rw (empty.calls, empty.read, empty.write, empty.control, empty.dpc, idle.steps) refl;
     }
 
 driver_closed_turn : (o : Outline) (label : Option (List ℕ)) (here ahead : Names) (n : ℕ)
@@ -446,6 +449,7 @@ driver_closed_turn o label here ahead n ls stood h =
           read = refl;
           write = refl;
           control = refl;
+          dpc = refl;
         };
         busy = λ is. cc;
         idle = λ closed. record { labels = idle.labels; steps = idle.steps };
@@ -488,11 +492,12 @@ device_added_turn o name driver stack lower here ahead n ls stood h =
           read = empty.read;
           write = empty.write;
           control = empty.control;
+          dpc = empty.dpc;
         };
         busy = h.busy;
         idle = λ closed. record { labels = idle.labels; steps = idle.steps };
       };
-      same = rw (empty.calls, empty.read, empty.write, empty.control, idle.steps)
+      same = rw (empty.calls, empty.read, empty.write, empty.control, empty.dpc, idle.steps)
           (ap (λ (x : Option ℕ). earliest (earliest o.unknown x) rest) counted
           ∙ earliest_assoc o.unknown (if known && under then None else Some n) rest
           ∙ ap (λ (x : Option ℕ). earliest o.unknown x) (used_now (known && under) n rest later));
@@ -537,24 +542,47 @@ handled_same : (o : Outline) (name : List ℕ) (major : Major) (routines : List 
     rest ≡ earliest (missed_handler routines sorts o)
     (if has_routine routines sorts Handler name then rest else Some n)
 handled_same o name Read routines sorts n rest later h =
-    let write = missed_entry routines sorts o.write in
-    let control = missed_entry routines sorts o.control in
-    rw h (use_counts (has_routine routines sorts Handler name) n (earliest write control) rest
-    later)
+    let write = missed_entry routines sorts Handler o.write in
+    let control = missed_entry routines sorts Handler o.control in
+    let dpc = missed_entry routines sorts Dpc o.dpc in
+    rw h (use_counts (has_routine routines sorts Handler name) n
+    (earliest write (earliest control dpc)) rest later)
 handled_same o name Write routines sorts n rest later h =
-    let read = missed_entry routines sorts o.read in
-    let control = missed_entry routines sorts o.control in
-    let line : Option ℕ = if has_routine routines sorts Handler name then None else Some n in
-    rw h (ap (λ (x : Option ℕ). earliest x rest) (earliest_swap read line control)
-    ∙ use_counts (has_routine routines sorts Handler name) n (earliest read control) rest later)
+    let read = missed_entry routines sorts Handler o.read in
+    let control = missed_entry routines sorts Handler o.control in
+    let dpc = missed_entry routines sorts Dpc o.dpc in
+    let known = has_routine routines sorts Handler name in
+    let line : Option ℕ = if known then None else Some n in
+    rw h (ap (λ (x : Option ℕ). earliest x rest) (earliest_swap read line (earliest control dpc))
+    ∙ use_counts known n (earliest read (earliest control dpc)) rest later)
 handled_same o name Control routines sorts n rest later h =
-    let read = missed_entry routines sorts o.read in
-    let write = missed_entry routines sorts o.write in
-    let line : Option ℕ = if has_routine routines sorts Handler name then None else Some n in
-    rw (h, earliest_none write)
-    (ap (λ (x : Option ℕ). earliest (earliest read x) rest) (earliest_comm write line)
-    ∙ ap (λ (x : Option ℕ). earliest x rest) (earliest_swap read line write)
-    ∙ use_counts (has_routine routines sorts Handler name) n (earliest read write) rest later)
+    let read = missed_entry routines sorts Handler o.read in
+    let write = missed_entry routines sorts Handler o.write in
+    let dpc = missed_entry routines sorts Dpc o.dpc in
+    let known = has_routine routines sorts Handler name in
+    let line : Option ℕ = if known then None else Some n in
+    rw h (ap (λ (x : Option ℕ). earliest (earliest read x) rest) (earliest_swap write line dpc)
+    ∙ ap (λ (x : Option ℕ). earliest x rest) (earliest_swap read line (earliest write dpc))
+    ∙ use_counts known n (earliest read (earliest write dpc)) rest later)
+
+dpc_same : (o : Outline) (name : List ℕ) (routines : List (List ℕ)) (sorts : List Sort) (n : ℕ)
+    (rest : Option ℕ) → IfSome rest (λ m. n < m)
+    → o.dpc ≡ None
+    → earliest (missed_handler routines sorts (dpc_handled o (record { line = n; name = name })))
+    rest ≡ earliest (missed_handler routines sorts o)
+    (if has_routine routines sorts Dpc name then rest else Some n)
+dpc_same o name routines sorts n rest later h =
+    let read = missed_entry routines sorts Handler o.read in
+    let write = missed_entry routines sorts Handler o.write in
+    let control = missed_entry routines sorts Handler o.control in
+    let known = has_routine routines sorts Dpc name in
+    let line : Option ℕ = if known then None else Some n in
+    rw (h, earliest_none control)
+    (ap (λ (x : Option ℕ). earliest (earliest read (earliest write x)) rest)
+    (earliest_comm control line)
+    ∙ ap (λ (x : Option ℕ). earliest (earliest read x) rest) (earliest_swap write line control)
+    ∙ ap (λ (x : Option ℕ). earliest x rest) (earliest_swap read line (earliest write control))
+    ∙ use_counts known n (earliest read (earliest write control)) rest later)
 
 -- a table entry changes none of these
 record Unhandled (o next : Outline) : Type 0 where
@@ -572,6 +600,34 @@ handled_rest o u Write =
 handled_rest o u Control =
     record { driver_names = refl; device_names = refl; unknown = refl; calls = refl; steps = refl }
 
+-- so it counts as it does among the table entries
+entry_left : (o next : Outline) (here : Names) (n : ℕ) (ls : List Line) (chosen : Option ℕ)
+    → Unhandled o next → o.steps ≡ []
+    → earliest (missed_handler here.routines here.sorts next)
+    (unknown_from (scope_of o here) (n + 1) ls)
+    ≡ earliest (missed_handler here.routines here.sorts o) chosen
+    → left next here (n + 1) ls ≡ earliest o.unknown
+    (earliest (pending here.routines here.sorts o)
+    (earliest (jumping here.labels o.steps) chosen))
+entry_left o next here n ls chosen unchanged idle same =
+    let quiet : missed_from here.labels None o.steps ≡ None = rw idle refl in
+    let rest = unknown_from (scope_of o here) (n + 1) ls in
+    let calls = calling here.routines here.sorts o.calls in
+    let before = missed_handler here.routines here.sorts o in
+    let after = missed_handler here.routines here.sorts next in
+    rw (
+      unchanged.driver_names,
+      unchanged.device_names,
+      unchanged.unknown,
+      unchanged.calls,
+      unchanged.steps,
+      quiet,
+    )
+    (ap (earliest o.unknown) (
+    earliest_assoc calls after rest
+    ∙ ap (earliest calls) same
+    ∙ sym (earliest_assoc calls before chosen)))
+
 handled_turn : (o : Outline) (major : Major) (name : List ℕ) (here ahead : Names) (n : ℕ)
     (ls : List Line) → stands o.place (Handle major name) ≡ true
     → is_some (handler_of o major) ≡ false
@@ -580,32 +636,44 @@ handled_turn : (o : Outline) (major : Major) (name : List ℕ) (here ahead : Nam
 handled_turn o major name here ahead n ls stood fresh h =
     let u : Use = record { line = n; name = name } in
     let idle = h.idle (never_inside o.place (Handle major name) refl stood) in
-    let unchanged = handled_rest o u major in
-    let quiet : missed_from here.labels None o.steps ≡ None = rw idle.steps refl in
     let rest = unknown_from (scope_of o here) (n + 1) ls in
-    let later = rest_later (scope_of o here) n ls in
-    let calls = calling here.routines here.sorts o.calls in
-    let before = missed_handler here.routines here.sorts o in
-    let after = missed_handler here.routines here.sorts (handled o u major) in
     let chosen : Option ℕ = if has_routine here.routines here.sorts Handler name then rest
     else Some n in
     record {
       around = handled_around o u major here ahead
           (never_outside o.place (Handle major name) refl stood) idle h;
-      same = rw (
-        unchanged.driver_names,
-        unchanged.device_names,
-        unchanged.unknown,
-        unchanged.calls,
-        unchanged.steps,
-        quiet,
-      )
-          (ap (earliest o.unknown) (
-          earliest_assoc calls after rest
-          ∙ ap (earliest calls)
-          (handled_same o name major here.routines here.sorts n rest later
-          (was_none (handler_of o major) fresh))
-          ∙ sym (earliest_assoc calls before chosen)));
+      same = entry_left o (handled o u major) here n ls chosen (handled_rest o u major) idle.steps
+          (handled_same o name major here.routines here.sorts n rest
+          (rest_later (scope_of o here) n ls) (was_none (handler_of o major) fresh));
+    }
+
+dpc_handled_turn : (o : Outline) (name : List ℕ) (here ahead : Names) (n : ℕ) (ls : List Line)
+    → stands o.place (HandleDpc name) ≡ true → is_some o.dpc ≡ false
+    → Around o here ahead → Turn o (dpc_handled o (record { line = n; name = name })) here here
+    ahead n (HandleDpc name) ls
+dpc_handled_turn o name here ahead n ls stood fresh h =
+    let u : Use = record { line = n; name = name } in
+    let idle = h.idle (never_inside o.place (HandleDpc name) refl stood) in
+    let rest = unknown_from (scope_of o here) (n + 1) ls in
+    let chosen : Option ℕ = if has_routine here.routines here.sorts Dpc name then rest
+    else Some n in
+    record {
+      around = record {
+        inside = h.inside;
+        sorted = h.sorted;
+        outside = λ is. absurd (never_outside o.place (HandleDpc name) refl stood is);
+        busy = h.busy;
+        idle = λ closed. record { labels = idle.labels; steps = idle.steps };
+      };
+      same = entry_left o (dpc_handled o u) here n ls chosen (record {
+        driver_names = refl;
+        device_names = refl;
+        unknown = refl;
+        calls = refl;
+        steps = refl;
+      }) idle.steps
+          (dpc_same o name here.routines here.sorts n rest (rest_later (scope_of o here) n ls)
+          (was_none o.dpc fresh));
     }
 
 turn : (o : Outline) (n : ℕ) (label : Option (List ℕ)) (body : Body) (ls : List Line) (here : Names)
@@ -619,6 +687,8 @@ turn o n label CloseDriver ls here stood fresh range h =
     driver_closed_turn o label here (ahead_of ls) n ls stood h
 turn o n label (Handle major name) ls here stood fresh range h =
     handled_turn o major name here (ahead_of ls) n ls stood fresh h
+turn o n label (HandleDpc name) ls here stood fresh range h =
+    dpc_handled_turn o name here (ahead_of ls) n ls stood fresh h
 turn o n label (OpenRoutine name sort) ls here stood fresh range h =
     routine_opened_turn o name sort here (ahead_of ls) (labels_ahead ls) n ls stood h
 turn o n label CloseRoutine ls here stood fresh range h =
@@ -637,7 +707,7 @@ unknown_in o n [] [] end here read closed h =
     let at : o.place ≡ Outside = ap (λ (x : Outline). x.place) read ∙ closed in
     let empty = h.outside at in
     let idle = h.idle (λ inside. let same : Outside ≡ InRoutine = sym at ∙ inside in cc) in
-    rw (empty.calls, empty.read, empty.write, empty.control, idle.steps)
+    rw (empty.calls, empty.read, empty.write, empty.control, empty.dpc, idle.steps)
     (ap (λ (x : Outline). x.unknown) (sym read) ∙ sym (earliest_none o.unknown))
 unknown_in o n [] (l ∷ ls) end here read closed h = absurd read
 unknown_in o n (raw ∷ raws) [] end here read closed h = absurd read
@@ -662,6 +732,7 @@ unknown_is raws ls end read closed =
         read = refl;
         write = refl;
         control = refl;
+        dpc = refl;
       };
       busy = λ is. cc;
       idle = λ closed. record { labels = refl; steps = refl };

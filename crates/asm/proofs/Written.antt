@@ -14,7 +14,7 @@ use Rattle.model.specs.declared.status.Major.{Major}
 use Rattle.model.specs.declared.status.Major.TheVariants.{Read, Write, Control}
 use Rattle.model.specs.Set.{Set}
 use Rattle.asm_line.specs.declared.line.Body.{Body}
-use Rattle.asm_line.specs.declared.line.Body.TheVariants.{Blank, OpenDriver, CloseDriver, Handle, OpenRoutine, CloseRoutine, AddDevice, Step as TakeStep}
+use Rattle.asm_line.specs.declared.line.Body.TheVariants.{Blank, OpenDriver, CloseDriver, Handle, HandleDpc, OpenRoutine, CloseRoutine, AddDevice, Step as TakeStep}
 use Rattle.asm_line.specs.declared.line.Line.{Line}
 use Rattle.asm_line.specs.declared.line.UsedNames.{UsedNames}
 use Rattle.asm.specs.declared.routines.Role.TheVariants.{Completion}
@@ -25,7 +25,7 @@ use Rattle.asm.specs.declared.draft.Place.TheVariants.{Outside, InDriver, InRout
 use Rattle.asm.specs.declared.draft.Step.{Step}
 use Rattle.asm.specs.declared.draft.Use.{Use}
 use Rattle.asm.specs.declared.fault.AsmFault.{AsmFault}
-use Rattle.asm.specs.Outline.{Outline, nothing_read, call_place, called, driver_closed, driver_opened, finished, finished_driver, handled, is_out_of_range, noted, position_of, resolved, routine_called, routine_closed, routine_named, routine_opened, stands, stepped, target_position, used_at, with_label, with_routine}
+use Rattle.asm.specs.Outline.{Outline, nothing_read, call_place, called, dpc_handled, driver_closed, driver_opened, finished, finished_driver, handled, is_out_of_range, noted, position_of, resolved, routine_called, routine_closed, routine_named, routine_opened, stands, stepped, target_position, used_at, with_label, with_routine}
 use Rattle.asm.specs.Reading.{named, reading, resolved as set_of}
 use Rattle.asm.specs.Laws.{routines_ahead, sorts_ahead, IsRead, Reads}
 use Rattle.asm.specs.Code.{all_codes, call_number, codes_of, driver_codes, instruction_on, instructions_on, jump_place, label_place, routine_codes, routine_lines, CodeIsOfItsLines, IsOfItsLines}
@@ -547,6 +547,25 @@ handled_turn o u Control name label ls at idle =
       same = refl;
     }
 
+dpc_handled_turn : (o : Outline) (u : Use) (name : List ℕ) (label : Option (List ℕ))
+    (ls : List Line) → o.place ≡ InDriver → IsIdle o
+    → Turn o (dpc_handled o u) InDriver label (HandleDpc name) ls
+dpc_handled_turn o u name label ls at idle =
+    record {
+      place = at;
+      tidy =
+          record {
+            outside = λ is. let bad : InDriver ≡ Outside = sym at ∙ is in cc;
+            idle =
+                λ closed. record {
+                  labels = idle.labels;
+                  positions = idle.positions;
+                  steps = idle.steps;
+                };
+          };
+      same = refl;
+    }
+
 blank_same : (o : Outline) (p : Place) (label : Option (List ℕ)) (ls : List Line)
     → left_codes o p (record { label = label; body = Blank } ∷ ls) ≡ left_codes o p ls
 blank_same o Outside label ls = refl
@@ -575,6 +594,11 @@ turn o n InDriver label (Handle major name) ls at stood range h =
     (idle_at o InDriver at (λ is. cc) h)
 turn o n Outside label (Handle major name) ls at stood range h = cc
 turn o n InRoutine label (Handle major name) ls at stood range h = cc
+turn o n InDriver label (HandleDpc name) ls at stood range h =
+    dpc_handled_turn o (record { line = n; name = name }) name label ls at
+    (idle_at o InDriver at (λ is. cc) h)
+turn o n Outside label (HandleDpc name) ls at stood range h = cc
+turn o n InRoutine label (HandleDpc name) ls at stood range h = cc
 turn o n InDriver label (OpenRoutine name sort) ls at stood range h =
     routine_opened_turn o name sort label ls (idle_at o InDriver at (λ is. cc) h)
 turn o n Outside label (OpenRoutine name sort) ls at stood range h = cc

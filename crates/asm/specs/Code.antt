@@ -8,7 +8,7 @@ use Rattle.model.specs.declared.set.Routine.{Routine}
 use Rattle.model.specs.declared.set.Sort.{Sort}
 use Rattle.model.specs.Set.{Set}
 use Rattle.asm_line.specs.declared.line.Body.{Body}
-use Rattle.asm_line.specs.declared.line.Body.TheVariants.{Blank, OpenDriver, CloseDriver, Handle, OpenRoutine, CloseRoutine, AddDevice, Step}
+use Rattle.asm_line.specs.declared.line.Body.TheVariants.{Blank, OpenDriver, CloseDriver, Handle, HandleDpc, OpenRoutine, CloseRoutine, AddDevice, Step}
 use Rattle.asm_line.specs.declared.line.Line.{Line}
 use Rattle.asm.specs.declared.routines.Role.TheVariants.{Completion}
 use Rattle.asm.specs.Outline.{routine_named, with_label, with_routine}
@@ -28,6 +28,7 @@ place_at name p label Blank later = later p
 place_at name p label (OpenDriver other) later = later p
 place_at name p label CloseDriver later = later p
 place_at name p label (Handle major routine) later = later p
+place_at name p label (HandleDpc routine) later = later p
 place_at name p label (OpenRoutine other sort) later = later p
 place_at name p label CloseRoutine later = later p
 place_at name p label (AddDevice other driver stack lower) later = later p
@@ -61,6 +62,7 @@ instruction_on names sorts routine Blank = None
 instruction_on names sorts routine (OpenDriver name) = None
 instruction_on names sorts routine CloseDriver = None
 instruction_on names sorts routine (Handle major handler) = None
+instruction_on names sorts routine (HandleDpc handler) = None
 instruction_on names sorts routine (OpenRoutine name sort) = None
 instruction_on names sorts routine CloseRoutine = None
 instruction_on names sorts routine (AddDevice name driver stack lower) = None
@@ -79,6 +81,7 @@ unless_end l Blank after = l ∷ after
 unless_end l (OpenDriver name) after = l ∷ after
 unless_end l CloseDriver after = l ∷ after
 unless_end l (Handle major routine) after = l ∷ after
+unless_end l (HandleDpc routine) after = l ∷ after
 unless_end l (OpenRoutine name sort) after = l ∷ after
 unless_end l (AddDevice name driver stack lower) after = l ∷ after
 unless_end l (Step instr used) after = l ∷ after
@@ -100,6 +103,7 @@ codes_from (OpenRoutine name sort) code after = code ∷ after
 codes_from Blank code after = after
 codes_from (OpenDriver name) code after = after
 codes_from (Handle major routine) code after = after
+codes_from (HandleDpc routine) code after = after
 codes_from CloseRoutine code after = after
 codes_from (AddDevice name driver stack lower) code after = after
 codes_from (Step instr used) code after = after
@@ -122,6 +126,7 @@ drivers_from (OpenDriver name) codes after = codes ∷ after
 drivers_from Blank codes after = after
 drivers_from CloseDriver codes after = after
 drivers_from (Handle major routine) codes after = after
+drivers_from (HandleDpc routine) codes after = after
 drivers_from (OpenRoutine name sort) codes after = after
 drivers_from CloseRoutine codes after = after
 drivers_from (AddDevice name driver stack lower) codes after = after

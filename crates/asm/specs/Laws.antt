@@ -9,9 +9,9 @@ use Rattle.asm.specs.declared.fault.AsmFault.{AsmFault}
 use Rattle.asm.specs.declared.fault.AsmKind.{AsmKind}
 use Rattle.asm.specs.declared.fault.AsmKind.TheVariants.{Lex, UnknownWord, DuplicateName, UnknownName, OutOfRange, Unclosed, OverLimit, Memory}
 use Rattle.asm_line.specs.declared.line.Body.{Body}
-use Rattle.asm_line.specs.declared.line.Body.TheVariants.{Blank, OpenDriver, CloseDriver, Handle, OpenRoutine, CloseRoutine, AddDevice, Step}
+use Rattle.asm_line.specs.declared.line.Body.TheVariants.{Blank, OpenDriver, CloseDriver, Handle, HandleDpc, OpenRoutine, CloseRoutine, AddDevice, Step}
 use Rattle.asm_line.specs.declared.line.Line.{Line}
-use Rattle.asm.specs.declared.routines.Role.TheVariants.{Handler, Completion}
+use Rattle.asm.specs.declared.routines.Role.TheVariants.{Handler, Completion, Dpc}
 use Rattle.asm_line.specs.Line.{line_of, read_line}
 use Rattle.asm.specs.Outline.{Outline, nothing_read, has_room, has_routine, is_again, is_among, is_out_of_range, misfit, noted, stands}
 use Rattle.asm.specs.Reading.{IsFaultOf, IsNamed}
@@ -91,6 +91,7 @@ named_ahead (OpenRoutine name sort) after = name ∷ after
 named_ahead Blank after = after
 named_ahead (OpenDriver name) after = after
 named_ahead (Handle major routine) after = after
+named_ahead (HandleDpc routine) after = after
 named_ahead CloseRoutine after = after
 named_ahead (AddDevice name driver stack lower) after = after
 named_ahead (Step instr used) after = after
@@ -107,6 +108,7 @@ sorted_ahead (OpenRoutine name sort) after = sort ∷ after
 sorted_ahead Blank after = after
 sorted_ahead (OpenDriver name) after = after
 sorted_ahead (Handle major routine) after = after
+sorted_ahead (HandleDpc routine) after = after
 sorted_ahead CloseRoutine after = after
 sorted_ahead (AddDevice name driver stack lower) after = after
 sorted_ahead (Step instr used) after = after
@@ -124,6 +126,7 @@ labelled_ahead label Blank after = after
 labelled_ahead label (OpenDriver name) after = after
 labelled_ahead label CloseDriver after = after
 labelled_ahead label (Handle major routine) after = after
+labelled_ahead label (HandleDpc routine) after = after
 labelled_ahead label (OpenRoutine name sort) after = after
 labelled_ahead label (AddDevice name driver stack lower) after = after
 
@@ -152,6 +155,7 @@ drivers_after drivers (OpenDriver name) = drivers ++ name ∷ []
 drivers_after drivers Blank = drivers
 drivers_after drivers CloseDriver = drivers
 drivers_after drivers (Handle major routine) = drivers
+drivers_after drivers (HandleDpc routine) = drivers
 drivers_after drivers (OpenRoutine name sort) = drivers
 drivers_after drivers CloseRoutine = drivers
 drivers_after drivers (AddDevice name driver stack lower) = drivers
@@ -164,6 +168,7 @@ devices_after devices Blank = devices
 devices_after devices (OpenDriver name) = devices
 devices_after devices CloseDriver = devices
 devices_after devices (Handle major routine) = devices
+devices_after devices (HandleDpc routine) = devices
 devices_after devices (OpenRoutine name sort) = devices
 devices_after devices CloseRoutine = devices
 devices_after devices (Step instr used) = devices
@@ -174,6 +179,7 @@ routines_around routines (OpenDriver name) next = routines_ahead next
 routines_around routines Blank next = routines
 routines_around routines CloseDriver next = routines
 routines_around routines (Handle major routine) next = routines
+routines_around routines (HandleDpc routine) next = routines
 routines_around routines (OpenRoutine name sort) next = routines
 routines_around routines CloseRoutine next = routines
 routines_around routines (AddDevice name driver stack lower) next = routines
@@ -185,6 +191,7 @@ sorts_around sorts (OpenDriver name) next = sorts_ahead next
 sorts_around sorts Blank next = sorts
 sorts_around sorts CloseDriver next = sorts
 sorts_around sorts (Handle major routine) next = sorts
+sorts_around sorts (HandleDpc routine) next = sorts
 sorts_around sorts (OpenRoutine name sort) next = sorts
 sorts_around sorts CloseRoutine next = sorts
 sorts_around sorts (AddDevice name driver stack lower) next = sorts
@@ -197,6 +204,7 @@ labels_around labels Blank next = labels
 labels_around labels (OpenDriver name) next = labels
 labels_around labels CloseDriver next = labels
 labels_around labels (Handle major routine) next = labels
+labels_around labels (HandleDpc routine) next = labels
 labels_around labels CloseRoutine next = labels
 labels_around labels (AddDevice name driver stack lower) next = labels
 labels_around labels (Step instr used) next = labels
@@ -222,12 +230,14 @@ is_callable s None = true
 is_callable s (Some routine) = has_routine s.routines s.sorts Completion routine
 
 -- the line's own number where it uses a name that nothing has: a routine that isn't in the driver
--- around it or isn't of the sort that serves a major function or that a call sets; a driver or
--- lower device that isn't before it; or a label that isn't in the routine around it; else what
--- comes of the lines after it
+-- around it or isn't of the sort that serves a major function, that an interrupt queues or that a
+-- call sets; a driver or lower device that isn't before it; or a label that isn't in the routine
+-- around it; else what comes of the lines after it
 abbrev pub unknown_at : Scope → ℕ → Body → Option ℕ → Option ℕ
 unknown_at s n (Handle major routine) after = if has_routine s.routines s.sorts Handler routine
     then after else Some n
+unknown_at s n (HandleDpc routine) after = if has_routine s.routines s.sorts Dpc routine then after
+    else Some n
 unknown_at s n (AddDevice name driver stack lower) after =
     if is_among s.drivers driver && is_known s.devices lower then after else Some n
 unknown_at s n (Step instr used) after =

@@ -8,7 +8,7 @@ use Rattle.model.specs.declared.set.Device.{Device}
 use Rattle.model.specs.declared.set.Driver.{Driver}
 use Rattle.model.specs.declared.set.Routine.{Routine}
 use Rattle.model.specs.declared.set.Sort.{Sort}
-use Rattle.model.specs.declared.set.Sort.TheVariants.{Dispatch, Propagate}
+use Rattle.model.specs.declared.set.Sort.TheVariants.{Dispatch, Dpc, Propagate}
 use Rattle.model.specs.Sound.{DriverFits, DevicesFit, LabelFits, OperandFits}
 use Rattle.model.specs.declared.status.Major.{Major}
 use Rattle.model.specs.declared.status.Major.TheVariants.{Read, Write, Control}
@@ -19,20 +19,20 @@ use Rattle.asm.specs.declared.draft.Linked.{Linked}
 use Rattle.asm.specs.declared.draft.Step.{Step as StepOf}
 use Rattle.asm.specs.declared.draft.Use.{Use}
 use Rattle.asm.specs.declared.routines.Role.{Role}
-use Rattle.asm.specs.declared.routines.Role.TheVariants.{Handler, Completion}
+use Rattle.asm.specs.declared.routines.Role.TheVariants.{Handler, Completion, Dpc as DpcRole}
 use Rattle.asm.specs.declared.fault.AsmKind.{AsmKind}
 use Rattle.asm.specs.declared.fault.AsmKind.TheVariants.{UnknownWord, DuplicateName, OutOfRange, OverLimit}
 use Rattle.asm_line.specs.declared.line.Body.{Body}
-use Rattle.asm_line.specs.declared.line.Body.TheVariants.{Blank, OpenDriver, CloseDriver, Handle, OpenRoutine, CloseRoutine, AddDevice, Step}
+use Rattle.asm_line.specs.declared.line.Body.TheVariants.{Blank, OpenDriver, CloseDriver, Handle, HandleDpc, OpenRoutine, CloseRoutine, AddDevice, Step}
 use Rattle.asm_line.specs.declared.line.Line.{Line}
 use Rattle.asm_line.specs.declared.line.UsedNames.{UsedNames}
 
 -- What was read: the drivers that are closed and the devices, with the names of all of them; of the
 -- open driver its routines that are closed, the names and sorts of all of its routines, the uses of
--- routines by its calls, and what serves each major function; of the open routine its sort, its
--- labels, the position that each of them names, and its instructions; and the first line that uses
--- a name which nothing has, of those that are weighed already. What is open is empty where nothing
--- is open.
+-- routines by its calls, what serves each major function, and its DPC routine; of the open routine
+-- its sort, its labels, the position that each of them names, and its instructions; and the first
+-- line that uses a name which nothing has, of those that are weighed already. What is open is empty
+-- where nothing is open.
 pub record Outline : Type 0 where
   pub place : Place
   pub driver_names : List (List ℕ)
@@ -46,6 +46,7 @@ pub record Outline : Type 0 where
   pub read : Option Use
   pub write : Option Use
   pub control : Option Use
+  pub dpc : Option Use
   pub sort : Sort
   pub labels : List (List ℕ)
   pub positions : List ℕ
@@ -67,6 +68,7 @@ nothing_read = record {
   read = None;
   write = None;
   control = None;
+  dpc = None;
   sort = Dispatch;
   labels = [];
   positions = [];
@@ -88,6 +90,7 @@ stands place Blank = true
 stands Outside (OpenDriver name) = true
 stands Outside CloseDriver = false
 stands Outside (Handle major routine) = false
+stands Outside (HandleDpc routine) = false
 stands Outside (OpenRoutine name sort) = false
 stands Outside CloseRoutine = false
 stands Outside (AddDevice name driver stack lower) = true
@@ -95,6 +98,7 @@ stands Outside (Step instr used) = false
 stands InDriver (OpenDriver name) = false
 stands InDriver CloseDriver = true
 stands InDriver (Handle major routine) = true
+stands InDriver (HandleDpc routine) = true
 stands InDriver (OpenRoutine name sort) = true
 stands InDriver CloseRoutine = false
 stands InDriver (AddDevice name driver stack lower) = false
@@ -102,6 +106,7 @@ stands InDriver (Step instr used) = false
 stands InRoutine (OpenDriver name) = false
 stands InRoutine CloseDriver = false
 stands InRoutine (Handle major routine) = false
+stands InRoutine (HandleDpc routine) = false
 stands InRoutine (OpenRoutine name sort) = false
 stands InRoutine CloseRoutine = true
 stands InRoutine (AddDevice name driver stack lower) = false
@@ -122,6 +127,7 @@ is_known_label labels (Some label) = is_among labels label
 abbrev pub is_again : Outline → Option (List ℕ) → Body → Bool
 is_again o label (OpenDriver name) = is_among o.driver_names name
 is_again o label (Handle major routine) = is_some (handler_of o major)
+is_again o label (HandleDpc routine) = is_some o.dpc
 is_again o label (OpenRoutine name sort) = is_among o.routine_names name
 is_again o label (AddDevice name driver stack lower) = is_among o.device_names name
 is_again o label (Step instr used) = is_known_label o.labels label
@@ -141,6 +147,7 @@ is_out_of_range Blank = false
 is_out_of_range (OpenDriver name) = false
 is_out_of_range CloseDriver = false
 is_out_of_range (Handle major routine) = false
+is_out_of_range (HandleDpc routine) = false
 is_out_of_range (OpenRoutine name sort) = false
 is_out_of_range CloseRoutine = false
 
@@ -153,6 +160,7 @@ has_room o (Step instr used) = nat_lt (length o.steps) MAX_INSTRUCTIONS
 has_room o Blank = true
 has_room o CloseDriver = true
 has_room o (Handle major routine) = true
+has_room o (HandleDpc routine) = true
 has_room o CloseRoutine = true
 
 -- the line's fault in its context: the least kind of those that it has
@@ -188,9 +196,14 @@ driver_opened o name = record o { place = InDriver; driver_names = o.driver_name
 -- routines of this sort are for this role
 abbrev pub serves : Role → Sort → Bool
 serves Handler Dispatch = true
+serves Handler Dpc = false
 serves Handler Propagate = false
 serves Completion Dispatch = false
+serves Completion Dpc = false
 serves Completion Propagate = true
+serves DpcRole Dispatch = false
+serves DpcRole Dpc = true
+serves DpcRole Propagate = false
 
 -- the number, if there is a sort and it is for the role
 abbrev pub number_for : Role → ℕ → Option Sort → Option ℕ
@@ -208,9 +221,9 @@ routine_named names sorts role name =
 abbrev pub has_routine : List (List ℕ) → List Sort → Role → List ℕ → Bool
 has_routine names sorts role name = is_some (routine_named names sorts role name)
 
--- the number of the routine that serves a major function
-abbrev pub handler_in : List (List ℕ) → List Sort → Option Use → Option ℕ
-handler_in names sorts u = option_and_then (λ u. routine_named names sorts Handler u.name) u
+-- the number of the routine that is named for a role
+abbrev pub entry_in : List (List ℕ) → List Sort → Role → Option Use → Option ℕ
+entry_in names sorts role u = option_and_then (λ u. routine_named names sorts role u.name) u
 
 -- the number of the routine that the call of a place sets
 abbrev pub routine_called : Outline → Option ℕ → Option ℕ
@@ -259,9 +272,10 @@ finished o routine = record { sort = routine.sort; code = map (called o) routine
 abbrev pub finished_driver : Outline → Driver
 finished_driver o = record {
   routines = map (finished o) o.routines;
-  read = handler_in o.routine_names o.sorts o.read;
-  write = handler_in o.routine_names o.sorts o.write;
-  control = handler_in o.routine_names o.sorts o.control;
+  read = entry_in o.routine_names o.sorts Handler o.read;
+  write = entry_in o.routine_names o.sorts Handler o.write;
+  control = entry_in o.routine_names o.sorts Handler o.control;
+  dpc = entry_in o.routine_names o.sorts DpcRole o.dpc;
 }
 
 -- the line of a use of a name, if there is no routine with that name, of a sort for the role
@@ -269,15 +283,16 @@ abbrev pub missed_use : List (List ℕ) → List Sort → Role → Use → Optio
 missed_use names sorts role u = if has_routine names sorts role u.name then None else Some u.line
 
 -- such a line of a table entry
-abbrev pub missed_entry : List (List ℕ) → List Sort → Option Use → Option ℕ
-missed_entry names sorts None = None
-missed_entry names sorts (Some u) = missed_use names sorts Handler u
+abbrev pub missed_entry : List (List ℕ) → List Sort → Role → Option Use → Option ℕ
+missed_entry names sorts role None = None
+missed_entry names sorts role (Some u) = missed_use names sorts role u
 
 -- the first such line of the entries of the open driver
 abbrev pub missed_handler : List (List ℕ) → List Sort → Outline → Option ℕ
 missed_handler names sorts o =
-    earliest (missed_entry names sorts o.read)
-    (earliest (missed_entry names sorts o.write) (missed_entry names sorts o.control))
+    earliest (missed_entry names sorts Handler o.read)
+    (earliest (missed_entry names sorts Handler o.write)
+    (earliest (missed_entry names sorts Handler o.control) (missed_entry names sorts DpcRole o.dpc)))
 
 -- the first such line of these calls, or the one found already if that is earlier
 abbrev pub missed_calls : List (List ℕ) → List Sort → Option ℕ → List Use → Option ℕ
@@ -304,6 +319,7 @@ driver_closed o = record o {
   read = None;
   write = None;
   control = None;
+  dpc = None;
   unknown = earliest o.unknown (missed_routine o);
 }
 
@@ -312,6 +328,10 @@ abbrev pub handled : Outline → Use → Major → Outline
 handled o u Read = record o { read = Some u }
 handled o u Write = record o { write = Some u }
 handled o u Control = record o { control = Some u }
+
+-- `dpc ROUTINE`
+abbrev pub dpc_handled : Outline → Use → Outline
+dpc_handled o u = record o { dpc = Some u }
 
 -- `routine NAME SORT`
 abbrev pub routine_opened : Outline → List ℕ → Sort → Outline
@@ -451,6 +471,7 @@ noted o n label Blank = o
 noted o n label (OpenDriver name) = driver_opened o name
 noted o n label CloseDriver = driver_closed o
 noted o n label (Handle major routine) = handled o (record { line = n; name = routine }) major
+noted o n label (HandleDpc routine) = dpc_handled o (record { line = n; name = routine })
 noted o n label (OpenRoutine name sort) = routine_opened o name sort
 noted o n label CloseRoutine = routine_closed o
 noted o n label (AddDevice name driver stack lower) =

@@ -37,6 +37,7 @@ impl<'a> Draft<'a> {
         match &line.body {
             Body::OpenDriver(name) => is_among(&self.driver_names, name),
             Body::Handle(major, _) => self.handler_of(*major).is_some(),
+            Body::HandleDpc(_) => self.dpc.is_some(),
             Body::OpenRoutine(name, _) => is_among(&self.routine_names, name),
             Body::AddDevice(name, _, _, _) => is_among(&self.device_names, name),
             Body::Step(_, _) => is_known(&self.labels, &line.label),
@@ -76,7 +77,7 @@ fn stands(place: Place, body: &Body<'_>) -> bool
     match body {
         Body::Blank => true,
         Body::OpenDriver(_) | Body::AddDevice(_, _, _, _) => matches!(place, Place::Outside),
-        Body::CloseDriver | Body::Handle(_, _) | Body::OpenRoutine(_, _) => {
+        Body::CloseDriver | Body::Handle(_, _) | Body::HandleDpc(_) | Body::OpenRoutine(_, _) => {
             matches!(place, Place::InDriver)
         }
         Body::CloseRoutine | Body::Step(_, _) => matches!(place, Place::InRoutine),

@@ -65,6 +65,7 @@ pub struct Draft<'a> {
     pub(crate) read: Option<Use<'a>>,
     pub(crate) write: Option<Use<'a>>,
     pub(crate) control: Option<Use<'a>>,
+    pub(crate) dpc: Option<Use<'a>>,
     pub(crate) sort: Sort,
     pub(crate) labels: IndexSet<Piece<'a>>,
     pub(crate) positions: Vec<u16>,
@@ -90,6 +91,7 @@ impl<'a> Model for Draft<'a> {
       read = d.read;
       write = d.write;
       control = d.control;
+      dpc = d.dpc;
       sort = d.sort;
       labels = d.labels.keys;
       positions = d.positions.items;
@@ -116,6 +118,7 @@ impl<'a> Draft<'a> {
             read: None,
             write: None,
             control: None,
+            dpc: None,
             sort: Sort::Dispatch,
             labels: IndexSet::new(alloc),
             positions: Vec::new(alloc),

@@ -2,7 +2,7 @@
 
 ghost use Rattle.std.specs.Prelude.{◌≡◌, ◌≤◌, ◌<◌, ◌++◌, false, true, length, option_to_list, IfOk, OnOk};
 ghost use Rattle.model.specs.declared.limits.TheConstants.{MAX_DEVICES, MAX_DRIVERS, MAX_INSTRUCTIONS, MAX_ROUTINES};
-ghost use Rattle.asm.specs.Outline.{call_added, call_place, device_added, device_of, driver_closed, driver_opened, handled, is_among, is_known_label, is_stack_size, label_added, noted, routine_closed, routine_opened, step_added, stepped, used_at, IsFitting, IsOrderly};
+ghost use Rattle.asm.specs.Outline.{call_added, call_place, device_added, device_of, dpc_handled, driver_closed, driver_opened, handled, is_among, is_known_label, is_stack_size, label_added, noted, routine_closed, routine_opened, step_added, stepped, used_at, IsFitting, IsOrderly};
 
 use crate::draft::{ClosedRoutine, Draft, Place, Step, Use};
 use crate::link::{linked, missed_from};
@@ -32,6 +32,7 @@ impl<'a> Draft<'a> {
             Body::OpenDriver(name) => self.open_driver(name),
             Body::CloseDriver => self.close_driver(alloc),
             Body::Handle(major, name) => self.handle(major, Use { line: number, name }),
+            Body::HandleDpc(name) => self.handle_dpc(Use { line: number, name }),
             Body::OpenRoutine(name, sort) => self.open_routine(name, sort),
             Body::CloseRoutine => self.close_routine(alloc),
             Body::AddDevice(name, driver, stack, lower) => {
@@ -73,6 +74,7 @@ impl<'a> Draft<'a> {
         self.read = None;
         self.write = None;
         self.control = None;
+        self.dpc = None;
         self.place = Place::Outside;
         Ok(())
     }
@@ -86,6 +88,14 @@ impl<'a> Draft<'a> {
             Major::Write => self.write = Some(used),
             Major::Control => self.control = Some(used),
         }
+        Ok(())
+    }
+
+    /// `dpc ROUTINE`.
+    fn handle_dpc(&mut self, used: Use<'a>) -> Result<(), AllocError>
+        ensures { OnOk result (self.new ≡ dpc_handled self.old used.entry) }
+    {
+        self.dpc = Some(used);
         Ok(())
     }
 

@@ -2,7 +2,7 @@
 
 ghost use Rattle.std.specs.Prelude.{◌≡◌, ◌≤◌, length, map, IfOk, None};
 ghost use Rattle.model.specs.declared.limits.TheConstants.{MAX_ROUTINES};
-ghost use Rattle.asm.specs.Outline.{called, finished, handler_in, missed_calls, missed_entry, missed_handler, missed_routine, missed_use, number_for, finished_driver, routine_called, routine_named, serves, with_routine};
+ghost use Rattle.asm.specs.Outline.{called, entry_in, finished, missed_calls, missed_entry, missed_handler, missed_routine, missed_use, number_for, finished_driver, routine_called, routine_named, serves, with_routine};
 
 use crate::draft::{ClosedRoutine, Draft, Linked, Use};
 use crate::names::{earliest, number_of};
@@ -20,6 +20,8 @@ pub enum Role {
     Handler,
     /// To be set by a `call`.
     Completion,
+    /// To be queued by an interrupt.
+    Dpc,
 }
 
 /// Whether routines of this sort are for this role.
@@ -29,6 +31,7 @@ fn serves(role: Role, sort: Sort) -> bool
     match (role, sort) {
         (Role::Handler, Sort::Dispatch) => true,
         (Role::Completion, Sort::Propagate) => true,
+        (Role::Dpc, Sort::Dpc) => true,
         _ => false,
     }
 }
@@ -83,24 +86,25 @@ impl<'a> Draft<'a> {
         earliest(self.missed_calls(), self.missed_handler())
     }
 
-    /// The first line that names such a routine for a major function.
+    /// The first line that names such a routine for a major function or as its DPC routine.
     fn missed_handler(&self) -> Option<u64>
         requires { length self.now.routine_names ≤ MAX_ROUTINES }
         ensures { result ≡ missed_handler self.now.routine_names self.now.sorts self.now }
     {
-        let read = self.missed_entry(&self.read);
-        let write = self.missed_entry(&self.write);
-        let control = self.missed_entry(&self.control);
-        earliest(read, earliest(write, control))
+        let read = self.missed_entry(Role::Handler, &self.read);
+        let write = self.missed_entry(Role::Handler, &self.write);
+        let control = self.missed_entry(Role::Handler, &self.control);
+        let dpc = self.missed_entry(Role::Dpc, &self.dpc);
+        earliest(read, earliest(write, earliest(control, dpc)))
     }
 
     /// The line of a table entry that names such a routine.
-    fn missed_entry(&self, entry: &Option<Use<'a>>) -> Option<u64>
+    fn missed_entry(&self, role: Role, entry: &Option<Use<'a>>) -> Option<u64>
         requires { length self.now.routine_names ≤ MAX_ROUTINES }
-        ensures { result ≡ missed_entry self.now.routine_names self.now.sorts entry.now }
+        ensures { result ≡ missed_entry self.now.routine_names self.now.sorts role entry.now }
     {
         match entry {
-            Some(used) => self.missed_use(Role::Handler, used),
+            Some(used) => self.missed_use(role, used),
             None => None,
         }
     }
@@ -136,19 +140,20 @@ impl<'a> Draft<'a> {
     {
         Ok(Driver {
             routines: Items::of(self.finished_routines(alloc)?),
-            read: self.handler_in(&self.read),
-            write: self.handler_in(&self.write),
-            control: self.handler_in(&self.control),
+            read: self.entry_in(Role::Handler, &self.read),
+            write: self.entry_in(Role::Handler, &self.write),
+            control: self.entry_in(Role::Handler, &self.control),
+            dpc: self.entry_in(Role::Dpc, &self.dpc),
         })
     }
 
-    /// The number of the routine that serves a major function.
-    fn handler_in(&self, entry: &Option<Use<'a>>) -> Option<u8>
+    /// The number of the routine that is named for a role.
+    fn entry_in(&self, role: Role, entry: &Option<Use<'a>>) -> Option<u8>
         requires { length self.now.routine_names ≤ MAX_ROUTINES }
-        ensures { result ≡ handler_in self.now.routine_names self.now.sorts entry.now }
+        ensures { result ≡ entry_in self.now.routine_names self.now.sorts role entry.now }
     {
         match entry {
-            Some(used) => self.routine_named(Role::Handler, &used.name),
+            Some(used) => self.routine_named(role, &used.name),
             None => None,
         }
     }

@@ -12,7 +12,7 @@ use Rattle.asm_line.specs.declared.cursor.Cursor.{Cursor}
 use Rattle.asm_line.specs.declared.line.LineFault.{LineFault}
 use Rattle.asm_line.specs.declared.line.LineFault.TheVariants.{Lex, UnknownWord}
 use Rattle.asm_line.specs.declared.line.Body.{Body}
-use Rattle.asm_line.specs.declared.line.Body.TheVariants.{Blank, OpenDriver, CloseDriver, Handle, OpenRoutine, CloseRoutine, AddDevice, Step}
+use Rattle.asm_line.specs.declared.line.Body.TheVariants.{Blank, OpenDriver, CloseDriver, Handle, HandleDpc, OpenRoutine, CloseRoutine, AddDevice, Step}
 use Rattle.asm_line.specs.declared.line.Line.{Line}
 
 -- `device NAME DRIVER STACK` and `device NAME DRIVER STACK LOWER`
@@ -35,9 +35,10 @@ body t c =
     if bytes_eq t (codes "driver") then one OpenDriver name c else
     (if bytes_eq t (codes "endd") then so_far CloseDriver c else
     (if bytes_eq t (codes "dispatch") then two Handle major name c else
+    (if bytes_eq t (codes "dpc") then one HandleDpc name c else
     (if bytes_eq t (codes "routine") then two OpenRoutine name sort c else
     (if bytes_eq t (codes "endr") then so_far CloseRoutine c else
-    (if bytes_eq t (codes "device") then device c else step t c)))))
+    (if bytes_eq t (codes "device") then device c else step t c))))))
 
 -- what was read, if no token is left
 abbrev pub if_ended : List (List ℕ) → Body → Option Body
@@ -59,6 +60,7 @@ labelled label Blank = None
 labelled label (OpenDriver name) = None
 labelled label CloseDriver = None
 labelled label (Handle major routine) = None
+labelled label (HandleDpc routine) = None
 labelled label (OpenRoutine name sort) = None
 labelled label CloseRoutine = None
 labelled label (AddDevice name driver stack lower) = None
@@ -85,6 +87,7 @@ BodyFits Blank = ⊤
 BodyFits (OpenDriver name) = ⊤
 BodyFits CloseDriver = ⊤
 BodyFits (Handle major routine) = ⊤
+BodyFits (HandleDpc routine) = ⊤
 BodyFits (OpenRoutine name sort) = ⊤
 BodyFits CloseRoutine = ⊤
 BodyFits (AddDevice name driver stack lower) = ⊤

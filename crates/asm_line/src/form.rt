@@ -80,6 +80,10 @@ fn body_of<'a>(word: &[u8], mut at: Cursor<'a>) -> Option<Body<'a>>
         let (major, routine) = (at.major()?, at.name()?);
         return end(at, Body::Handle(major, routine));
     }
+    if is(word, b"dpc") {
+        let routine = at.name()?;
+        return end(at, Body::HandleDpc(routine));
+    }
     if is(word, b"routine") {
         let (name, sort) = (at.name()?, at.sort()?);
         return end(at, Body::OpenRoutine(name, sort));

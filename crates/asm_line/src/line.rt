@@ -26,6 +26,8 @@ pub enum Body<'a> {
     CloseDriver,
     /// `dispatch MAJOR ROUTINE`.
     Handle(Major, Piece<'a>),
+    /// `dpc ROUTINE`.
+    HandleDpc(Piece<'a>),
     /// `routine NAME SORT`.
     OpenRoutine(Piece<'a>, Sort),
     /// `endr`.

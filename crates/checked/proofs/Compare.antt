@@ -1,6 +1,6 @@
 -- An event on the machine and on the run: both end with the same world and the same reply.
 use Rattle.std.proofs.Common.{◌≡◌, ◌≤◌, ◌<◌, ◌+◌, ◌-◌, ℕ, suc, List, [], ◌∷◌, ◌++◌, Option, None, Some, Bool, true, false, cond, length, take, refl, ap, sym, ◌∙◌, inl, inr, arith, length-append, length-take}
-use Rattle.std.specs.Prelude.{◌&&◌, nat_lt, slice_get}
+use Rattle.std.specs.Prelude.{◌&&◌, not, nat_lt, slice_get}
 use Rattle.std.proofs.lemmas.Bool.Decides.{leb_tells}
 use Rattle.model.specs.declared.limits.TheConstants.{MAX_FRAMES}
 use Rattle.model.specs.declared.world.Frame.{Frame}
@@ -10,16 +10,16 @@ use Rattle.model.specs.declared.status.Major.{Major}
 use Rattle.model.specs.declared.status.Status.{Status}
 use Rattle.model.specs.declared.set.Device.{Device}
 use Rattle.model.specs.declared.event.Event.{Event}
-use Rattle.model.specs.declared.event.Event.TheVariants.{Issue, Step}
+use Rattle.model.specs.declared.event.Event.TheVariants.{Issue, Interrupt, Dpc, Step}
 use Rattle.model.specs.declared.event.Bug.{Bug}
 use Rattle.model.specs.declared.event.Reply.{Reply}
 use Rattle.model.specs.declared.event.Reply.TheVariants.{Stepped, Idle, Refused, Bug as BugCheckReply, Wrong}
-use Rattle.model.specs.Effect.{Outcome, Change, frame_effect, answered, top_of, told_top, told_to, kept_below, finished_or, with_stack, with_thread, standing, settled, top_effect, step_thread, unchanged, issued, issue_on, is_idle, can_issue, effect}
+use Rattle.model.specs.Effect.{Outcome, Change, frame_effect, answered, top_of, told_top, told_to, kept_below, finished_or, with_stack, with_thread, standing, settled, top_effect, step_thread, unchanged, issued, issue_on, interrupted, interrupt_on, dpc_begun, dpc_on, is_idle, can_issue, effect}
 use Rattle.model.specs.Run.{Run, Answered, goes, refused, stops, unless_wrong, unless_fault, judged as run_judged, actor_on, answered_on, root_of, tags_on, thread_of, top_tag}
 use Rattle.model.specs.Fault.{first_fault}
-use Rattle.model.specs.Set.{Set}
+use Rattle.model.specs.Set.{Set, dpc_of}
 use Rattle.model.specs.Trace.{Entry, recorded}
-use Rattle.model.specs.World.{Shared, World}
+use Rattle.model.specs.World.{Shared, World, is_queued}
 use Rattle.checked.specs.declared.frame.Runner.{Runner}
 use Rattle.checked.specs.Step.{Left, Ended, first_now, stays, unless_wrong as wrong_left, left_by, fits, bounded, moved_by, runner, top_now, step_ended, step_now, ended, event_now, is_stop}
 use Rattle.checked.proofs.Lists.{set_back, last_split}
@@ -307,6 +307,52 @@ module _ (set : Set) (r : Run) (t : ℕ) (on : r.stopped ≡ false) (tells : Pas
   compare_issue d major argument (Some thread) (Some device) =
       compare_issued d thread device major argument (is_idle thread && can_issue r.world.shared)
 
+  compare_begun : (d : ℕ) (thread : Thread) (routine : ℕ) (queued : Bool) →
+      Same (run_judged set r (actor_on r t)
+      (cond {A = Change} queued (dpc_begun set r.world t d thread routine)
+      (unchanged r.world Idle)))
+      (ended (cond {A = Change} queued (dpc_begun set r.world t d thread routine)
+      (unchanged r.world Idle)))
+  compare_begun d thread routine true =
+      compare_goes set r t r.past (dpc_begun set r.world t d thread routine) false refl refl
+  compare_begun d thread routine false =
+      compare_goes set r t r.past (unchanged r.world Idle) false refl refl
+
+  compare_free : (d : ℕ) (thread : Thread) (routine : ℕ) (busy : Bool) →
+      Same (run_judged set r (actor_on r t)
+      (cond {A = Change} busy (unchanged r.world Refused)
+      (cond {A = Change} (is_queued r.world.shared d) (dpc_begun set r.world t d thread routine)
+      (unchanged r.world Idle))))
+      (ended (cond {A = Change} busy (unchanged r.world Refused)
+      (cond {A = Change} (is_queued r.world.shared d) (dpc_begun set r.world t d thread routine)
+      (unchanged r.world Idle))))
+  compare_free d thread routine true = compare_refused
+  compare_free d thread routine false =
+      compare_begun d thread routine (is_queued r.world.shared d)
+
+  compare_dpc : (d : ℕ) (o : Option Thread) (routine : Option ℕ) →
+      Same (run_judged set r (actor_on r t) (dpc_on set r.world t d o routine))
+      (ended (dpc_on set r.world t d o routine))
+  compare_dpc d None routine = compare_refused
+  compare_dpc d (Some thread) None = compare_refused
+  compare_dpc d (Some thread) (Some routine) =
+      compare_free d thread routine (not (is_idle thread))
+
+-- an interrupt
+compare_queued : (set : Set) (r : Run) → r.stopped ≡ false → (d : ℕ) (queued : Bool) →
+    Same (answered_on set r
+    (cond {A = Change} queued (unchanged r.world Idle) (interrupted r.world d)) None)
+    (ended (cond {A = Change} queued (unchanged r.world Idle) (interrupted r.world d)))
+compare_queued set r on d true = record { world = refl; reply = refl; stopped = on }
+compare_queued set r on d false = record { world = refl; reply = refl; stopped = on }
+
+compare_interrupt : (set : Set) (r : Run) → r.stopped ≡ false → (d : ℕ) (routine : Option ℕ) →
+    Same (answered_on set r (interrupt_on r.world d routine) None)
+    (ended (interrupt_on r.world d routine))
+compare_interrupt set r on d None = record { world = refl; reply = refl; stopped = on }
+compare_interrupt set r on d (Some routine) =
+    compare_queued set r on d (is_queued r.world.shared d)
+
 -- every event
 pub compare_event : (set : Set) (r : Run) (e : Event) → r.stopped ≡ false → PastTells r
     → OwningTells →
@@ -314,5 +360,8 @@ pub compare_event : (set : Set) (r : Run) (e : Event) → r.stopped ≡ false �
 compare_event set r (Issue t d major argument) on tells owning =
     compare_issue set r t on tells owning d major argument (slice_get r.world.threads t)
     (slice_get set.devices d)
+compare_event set r (Interrupt d) on tells owning = compare_interrupt set r on d (dpc_of set d)
+compare_event set r (Dpc t d) on tells owning =
+    compare_dpc set r t on tells owning d (slice_get r.world.threads t) (dpc_of set d)
 compare_event set r (Step t) on tells owning =
     compare_step set r t on tells owning (slice_get r.world.threads t) refl

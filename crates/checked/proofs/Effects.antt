@@ -22,7 +22,7 @@ use Rattle.model.specs.Fault.{bug_if, first_or, first_fault}
 use Rattle.model.specs.Set.{Set}
 use Rattle.model.specs.Trace.{Actor, Entry}
 use Rattle.model.specs.World.{Shared, packet_of, packet_in, register}
-use Rattle.run_laws.proofs.Steps.Comes.{Comes, errs, awaits_lock, computes, opens_loop, turns_loop, pages, touches_gone, looks_at, writes_info, marks_packet, takes_lock, retakes_lock, frees_lock, completes_packet, completes_gone, passes_down, calls_down, returns_status, lets_go, lets_walk, walks_gone, walks_to, walks_up, carries_up, tops_out}
+use Rattle.run_laws.proofs.Steps.Comes.{Comes, errs, awaits_lock, computes, opens_loop, turns_loop, pages, touches_gone, looks_at, writes_info, marks_packet, takes_lock, retakes_lock, frees_lock, completes_packet, completes_gone, passes_down, calls_down, ends_dpc, returns_status, lets_go, lets_walk, walks_gone, walks_to, walks_up, carries_up, tops_out}
 use Rattle.run_laws.proofs.Steps.Walk.{comes}
 use Rattle.checked.specs.Step.{first_now}
 use Rattle.checked.proofs.Known.{Known, runs}
@@ -111,6 +111,7 @@ module _ (past : List Entry) (actor : Actor) (s : Shared) (known : Known s past)
   fine set under f o (returns_status a form status runs sort returns) = (refl, refl)
   fine set under f o (lets_go a runs sort under_is) = (refl, refl)
   fine set under f o (lets_walk a n runs sort) = (touched n, refl)
+  fine set under f o (ends_dpc a runs sort) = (refl, refl)
   fine set under f o (walks_gone n there) = (touched n, refl)
   fine set under f o (walks_to n p c there set_there) = (touched n, refl)
   fine set under f o (walks_up n p there none deep unmarked) = (touched n, refl)

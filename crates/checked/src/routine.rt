@@ -13,7 +13,7 @@ use crate::local;
 use crate::shared::Shared;
 use crate::shared::locks::spin_lock;
 use image::{DriverSet, Instr, Return, Sort};
-use model::event::Lock;
+use model::event::{Lock, Reply};
 use model::world::{Activation, Value};
 
 /// `ret ..`: the routine returns, in a form of its sort. It stands over the frames `below`.
@@ -28,6 +28,7 @@ fn leave(set: &DriverSet, shared: &Shared, below: &[Frame], a: &Activation, form
             Some(status) => Ran::Returned(status),
             None => Ran::Stays(wrong_at(a)),
         },
+        (Sort::Dpc, Return::Void) => Ran::Gone(Reply::Stepped),
         (Sort::Propagate, Return::Continue) => shared.go_on(below),
         _ => Ran::Stays(wrong_at(a)),
     }

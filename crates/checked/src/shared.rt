@@ -19,12 +19,13 @@ mod forwarding;
 pub mod locks;
 mod touching;
 
-/// The packets, the locks, and by device its cells.
+/// The packets, the locks, and by device its cells, and whether its DPC is queued.
 #[derive(Drop)]
 pub struct Shared {
     packet_table: PacketTable,
     lock_table: LockTable,
     cell_list: Vec<Cells>,
+    dpc_list: Vec<bool>,
 }
 
 impl Model for Shared {
@@ -37,12 +38,13 @@ impl Model for Shared {
       issued = s.packet_table.issued;
       locks = s.lock_table;
       cells = s.cell_list.items;
+      dpcs = s.dpc_list.items;
     } };
 }
 
 impl Shared {
     ghost use Rattle.model.specs.Effect.{can_issue, with_new_packet};
-    ghost use Rattle.model.specs.World.{unused, packet_in};
+    ghost use Rattle.model.specs.World.{unused, packet_in, is_queued, with_dpc};
     ghost use Rattle.checked.specs.Step.{is_gone, is_raised};
 
     /// What is there before the first event, for so many devices. An error where memory is refused;
@@ -58,6 +60,7 @@ impl Shared {
             packet_table: PacketTable::new(alloc)?,
             lock_table: LockTable::new(alloc, devices)?,
             cell_list: vec![in alloc; blank; devices]?,
+            dpc_list: vec![in alloc; false; devices]?,
         })
     }
 
@@ -78,6 +81,25 @@ impl Shared {
     {
         self.packet_table
             .issue(number, major, argument, device.stack)
+    }
+
+    /// Whether the DPC of a device is queued.
+    pub fn is_queued(&self, device: u8) -> bool
+        ensures { result ≡ is_queued self.now device }
+    {
+        match self.dpc_list.get(device as usize) {
+            Some(queued) => *queued,
+            None => false,
+        }
+    }
+
+    /// Queues the DPC of a device, or takes it off.
+    pub fn set_queued(&mut self, device: u8, queued: bool)
+        ensures { self.new ≡ with_dpc self.old device queued }
+    {
+        if let Some(dpc) = self.dpc_list.get_mut(device as usize) {
+            *dpc = queued;
+        }
     }
 
     /// Whether a thread is at DISPATCH_LEVEL.

@@ -3,6 +3,7 @@
 ghost use Rattle.std.specs.Prelude.{◌≡◌, ◌≤◌, IfOk, IfSome, slice_get};
 ghost use Rattle.model.specs.declared.limits.TheConstants.{MAX_STACK};
 ghost use Rattle.checked.specs.Step.{event_now, step_now};
+ghost use Rattle.model.specs.Effect.{routine_of_device};
 ghost use Rattle.model.specs.World.{opening};
 
 use crate::activation::entered;
@@ -38,6 +39,16 @@ fn device_of(set: &DriverSet, number: u8) -> Option<Device>
     set.devices().get(number as usize).copied()
 }
 
+/// The number of the driver of a device.
+fn driver_of(set: &DriverSet, device: u8) -> u8
+    ensures { result ≡ routine_of_device (slice_get set.now.devices device) }
+{
+    match device_of(set, device) {
+        Some(target) => target.driver,
+        None => 0,
+    }
+}
+
 impl World {
     /// So many devices and idle threads, before the first event. All memory that a run ever needs
     /// is taken here: an error where some of it is refused.
@@ -66,6 +77,8 @@ impl World {
                 major,
                 argument,
             } => self.issue(set, thread, device, major, argument),
+            Event::Interrupt { device } => self.interrupt(set, device),
+            Event::Dpc { thread, device } => self.begin_dpc(set, thread, device),
             Event::Step { thread } => self.step(set, thread),
         }
     }
@@ -97,6 +110,45 @@ impl World {
         let root = entered(target.driver, routine, device, Value::Ref(packet));
         self.thread_list[thread as usize].begin(Irql::Passive, root);
         Reply::Started(packet)
+    }
+
+    /// A device interrupts: its DPC is queued.
+    fn interrupt(&mut self, set: &DriverSet, device: u8) -> Reply
+        ensures { let event = Event.Interrupt device in
+            record { world = self.new; reply = result } ≡ event_now set.now self.old event }
+    {
+        if set.dpc(device).is_none() {
+            return Reply::Refused;
+        }
+        if self.shared.is_queued(device) {
+            return Reply::Idle;
+        }
+        self.shared.set_queued(device, true);
+        Reply::Stepped
+    }
+
+    /// The DPC of a device is taken off, and its routine begins on an idle thread.
+    fn begin_dpc(&mut self, set: &DriverSet, thread: u8, device: u8) -> Reply
+        ensures { let event = Event.Dpc thread device in
+            record { world = self.new; reply = result } ≡ event_now set.now self.old event }
+    {
+        let idle = match self.thread_list.get(thread as usize) {
+            Some(runner) => runner.is_idle(),
+            None => return Reply::Refused,
+        };
+        let Some(routine) = set.dpc(device) else {
+            return Reply::Refused;
+        };
+        if !idle {
+            return Reply::Refused;
+        }
+        if !self.shared.is_queued(device) {
+            return Reply::Idle;
+        }
+        self.shared.set_queued(device, false);
+        let root = entered(driver_of(set, device), routine, device, Value::Blank);
+        self.thread_list[thread as usize].begin(Irql::Dispatch, root);
+        Reply::Stepped
     }
 
     /// A step of a thread's top frame.

@@ -33,7 +33,7 @@ impl Model for DriverSet {
 }
 
 impl DriverSet {
-    ghost use Rattle.model.specs.Set.{Set, serving, instruction_at, sort_of, lower_of};
+    ghost use Rattle.model.specs.Set.{Set, serving, instruction_at, sort_of, lower_of, dpc_of};
     ghost use Rattle.model.specs.Sound.{IsSound};
 
     /// The set of these drivers and devices. They are handed back exactly where they break a limit
@@ -83,6 +83,14 @@ impl DriverSet {
             .get(driver as usize)
             .and_then(|driver| driver.handler(major))
             .unwrap_or(DEFAULT_ROUTINE)
+    }
+
+    /// The number of the DPC routine of a device: that of its driver, if it has one.
+    pub fn dpc(&self, device: u8) -> Option<u8>
+        ensures { result ≡ dpc_of self.now device }
+    {
+        let device = self.devices().get(device as usize)?;
+        self.drivers().get(device.driver as usize)?.dpc
     }
 
     /// The sort of a routine of a driver, the default routine's among them.

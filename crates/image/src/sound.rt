@@ -4,6 +4,7 @@ ghost use Rattle.std.specs.Prelude.{◌≡◌, ◌≤◌, ◌<◌, ◌↔◌, le
 ghost use Rattle.model.specs.Sound.{IsSound, DeviceFits, DevicesFit, DriverFits, RoutineFits};
 ghost use Rattle.model.specs.Sound.{LabelFits, OperandFits, CallFits, CallsFit};
 ghost use Rattle.model.specs.Sound.{HandlerFits, HasSort, IsDispatch, IsCompletion};
+ghost use Rattle.model.specs.Sound.{DpcFits, IsDpc};
 
 use model::instr::{Instr, Return};
 use model::limits::{
@@ -52,7 +53,7 @@ fn operand_fits(instr: &Instr) -> bool
         | Instr::End
         | Instr::AcquireCancel
         | Instr::ReleaseCancel
-        | Instr::Ret(Return::WithStatus(_) | Return::Continue) => true,
+        | Instr::Ret(Return::WithStatus(_) | Return::Continue | Return::Void) => true,
     }
 }
 
@@ -89,6 +90,16 @@ fn is_dispatch(routines: &[Routine], number: u8) -> bool
     }
 }
 
+/// Whether the routine of a number is a DPC routine.
+fn is_dpc(routines: &[Routine], number: u8) -> bool
+    ensures { IsTrue result ↔ HasSort IsDpc (slice_get routines.now number) }
+{
+    match routines.get(number as usize) {
+        Some(routine) => matches!(routine.sort, Sort::Dpc),
+        None => false,
+    }
+}
+
 /// Whether the routine of a number is a completion routine.
 fn is_completion(routines: &[Routine], number: u8) -> bool
     ensures { IsTrue result ↔ HasSort IsCompletion (slice_get routines.now number) }
@@ -104,6 +115,15 @@ fn handler_fits(routines: &[Routine], handler: Option<u8>) -> bool
 {
     match handler {
         Some(number) => is_dispatch(routines, number),
+        None => true,
+    }
+}
+
+fn dpc_fits(routines: &[Routine], dpc: Option<u8>) -> bool
+    ensures { IsTrue result ↔ DpcFits routines.now dpc }
+{
+    match dpc {
+        Some(number) => is_dpc(routines, number),
         None => true,
     }
 }
@@ -145,6 +165,7 @@ fn driver_fits(driver: &Driver) -> bool
         && handler_fits(routines, driver.read)
         && handler_fits(routines, driver.write)
         && handler_fits(routines, driver.control)
+        && dpc_fits(routines, driver.dpc)
         && all_calls_fit(routines)
 }
 

@@ -1,6 +1,6 @@
 -- One line of a schedule: what it stands for, or the least kind of what is wrong with it.
 use Rattle.std.specs.Prelude.{ℕ, ◌^◌, ◌-◌, ◌&&◌, nat_le, List, [], ◌∷◌, bytes_eq, codes, Option, Some, None, Result, Ok, Err, if◌then◌else◌}
-use Rattle.model.specs.declared.event.Event.TheVariants.{Issue, Step}
+use Rattle.model.specs.declared.event.Event.TheVariants.{Issue, Interrupt, Dpc, Step}
 use Rattle.model.specs.declared.status.Major.{Major}
 use Rattle.text.specs.Cut.{tokens_of}
 use Rattle.text.specs.Class.{is_number}
@@ -71,6 +71,43 @@ abbrev pub issue_line : List (List ℕ) → Result (Option Repeated) ScheduleKin
 issue_line (thread ∷ device ∷ major ∷ argument ∷ []) = issue_of thread device major argument
 issue_line _ = Err UnknownWord
 
+-- the interrupt of the device of this number, once
+abbrev pub interruption : Option ℕ → Option Repeated
+interruption (Some device) = Some (record { event = Interrupt device; count = 1 })
+interruption None = None
+
+-- the interrupt, if its number is in range
+abbrev pub interrupts : List ℕ → Option Repeated
+interrupts device = interruption (number_within 0 255 device)
+
+-- an interrupt of a device
+abbrev pub interrupt_of : List ℕ → Result (Option Repeated) ScheduleKind
+interrupt_of device = if is_number device then ranged (interrupts device) else Err UnknownWord
+
+-- `interrupt D`
+abbrev pub interrupt_line : List (List ℕ) → Result (Option Repeated) ScheduleKind
+interrupt_line (device ∷ []) = interrupt_of device
+interrupt_line _ = Err UnknownWord
+
+-- the DPC of these numbers, once
+abbrev pub beginning : Option ℕ → Option ℕ → Option Repeated
+beginning (Some thread) (Some device) = Some (record { event = Dpc thread device; count = 1 })
+beginning _ _ = None
+
+-- the DPC, if its numbers are in range
+abbrev pub begins : List ℕ → List ℕ → Option Repeated
+begins thread device = beginning (number_within 0 255 thread) (number_within 0 255 device)
+
+-- the DPC of a device, on a thread
+abbrev pub dpc_of : List ℕ → List ℕ → Result (Option Repeated) ScheduleKind
+dpc_of thread device = if is_number thread && is_number device then ranged (begins thread device)
+    else Err UnknownWord
+
+-- `dpc T D`
+abbrev pub dpc_line : List (List ℕ) → Result (Option Repeated) ScheduleKind
+dpc_line (thread ∷ device ∷ []) = dpc_of thread device
+dpc_line _ = Err UnknownWord
+
 -- these steps, of these numbers
 abbrev pub stepping : Option ℕ → Option ℕ → Option Repeated
 stepping (Some thread) (Some count) = Some (record { event = Step thread; count = count })
@@ -96,7 +133,9 @@ abbrev pub event_of : List (List ℕ) → Result (Option Repeated) ScheduleKind
 event_of [] = Ok None
 event_of (word ∷ operands) =
     if bytes_eq word (codes "issue") then issue_line operands else
-    (if bytes_eq word (codes "step") then step_line operands else Err UnknownWord)
+    (if bytes_eq word (codes "interrupt") then interrupt_line operands else
+    (if bytes_eq word (codes "dpc") then dpc_line operands else
+    (if bytes_eq word (codes "step") then step_line operands else Err UnknownWord)))
 
 -- the tokens of a line, if its bytes and tokens are all allowed
 abbrev pub checked_tokens : List ℕ → Result (List (List ℕ)) ScheduleKind

@@ -1,7 +1,7 @@
 //! One line of a schedule.
 
 ghost use Rattle.std.specs.Prelude.{◌≡◌, ◌≤◌, IfSome};
-ghost use Rattle.interleave.specs.Line.{checked_tokens, event_line, event_of, issue_line, issue_of, issues, number_within, opening_line, opening_of, step_line, steps, steps_of, threads_line, threads_of};
+ghost use Rattle.interleave.specs.Line.{begins, checked_tokens, dpc_line, dpc_of, event_line, event_of, interrupt_line, interrupt_of, interrupts, issue_line, issue_of, issues, number_within, opening_line, opening_of, step_line, steps, steps_of, threads_line, threads_of};
 
 use crate::schedule::ScheduleKind;
 use model::event::Event;
@@ -105,6 +105,10 @@ fn event_of(mut tokens: Tokens) -> Result<Option<Repeated>, ScheduleKind>
         Some(word) => {
             if is(word, b"issue") {
                 issue_line(tokens)
+            } else if is(word, b"interrupt") {
+                interrupt_line(tokens)
+            } else if is(word, b"dpc") {
+                dpc_line(tokens)
             } else if is(word, b"step") {
                 step_line(tokens)
             } else {
@@ -158,15 +162,80 @@ fn issue_of(
 fn issues(thread: &[u8], device: &[u8], major: Major, argument: &[u8]) -> Option<Repeated>
     ensures { result ≡ issues thread.now device.now major argument.now }
 {
-    let thread = number_within(0, 255, thread)?;
-    let device = number_within(0, 255, device)?;
+    let thread = byte(thread)?;
+    let device = byte(device)?;
     let argument = number_within(0, u64::MAX, argument)?;
     let event = Event::Issue {
-        thread: thread as u8,
-        device: device as u8,
+        thread,
+        device,
         major,
         argument,
     };
+    Some(Repeated { event, count: 1 })
+}
+
+/// `interrupt D`.
+fn interrupt_line(mut operands: Tokens) -> Result<Option<Repeated>, ScheduleKind>
+    ensures { result ≡ interrupt_line operands.entry }
+{
+    match (operands.next(), operands.next()) {
+        (Some(device), None) => interrupt_of(device),
+        _ => Err(ScheduleKind::UnknownWord),
+    }
+}
+
+/// An interrupt of a device.
+fn interrupt_of(device: &[u8]) -> Result<Option<Repeated>, ScheduleKind>
+    ensures { result ≡ interrupt_of device.now }
+{
+    if !is_number(device) {
+        return Err(ScheduleKind::UnknownWord);
+    }
+    match interrupts(device) {
+        Some(repeated) => Ok(Some(repeated)),
+        None => Err(ScheduleKind::OutOfRange),
+    }
+}
+
+/// The interrupt, if its number is in range.
+fn interrupts(device: &[u8]) -> Option<Repeated>
+    ensures { result ≡ interrupts device.now }
+{
+    let device = byte(device)?;
+    let event = Event::Interrupt { device };
+    Some(Repeated { event, count: 1 })
+}
+
+/// `dpc T D`.
+fn dpc_line(mut operands: Tokens) -> Result<Option<Repeated>, ScheduleKind>
+    ensures { result ≡ dpc_line operands.entry }
+{
+    match (operands.next(), operands.next(), operands.next()) {
+        (Some(thread), Some(device), None) => dpc_of(thread, device),
+        _ => Err(ScheduleKind::UnknownWord),
+    }
+}
+
+/// The DPC of a device, on a thread.
+fn dpc_of(thread: &[u8], device: &[u8]) -> Result<Option<Repeated>, ScheduleKind>
+    ensures { result ≡ dpc_of thread.now device.now }
+{
+    if !(is_number(thread) && is_number(device)) {
+        return Err(ScheduleKind::UnknownWord);
+    }
+    match begins(thread, device) {
+        Some(repeated) => Ok(Some(repeated)),
+        None => Err(ScheduleKind::OutOfRange),
+    }
+}
+
+/// The DPC, if its numbers are in range.
+fn begins(thread: &[u8], device: &[u8]) -> Option<Repeated>
+    ensures { result ≡ begins thread.now device.now }
+{
+    let thread = byte(thread)?;
+    let device = byte(device)?;
+    let event = Event::Dpc { thread, device };
     Some(Repeated { event, count: 1 })
 }
 
@@ -198,15 +267,21 @@ fn steps_of(thread: &[u8], count: &[u8]) -> Result<Option<Repeated>, ScheduleKin
 fn steps(thread: &[u8], count: &[u8]) -> Option<Repeated>
     ensures { result ≡ steps thread.now count.now }
 {
-    let thread = number_within(0, 255, thread)?;
+    let thread = byte(thread)?;
     let count = number_within(1, MAX_REPEATS, count)?;
-    let event = Event::Step {
-        thread: thread as u8,
-    };
+    let event = Event::Step { thread };
     Some(Repeated {
         event,
         count: count as usize,
     })
+}
+
+/// The number of a thread or a device, which has 8 bits.
+fn byte(token: &[u8]) -> Option<u8>
+    ensures { result ≡ number_within 0 255 token.now }
+{
+    let number = number_within(0, 255, token)?;
+    Some(number as u8)
 }
 
 /// The number that a token writes, if it is in this range.

@@ -13,10 +13,16 @@ pub record Table : Type 0 where
 abbrev pub with_table : Shared → Table → Shared
 with_table s table = record s { packets = table.packets; issued = table.issued }
 
--- a shared part with this table, without locks and cells
+-- a shared part with this table, without locks, cells and DPCs
 abbrev pub shared_of : Table → Shared
 shared_of table =
-    record { packets = table.packets; issued = table.issued; locks = free_locks 0; cells = [] }
+    record {
+      packets = table.packets;
+      issued = table.issued;
+      locks = free_locks 0;
+      cells = [];
+      dpcs = [];
+    }
 
 -- before the first packet
 abbrev pub no_packets : Table

@@ -1,12 +1,12 @@
 -- What an event does to a world: the world after it, the actions that make it up, and the reply. It
 -- tells what is refused, idle, waited for or wrong. It looks for no bug check: those are found from
 -- the actions (the module Fault).
-use Rattle.std.specs.Prelude.{ℕ, ◌+◌, ◌-◌, ◌%◌, ◌^◌, ◌&&◌, option_and_then, option_map, slice_index_or, Bool, false, List, [], ◌∷◌, ◌++◌, length, Option, None, Some, nat_eq, nat_lt, take, slice_get, slice_set, if◌then◌else◌}
+use Rattle.std.specs.Prelude.{ℕ, ◌+◌, ◌-◌, ◌%◌, ◌^◌, ◌&&◌, not, option_and_then, option_map, slice_index_or, Bool, true, false, List, [], ◌∷◌, ◌++◌, length, Option, None, Some, nat_eq, nat_lt, take, slice_get, slice_set, if◌then◌else◌}
 use Rattle.model.specs.declared.world.Activation.{Activation}
 use Rattle.model.specs.declared.world.Frame.{Frame}
 use Rattle.model.specs.declared.world.Frame.TheVariants.{Routine, Walk}
 use Rattle.model.specs.declared.world.Irql.{Irql}
-use Rattle.model.specs.declared.world.Irql.TheVariants.{Passive}
+use Rattle.model.specs.declared.world.Irql.TheVariants.{Passive, Dispatch as DispatchLevel}
 use Rattle.model.specs.declared.world.Thread.{Thread}
 use Rattle.model.specs.declared.limits.TheConstants.{MAX_FRAMES, MAX_ISSUED, MAX_LIVE_PACKETS, MAX_LOOPS}
 use Rattle.model.specs.declared.world.Packet.{Packet}
@@ -19,21 +19,21 @@ use Rattle.model.specs.declared.instr.Instr.{Instr}
 use Rattle.model.specs.declared.instr.Field.{Field}
 use Rattle.model.specs.declared.instr.Instr.TheVariants.{Const, Move, Clear, Add, Subtract, JumpIfZero, JumpIfLess, Jump, Loop, End, Load, Store, LoadPaged, StorePaged, Get, Put, Mark, Acquire, Release, AcquireCancel, ReleaseCancel, Pass, Call, Complete, IfPending, Ret}
 use Rattle.model.specs.declared.instr.Return.{Return}
-use Rattle.model.specs.declared.instr.Return.TheVariants.{WithStatus, Lower, Continue}
+use Rattle.model.specs.declared.instr.Return.TheVariants.{WithStatus, Lower, Continue, Void}
 use Rattle.model.specs.declared.set.Device.{Device}
 use Rattle.model.specs.declared.set.Sort.{Sort}
-use Rattle.model.specs.declared.set.Sort.TheVariants.{Dispatch, Propagate}
+use Rattle.model.specs.declared.set.Sort.TheVariants.{Dispatch, Dpc, Propagate}
 use Rattle.model.specs.declared.world.Completion.{Completion}
 use Rattle.model.specs.declared.event.Lock.{Lock}
 use Rattle.model.specs.declared.event.Lock.TheVariants.{SystemCancel, Spin}
 use Rattle.model.specs.declared.event.OfDevice.{OfDevice}
 use Rattle.model.specs.declared.event.Event.{Event}
-use Rattle.model.specs.declared.event.Event.TheVariants.{Issue, Step}
+use Rattle.model.specs.declared.event.Event.TheVariants.{Issue, Interrupt, Dpc as DpcEvent, Step}
 use Rattle.model.specs.declared.event.Reply.{Reply}
 use Rattle.model.specs.declared.event.Reply.TheVariants.{Started, Stepped, Finished, Topped, Waited, Idle, Refused, Bug as BugCheckReply, Wrong}
 use Rattle.model.specs.Action.{Action, Executes, Acquires, Releases, TouchesPaged, Touches, Issues, Calls, Ups, Completes, Marks, Leaves, Returns, TopsOut, GoesWrong}
-use Rattle.model.specs.Set.{Set, serving, instruction_at, sort_of, lower_of, default_number}
-use Rattle.model.specs.World.{Shared, World, owner_of, with_owner, with_locks, with_cells, packet_of, with_packet, without_packet, packet_in, number_in, status_in, register, next, at_label, with_register, innermost, outer_loops, with_loops, field_of, with_info, mark_current, current_location, sent_down, shared_with, left_location, moved_up, carried_up, completion_of, asked_of, completed, new_packet, entered}
+use Rattle.model.specs.Set.{Set, serving, instruction_at, sort_of, lower_of, dpc_of, default_number}
+use Rattle.model.specs.World.{Shared, World, owner_of, with_owner, with_locks, with_cells, packet_of, with_packet, without_packet, packet_in, number_in, status_in, register, next, at_label, with_register, innermost, outer_loops, with_loops, field_of, with_info, mark_current, current_location, sent_down, shared_with, left_location, moved_up, carried_up, completion_of, asked_of, completed, new_packet, entered, is_queued, with_dpc}
 
 -- what a frame's step leaves: the shared part of the world, the frames that stand in place of the
 -- one that ran (the lowest first), the actions in order, the reply, whether the frame below is
@@ -292,14 +292,24 @@ touched_under (Some (Walk n)) = Touches n ∷ []
 abbrev pub continued : Shared → Option Frame → Outcome
 continued s under = leaves s [] (Executes ∷ touched_under under)
 
+-- a DPC routine returns nothing
+abbrev pub ended : Shared → Outcome
+ended s = leaves s [] (Executes ∷ [])
+
 -- each sort has its forms
 abbrev pub return_effect : Shared → Activation → Option Frame → Sort → Return → Outcome
 return_effect s a under Dispatch (WithStatus status) = returned s status
 return_effect s a under Dispatch (Lower r) = return_lower s a (status_in (register a r))
 return_effect s a under Dispatch Continue = goes_wrong s a
+return_effect s a under Dispatch Void = goes_wrong s a
+return_effect s a under Dpc (WithStatus status) = goes_wrong s a
+return_effect s a under Dpc (Lower r) = goes_wrong s a
+return_effect s a under Dpc Continue = goes_wrong s a
+return_effect s a under Dpc Void = ended s
 return_effect s a under Propagate (WithStatus status) = goes_wrong s a
 return_effect s a under Propagate (Lower r) = goes_wrong s a
 return_effect s a under Propagate Continue = continued s under
+return_effect s a under Propagate Void = goes_wrong s a
 
 -- the instruction at the activation's position, on a thread, over a frame or none
 abbrev pub instruction_effect : Set → Shared → ℕ → Option Frame → Activation → Instr → Outcome
@@ -562,8 +572,40 @@ issue_on set w t d major argument (Some thread) (Some device) =
     then issued set w t d thread device major argument
     else unchanged w Refused
 
+-- Interrupt: the device's DPC is queued (Driver Kit, IoRequestDpc), unless it is already
+abbrev pub interrupted : World → ℕ → Change
+interrupted w d =
+    record (unchanged w Stepped) { world = record w { shared = with_dpc w.shared d true } }
+
+abbrev pub interrupt_on : World → ℕ → Option ℕ → Change
+interrupt_on w d None = unchanged w Refused
+interrupt_on w d (Some routine) = if is_queued w.shared d then unchanged w Idle else interrupted w d
+
+-- Dpc: the DPC of a device is taken off its queue, and then its routine begins at DISPATCH_LEVEL on
+-- an idle thread
+abbrev pub dpc_activation : Set → ℕ → ℕ → Activation
+dpc_activation set d routine =
+    entered (routine_of_device (slice_get set.devices d)) routine d Blank
+
+abbrev pub dpc_begun : Set → World → ℕ → ℕ → Thread → ℕ → Change
+dpc_begun set w t d thread routine =
+    record (unchanged w Stepped) {
+      world =
+          with_thread w t (with_dpc w.shared d false)
+          (rooted thread DispatchLevel (dpc_activation set d routine));
+    }
+
+abbrev pub dpc_on : Set → World → ℕ → ℕ → Option Thread → Option ℕ → Change
+dpc_on set w t d None routine = unchanged w Refused
+dpc_on set w t d (Some thread) None = unchanged w Refused
+dpc_on set w t d (Some thread) (Some routine) =
+    if not (is_idle thread) then unchanged w Refused else
+    (if is_queued w.shared d then dpc_begun set w t d thread routine else unchanged w Idle)
+
 -- what an event does
 abbrev pub effect : Set → World → Event → Change
 effect set w (Issue t d major argument) =
     issue_on set w t d major argument (slice_get w.threads t) (slice_get set.devices d)
+effect set w (Interrupt d) = interrupt_on w d (dpc_of set d)
+effect set w (DpcEvent t d) = dpc_on set w t d (slice_get w.threads t) (dpc_of set d)
 effect set w (Step t) = step_thread set w t (slice_get w.threads t)

@@ -17,9 +17,9 @@ use Rattle.model.specs.declared.abs.Rule.TheVariants.{Malformed, Unreachable, St
 use Rattle.model.specs.declared.instr.Instr.{Instr}
 use Rattle.model.specs.declared.instr.Instr.TheVariants.{Const, Move, Clear, Add, Subtract, JumpIfZero, JumpIfLess, Jump, Loop, End, Load, Store, LoadPaged, StorePaged, Get, Put, Mark, Acquire, Release, AcquireCancel, ReleaseCancel, Pass, Call, Complete, IfPending, Ret}
 use Rattle.model.specs.declared.instr.Return.{Return}
-use Rattle.model.specs.declared.instr.Return.TheVariants.{WithStatus, Lower as LowerStatus, Continue}
+use Rattle.model.specs.declared.instr.Return.TheVariants.{WithStatus, Lower as LowerStatus, Continue, Void}
 use Rattle.model.specs.declared.set.Sort.{Sort}
-use Rattle.model.specs.declared.set.Sort.TheVariants.{Dispatch, Propagate}
+use Rattle.model.specs.declared.set.Sort.TheVariants.{Dispatch, Dpc, Propagate}
 use Rattle.model.specs.declared.status.Status.{Status}
 use Rattle.model.specs.declared.status.Status.TheVariants.{Success, Pending as PendingStatus, Busy, Unsuccessful, InvalidParameter, InvalidDeviceRequest, Cancelled}
 use Rattle.model.specs.Forwarding.{lacks_lower, is_too_small}
@@ -28,7 +28,7 @@ use Rattle.model.specs.Set.{Set, Member, Flow, Onward, Branches, Jumps, Opens, C
 
 -- the state in which a routine is entered, if it may be: a dispatch routine may do anything with
 -- the packet in its first register, a completion routine that lets the completion go on may look at
--- it. No lock is held
+-- it, and a DPC routine is handed none. No lock is held
 abbrev pub entered_with : Kind → Duty → Settled → Abs
 entered_with first duty carried =
     record {
@@ -41,6 +41,7 @@ entered_with first duty carried =
 
 abbrev pub entry_of_sort : Sort → Option Abs
 entry_of_sort Dispatch = Some (entered_with New Fresh SettledMark)
+entry_of_sort Dpc = Some (entered_with Blank NoDuty SettledMark)
 entry_of_sort Propagate = Some (entered_with View NoDuty Open)
 
 abbrev pub entry_state : Member → Option Abs
@@ -166,6 +167,7 @@ one_to_look_at = record { new = false; own = false; view = true }
 
 abbrev pub is_completion : Sort → Bool
 is_completion Dispatch = false
+is_completion Dpc = false
 is_completion Propagate = true
 
 abbrev pub is_pending : Status → Bool
@@ -194,6 +196,7 @@ number_kind View = Some WrongKind
 -- while their thread holds no lock
 abbrev pub level_fault : Abs → Sort → Option Rule
 level_fault s Dispatch = broken_if (holds_lock s) Level
+level_fault s Dpc = Some Level
 level_fault s Propagate = Some Level
 
 -- `mark` wants a packet that the routine was handed, or in a completion routine one whose mark has
@@ -233,16 +236,22 @@ abbrev pub complete_kind : Kind → Option Rule
 complete_kind kind = if is_blank kind then Some DoubleCompletion
     else demanded one_handed_or_owned kind
 
--- a completion routine neither completes nor forwards
+-- a completion routine doesn't complete
 abbrev pub completion_sort_fault : Sort → Option Rule
 completion_sort_fault sort = broken_if (is_completion sort) Completion
 
--- a packet is forwarded while no lock is held, from devices that all have a lower one, and stack
--- locations for it and so many more
+-- only a dispatch routine forwards
+abbrev pub forward_sort_fault : Sort → Option Rule
+forward_sort_fault Dispatch = None
+forward_sort_fault Dpc = Some SortRule
+forward_sort_fault Propagate = Some Completion
+
+-- a packet is forwarded by a dispatch routine, while no lock is held, from devices that all have a
+-- lower one, and stack locations for it and so many more
 abbrev pub forward_fault : Abs → Sort → Set → ℕ → ℕ → Option Rule
 forward_fault s sort set driver locations =
     least_of (broken_if (holds_lock s) LockHeld)
-    (least_of (completion_sort_fault sort)
+    (least_of (forward_sort_fault sort)
     (least_of (broken_if (is_too_small set driver locations) StackTooSmall)
     (broken_if (lacks_lower set driver) NoLower)))
 
@@ -276,15 +285,22 @@ duty_fault s (LowerStatus r) =
     least_of (broken_if (not (is_lower (kind_of s r))) WrongKind)
     (broken_if (not (is_given_down s.duty)) MarkIrpPending)
 duty_fault s Continue = None
+duty_fault s Void = None
 
 -- each sort has its forms of return
 abbrev pub form_fault : Sort → Return → Option Rule
 form_fault Dispatch (WithStatus status) = None
 form_fault Dispatch (LowerStatus r) = None
 form_fault Dispatch Continue = Some SortRule
+form_fault Dispatch Void = Some SortRule
+form_fault Dpc (WithStatus status) = Some SortRule
+form_fault Dpc (LowerStatus r) = Some SortRule
+form_fault Dpc Continue = Some SortRule
+form_fault Dpc Void = None
 form_fault Propagate (WithStatus status) = Some SortRule
 form_fault Propagate (LowerStatus r) = Some SortRule
 form_fault Propagate Continue = None
+form_fault Propagate Void = Some SortRule
 
 -- a completion routine has carried the mark up
 abbrev pub is_settled : Settled → Bool
@@ -294,6 +310,7 @@ is_settled SettledMark = true
 
 abbrev pub settled_fault : Sort → Settled → Option Rule
 settled_fault Dispatch carried = None
+settled_fault Dpc carried = None
 settled_fault Propagate carried = broken_if (not (is_settled carried)) Completion
 
 -- no packet is left in a register, but for one on its way up

@@ -53,6 +53,12 @@ sort_in (Some routine) = routine.sort
 abbrev pub sort_of : Set → ℕ → ℕ → Sort
 sort_of set driver number = sort_in (routine_of set driver number)
 
+-- the DPC routine of a device: that of its driver, if it has one
+abbrev pub dpc_of : Set → ℕ → Option ℕ
+dpc_of set device =
+    option_and_then (λ driver. driver.dpc)
+    (option_and_then (λ d. slice_get set.drivers d.driver) (slice_get set.devices device))
+
 -- the device under a device
 abbrev pub lower_of : Set → ℕ → Option ℕ
 lower_of set device = option_and_then (λ d. d.lower) (slice_get set.devices device)

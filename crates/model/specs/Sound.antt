@@ -4,13 +4,13 @@ use Rattle.std.specs.Prelude.{ℕ, suc, ⊤, ◌^◌, ◌<◌, ◌≤◌, List, 
 use Rattle.model.specs.declared.instr.Instr.{Instr}
 use Rattle.model.specs.declared.instr.Instr.TheVariants.{Const, Move, Clear, Add, Subtract, JumpIfZero, JumpIfLess, Jump, Loop, End, Load, Store, LoadPaged, StorePaged, Get, Put, Mark, Acquire, Release, AcquireCancel, ReleaseCancel, Pass, Call, Complete, IfPending, Ret}
 use Rattle.model.specs.declared.instr.Return.{Return}
-use Rattle.model.specs.declared.instr.Return.TheVariants.{WithStatus, Lower, Continue}
+use Rattle.model.specs.declared.instr.Return.TheVariants.{WithStatus, Lower, Continue, Void}
 use Rattle.model.specs.declared.limits.TheConstants.{CELLS, MAX_DEVICES, MAX_DRIVERS, MAX_INSTRUCTIONS, MAX_ROUTINES, MAX_STACK, MAX_TURNS, REGISTERS, SPIN_LOCKS}
 use Rattle.model.specs.declared.set.Driver.{Driver}
 use Rattle.model.specs.declared.set.Device.{Device}
 use Rattle.model.specs.declared.set.Routine.{Routine}
 use Rattle.model.specs.declared.set.Sort.{Sort}
-use Rattle.model.specs.declared.set.Sort.TheVariants.{Dispatch, Propagate}
+use Rattle.model.specs.declared.set.Sort.TheVariants.{Dispatch, Dpc, Propagate}
 use Rattle.model.specs.Set.{Set, label_of}
 
 -- a label is a position of its routine
@@ -32,6 +32,7 @@ abbrev pub FormFits : Return → Type 0
 FormFits (WithStatus status) = ⊤
 FormFits (Lower r) = IsRegister r
 FormFits Continue = ⊤
+FormFits Void = ⊤
 
 -- all operands of an instruction are within their limits. A label and a `call`'s routine have to
 -- name something beside
@@ -78,15 +79,26 @@ HasSort P (Some routine) = P routine.sort
 -- a handler is the number of a dispatch routine of the driver
 abbrev pub IsDispatch : Sort → Type 0
 IsDispatch Dispatch = ⊤
+IsDispatch Dpc = ⊥
 IsDispatch Propagate = ⊥
 
 abbrev pub HandlerFits : List Routine → Option ℕ → Type 0
 HandlerFits routines handler =
     IfSome handler (λ number. HasSort IsDispatch (slice_get routines number))
 
+-- the DPC routine is a DPC routine of the driver
+abbrev pub IsDpc : Sort → Type 0
+IsDpc Dispatch = ⊥
+IsDpc Dpc = ⊤
+IsDpc Propagate = ⊥
+
+abbrev pub DpcFits : List Routine → Option ℕ → Type 0
+DpcFits routines dpc = IfSome dpc (λ number. HasSort IsDpc (slice_get routines number))
+
 -- the routine of a `call` is a completion routine of the driver
 abbrev pub IsCompletion : Sort → Type 0
 IsCompletion Dispatch = ⊥
+IsCompletion Dpc = ⊥
 IsCompletion Propagate = ⊤
 
 -- the completion routine that an instruction names
@@ -125,14 +137,15 @@ CallFits routines i =
 abbrev pub CallsFit : List Routine → Routine → Type 0
 CallsFit routines routine = All (CallFits routines) routine.code
 
--- a driver has at most 32 routines, each of which fits, and its handlers and the routines of its
--- calls are among them
+-- a driver has at most 32 routines, each of which fits, and its handlers, its DPC routine and the
+-- routines of its calls are among them
 pub record DriverFits (driver : Driver) : Type 0 where
   pub few : length driver.routines ≤ MAX_ROUTINES
   pub routines : All RoutineFits driver.routines
   pub read : HandlerFits driver.routines driver.read
   pub write : HandlerFits driver.routines driver.write
   pub control : HandlerFits driver.routines driver.control
+  pub dpc : DpcFits driver.routines driver.dpc
   pub calls : All (CallsFit driver.routines) driver.routines
 
 -- a device is of a driver of the set, its stack size is 1 to 16, and it is over an earlier device,

@@ -27,20 +27,21 @@ pub record Locks : Type 0 where
   pub spin : List (List (Option ℕ))
 
 -- what the threads share: the live packets in the order of issue, how many were issued, the locks,
--- and by device its cells
+-- and by device its cells, and whether its DPC is queued
 pub record Shared : Type 0 where
   pub packets : List Packet
   pub issued : ℕ
   pub locks : Locks
   pub cells : List Cells
+  pub dpcs : List Bool
 
 -- the world
 pub record World : Type 0 where
   pub threads : List Thread
   pub shared : Shared
 
--- before the first event: idle threads, no packet was ever issued, every lock is free, and every
--- cell is 0
+-- before the first event: idle threads, no packet was ever issued, every lock is free, every cell
+-- is 0, and no DPC is queued
 abbrev pub idle_thread : Thread
 idle_thread = record { root = Passive; frames = record { items = [] } }
 
@@ -58,6 +59,7 @@ unused devices =
       issued = 0;
       locks = free_locks devices;
       cells = replicate devices blank_cells;
+      dpcs = replicate devices false;
     }
 
 abbrev pub opening : ℕ → ℕ → World
@@ -86,6 +88,13 @@ with_locks s locks = record s { locks = locks }
 -- the same with other cells of one device
 abbrev pub with_cells : Shared → ℕ → Cells → Shared
 with_cells s device cells = record s { cells = slice_set s.cells device cells }
+
+-- whether the DPC of a device is queued, and the same where it is or isn't
+abbrev pub is_queued : Shared → ℕ → Bool
+is_queued s device = slice_index_or s.dpcs device false
+
+abbrev pub with_dpc : Shared → ℕ → Bool → Shared
+with_dpc s device queued = record s { dpcs = slice_set s.dpcs device queued }
 
 -- the place of the first packet of a number, or the number of packets
 abbrev pub place_of : List Packet → ℕ → ℕ

@@ -12,6 +12,15 @@ pub enum Event {
         major: Major,
         argument: u64,
     },
+    /// The device interrupts: its DPC is queued.
+    Interrupt {
+        device: u8,
+    },
+    /// The queued DPC of the device is taken off, and its routine begins on an idle thread.
+    Dpc {
+        thread: u8,
+        device: u8,
+    },
     /// One step of the thread's top frame.
     Step {
         thread: u8,

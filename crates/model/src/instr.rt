@@ -28,6 +28,8 @@ pub enum Return {
     Lower(Register),
     /// STATUS_CONTINUE_COMPLETION: `ret continue`.
     Continue,
+    /// Nothing: `ret void`.
+    Void,
 }
 
 /// One instruction. A label is a position of the same routine.

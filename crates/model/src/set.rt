@@ -11,6 +11,8 @@ use crate::status::Major;
 pub enum Sort {
     /// A dispatch routine: it is handed a packet at PASSIVE_LEVEL and returns a status.
     Dispatch,
+    /// A DPC routine: an interrupt queues it, and it runs at DISPATCH_LEVEL without a packet.
+    Dpc,
     /// A completion routine that lets the completion go on: it carries the pending mark up.
     Propagate,
 }
@@ -22,13 +24,15 @@ pub struct Routine {
     pub code: Items<Instr>,
 }
 
-/// A driver: its routines, and the numbers of those that serve each major function.
+/// A driver: its routines, and the numbers of those that serve each major function, and of its DPC
+/// routine.
 #[derive(Drop)]
 pub struct Driver {
     pub routines: Items<Routine>,
     pub read: Option<u8>,
     pub write: Option<u8>,
     pub control: Option<u8>,
+    pub dpc: Option<u8>,
 }
 
 /// A device: the number of its driver, how many stack locations a packet needs that is sent to it,

@@ -5,12 +5,13 @@ use Rattle.model.specs.declared.abs.Refusal.{Refusal}
 use Rattle.model.specs.declared.abs.Rule.{Rule}
 use Rattle.model.specs.declared.abs.Rule.TheVariants.{Malformed, Unreachable, StatesDiffer, WrongKind, DoubleCompletion, MarkIrpPending, CancelSpinLock, SpinLock, LockHeld, Level, Dropped, Sort as SortRule, Completion, StackTooSmall, NoLower, TooLong, Memory}
 use Rattle.model.specs.declared.set.Sort.{Sort}
-use Rattle.model.specs.declared.set.Sort.TheVariants.{Dispatch, Propagate}
+use Rattle.model.specs.declared.set.Sort.TheVariants.{Dispatch, Dpc, Propagate}
 use Rattle.report.specs.Line.{line_of}
 
 -- the word of a sort
 abbrev pub sort_text : Sort → List ℕ
 sort_text Dispatch = codes "dispatch"
+sort_text Dpc = codes "dpc"
 sort_text Propagate = codes "propagate"
 
 -- a rule: its number and its name

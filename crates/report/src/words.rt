@@ -44,6 +44,7 @@ pub(crate) fn sort_text(sort: Sort) -> &'static str
 {
     match sort {
         Sort::Dispatch => "dispatch",
+        Sort::Dpc => "dpc",
         Sort::Propagate => "propagate",
     }
 }

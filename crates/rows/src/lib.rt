@@ -9,6 +9,8 @@ mod command_lines;
 #[cfg(test)]
 mod devices;
 #[cfg(test)]
+mod dpcs;
+#[cfg(test)]
 mod failures;
 #[cfg(test)]
 mod limits;

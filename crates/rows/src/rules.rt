@@ -10,7 +10,7 @@ struct Broken {
     refused: &'static str,
 }
 
-static DISPATCH: [Broken; 26] = [
+static DISPATCH: [Broken; 28] = [
     Broken {
         code: "",
         refused: "refused V1 Malformed driver 0 routine 0 at 0\n",
@@ -115,9 +115,17 @@ static DISPATCH: [Broken; 26] = [
         code: "loop 1000\nloop 1000\nend\nend\ncomplete r0 SUCCESS\nret SUCCESS\n",
         refused: "refused V19 TooLong driver 0 routine 0 at 2\n",
     },
+    Broken {
+        code: "ret void\n",
+        refused: "refused V13 Dropped driver 0 routine 0 at 0\n",
+    },
+    Broken {
+        code: "complete r0 SUCCESS\nret void\n",
+        refused: "refused V15 Sort driver 0 routine 0 at 1\n",
+    },
 ];
 
-static PROPAGATE: [Broken; 6] = [
+static PROPAGATE: [Broken; 7] = [
     Broken {
         code: "ret continue\n",
         refused: "refused V16 Completion driver 0 routine 0 at 0\n",
@@ -142,6 +150,81 @@ static PROPAGATE: [Broken; 6] = [
         code: "pass r0\nret lower r0\n",
         refused: "refused V16 Completion driver 0 routine 0 at 0\n",
     },
+    Broken {
+        code: "ret void\n",
+        refused: "refused V15 Sort driver 0 routine 0 at 0\n",
+    },
+];
+
+static DPC: [Broken; 17] = [
+    Broken {
+        code: "",
+        refused: "refused V1 Malformed driver 0 routine 0 at 0\n",
+    },
+    Broken {
+        code: "clear r1\n",
+        refused: "refused V1 Malformed driver 0 routine 0 at 0\n",
+    },
+    Broken {
+        code: "ret void\nret void\n",
+        refused: "refused V2 Unreachable driver 0 routine 0 at 1\n",
+    },
+    Broken {
+        code: "ret lower r0\n",
+        refused: "refused V4 WrongKind driver 0 routine 0 at 0\n",
+    },
+    Broken {
+        code: "call r0\nret void\n",
+        refused: "refused V4 WrongKind driver 0 routine 0 at 0\n",
+    },
+    Broken {
+        code: "pass r0\nret void\n",
+        refused: "refused V4 WrongKind driver 0 routine 0 at 0\n",
+    },
+    Broken {
+        code: "mark r0\nret void\n",
+        refused: "refused V4 WrongKind driver 0 routine 0 at 0\n",
+    },
+    Broken {
+        code: "get r1 r0 ARG\nret void\n",
+        refused: "refused V4 WrongKind driver 0 routine 0 at 0\n",
+    },
+    Broken {
+        code: "ifpending r0 x\nx: ret void\n",
+        refused: "refused V4 WrongKind driver 0 routine 0 at 0\n",
+    },
+    Broken {
+        code: "complete r0 SUCCESS\nret void\n",
+        refused: "refused V5 DoubleCompletion driver 0 routine 0 at 0\n",
+    },
+    Broken {
+        code: "ret PENDING\n",
+        refused: "refused V6 MarkIrpPending driver 0 routine 0 at 0\n",
+    },
+    Broken {
+        code: "acqc\nret void\n",
+        refused: "refused V7 CancelSpinLock driver 0 routine 0 at 1\n",
+    },
+    Broken {
+        code: "acquire l0\nret void\n",
+        refused: "refused V8 SpinLock driver 0 routine 0 at 1\n",
+    },
+    Broken {
+        code: "loadp r1 p0\nret void\n",
+        refused: "refused V10 Level driver 0 routine 0 at 0\n",
+    },
+    Broken {
+        code: "const r1 1\nstorep p0 r1\nret void\n",
+        refused: "refused V10 Level driver 0 routine 0 at 1\n",
+    },
+    Broken {
+        code: "ret SUCCESS\n",
+        refused: "refused V15 Sort driver 0 routine 0 at 0\n",
+    },
+    Broken {
+        code: "ret continue\n",
+        refused: "refused V15 Sort driver 0 routine 0 at 0\n",
+    },
 ];
 
 /// The text of a set with one driver, one routine of a sort, and one device.
@@ -165,6 +248,18 @@ fn rules_of_dispatch_routines(rt: HostRuntime) -> Result<(), Fail> {
 fn rules_of_completion_routines(rt: HostRuntime) -> Result<(), Fail> {
     for broken in PROPAGATE.iter() {
         let set = set_with(rt.alloc(), "propagate", broken.code)?;
+        assert!(rt;
+            is_judged_so(rt.alloc(), set.as_str(), 1, broken.refused, ""),
+            "{set}"
+        );
+    }
+    Ok(())
+}
+
+#[test]
+fn rules_of_dpc_routines(rt: HostRuntime) -> Result<(), Fail> {
+    for broken in DPC.iter() {
+        let set = set_with(rt.alloc(), "dpc", broken.code)?;
         assert!(rt;
             is_judged_so(rt.alloc(), set.as_str(), 1, broken.refused, ""),
             "{set}"

@@ -12,7 +12,7 @@ struct Faulty {
     told: &'static str,
 }
 
-static SCHEDULES: [Faulty; 22] = [
+static SCHEDULES: [Faulty; 39] = [
     Faulty {
         schedule: "",
         told: "schedule fault 2 UnknownWord line 1\n",
@@ -100,6 +100,74 @@ static SCHEDULES: [Faulty; 22] = [
     Faulty {
         schedule: "threads 1\nstep 0\nzz ; \x7f",
         told: "schedule fault 1 Lex line 3\n",
+    },
+    Faulty {
+        schedule: "threads 1\ninterrupt",
+        told: "schedule fault 2 UnknownWord line 2\n",
+    },
+    Faulty {
+        schedule: "threads 1\ninterrupt 0 0",
+        told: "schedule fault 2 UnknownWord line 2\n",
+    },
+    Faulty {
+        schedule: "threads 1\ninterrupt 256 0",
+        told: "schedule fault 2 UnknownWord line 2\n",
+    },
+    Faulty {
+        schedule: "threads 1\ninterrupt v",
+        told: "schedule fault 2 UnknownWord line 2\n",
+    },
+    Faulty {
+        schedule: "threads 1\nINTERRUPT 0",
+        told: "schedule fault 2 UnknownWord line 2\n",
+    },
+    Faulty {
+        schedule: "threads 1\nInterrupt 0",
+        told: "schedule fault 1 Lex line 2\n",
+    },
+    Faulty {
+        schedule: "threads 1\ninterrupt 256",
+        told: "schedule fault 3 OutOfRange line 2\n",
+    },
+    Faulty {
+        schedule: "threads 1\ninterrupt 99999999999999999999",
+        told: "schedule fault 3 OutOfRange line 2\n",
+    },
+    Faulty {
+        schedule: "threads 1\ndpc",
+        told: "schedule fault 2 UnknownWord line 2\n",
+    },
+    Faulty {
+        schedule: "threads 1\ndpc 0",
+        told: "schedule fault 2 UnknownWord line 2\n",
+    },
+    Faulty {
+        schedule: "threads 1\ndpc 0 0 0",
+        told: "schedule fault 2 UnknownWord line 2\n",
+    },
+    Faulty {
+        schedule: "threads 1\ndpc 256 x",
+        told: "schedule fault 2 UnknownWord line 2\n",
+    },
+    Faulty {
+        schedule: "threads 1\ndpc x 256",
+        told: "schedule fault 2 UnknownWord line 2\n",
+    },
+    Faulty {
+        schedule: "threads 1\ndpc 256 0",
+        told: "schedule fault 3 OutOfRange line 2\n",
+    },
+    Faulty {
+        schedule: "threads 1\ndpc 0 0x100",
+        told: "schedule fault 3 OutOfRange line 2\n",
+    },
+    Faulty {
+        schedule: "dpc 0 0\nthreads 1",
+        told: "schedule fault 2 UnknownWord line 1\n",
+    },
+    Faulty {
+        schedule: "interrupt 0",
+        told: "schedule fault 2 UnknownWord line 1\n",
     },
 ];
 

@@ -11,7 +11,7 @@ struct Faulty {
     told: &'static str,
 }
 
-static TEXTS: [Faulty; 32] = [
+static TEXTS: [Faulty; 56] = [
     Faulty {
         text: "driver d",
         told: "text fault 6 Unclosed line 2\n",
@@ -140,6 +140,102 @@ static TEXTS: [Faulty; 32] = [
         text: "driver d\nendd\ndevice v d 1 u w",
         told: "text fault 2 UnknownWord line 3\n",
     },
+    Faulty {
+        text: "driver d\ndpc\nendd",
+        told: "text fault 2 UnknownWord line 2\n",
+    },
+    Faulty {
+        text: "driver d\ndpc g h\nendd",
+        told: "text fault 2 UnknownWord line 2\n",
+    },
+    Faulty {
+        text: "driver d\ndpc READ\nendd",
+        told: "text fault 2 UnknownWord line 2\n",
+    },
+    Faulty {
+        text: "driver d\ndpc READ g\nendd",
+        told: "text fault 2 UnknownWord line 2\n",
+    },
+    Faulty {
+        text: "driver d\ndpc 7\nendd",
+        told: "text fault 2 UnknownWord line 2\n",
+    },
+    Faulty {
+        text: "dpc g\n",
+        told: "text fault 2 UnknownWord line 1\n",
+    },
+    Faulty {
+        text: "device v d 1\ndpc g",
+        told: "text fault 2 UnknownWord line 2\n",
+    },
+    Faulty {
+        text: "driver d\nroutine g dpc\ndpc g\nret void\nendr\nendd",
+        told: "text fault 2 UnknownWord line 3\n",
+    },
+    Faulty {
+        text: "driver d\nx: dpc g\nendd",
+        told: "text fault 2 UnknownWord line 2\n",
+    },
+    Faulty {
+        text: "driver d\ndispatch dpc f\nendd",
+        told: "text fault 2 UnknownWord line 2\n",
+    },
+    Faulty {
+        text: "driver d\nroutine g DPC\nendr\nendd",
+        told: "text fault 2 UnknownWord line 2\n",
+    },
+    Faulty {
+        text: "driver d\ndpc g\ndpc g\nendd",
+        told: "text fault 3 DuplicateName line 3\n",
+    },
+    Faulty {
+        text: "driver d\ndpc g\ndpc h\nroutine g dpc\nret void\nendr\nendd",
+        told: "text fault 3 DuplicateName line 3\n",
+    },
+    Faulty {
+        text: "driver d\ndpc g\nendd",
+        told: "text fault 4 UnknownName line 2\n",
+    },
+    Faulty {
+        text: "driver d\ndpc r16\nendd",
+        told: "text fault 4 UnknownName line 2\n",
+    },
+    Faulty {
+        text: "driver d\ndpc g\nroutine g dispatch\nendr\nendd",
+        told: "text fault 4 UnknownName line 2\n",
+    },
+    Faulty {
+        text: "driver d\ndpc g\nroutine g propagate\nendr\nendd",
+        told: "text fault 4 UnknownName line 2\n",
+    },
+    Faulty {
+        text: "driver d\ndispatch READ g\nroutine g dpc\nendr\nendd",
+        told: "text fault 4 UnknownName line 2\n",
+    },
+    Faulty {
+        text: "driver d\nroutine f dispatch\ncall r0 g\nendr\nroutine g dpc\nendr\nendd",
+        told: "text fault 4 UnknownName line 3\n",
+    },
+    Faulty {
+        text: "driver d\nroutine g dpc\nendr\nendd\ndriver e\ndpc g\nendd",
+        told: "text fault 4 UnknownName line 6\n",
+    },
+    Faulty {
+        text: "driver d\ndpc g\ndispatch READ f\nendd",
+        told: "text fault 4 UnknownName line 2\n",
+    },
+    Faulty {
+        text: "driver d\ndispatch CONTROL f\ndpc g\nendd",
+        told: "text fault 4 UnknownName line 2\n",
+    },
+    Faulty {
+        text: "driver d\nroutine g dpc\nendr\ndpc g\ndispatch READ f\nendd",
+        told: "text fault 4 UnknownName line 5\n",
+    },
+    Faulty {
+        text: "driver d\ndpc g",
+        told: "text fault 6 Unclosed line 3\n",
+    },
 ];
 
 /// Tokens in the place of a name and of a stack size, and bytes that no text has.
@@ -247,7 +343,7 @@ static TOKENS: [Faulty; 25] = [
 ];
 
 /// Lines of code, which stand from line 4 on.
-static CODES: [Faulty; 35] = [
+static CODES: [Faulty; 37] = [
     Faulty {
         text: "clear r16\n",
         told: "text fault 5 OutOfRange line 4\n",
@@ -387,6 +483,14 @@ static CODES: [Faulty; 35] = [
     Faulty {
         text: "x: clear r1\nendr\nroutine g dispatch\njmp x\n",
         told: "text fault 4 UnknownName line 7\n",
+    },
+    Faulty {
+        text: "ret void r0\n",
+        told: "text fault 2 UnknownWord line 4\n",
+    },
+    Faulty {
+        text: "ret voids\n",
+        told: "text fault 2 UnknownWord line 4\n",
     },
 ];
 

@@ -16,5 +16,6 @@ pub mod OnTop
 pub mod Obeyed
 pub mod Lacking
 pub mod Fine
+pub mod Roots
 pub mod Standing
 pub mod Inside

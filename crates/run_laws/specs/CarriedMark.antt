@@ -23,6 +23,7 @@ driver_of code =
       read = Some 0;
       write = None;
       control = None;
+      dpc = None;
     }
 
 -- device 0 is the lower one, device 1 stands over it

@@ -1,6 +1,6 @@
 -- What every run of an accepted set keeps, a field a family; no event has a bug check, goes wrong
 -- or passes a bound; and each event keeps it.
-use Rattle.std.proofs.Common.{◌≡◌, ℕ, List, [], length, None, refl, ◌∙◌}
+use Rattle.std.proofs.Common.{◌≡◌, ℕ, List, [], length, None, refl, ◌∙◌, Bool}
 use Rattle.std.specs.Prelude.{slice_get}
 use Rattle.std.proofs.lemmas.List.{length-replicate}
 use Rattle.model.specs.Effect.{Change}
@@ -19,14 +19,14 @@ use Rattle.run_laws.proofs.Uses.Events.{KnownWorld, uses_begun, uses_event}
 use Rattle.run_laws.proofs.Uses.Fates.{UsesTell}
 use Rattle.run_laws.proofs.Holders.Sums.{Held}
 use Rattle.run_laws.proofs.Locks.Runs.{LocksAgree, locks_kept, lock_faults_none, locks_begun}
-use Rattle.run_laws.proofs.Past.Runs.{Telling, telling_begun, telling_happens}
+use Rattle.run_laws.proofs.Past.Runs.{Telling, telling_begun, telling_happens, telling_queued}
 use Rattle.run_laws.proofs.Room.Runs.{Roomy, roomy_begun, call_faults_none, roomy_kept}
 use Rattle.run_laws.proofs.Runs.Events.{Happens}
 use Rattle.run_laws.proofs.Runs.Faultless.{recorded_faultless}
-use Rattle.run_laws.proofs.Runs.Kept.{GoesOnBy}
+use Rattle.run_laws.proofs.Runs.Kept.{GoesOnBy, with_queued}
 use Rattle.run_laws.proofs.States.Frames.{IsGood}
 use Rattle.run_laws.proofs.States.Rules.{States}
-use Rattle.run_laws.proofs.States.Standing.{Standing, standing_begun, right_event, standing_kept}
+use Rattle.run_laws.proofs.States.Standing.{Standing, standing_begun, right_event, standing_kept, standing_queued}
 use Rattle.run_laws.proofs.Steps.Faults.{is_touch, fault_among, NoFaults, no_fault}
 
 pub record Keeps (set : Set) (states : States) (threads : ℕ) (w : World) (past : List Entry) : Type
@@ -112,4 +112,22 @@ module _ (set : Set) (states : States) (threads : ℕ) (w : World) (past : List 
         right = recorded_right past actor c.actions keeps.right
             (right_event set states w past good keeps.stands actor.thread c on.happens).0;
         count = same_count set w actor.thread c on.happens ∙ keeps.count;
+      }
+
+  -- where a DPC is queued or isn't
+  pub keeps_queued : (d : ℕ) (queued : Bool) → Keeps set states threads (with_queued w d queued) past
+  keeps_queued d queued =
+      record {
+        stands = standing_queued set states w past good keeps.stands d queued;
+        told = telling_queued w past d queued keeps.told;
+        locks = keeps.locks;
+        held = record { rights = keeps.held.rights; walks = keeps.held.walks };
+        sees = keeps.sees;
+        room = record { frames = keeps.room.frames };
+        falls = keeps.falls;
+        «uses» = record { traced = keeps.«uses».traced; live = keeps.«uses».live };
+        once = keeps.once;
+        faultless = keeps.faultless;
+        right = keeps.right;
+        count = keeps.count;
       }

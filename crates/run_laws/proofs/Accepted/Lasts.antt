@@ -1,17 +1,18 @@
 -- The one induction over the runs of an accepted set: no event stops one, and all that it keeps
 -- lasts.
-use Rattle.std.proofs.Common.{◌≡◌, ℕ, List, Some, None, true, false, refl, ap, sym, ◌∙◌, subst}
+use Rattle.std.proofs.Common.{◌≡◌, ℕ, List, Some, None, true, false, refl, ap, sym, ◌∙◌, subst, Bool}
+use Rattle.std.specs.Prelude.{if◌then◌else◌}
 use Rattle.model.specs.declared.event.Event.{Event}
 use Rattle.model.specs.Effect.{Change, effect}
-use Rattle.model.specs.Run.{Run, Answered, actor_on, goes, step, run}
+use Rattle.model.specs.Run.{Run, Answered, actor_on, goes, step, run, refused, thread_of}
 use Rattle.model.specs.Set.{Set}
-use Rattle.run_laws.proofs.Accepted.Keeps.{Keeps, keeps_begun, goes_on_by, keeps_event, known_world}
-use Rattle.run_laws.proofs.Certificates.Kept.{Tallied, tally_kept}
+use Rattle.run_laws.proofs.Accepted.Keeps.{Keeps, keeps_begun, goes_on_by, keeps_event, known_world, keeps_queued}
+use Rattle.run_laws.proofs.Certificates.Kept.{Tallied, tally_kept, tally_queued}
 use Rattle.run_laws.proofs.Certificates.Steps.{frame_due}
 use Rattle.run_laws.proofs.Certificates.Tally.{tally_begun}
 use Rattle.run_laws.proofs.Pending.Entries.{EntriesSay, entries_event}
-use Rattle.run_laws.proofs.Pending.Events.{Attends, attend_event, attends_begun}
-use Rattle.run_laws.proofs.Runs.Events.{stops_run, Happens, on_thread, past_with, Answers, refuses_stopped, refuses_over, goes_on_with, stops_for, stops_wrong, answers}
+use Rattle.run_laws.proofs.Pending.Events.{Attends, attend_event, attends_begun, attends_queued}
+use Rattle.run_laws.proofs.Runs.Events.{stops_run, Happens, Sets, sets_nothing, queues, Concerns, a_thread, no_thread, concerns, set_in, answers_none, past_with, Answers, refuses_stopped, refuses_over, goes_on_with, stops_for, stops_wrong, answers}
 use Rattle.run_laws.proofs.Runs.Kept.{GoesOnBy, kept_run}
 use Rattle.run_laws.proofs.States.Frames.{IsGood}
 use Rattle.run_laws.proofs.States.Rules.{States}
@@ -55,11 +56,29 @@ module _ (set : Set) (states : States) (good : IsGood set states) (threads : ℕ
     goes_on_answer t c a happens (stops_wrong place on reply) =
         let no : true ≡ false = sym (ap stops_run reply) ∙ right_reply t c happens in cc
 
-    pub goes_on_at : (e : Event) → GoesOn r (on_thread set r.world e).thread (effect set r.world e)
-        (step set r e)
-    goes_on_at e =
-        goes_on_answer (on_thread set r.world e).thread (effect set r.world e) (step set r e)
-        (on_thread set r.world e).happens (answers set r e (on_thread set r.world e))
+    pub goes_on_at : (t : ℕ) (e : Event) → thread_of e ≡ Some t
+        → Happens set r.world t (effect set r.world e)
+        → GoesOn r t (effect set r.world e) (step set r e)
+    goes_on_at t e is happens =
+        goes_on_answer t (effect set r.world e) (step set r e) happens (answers set r t e is)
+
+    -- no reply stops the run
+    right_set : (c : Change) (stopped : Bool) → Sets set r.world c
+        → stops_run (if stopped then refused r else set_in r c).reply ≡ false
+    right_set c true of = refl
+    right_set c false (sets_nothing reply right) = right
+    right_set c false (queues d) = refl
+
+    right_concerned : (e : Event) → Concerns set r.world e → stops_run (step set r e).reply ≡ false
+    right_concerned e (a_thread t is happens) =
+        let on : GoesOn r t (effect set r.world e) (step set r e) = goes_on_at t e is happens in
+        ap (λ (a : Answered). stops_run a.reply) on.is ∙ on.right
+    right_concerned e (no_thread is of) =
+        ap (λ (a : Answered). stops_run a.reply) (answers_none set r e is)
+        ∙ right_set (effect set r.world e) r.stopped of
+
+    pub right_answer : (e : Event) → stops_run (step set r e).reply ≡ false
+    right_answer e = right_concerned e (concerns set r.world e)
 
     lasts_with : (t : ℕ) (c : Change) → GoesOnBy set r.world r.past (actor_on r t) c
         → Lasts (goes set r t (past_with r t c) c).run
@@ -80,12 +99,32 @@ module _ (set : Set) (states : States) (good : IsGood set states) (threads : ℕ
           tally = tally_kept set states good r t lasting.keeps.stands lasting.tally c by.happens;
         }
 
-    lasts_step : (e : Event) → Lasts (step set r e).run
-    lasts_step e =
-        let goes_on : GoesOn r (on_thread set r.world e).thread (effect set r.world e)
-        (step set r e) = goes_on_at e in
+    lasts_set : (c : Change) (stopped : Bool) → r.stopped ≡ stopped → Sets set r.world c
+        → Lasts (if stopped then refused r else set_in r c).run
+    lasts_set c true is of = lasting
+    lasts_set c false is (sets_nothing reply right) = lasting
+    lasts_set c false is (queues d) =
+        record {
+          on = lasting.on;
+          keeps = keeps_queued set states threads r.world r.past good lasting.keeps d true;
+          tally = tally_queued set r d lasting.tally;
+          attends = attends_queued set states r.world r.past r.tags r.activations (actor_on r 0)
+              (known_world set states threads r.world r.past good lasting.keeps) lasting.attends d true
+              lasting.keeps.«uses»;
+          says = lasting.says;
+        }
+
+    lasts_concerned : (e : Event) → Concerns set r.world e → Lasts (step set r e).run
+    lasts_concerned e (a_thread t is happens) =
+        let goes_on : GoesOn r t (effect set r.world e) (step set r e) = goes_on_at t e is happens in
         subst (λ (a : Answered). Lasts a.run) (sym goes_on.is)
-        (lasts_with (on_thread set r.world e).thread (effect set r.world e) goes_on.by)
+        (lasts_with t (effect set r.world e) goes_on.by)
+    lasts_concerned e (no_thread is of) =
+        subst (λ (a : Answered). Lasts a.run) (sym (answers_none set r e is))
+        (lasts_set (effect set r.world e) r.stopped refl of)
+
+    lasts_step : (e : Event) → Lasts (step set r e).run
+    lasts_step e = lasts_concerned e (concerns set r.world e)
 
   pub lasts : (events : List Event) → Lasts (run set threads events)
   lasts events =

@@ -1,5 +1,6 @@
 -- The laws of the runs of accepted sets, in their own words.
-use Rattle.std.proofs.Common.{◌≡◌, ◌≢◌, ℕ, ◌<◌, ◌≤◌, length, List, None, true, false, ap, sym, ◌∙◌}
+use Rattle.std.proofs.Common.{◌≡◌, ◌≢◌, ℕ, ◌<◌, ◌≤◌, length, List, None, true, false, ap, sym, ◌∙◌, refl}
+use Rattle.std.specs.Prelude.{slice_get}
 use Rattle.model.specs.declared.event.Event.{Event}
 use Rattle.model.specs.declared.event.Event.TheVariants.{Step}
 use Rattle.model.specs.declared.event.Reply.{Reply}
@@ -19,7 +20,7 @@ use Rattle.run_laws.specs.NoWrong.{NeverGoesWrong, AcceptedRunsNeverGoWrong}
 use Rattle.run_laws.specs.PendingReturns.{AcceptedRunsAgreeOnPending}
 use Rattle.run_laws.specs.Rules.{AcceptedRunsKeepTheRules}
 use Rattle.run_laws.specs.TopsOnce.{times_topped, PacketsTopOutOnce}
-use Rattle.run_laws.proofs.Accepted.Lasts.{Lasts, GoesOn, goes_on_at, lasts}
+use Rattle.run_laws.proofs.Accepted.Lasts.{Lasts, GoesOn, goes_on_at, right_answer, lasts}
 use Rattle.run_laws.proofs.Accepted.Trace.{all_right}
 use Rattle.run_laws.proofs.Certificates.Kept.{all_kept, all_one, stands_within}
 use Rattle.run_laws.proofs.Depth.Granted.{is_refused, granted_step}
@@ -27,7 +28,7 @@ use Rattle.run_laws.proofs.Holders.Once.{tops_at_most_once}
 use Rattle.run_laws.proofs.Holders.Runs.{one_holder, live_listed}
 use Rattle.run_laws.proofs.Pending.Entries.{all_say, as_many, has_uses, manager_tag, routine_tag}
 use Rattle.run_laws.proofs.Pending.Returned.{pending_agree}
-use Rattle.run_laws.proofs.Runs.Events.{stops_run, on_thread}
+use Rattle.run_laws.proofs.Runs.Events.{stops_run, happens_step}
 use Rattle.run_laws.proofs.States.Frames.{IsGood}
 use Rattle.run_laws.proofs.States.Inside.{stands_inside}
 use Rattle.run_laws.proofs.States.Known.{led}
@@ -56,17 +57,14 @@ module _ (set : Set) (typable : IsTypable set) (sound : IsSound set) (threads : 
   lasting = lasts set states good threads events
 
   reply_right : (e : Event) → stops_run (reply_to set threads events e) ≡ false
-  reply_right e =
-      let on : GoesOn set states good threads here (on_thread set here.world e).thread
-      (effect set here.world e) (step set here e) =
-      goes_on_at set states good threads here lasting e in
-      ap (λ (a : Answered). stops_run a.reply) on.is ∙ on.right
+  reply_right e = right_answer set states good threads here lasting e
 
   granted : (t : ℕ) → t < threads → reply_to set threads events (Step t) ≢ Refused
   granted t within same =
-      let on : GoesOn set states good threads here (on_thread set here.world (Step t)).thread
-      (effect set here.world (Step t)) (step set here (Step t)) =
-      goes_on_at set states good threads here lasting (Step t) in
+      let on : GoesOn set states good threads here t (effect set here.world (Step t))
+      (step set here (Step t)) =
+      goes_on_at set states good threads here lasting t (Step t) refl
+      (happens_step set here.world t (slice_get here.world.threads t) refl) in
       let there : t < length here.world.threads = rw lasting.keeps.count within in
       let no : true ≡ false =
       sym (ap is_refused same) ∙ ap (λ (a : Answered). is_refused a.reply) on.is

@@ -1,30 +1,37 @@
 -- Every activation of a run of an accepted set keeps its routine's certificate.
-use Rattle.std.proofs.Common.{◌≡◌, ℕ, zero, suc, ◌+◌, List, [], ◌∷◌, ◌++◌, Some, refl, ap, sym, ◌∙◌, subst, arith}
+use Rattle.std.proofs.Common.{◌≡◌, ℕ, zero, suc, ◌+◌, List, [], ◌∷◌, ◌++◌, Some, refl, ap, sym, ◌∙◌, subst, arith, false, true, ◌≤◌}
 use Rattle.std.specs.Prelude.{All, slice_get, slice_set}
 use Rattle.std.proofs.lemmas.List.{set-get_or}
+use Rattle.model.specs.declared.event.Reply.{Reply}
 use Rattle.model.specs.declared.world.Activation.{Activation}
 use Rattle.model.specs.declared.world.Frame.{Frame}
 use Rattle.model.specs.declared.world.Frame.TheVariants.{Routine, Walk}
-use Rattle.model.specs.declared.world.Irql.TheVariants.{Passive}
-use Rattle.model.specs.Effect.{Change, unchanged, Outcome, rooted, serves_request, settled, standing, told_to, top_of, with_stack, issued}
+use Rattle.model.specs.declared.world.Irql.TheVariants.{Passive, Dispatch as DispatchLevel}
+use Rattle.model.specs.Action.{Action}
+use Rattle.model.specs.Certificate.{certificate_of}
+use Rattle.model.specs.Effect.{Change, unchanged, Outcome, rooted, serves_request, settled, standing, told_to, top_of, with_stack, with_thread, dpc_activation}
 use Rattle.model.specs.Run.{Run, actor_on, activations_after, frames_on, goes, tags_after, tags_on, top_tag}
 use Rattle.model.specs.Set.{Set}
 use Rattle.model.specs.declared.event.Reply.TheVariants.{Idle}
-use Rattle.model.specs.Trace.{Entry, Tag, Managing, Activated}
+use Rattle.model.specs.Trace.{Entry, Tag, Managing, Activated, recorded}
 use Rattle.run_laws.specs.Lifetime.{AreOneRoutine, IsOneRoutine, KeepsCertificate, StandsWithin}
 use Rattle.run_laws.proofs.Certificates.Owed.{executed_in, Follows, follows_idle, follows_step}
 use Rattle.run_laws.proofs.Certificates.Steps.{frame_due, pays, told_alike}
 use Rattle.run_laws.proofs.Certificates.Tags.{Fits, IsKnown, Matched, Named, fits_known, named}
 use Rattle.run_laws.proofs.Certificates.Tally.{AllKnown, Tally, known_kept, one_of_known, turned}
 use Rattle.run_laws.proofs.Lists.{last_of}
-use Rattle.run_laws.proofs.Runs.Events.{StepsFrame, IssuesPacket, Happens, nothing, steps, issues, past_with}
+use Rattle.run_laws.proofs.Runs.Events.{StepsFrame, Happens, nothing, steps, issues, past_with, begins}
+use Rattle.run_laws.proofs.Runs.Kept.{with_queued}
 use Rattle.run_laws.proofs.Runs.Threads.{frames_there, frames_put}
-use Rattle.run_laws.proofs.States.Entering.{begins_request}
-use Rattle.run_laws.proofs.States.Frames.{IsGood}
+use Rattle.run_laws.proofs.States.Entering.{begins_request, begins_dpc}
+use Rattle.run_laws.proofs.States.Frames.{IsGood, due}
 use Rattle.run_laws.proofs.States.Rules.{States}
 use Rattle.run_laws.proofs.States.Standing.{Standing, on_top}
 use Rattle.run_laws.proofs.Steps.Below.{standing_is}
 use Rattle.std.proofs.lemmas.Option.{get_or_from_slice_get}
+use Rattle.model.specs.declared.world.Irql.{Irql}
+use Rattle.model.specs.declared.world.Thread.{Thread}
+use Rattle.model.specs.World.{Shared, World}
 
 -- the tags of a thread whose top frame is known
 record TopTag (given : List Tag) (below : List Frame) (f : Frame) (row : List Tag) : Type 0 where
@@ -136,38 +143,45 @@ module _ (set : Set) (states : States) (good : IsGood set states) (r : Run) (t :
       (fits_known tally.given top.tag h.frame top.fits))
       follows)
 
-  issues_tally : (h : IssuesPacket set r.world t)
+  -- a routine begins on an idle thread, with its certificate left
+  begins_tally : (thread : Thread) (s : Shared) (level : Irql) (a : Activation) (actions : List Action)
+      (reply : Reply)
+      → slice_get r.world.threads t ≡ Some thread → thread.frames.items ≡ []
+      → executed_in actions ≡ 0
+      → due set a ≤ certificate_of set a.driver a.routine
       → Tallied set
-      (goes set r t
-      (past_with r t (issued set r.world t h.d h.thread h.device h.major h.argument))
-      (issued set r.world t h.d h.thread h.device h.major h.argument)).run
-  issues_tally h =
-      let c : Change = issued set r.world t h.d h.thread h.device h.major h.argument in
-      let n : ℕ = r.world.shared.issued in
-      let a : Activation = serves_request set h.d h.device h.major n in
+      (goes set r t (recorded r.past (actor_on r t) actions)
+      (record {
+        world = with_thread r.world t s (rooted thread level a);
+        actions = actions;
+        reply = reply;
+        over = false;
+      })).run
+  begins_tally thread s level a actions reply found idle silent enough =
+      let now : World = with_thread r.world t s (rooted thread level a) in
       let row : List Tag = tags_on r t in
-      let here : frames_on r.world t ≡ [] = frames_there r.world t h.thread h.found ∙ h.idle in
+      let here : frames_on r.world t ≡ [] = frames_there r.world t thread found ∙ idle in
       let matched : Matched tally.given [] row =
       subst (λ (frames : List Frame). Matched tally.given frames row) here (tally.matched t) in
-      let later : List Entry = past_with r t c in
+      let later : List Entry = recorded r.past (actor_on r t) actions in
       let acting : IsKnown tally.given (top_tag row) = idle_known tally.given row matched in
-      let follows : Follows (frame_due set) set tally.given later r.activations
-      h.thread.frames.items row (top_tag row) 0
+      let follows : Follows (frame_due set) set tally.given later r.activations thread.frames.items
+      row (top_tag row) 0
       (Routine a ∷ []) =
-      follows_as set tally.given later r.activations 0 [] h.thread.frames.items row row
+      follows_as set tally.given later r.activations 0 [] thread.frames.items row row
       (top_tag row) (top_tag row)
-      (Routine a ∷ []) (Routine a ∷ []) (sym h.idle) refl refl refl
+      (Routine a ∷ []) (Routine a ∷ []) (sym idle) refl refl refl
       (follows_idle (frame_due set) set tally.given later r.activations row (top_tag row)
-      (Routine a ∷ []) matched
-      ((begins_request set states good (n + 1) n (omega arith) h.d h.device h.major h.there).due, tt))
+      (Routine a ∷ []) matched (enough, tt))
       in
       rw (
-        frames_there r.world t h.thread h.found,
-        frames_put r.world t c.world.shared (rooted h.thread Passive a) h.thread h.found,
+        frames_there r.world t thread found,
+        frames_put r.world t s (rooted thread level a) thread found,
       )
-      (turned (frame_due set) set r.world c.world r.tags r.activations r.past (actor_on r t)
-      c.actions h.thread
-      (rooted h.thread Passive a) tally h.found refl acting follows)
+      (turned (frame_due set) set r.world now r.tags r.activations r.past (actor_on r t) actions
+      thread (rooted thread level a) tally found refl acting
+      (subst (λ (n : ℕ). Follows (frame_due set) set tally.given later r.activations
+      thread.frames.items row (top_tag row) n (Routine a ∷ [])) (sym silent) follows))
 
   nothing_tally : Tallied set (goes set r t r.past (unchanged r.world Idle)).run
   nothing_tally =
@@ -186,7 +200,28 @@ module _ (set : Set) (states : States) (good : IsGood set states) (r : Run) (t :
       → Tallied set (goes set r t (past_with r t c) c).run
   tally_kept c (nothing reply right) = nothing_tally
   tally_kept c (steps h) = steps_tally h
-  tally_kept c (issues h) = issues_tally h
+  tally_kept c (issues h) =
+      let n : ℕ = r.world.shared.issued in
+      begins_tally h.thread c.world.shared Passive (serves_request set h.d h.device h.major n) c.actions
+      c.reply h.found h.idle refl
+      (begins_request set states good (n + 1) n (omega arith) h.d h.device h.major h.there).due
+  tally_kept c (begins h) =
+      begins_tally h.thread c.world.shared DispatchLevel (dpc_activation set h.d h.routine) [] c.reply
+      h.found h.idle refl
+      (begins_dpc set states good r.world.shared.issued h.d h.routine h.there).due
+
+-- where a DPC is queued
+pub tally_queued : (set : Set) (r : Run) (d : ℕ) → Tallied set r
+    → Tallied set (record r { world = with_queued r.world d true })
+tally_queued set r d tally =
+    record {
+      given = tally.given;
+      rows = tally.rows;
+      numbered = tally.numbered;
+      matched = tally.matched;
+      owing = tally.owing;
+      known = tally.known;
+    }
 
 -- the law, in its own words
 known_all : (given : List Tag) (past : List Entry) (P : Tag → Type 0)

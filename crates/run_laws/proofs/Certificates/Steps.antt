@@ -11,7 +11,7 @@ use Rattle.model.specs.declared.world.Activation.{Activation}
 use Rattle.model.specs.declared.world.Frame.{Frame}
 use Rattle.model.specs.declared.world.Packet.{Packet}
 use Rattle.model.specs.declared.abs.Abs.{Abs}
-use Rattle.model.specs.declared.instr.Return.TheVariants.{Continue}
+use Rattle.model.specs.declared.instr.Return.TheVariants.{Continue, Void}
 use Rattle.model.specs.declared.world.Frame.TheVariants.{Routine, Walk}
 use Rattle.model.specs.declared.world.Value.{Value}
 use Rattle.model.specs.declared.world.Value.TheVariants.{Status as StatusValue}
@@ -30,7 +30,7 @@ use Rattle.run_laws.proofs.States.OnTop.{OnTop, runs}
 use Rattle.run_laws.proofs.States.Remaining.{rest, summed}
 use Rattle.run_laws.proofs.States.Rules.{States}
 use Rattle.run_laws.proofs.States.Told.{told_frame, told_last, told_is}
-use Rattle.run_laws.proofs.Steps.Comes.{Executing, Comes, errs, awaits_lock, computes, opens_loop, turns_loop, pages, touches_gone, looks_at, writes_info, marks_packet, takes_lock, retakes_lock, frees_lock, completes_packet, completes_gone, passes_down, calls_down, returns_status, lets_go, lets_walk, walks_gone, walks_to, walks_up, carries_up, tops_out}
+use Rattle.run_laws.proofs.Steps.Comes.{Executing, Comes, errs, awaits_lock, computes, opens_loop, turns_loop, pages, touches_gone, looks_at, writes_info, marks_packet, takes_lock, retakes_lock, frees_lock, completes_packet, completes_gone, passes_down, calls_down, returns_status, lets_go, lets_walk, walks_gone, walks_to, walks_up, carries_up, tops_out, ends_dpc}
 use Rattle.run_laws.proofs.Steps.Words.{lock_taken, lock_freed}
 
 -- what a frame has left to execute
@@ -187,6 +187,7 @@ module _ (set : Set) (states : States) (s : Shared) where
   pays t under f o h (returns_status a form status at sort is) = ends a (Ret form) 1 refl h at refl
   pays t under f o h (lets_go a at sort free) = ends a (Ret Continue) 1 refl h at refl
   pays t under f o h (lets_walk a n at sort) = ends a (Ret Continue) 1 refl h at refl
+  pays t under f o h (ends_dpc a at sort) = ends a (Ret Void) 1 refl h at refl
   pays t under f o h (walks_gone n gone) = omega arith
   pays t under f o h (walks_to n p c there set_there) =
       (tt, ((begins_back set states s h.good h.fits n p c h.stands there set_there).due, tt))

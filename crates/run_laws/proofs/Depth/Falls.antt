@@ -8,7 +8,7 @@ use Rattle.model.specs.declared.instr.Instr.{Instr}
 use Rattle.model.specs.declared.instr.Instr.TheVariants.{Pass, Call, Complete}
 use Rattle.model.specs.declared.set.Device.{Device}
 use Rattle.model.specs.declared.set.Sort.{Sort}
-use Rattle.model.specs.declared.set.Sort.TheVariants.{Dispatch, Propagate}
+use Rattle.model.specs.declared.set.Sort.TheVariants.{Dispatch, Dpc, Propagate}
 use Rattle.model.specs.declared.status.Major.{Major}
 use Rattle.model.specs.declared.status.Status.{Status}
 use Rattle.model.specs.declared.world.Activation.{Activation}
@@ -17,6 +17,7 @@ use Rattle.model.specs.declared.world.Frame.TheVariants.{Routine, Walk}
 use Rattle.model.specs.declared.world.OpenLoop.{OpenLoop}
 use Rattle.model.specs.declared.world.Packet.{Packet}
 use Rattle.model.specs.Effect.{Outcome, answered_in, asks, dispatched, operand_of, told_to, turned}
+use Rattle.model.specs.LocalRule.{is_completion}
 use Rattle.model.specs.Set.{Set, instruction_at, lower_of, sort_of}
 use Rattle.model.specs.Sound.{DeviceFits}
 use Rattle.model.specs.World.{Shared, asked_of, at_label, current_location, next, outer_loops, with_loops}
@@ -29,7 +30,7 @@ use Rattle.run_laws.proofs.States.OnTop.{OnTop, runs}
 use Rattle.run_laws.proofs.States.Rules.{States}
 use Rattle.run_laws.proofs.States.Stacks.{Stacked}
 use Rattle.run_laws.proofs.States.Told.{told_frame, told_last, told_is}
-use Rattle.run_laws.proofs.Steps.Comes.{GoesTo, onward, jumping, Comes, computes, turns_loop, pages, looks_at, completes_packet, passes_down, calls_down, returns_status, lets_go, lets_walk, walks_gone, walks_to, walks_up, carries_up, tops_out}
+use Rattle.run_laws.proofs.Steps.Comes.{GoesTo, onward, jumping, Comes, computes, turns_loop, pages, looks_at, completes_packet, passes_down, calls_down, returns_status, lets_go, lets_walk, ends_dpc, walks_gone, walks_to, walks_up, carries_up, tops_out}
 
 -- frames of a thread, the lowest first: routines for lower and lower devices, all under a first
 -- one; on an I/O manager's frame at most one stands
@@ -52,7 +53,8 @@ module _ (set : Set) where
   abbrev pub Short : Frame → List Frame → Type 0
   Short (Routine a) [] = ⊤
   Short (Routine a) (Routine b ∷ []) = b.device ≡ a.device
-  Short (Routine a) (Routine b ∷ Walk n ∷ []) = (b.device ≡ a.device) × IsOfSort set a Dispatch
+  Short (Routine a) (Routine b ∷ Walk n ∷ []) =
+      (b.device ≡ a.device) × (is_completion (sort_of set a.driver a.routine) ≡ false)
   Short (Routine a) (Routine b ∷ Routine c ∷ []) =
       (b.device ≡ a.device) × (c.device < a.device) × IsOfSort set a Dispatch
   Short (Routine a) _ = ⊥
@@ -63,8 +65,9 @@ module _ (set : Set) where
 
   -- a routine that stands on an I/O manager's frame is a completion routine, and leaves at most one
   -- frame
-  not_both : (sort : Sort) → sort ≡ Dispatch → sort ≡ Propagate → ⊥
+  not_both : (sort : Sort) → is_completion sort ≡ false → sort ≡ Propagate → ⊥
   not_both Dispatch h g = cc
+  not_both Dpc h g = cc
   not_both Propagate h g = cc
 
   on_walk : (a : Activation) (frames : List Frame) → IsOfSort set a Propagate → Short (Routine a) frames
@@ -72,7 +75,7 @@ module _ (set : Set) where
   on_walk a [] is short = omega arith
   on_walk a (Routine b ∷ []) is short = omega arith
   on_walk a (Routine b ∷ Walk n ∷ []) is short = absurd (not_both _ short.1 is)
-  on_walk a (Routine b ∷ Routine c ∷ []) is short = absurd (not_both _ short.2 is)
+  on_walk a (Routine b ∷ Routine c ∷ []) is short = absurd (not_both _ (rw short.2 refl) is)
   on_walk a (Routine b ∷ Walk n ∷ g ∷ frames) is short = absurd short
   on_walk a (Routine b ∷ Routine c ∷ g ∷ frames) is short = absurd short
   on_walk a (Walk n ∷ frames) is short = absurd short
@@ -220,7 +223,7 @@ module _ (set : Set) (states : States) (s : Shared) where
   short t under f o h (completes_packet a r status n p at reads there) = (
     refl,
     (completes_one (state_of states a) (sort_of set a.driver a.routine) set a.driver r status
-        (runs set states s a (Complete r status) h at).obeys).dispatch,
+        (runs set states s a (Complete r status) h at).obeys).above,
   )
   short t under f o h (passes_down a r n p lower at reads there below) =
       asks_short a lower n p h
@@ -232,6 +235,7 @@ module _ (set : Set) (states : States) (s : Shared) where
   short t under f o h (returns_status a form status at sort is) = tt
   short t under f o h (lets_go a at sort free) = tt
   short t under f o h (lets_walk a n at sort) = tt
+  short t under f o h (ends_dpc a at sort) = tt
   short t under f o h (walks_gone n gone) = tt
   short t under f o h (walks_to n p c there set_there) = tt
   short t under f o h (walks_up n p there none more unmarked) = tt

@@ -6,18 +6,19 @@ use Rattle.std.proofs.lemmas.Bool.{le-ltb}
 use Rattle.std.proofs.lemmas.Option.{slice_get_within}
 use Rattle.model.specs.declared.limits.TheConstants.{MAX_FRAMES}
 use Rattle.model.specs.declared.world.Frame.{Frame}
-use Rattle.model.specs.declared.world.Irql.TheVariants.{Passive}
+use Rattle.model.specs.declared.world.Irql.TheVariants.{Passive, Dispatch as DispatchLevel}
 use Rattle.model.specs.declared.world.Thread.{Thread}
-use Rattle.model.specs.Effect.{Change, Outcome, rooted, serves_request, standing, top_of, with_stack, with_thread}
+use Rattle.model.specs.Effect.{Change, Outcome, rooted, dpc_activation, serves_request, standing, top_of, with_stack, with_thread}
 use Rattle.model.specs.Run.{begun, frames_on}
 use Rattle.model.specs.Set.{Set}
 use Rattle.model.specs.Sound.{IsSound}
 use Rattle.model.specs.Trace.{Entry}
-use Rattle.model.specs.World.{Shared, World}
+use Rattle.model.specs.World.{Shared, World, with_dpc}
 use Rattle.run_laws.proofs.Depth.Falls.{Falls, falls_length, falls_after, short}
-use Rattle.run_laws.proofs.Runs.Events.{Happens, nothing, steps, issues}
+use Rattle.run_laws.proofs.Runs.Events.{Happens, nothing, steps, issues, begins}
 use Rattle.run_laws.proofs.Runs.Threads.{frames_there, frames_put, each_frames, idle_frames}
-use Rattle.run_laws.proofs.States.Frames.{IsGood}
+use Rattle.run_laws.proofs.States.Entering.{begins_dpc}
+use Rattle.run_laws.proofs.States.Frames.{IsGood, Serves}
 use Rattle.run_laws.proofs.States.Rules.{States}
 use Rattle.run_laws.proofs.States.Standing.{Standing, stands_there, on_top}
 use Rattle.run_laws.proofs.Steps.Below.{standing_is}
@@ -70,12 +71,21 @@ module _ (set : Set) (states : States) (w : World) (t : ℕ) (falls : AllFall se
       falls_put c.world.shared h.thread
       (rooted h.thread Passive (serves_request set h.d h.device h.major w.shared.issued)) h.found
       (within, tt)
+  falls_event past c good stands (begins h) =
+      falls_put (with_dpc w.shared h.d false) h.thread
+      (rooted h.thread DispatchLevel (dpc_activation set h.d h.routine)) h.found (
+        (let served : Serves set h.d (dpc_activation set h.d h.routine).driver =
+            (begins_dpc set states good w.shared.issued h.d h.routine h.there).ready.1.serves in
+            slice_get_within set.devices h.d served.0 served.1),
+        tt,
+      )
 
   -- and passes no bound
   pub within_bounds : (c : Change) → IsSound set → AllFall set c.world → Happens set w t c
       → c.over ≡ false
   within_bounds c sound later (nothing reply right) = refl
   within_bounds c sound later (issues h) = refl
+  within_bounds c sound later (begins h) = refl
   within_bounds c sound later (steps h) =
       let few : length (frames_on c.world t) ≤ 18 = few_frames set c.world t sound later in
       let same : frames_on c.world t ≡ standing set h.below h.outcome =

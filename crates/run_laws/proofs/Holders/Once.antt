@@ -10,7 +10,7 @@ use Rattle.model.specs.Trace.{Entry, Actor, recorded}
 use Rattle.model.specs.World.{Shared, World}
 use Rattle.run_laws.specs.TopsOnce.{times_topped}
 use Rattle.run_laws.proofs.Past.Packets.{Tells, found, untopped}
-use Rattle.run_laws.proofs.Runs.Events.{Happens, nothing, steps, issues}
+use Rattle.run_laws.proofs.Runs.Events.{Happens, nothing, steps, issues, begins}
 use Rattle.run_laws.proofs.Steps.Comes.{Comes, tops_out}
 
 -- a packet that hasn't topped out has done so no time, and one that has, once
@@ -39,6 +39,7 @@ module _ (set : Set) (past : List Entry) (actor : Actor) (once : ToppedOnce past
       → ToppedOnce (recorded past actor c.actions)
   once_kept w c tells (nothing reply right) = once
   once_kept w c tells (steps h) = once_step w.shared (top_frame h.below) h.frame h.outcome tells h.comes
+  once_kept w c tells (begins h) = once
   once_kept w c tells (issues h) =
       λ m. (let before : times_topped past m ≡ (if topped past m then 1 else 0) = once m in omega arith)
 

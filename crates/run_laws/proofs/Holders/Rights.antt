@@ -8,7 +8,7 @@ use Rattle.model.specs.declared.abs.Abs.{Abs}
 use Rattle.model.specs.declared.abs.Kind.{Kind}
 use Rattle.model.specs.declared.abs.Kind.TheVariants.{Blank as BlankKind, New, Own}
 use Rattle.model.specs.declared.set.Sort.{Sort}
-use Rattle.model.specs.declared.set.Sort.TheVariants.{Dispatch, Propagate}
+use Rattle.model.specs.declared.set.Sort.TheVariants.{Dispatch, Dpc, Propagate}
 use Rattle.model.specs.declared.status.Status.{Status}
 use Rattle.model.specs.declared.world.Activation.{Activation}
 use Rattle.model.specs.declared.world.Frame.TheVariants.{Routine}
@@ -18,7 +18,7 @@ use Rattle.model.specs.LocalRule.{is_packet, is_kept, is_right, left_behind}
 use Rattle.model.specs.Set.{Set}
 use Rattle.run_laws.specs.Holder.{right, rights, frame_rights}
 use Rattle.run_laws.proofs.Lists.{copied}
-use Rattle.run_laws.proofs.States.Entering.{first_state, Begins}
+use Rattle.run_laws.proofs.States.Entering.{first_state, Begins, Enters}
 use Rattle.run_laws.proofs.States.Kinds.{HasKinds, Suits}
 use Rattle.run_laws.proofs.States.Rules.{States}
 use Rattle.run_laws.proofs.Tests.{or_left, or_right}
@@ -185,11 +185,16 @@ blank_rights (suc count) n =
 
 abbrev pub handed_over : Sort → ℕ → ℕ → ℕ
 handed_over Dispatch m n = if nat_eq m n then 1 else 0
+handed_over Dpc m n = 0
 handed_over Propagate m n = 0
 
 first_rights : (sort : Sort) (m n : ℕ)
     → rights (first_state sort).kinds (Ref m ∷ replicate (REGISTERS - 1) Blank) n ≡ handed_over sort m n
 first_rights Dispatch m n =
+    let others : rights (replicate (REGISTERS - 1) BlankKind) (replicate (REGISTERS - 1) Blank) n
+    ≡ 0 = blank_rights (REGISTERS - 1) n in
+    omega arith
+first_rights Dpc m n =
     let others : rights (replicate (REGISTERS - 1) BlankKind) (replicate (REGISTERS - 1) Blank) n
     ≡ 0 = blank_rights (REGISTERS - 1) n in
     omega arith
@@ -204,3 +209,13 @@ begun_rights set states issued a sort m n begins =
     ap (λ (state : Abs). rights state.kinds a.registers n) begins.start
     ∙ ap (λ (values : List Value). rights (first_state sort).kinds values n) begins.registers
     ∙ first_rights sort m n
+
+-- a DPC routine begins with none
+pub dpc_rights : (set : Set) (states : States) (issued : ℕ) (a : Activation) (n : ℕ)
+    → Enters set states issued a Dpc Blank → frame_rights states (Routine a) n ≡ 0
+dpc_rights set states issued a n enters =
+    ap (λ (state : Abs). rights state.kinds a.registers n) enters.start
+    ∙ ap (λ (values : List Value). rights (first_state Dpc).kinds values n) enters.registers
+    ∙ (let others : rights (replicate (REGISTERS - 1) BlankKind) (replicate (REGISTERS - 1) Blank) n
+    ≡ 0 = blank_rights (REGISTERS - 1) n in
+    omega arith)

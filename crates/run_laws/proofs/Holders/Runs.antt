@@ -7,10 +7,10 @@ use Rattle.model.specs.declared.status.Status.{Status}
 use Rattle.model.specs.declared.world.Activation.{Activation}
 use Rattle.model.specs.declared.world.Frame.{Frame}
 use Rattle.model.specs.declared.world.Frame.TheVariants.{Routine, Walk}
-use Rattle.model.specs.declared.world.Irql.TheVariants.{Passive}
+use Rattle.model.specs.declared.world.Irql.TheVariants.{Passive, Dispatch as DispatchLevel}
 use Rattle.model.specs.declared.world.Packet.{Packet}
 use Rattle.model.specs.declared.world.Thread.{Thread}
-use Rattle.model.specs.Effect.{Change, Outcome, operand_of, answered_in, top_of, standing, with_stack, rooted, serves_request}
+use Rattle.model.specs.Effect.{Change, Outcome, operand_of, answered_in, top_of, standing, with_stack, rooted, serves_request, dpc_activation}
 use Rattle.model.specs.Fault.{armed, first_fault, topped}
 use Rattle.model.specs.Run.{Run, begun}
 use Rattle.model.specs.Set.{Set, instruction_at}
@@ -18,14 +18,14 @@ use Rattle.model.specs.Trace.{Entry, Actor}
 use Rattle.model.specs.World.{World, idle_thread, new_packet, packet_of}
 use Rattle.run_laws.specs.Holder.{frame_rights, frame_walks, stack_sum, thread_sum, holders, alive, is_live}
 use Rattle.run_laws.proofs.Holders.Counts.{Holding, new_unheld, new_held}
-use Rattle.run_laws.proofs.Holders.Rights.{begun_rights, rights_told}
+use Rattle.run_laws.proofs.Holders.Rights.{begun_rights, rights_told, dpc_rights}
 use Rattle.run_laws.proofs.Holders.Steps.{HoldStep, hold, completion_faults}
 use Rattle.run_laws.proofs.Holders.Sums.{Held, unheld, held, stack_append, thread_set, top_le}
 use Rattle.run_laws.proofs.Past.LivePackets.{find, find_place, find_above}
 use Rattle.run_laws.proofs.Past.Packets.{Tells}
-use Rattle.run_laws.proofs.Runs.Events.{StepsFrame, Happens, nothing, steps, issues}
+use Rattle.run_laws.proofs.Runs.Events.{StepsFrame, Happens, nothing, steps, issues, begins}
 use Rattle.run_laws.proofs.Runs.Kept.{GoesOnBy}
-use Rattle.run_laws.proofs.States.Entering.{begins_request}
+use Rattle.run_laws.proofs.States.Entering.{begins_request, begins_dpc}
 use Rattle.run_laws.proofs.States.Fine.{StepLeaves, leaves_fine}
 use Rattle.run_laws.proofs.States.Frames.{IsGood, Ready, state_of}
 use Rattle.run_laws.proofs.States.Rules.{States}
@@ -208,6 +208,23 @@ module _ (set : Set) (states : States) (w : World) (past : List Entry) (good : I
             (held (find w.shared.packets n)) (held (find (w.shared.packets ++ p ∷ []) n))
             (kept.walks n) (omega arith);
       }
+  held_happens actor c (begins h) quiet =
+      let a : Activation = dpc_activation set h.d h.routine in
+      let after : Thread = rooted h.thread DispatchLevel a in
+      record {
+        rights = λ n.
+            let none : frame_rights states (Routine a) n ≡ 0 =
+            dpc_rights set states w.shared.issued a n
+            (begins_dpc set states good w.shared.issued h.d h.routine h.there) in
+            begun_on (λ f. frame_rights states f n) actor.thread h.thread after (Routine a) h.found
+            h.idle refl
+            (unheld (find w.shared.packets n)) (unheld (find w.shared.packets n)) (kept.rights n)
+            (omega arith);
+        walks = λ n. begun_on (λ f. frame_walks f n) actor.thread h.thread after (Routine a) h.found
+            h.idle refl
+            (held (find w.shared.packets n)) (held (find w.shared.packets n)) (kept.walks n)
+            (omega arith);
+      }
 
   pub held_kept : (actor : Actor) (c : Change) → GoesOnBy set w past actor c → Held states c.world
   held_kept actor c on = held_happens actor c on.happens on.quiet
@@ -220,6 +237,7 @@ module _ (set : Set) (states : States) (w : World) (past : List Entry) (good : I
       (on_top set states w past good stands actor.thread h)
       (top_holding set states w past stands kept actor.thread h) h.comes
   completion_faults_none unarmed actor c (issues h) = refl
+  completion_faults_none unarmed actor c (begins h) = refl
 
 -- before the first event
 idle_sum : (count : Frame → ℕ) (threads : ℕ) → thread_sum count (replicate threads idle_thread) ≡ 0

@@ -13,7 +13,7 @@ use Rattle.model.specs.declared.event.Subject.TheVariants.{Packet as PacketSubje
 use Rattle.model.specs.declared.instr.Instr.{Instr}
 use Rattle.model.specs.declared.instr.Instr.TheVariants.{Const, Move, Add, Subtract, Loop, End, Load, LoadPaged, Get, Put, Mark, Pass, Call, Complete, Ret}
 use Rattle.model.specs.declared.instr.Return.{Return}
-use Rattle.model.specs.declared.instr.Return.TheVariants.{Continue}
+use Rattle.model.specs.declared.instr.Return.TheVariants.{Continue, Void}
 use Rattle.model.specs.declared.set.Sort.{Sort}
 use Rattle.model.specs.declared.set.Sort.TheVariants.{Dispatch, Propagate}
 use Rattle.model.specs.declared.status.Status.{Status}
@@ -46,7 +46,7 @@ use Rattle.run_laws.proofs.States.Moves.{has_next, falls_next, arrives, arrives_
 use Rattle.run_laws.proofs.States.Obeyed.{SendsDown, sends_down, completes_one, returns_by}
 use Rattle.run_laws.proofs.States.OnTop.{OnTop, runs}
 use Rattle.run_laws.proofs.States.Rules.{States, first_none, second_none, unbroken}
-use Rattle.run_laws.proofs.Steps.Comes.{Written, keeps_all, makes_number, moves_over, makes_blank, GoesTo, onward, jumping, Reads, Comes, errs, awaits_lock, computes, opens_loop, turns_loop, pages, touches_gone, looks_at, writes_info, marks_packet, takes_lock, retakes_lock, frees_lock, completes_packet, completes_gone, passes_down, calls_down, returns_status, lets_go, lets_walk, walks_gone, walks_to, walks_up, carries_up, tops_out}
+use Rattle.run_laws.proofs.Steps.Comes.{Written, keeps_all, makes_number, moves_over, makes_blank, GoesTo, onward, jumping, Reads, Comes, errs, awaits_lock, computes, opens_loop, turns_loop, pages, touches_gone, looks_at, writes_info, marks_packet, takes_lock, retakes_lock, frees_lock, completes_packet, completes_gone, passes_down, calls_down, returns_status, lets_go, lets_walk, walks_gone, walks_to, walks_up, carries_up, tops_out, ends_dpc}
 use Rattle.run_laws.proofs.Steps.Faults.{is_touch, is_completion, fault_among}
 use Rattle.run_laws.proofs.Steps.Locking.{LockWord, taken_word, freed_word}
 use Rattle.run_laws.proofs.Steps.Words.{is_giving, Forwarding, work_of, packet_operand, keeps_registers, numbered_by}
@@ -416,6 +416,8 @@ module _ (set : Set) (states : States) (s : Shared) (past : List Entry) (actor :
       returns a Continue o (runs set states s a (Ret Continue) top at) refl refl
   hold under f o top holding (lets_walk a n at is) quiet =
       returns a Continue o (runs set states s a (Ret Continue) top at) refl refl
+  hold under f o top holding (ends_dpc a at is) quiet =
+      returns a Void o (runs set states s a (Ret Void) top at) refl refl
   hold under f o top holding (walks_gone n gone) quiet = absurd (walk_lives states s past n holding gone)
   hold under f o top holding (walks_to n p c there set_there) quiet =
       let b : Activation = completes_with set c n in

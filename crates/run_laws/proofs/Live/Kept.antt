@@ -6,10 +6,11 @@ use Rattle.std.proofs.lemmas.Bool.{eq-eqb}
 use Rattle.model.specs.declared.status.Status.{Status}
 use Rattle.model.specs.declared.world.Frame.{Frame}
 use Rattle.model.specs.declared.world.Frame.TheVariants.{Routine, Walk}
-use Rattle.model.specs.declared.world.Irql.TheVariants.{Passive}
+use Rattle.model.specs.declared.world.Irql.TheVariants.{Passive, Dispatch as DispatchLevel}
 use Rattle.model.specs.declared.world.Packet.{Packet}
 use Rattle.model.specs.declared.world.Thread.{Thread}
-use Rattle.model.specs.Effect.{Change, Outcome, rooted, serves_request, standing, told_to, top_of, with_stack, with_thread}
+use Rattle.model.specs.declared.world.Value.TheVariants.{Blank}
+use Rattle.model.specs.Effect.{Change, Outcome, rooted, serves_request, standing, told_to, top_of, with_stack, with_thread, dpc_activation}
 use Rattle.model.specs.Run.{begun, frames_on}
 use Rattle.model.specs.Set.{Set}
 use Rattle.model.specs.Trace.{Entry, Actor}
@@ -17,14 +18,14 @@ use Rattle.model.specs.World.{Shared, World}
 use Rattle.run_laws.specs.Holder.{frame_walks, stack_sum, thread_sum}
 use Rattle.run_laws.proofs.Holders.Counts.{Holding}
 use Rattle.run_laws.proofs.Holders.Sums.{Held, held, stack_append, stack_le, walked_if}
-use Rattle.run_laws.proofs.Lists.{last_split}
-use Rattle.run_laws.proofs.Live.Sees.{Seen, AllSeen, seen_append, seen_below, seen_top, told_seen}
+use Rattle.run_laws.proofs.Lists.{last_split, each_same}
+use Rattle.run_laws.proofs.Live.Sees.{Seen, AllSeen, seen_append, seen_below, seen_top, told_seen, RefersTo}
 use Rattle.run_laws.proofs.Live.Steps.{UnderLives, seen, touch_faults}
 use Rattle.run_laws.proofs.Past.LivePackets.{find}
 use Rattle.run_laws.proofs.Past.Packets.{found}
-use Rattle.run_laws.proofs.Runs.Events.{StepsFrame, Happens, nothing, steps, issues}
+use Rattle.run_laws.proofs.Runs.Events.{StepsFrame, Happens, nothing, steps, issues, begins}
 use Rattle.run_laws.proofs.Runs.Threads.{frames_there, each_frames, idle_frames}
-use Rattle.run_laws.proofs.States.Entering.{begins_request}
+use Rattle.run_laws.proofs.States.Entering.{begins_request, begins_dpc}
 use Rattle.run_laws.proofs.States.Frames.{IsGood}
 use Rattle.run_laws.proofs.States.Rules.{States}
 use Rattle.run_laws.proofs.States.Standing.{Standing, on_top}
@@ -133,9 +134,18 @@ module _ (set : Set) (states : States) (w : World) (past : List Entry) (good : I
       sees_put t c.world.shared h.thread
       (rooted h.thread Passive (serves_request set h.d h.device h.major w.shared.issued))
       h.found (
-        (begins_request set states good (w.shared.issued + 1) w.shared.issued (omega arith) h.d
+        inl (begins_request set states good (w.shared.issued + 1) w.shared.issued (omega arith) h.d
             h.device h.major
             h.there).of_sort,
+        tt,
+      )
+  sees_event t c (begins h) =
+      sees_put t c.world.shared h.thread
+      (rooted h.thread DispatchLevel (dpc_activation set h.d h.routine)) h.found (
+        inr (record {
+          of_sort = (begins_dpc set states good w.shared.issued h.d h.routine h.there).of_sort;
+          refers = λ m. (tt, each_same (RefersTo m) 15 Blank tt);
+        }),
         tt,
       )
 
@@ -145,6 +155,7 @@ module _ (set : Set) (states : States) (w : World) (past : List Entry) (good : I
       → Happens set w actor.thread c → fault_among is_touch past actor c.actions ≡ None
   touches_none actor c kept holding (nothing reply right) = refl
   touches_none actor c kept holding (issues h) = refl
+  touches_none actor c kept holding (begins h) = refl
   touches_none actor c kept holding (steps h) =
       touch_faults set states w.shared past actor (top_of h.below) h.frame h.outcome stands.tells
       (on_top set states w past good stands actor.thread h) (holding h)

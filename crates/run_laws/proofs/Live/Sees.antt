@@ -1,11 +1,11 @@
 -- Which packets the frames of a thread see: a completion routine's registers refer to the packet of
--- the I/O manager's frame below it, and every other routine is a dispatch routine. No step makes a
--- reference.
-use Rattle.std.proofs.Common.{◌≡◌, ℕ, zero, suc, ◌-◌, Bool, List, [], ◌∷◌, ◌++◌, Option, None, Some, inl, inr, refl, sym, subst, ◌∙◌}
+-- the I/O manager's frame below it, a DPC routine's to none, and every other routine is a dispatch
+-- routine. No step makes a reference.
+use Rattle.std.proofs.Common.{◌≡◌, ◌⊎◌, ℕ, zero, suc, ◌-◌, Bool, List, [], ◌∷◌, ◌++◌, Option, None, Some, inl, inr, refl, sym, subst, ◌∙◌, arith}
 use Rattle.std.specs.Prelude.{⊤, nat_lt, replicate, slice_index_or}
 use Rattle.std.proofs.lemmas.Bool.{cases_Bool}
 use Rattle.model.specs.declared.instr.Instr.{Instr}
-use Rattle.model.specs.declared.set.Sort.TheVariants.{Dispatch}
+use Rattle.model.specs.declared.set.Sort.TheVariants.{Dispatch, Dpc}
 use Rattle.model.specs.declared.status.Status.{Status}
 use Rattle.model.specs.declared.world.Activation.{Activation}
 use Rattle.model.specs.declared.world.Frame.{Frame}
@@ -17,6 +17,7 @@ use Rattle.model.specs.Set.{Set, instruction_at}
 use Rattle.model.specs.World.{Shared, packet_in, register}
 use Rattle.run_laws.proofs.Lists.{Each, each_set, each_same}
 use Rattle.run_laws.proofs.States.Entering.{IsOfSort}
+use Rattle.run_laws.proofs.States.Stacks.{answered_in_sort}
 use Rattle.run_laws.proofs.States.Told.{last_under, told_frame, told_last, told_is}
 use Rattle.run_laws.proofs.Steps.Comes.{Written, keeps_all, makes_number, moves_over, makes_blank, GoesTo, Reads, onward, jumping}
 
@@ -66,9 +67,18 @@ pub goes_refers : (m : ℕ) (a : Activation) (i : Instr) (b : Activation) (jumpe
 goes_refers m a i b jumped (onward values on written) h = written_refers m a i values written h
 goes_refers m a i b jumped (jumping label labelled) h = h
 
+-- a DPC routine's registers refer to no packet: each reference would be to any one
+pub record Bare (set : Set) (a : Activation) : Type 0 where
+  pub of_sort : IsOfSort set a Dpc
+  pub refers : (m : ℕ) → Refers m a
+
+pub bare_reads : (set : Set) (s : Shared) (a : Activation) (r n : ℕ) → Bare set a → Reads s a r n → ⊥
+bare_reads set s a r n bare reads =
+    let no : n ≡ suc n = reads_own (suc n) s a (bare.refers (suc n)) r n reads in absurd (omega arith)
+
 module _ (set : Set) where
   abbrev pub Seen : Option Frame → Frame → Type 0
-  Seen None (Routine a) = IsOfSort set a Dispatch
+  Seen None (Routine a) = IsOfSort set a Dispatch ⊎ Bare set a
   Seen None (Walk n) = ⊤
   Seen (Some (Routine b)) (Routine a) = IsOfSort set a Dispatch
   Seen (Some (Routine b)) (Walk n) = ⊤
@@ -96,11 +106,6 @@ module _ (set : Set) where
   seen_top under (f ∷ below) frames h = seen_top (Some f) below frames h.1
 
   -- a frame that is told a status sees the same
-  answered_sort : (a : Activation) (status : Status) (r : Option ℕ) → IsOfSort set a Dispatch
-      → IsOfSort set (answered_in a status r) Dispatch
-  answered_sort a status None h = h
-  answered_sort a status (Some r) h = h
-
   answered_refers : (m : ℕ) (a : Activation) (status : Status) (r : Option ℕ) → Refers m a
       → Refers m (answered_in a status r)
   answered_refers m a status None h = h
@@ -112,9 +117,18 @@ module _ (set : Set) where
   frame_seen under None (Walk n) h = h
   frame_seen under (Some status) (Walk n) h = h
   frame_seen None (Some status) (Routine a) h =
-      answered_sort a status (operand_of (instruction_at set a.driver a.routine (a.position - 1))) h
+      let r : Option ℕ = operand_of (instruction_at set a.driver a.routine (a.position - 1)) in
+      elim h [
+        | inl is ↦ inl (answered_in_sort set a status r Dispatch is)
+        | inr bare ↦
+            inr (record {
+              of_sort = answered_in_sort set a status r Dpc bare.of_sort;
+              refers = λ m. answered_refers m a status r (bare.refers m);
+            })
+      ]
   frame_seen (Some (Routine b)) (Some status) (Routine a) h =
-      answered_sort a status (operand_of (instruction_at set a.driver a.routine (a.position - 1))) h
+      answered_in_sort set a status
+      (operand_of (instruction_at set a.driver a.routine (a.position - 1))) Dispatch h
   frame_seen (Some (Walk m)) (Some status) (Routine a) h =
       answered_refers m a status (operand_of (instruction_at set a.driver a.routine (a.position - 1))) h
 

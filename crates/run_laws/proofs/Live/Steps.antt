@@ -1,7 +1,7 @@
 -- Each step keeps what frames see, and touches live packets alone: a register that has a packet has
 -- the right to it, or refers to the packet of the I/O manager's frame below, and that frame holds
 -- its packet.
-use Rattle.std.proofs.Common.{◌≡◌, ℕ, ◌-◌, ◌<◌, List, [], ◌∷◌, ◌++◌, Option, None, Some, Bool, true, false, refl, ap, sym, ◌∙◌, subst}
+use Rattle.std.proofs.Common.{◌≡◌, ℕ, ◌-◌, ◌<◌, List, [], ◌∷◌, ◌++◌, Option, None, Some, Bool, true, false, refl, ap, sym, ◌∙◌, subst, inl, inr, suc, arith}
 use Rattle.std.specs.Prelude.{⊤, nat_lt}
 use Rattle.std.proofs.lemmas.Bool.{cond_both}
 use Rattle.model.specs.declared.abs.Kind.{Kind}
@@ -26,7 +26,7 @@ use Rattle.model.specs.Set.{Set, lower_of, member}
 use Rattle.model.specs.Trace.{Entry, Actor}
 use Rattle.model.specs.World.{Shared, asked_of, at_label, current_location, next, outer_loops, packet_of, packet_in, register, with_loops}
 use Rattle.run_laws.proofs.Holders.Counts.{Holding, right_lives, walk_lives}
-use Rattle.run_laws.proofs.Live.Sees.{Refers, RefersTo, refers_at, entered_refers, goes_refers, Seen, AllSeen}
+use Rattle.run_laws.proofs.Live.Sees.{Refers, RefersTo, refers_at, entered_refers, goes_refers, Seen, AllSeen, Bare}
 use Rattle.run_laws.proofs.States.NoViews.{HasNoView, no_view_at, dispatch_no_view}
 use Rattle.run_laws.proofs.Past.Packets.{Tells, found, named, untopped}
 use Rattle.run_laws.proofs.States.Entering.{IsOfSort, begins_lower, sort_there}
@@ -35,7 +35,7 @@ use Rattle.run_laws.proofs.States.Kinds.{packet_ref, packet_wanted}
 use Rattle.run_laws.proofs.States.Lacking.{never_lacks}
 use Rattle.run_laws.proofs.States.OnTop.{OnTop, runs, value_suits}
 use Rattle.run_laws.proofs.States.Rules.{States}
-use Rattle.run_laws.proofs.Steps.Comes.{GoesTo, onward, jumping, Executing, Reads, Comes, errs, awaits_lock, computes, opens_loop, turns_loop, pages, touches_gone, looks_at, writes_info, marks_packet, takes_lock, retakes_lock, frees_lock, completes_packet, completes_gone, passes_down, calls_down, returns_status, lets_go, lets_walk, walks_gone, walks_to, walks_up, carries_up, tops_out}
+use Rattle.run_laws.proofs.Steps.Comes.{GoesTo, onward, jumping, Executing, Reads, Comes, errs, awaits_lock, computes, opens_loop, turns_loop, pages, touches_gone, looks_at, writes_info, marks_packet, takes_lock, retakes_lock, frees_lock, completes_packet, completes_gone, passes_down, calls_down, returns_status, lets_go, lets_walk, walks_gone, walks_to, walks_up, carries_up, tops_out, ends_dpc}
 use Rattle.run_laws.proofs.Steps.Faults.{fault_among, is_touch}
 use Rattle.run_laws.proofs.Steps.Words.{packet_operand}
 
@@ -43,7 +43,15 @@ use Rattle.run_laws.proofs.Steps.Words.{packet_operand}
 goes_seen : (set : Set) (under : Option Frame) (a b : Activation) → b.driver ≡ a.driver
     → b.routine ≡ a.routine
     → ((m : ℕ) → Refers m a → Refers m b) → Seen set under (Routine a) → Seen set under (Routine b)
-goes_seen set None a b driver routine refers h = rw (driver, routine) h
+goes_seen set None a b driver routine refers h =
+    elim h [
+      | inl is ↦ inl (rw (driver, routine) is)
+      | inr bare ↦
+          inr (record {
+            of_sort = rw (driver, routine) bare.of_sort;
+            refers = λ m. refers m (bare.refers m);
+          })
+    ]
 goes_seen set (Some (Routine c)) a b driver routine refers h = rw (driver, routine) h
 goes_seen set (Some (Walk m)) a b driver routine refers h = refers m h
 
@@ -134,6 +142,7 @@ module _ (set : Set) (states : States) (s : Shared) where
   seen t under top f o h sees (returns_status a form status at sort is) = tt
   seen t under top f o h sees (lets_go a at sort free) = tt
   seen t under top f o h sees (lets_walk a n at sort) = tt
+  seen t under top f o h sees (ends_dpc a at sort) = tt
   seen t under top f o h sees (walks_gone n gone) = tt
   seen t under top f o h sees (walks_to n p c there set_there) =
       (walk_seen set under n, (entered_refers n, tt))
@@ -171,10 +180,18 @@ module _ (set : Set) (states : States) (s : Shared) (past : List Entry) where
   refers_same : (m n : ℕ) (v : Value) → v ≡ Ref n → RefersTo m v → n ≡ m
   refers_same m n v is refers = subst (λ (x : Value). RefersTo m x) is refers
 
+  bare_lives : (a : Activation) (r n : ℕ) → Bare set a → register a r ≡ Ref n → ⊥
+  bare_lives a r n bare refers =
+      let no : n ≡ suc n =
+      refers_same (suc n) n (register a r) refers
+      (refers_at (suc n) a.registers r (bare.refers (suc n))) in
+      absurd (omega arith)
+
   view_lives : (under : Option Frame) (a : Activation) (i : Instr) (r n : ℕ) → Runs set states s a i
       → Seen set under (Routine a) → UnderLives s under → is_view (kind_of (state_of states a) r) ≡ true
       → register a r ≡ Ref n → packet_of s n ≡ None → ⊥
-  view_lives None a i r n h seen live view refers gone = dispatch_views a i r h seen view
+  view_lives None a i r n h seen live view refers gone =
+      elim seen [ inl is ↦ dispatch_views a i r h is view | inr bare ↦ bare_lives a r n bare refers ]
   view_lives (Some (Routine b)) a i r n h seen live view refers gone = dispatch_views a i r h seen view
   view_lives (Some (Walk m)) a i r n h seen live view refers gone =
       let same : n ≡ m = refers_same m n (register a r) refers (refers_at m a.registers r seen) in

@@ -1,34 +1,37 @@
 -- Locks and levels are kept in every run of an accepted set: every thread holds the locks that the
 -- state of its top frame says.
-use Rattle.std.proofs.Common.{◌≡◌, ◌≢◌, ◌+◌, ◌-◌, ℕ, List, [], ◌∷◌, ◌++◌, Option, None, Some, Bool, false, refl, ap, sym, ◌∙◌, arith}
+use Rattle.std.proofs.Common.{◌≡◌, ◌≢◌, ◌+◌, ◌-◌, ℕ, List, [], ◌∷◌, ◌++◌, Option, None, Some, Bool, false, refl, ap, sym, ◌∙◌, subst, arith}
 use Rattle.std.specs.Prelude.{slice_get}
 use Rattle.std.proofs.lemmas.Bool.{ne_eqb}
 use Rattle.std.proofs.lemmas.List.{append-nil}
 use Rattle.model.specs.declared.event.Lock.{Lock}
 use Rattle.model.specs.declared.status.Status.{Status}
-use Rattle.model.specs.declared.set.Sort.TheVariants.{Dispatch}
+use Rattle.model.specs.declared.set.Sort.TheVariants.{Dispatch, Dpc}
 use Rattle.model.specs.declared.world.Activation.{Activation}
 use Rattle.model.specs.declared.world.Frame.{Frame}
 use Rattle.model.specs.declared.world.Frame.TheVariants.{Routine, Walk}
-use Rattle.model.specs.declared.world.Irql.TheVariants.{Passive}
+use Rattle.model.specs.declared.world.Irql.{Irql}
+use Rattle.model.specs.declared.world.Irql.TheVariants.{Passive, Dispatch as DispatchLevel}
 use Rattle.model.specs.declared.world.Thread.{Thread}
+use Rattle.model.specs.declared.world.Value.TheVariants.{Blank, Ref}
 use Rattle.model.specs.Action.{Action, Acquires, Releases, Issues}
-use Rattle.model.specs.Effect.{Change, Outcome, operand_of, answered_in, top_of, standing, with_thread, with_stack, rooted, with_new_packet, serves_request}
-use Rattle.model.specs.Fault.{holds_after, holds, is_dispatch_level}
+use Rattle.model.specs.Effect.{Change, Outcome, operand_of, answered_in, top_of, standing, with_thread, with_stack, rooted, with_new_packet, serves_request, dpc_activation}
+use Rattle.model.specs.Fault.{holds_after, holds}
 use Rattle.model.specs.Run.{begun, root_of, frames_on}
 use Rattle.model.specs.Set.{Set, instruction_at}
 use Rattle.model.specs.Trace.{Entry, Actor, entry, recorded}
-use Rattle.model.specs.World.{Shared, World}
+use Rattle.model.specs.World.{Shared, World, with_dpc}
 use Rattle.run_laws.proofs.Locks.Says.{frame_says, top_says, free_says}
 use Rattle.run_laws.proofs.Locks.Steps.{begun_says, own, lock_faults}
-use Rattle.run_laws.proofs.Runs.Events.{StepsFrame, Happens, nothing, steps, issues}
+use Rattle.run_laws.proofs.Runs.Events.{StepsFrame, Happens, nothing, steps, issues, begins}
 use Rattle.run_laws.proofs.Runs.Kept.{GoesOnBy}
 use Rattle.run_laws.proofs.Runs.Threads.{frames_there, each_frames, idle_frames}
-use Rattle.run_laws.proofs.States.Entering.{begins_request}
+use Rattle.run_laws.proofs.States.Entering.{begins_request, begins_dpc}
 use Rattle.run_laws.proofs.States.Frames.{state_of, IsGood}
+use Rattle.run_laws.proofs.States.Roots.{Low}
 use Rattle.run_laws.proofs.States.Rules.{States}
 use Rattle.run_laws.proofs.States.Stacks.{Stands, Stacked}
-use Rattle.run_laws.proofs.States.Standing.{Standing, stands_there, on_top}
+use Rattle.run_laws.proofs.States.Standing.{Standing, stands_there, on_top, low_there}
 use Rattle.run_laws.proofs.States.Told.{told_frame, told_last, standing_last}
 use Rattle.run_laws.proofs.Steps.Faults.{is_of_locks, fault_among}
 
@@ -143,8 +146,17 @@ module _ (set : Set) (states : States) (w : World) (past : List Entry) (good : I
       (λ l. agree actor.thread l
       ∙ ap (λ (frames : List Frame). top_says states frames l)
       (frames_there w actor.thread h.thread h.found ∙ h.idle)
-      ∙ sym (begun_says set states (n + 1) a Dispatch n l
+      ∙ sym (begun_says set states (n + 1) a Dispatch (Ref n) l
       (begins_request set states good (n + 1) n (omega arith) h.d h.device h.major h.there)))
+  locks_happen actor c (begins h) =
+      let a : Activation = dpc_activation set h.d h.routine in
+      agree_after actor [] (with_dpc w.shared h.d false) h.thread (rooted h.thread DispatchLevel a)
+      h.found
+      (λ l. agree actor.thread l
+      ∙ ap (λ (frames : List Frame). top_says states frames l)
+      (frames_there w actor.thread h.thread h.found ∙ h.idle)
+      ∙ sym (begun_says set states w.shared.issued a Dpc Blank l
+      (begins_dpc set states good w.shared.issued h.d h.routine h.there)))
 
   pub locks_kept : (actor : Actor) (c : Change) → GoesOnBy set w past actor c
       → LocksAgree states c.world (recorded past actor c.actions)
@@ -156,9 +168,11 @@ module _ (set : Set) (states : States) (w : World) (past : List Entry) (good : I
   lock_faults_none actor c root (nothing reply right) = refl
   lock_faults_none actor c root (steps h) =
       lock_faults set states w.shared past actor (top_of h.below) h.frame h.outcome
-      (ap is_dispatch_level (root ∙ stands.roots actor.thread))
+      (subst (λ (level : Irql). Low set level h.frame) (sym (root ∙ ap root_of h.found))
+      (low_there set states w past good stands actor.thread h))
       (on_top set states w past good stands actor.thread h) (own_top actor.thread h) h.comes
   lock_faults_none actor c root (issues h) = refl
+  lock_faults_none actor c root (begins h) = refl
 
 -- before the first event
 pub locks_begun : (set : Set) (states : States) (threads : ℕ)

@@ -13,13 +13,15 @@ use Rattle.model.specs.declared.event.Subject.TheVariants.{Lock as LockSubject, 
 use Rattle.model.specs.declared.instr.Instr.{Instr}
 use Rattle.model.specs.declared.instr.Instr.TheVariants.{Loop, End, LoadPaged, StorePaged, Put, Mark, Pass, Call, Complete, Ret}
 use Rattle.model.specs.declared.instr.Return.{Return}
-use Rattle.model.specs.declared.instr.Return.TheVariants.{Continue}
+use Rattle.model.specs.declared.instr.Return.TheVariants.{Continue, Void}
 use Rattle.model.specs.declared.set.Sort.{Sort}
-use Rattle.model.specs.declared.set.Sort.TheVariants.{Dispatch, Propagate}
+use Rattle.model.specs.declared.set.Sort.TheVariants.{Dispatch, Dpc, Propagate}
 use Rattle.model.specs.declared.world.Activation.{Activation}
 use Rattle.model.specs.declared.world.Frame.{Frame}
 use Rattle.model.specs.declared.world.Frame.TheVariants.{Routine}
 use Rattle.model.specs.declared.world.Packet.{Packet}
+use Rattle.model.specs.declared.world.Value.{Value}
+use Rattle.model.specs.declared.world.Value.TheVariants.{Ref}
 use Rattle.model.specs.Effect.{Outcome, turned, dispatched, completes_with}
 use Rattle.model.specs.Fault.{is_lock, holds, acquired, is_dispatch_level, at_dispatch, bug_if, first_or}
 use Rattle.model.specs.LocalRule.{holds_lock, handed, level_fault, refuses}
@@ -30,14 +32,15 @@ use Rattle.model.specs.World.{Shared, register, next, current_location, asked_of
 use Rattle.run_laws.proofs.Lists.{all_at}
 use Rattle.run_laws.proofs.Locks.Says.{state_says, frame_says, top_says, free_says, is_locking, handed_says, label_says, Locks, taken, freed}
 use Rattle.run_laws.proofs.Past.Packets.{named}
-use Rattle.run_laws.proofs.States.Entering.{first_state, Begins, begins_lower, begins_back}
+use Rattle.run_laws.proofs.States.Entering.{first_state, Enters, begins_lower, begins_back}
 use Rattle.run_laws.proofs.States.Frames.{state_of, Moved, Runs}
 use Rattle.run_laws.proofs.States.LoopEnds.{moved_end}
 use Rattle.run_laws.proofs.States.Moves.{has_next, falls_next, arrives, arrives_next}
 use Rattle.run_laws.proofs.States.Obeyed.{sends_down, completes_one, returns_by}
 use Rattle.run_laws.proofs.States.OnTop.{OnTop, runs}
+use Rattle.run_laws.proofs.States.Roots.{Low}
 use Rattle.run_laws.proofs.States.Rules.{States, first_none, second_none, unbroken}
-use Rattle.run_laws.proofs.Steps.Comes.{Reads, GoesTo, onward, jumping, Comes, computes, opens_loop, turns_loop, pages, touches_gone, looks_at, writes_info, marks_packet, takes_lock, retakes_lock, frees_lock, completes_packet, completes_gone, passes_down, calls_down, returns_status, lets_go, lets_walk, walks_to}
+use Rattle.run_laws.proofs.Steps.Comes.{Reads, GoesTo, onward, jumping, Comes, computes, opens_loop, turns_loop, pages, touches_gone, looks_at, writes_info, marks_packet, takes_lock, retakes_lock, frees_lock, completes_packet, completes_gone, passes_down, calls_down, returns_status, lets_go, lets_walk, ends_dpc, walks_to}
 use Rattle.run_laws.proofs.Steps.Faults.{is_of_locks, fault_among}
 use Rattle.run_laws.proofs.Steps.Locking.{taken_word, freed_word}
 use Rattle.run_laws.proofs.Steps.Words.{Work, Locking, Paging, Forwarding, work_of, is_touching, packet_operand, lock_taken, lock_freed}
@@ -68,21 +71,26 @@ module _ (set : Set) (states : States) (s : Shared) (a : Activation) (i : Instr)
 module _ (set : Set) (states : States) where
   first_says : (sort : Sort) (d : ℕ) (l : Lock) → state_says (first_state sort) d l ≡ false
   first_says Dispatch d l = free_says (first_state Dispatch) d l refl
+  first_says Dpc d l = free_says (first_state Dpc) d l refl
   first_says Propagate d l = free_says (first_state Propagate) d l refl
 
-  pub begun_says : (issued : ℕ) (a : Activation) (sort : Sort) (n : ℕ) (l : Lock)
-      → Begins set states issued a sort n
+  pub begun_says : (issued : ℕ) (a : Activation) (sort : Sort) (first : Value) (l : Lock)
+      → Enters set states issued a sort first
       → frame_says states (Routine a) l ≡ false
-  begun_says issued a sort n l begins =
+  begun_says issued a sort first l begins =
       ap (λ state. state_says state a.device l) begins.start ∙ first_says sort a.device l
 
--- no lock is held where a paged cell is touched
-level_free : (s : Abs) (sort : Sort) → level_fault s sort ≡ None → holds_lock s ≡ false
-level_free s Dispatch rule = unbroken _ _ rule
+-- a paged cell is touched by a dispatch routine, and while no lock is held
+abbrev LevelFree : Abs → Sort → Type 0
+LevelFree s sort = (sort ≡ Dispatch) × (holds_lock s ≡ false)
+
+level_free : (s : Abs) (sort : Sort) → level_fault s sort ≡ None → LevelFree s sort
+level_free s Dispatch rule = (refl, unbroken _ _ rule)
+level_free s Dpc rule = cc
 level_free s Propagate rule = cc
 
 paged_free : (s : Abs) (i : Instr) (sort : Sort) (set : Set) (driver : ℕ) → work_of i ≡ Paging
-    → refuses s i sort set driver ≡ None → holds_lock s ≡ false
+    → refuses s i sort set driver ≡ None → LevelFree s sort
 paged_free s (LoadPaged r c) sort set driver is rule = level_free s sort (first_none _ _ rule)
 paged_free s (StorePaged c r) sort set driver is rule = level_free s sort (second_none _ _ rule)
 paged_free s _ sort set driver is rule = cc
@@ -104,7 +112,7 @@ sends set states s a i h r lower n p is operand reads below l =
     (sends_down (state_of states a) (sort_of set a.driver a.routine) set a.driver i r h.obeys is
     operand).free
     ∙ sym (begun_says set states s.issued
-    (dispatched set lower (slice_get set.devices lower) (asked_of (current_location p)) n) Dispatch n l
+    (dispatched set lower (slice_get set.devices lower) (asked_of (current_location p)) n) Dispatch (Ref n) l
     (begins_lower set states h.good s.issued n (named s (register a r) n reads) a.device lower
     (asked_of (current_location p)) below))
 
@@ -221,13 +229,15 @@ module _ (set : Set) (states : States) (s : Shared) (past : List Entry) (actor :
       agrees l ∙ returns set states s a Continue (runs set states s a (Ret Continue) top at) l
   own under f o top agrees (lets_walk a n at is) l =
       agrees l ∙ returns set states s a Continue (runs set states s a (Ret Continue) top at) l
+  own under f o top agrees (ends_dpc a at is) l =
+      agrees l ∙ returns set states s a Void (runs set states s a (Ret Void) top at) l
   own under f o top agrees (walks_to n p c there set_there) l =
-      agrees l ∙ sym (begun_says set states s.issued (completes_with set c n) Propagate n l
+      agrees l ∙ sym (begun_says set states s.issued (completes_with set c n) Propagate (Ref n) l
       (begins_back set states s top.good top.fits n p c top.stands there set_there))
   own under f o top agrees _ l = agrees l
 
-  -- so there is no bug check about locks, nor about a paged cell where no thread begins at
-  -- DISPATCH_LEVEL
+  -- so there is no bug check about locks, nor about a paged cell, since dispatch routines are on
+  -- threads that began at PASSIVE_LEVEL
   none_held : (locks : List Lock) → ((l : Lock) → holds past actor.thread l ≡ false)
       → list_any (λ l. holds past actor.thread l) locks ≡ false
   none_held [] none = refl
@@ -243,15 +253,16 @@ module _ (set : Set) (states : States) (s : Shared) (past : List Entry) (actor :
   no_bug false check subject h = refl
 
   pub lock_faults : (under : Option Frame) (f : Frame) (o : Outcome)
-      → is_dispatch_level actor.root ≡ false
+      → Low set actor.root f
       → OnTop set states s f → Agrees f → Comes set s actor.thread under f o
       → fault_among is_of_locks past actor o.actions ≡ None
   lock_faults under f o low top agrees (pages a i b cell cells at is goes long) =
       let h : Runs set states s a i = runs set states s a i top at in
-      let free : holds_lock (state_of states a) ≡ false =
+      let free : LevelFree (state_of states a) (sort_of set a.driver a.routine) =
       paged_free (state_of states a) i (sort_of set a.driver a.routine) set a.driver is h.obeys in
       no_bug (at_dispatch past actor) IrqlNotLessOrEqual (Cell cell)
-      (low_level low (λ l. agrees l ∙ free_says (state_of states a) a.device l free))
+      (low_level (ap is_dispatch_level (low free.0))
+      (λ l. agrees l ∙ free_says (state_of states a) a.device l free.1))
   lock_faults under f o low top agrees (takes_lock a i lock at takes free) =
       let h : Runs set states s a i = runs set states s a i top at in
       no_bug (holds past actor.thread lock) SpinLockAlreadyOwned (LockSubject lock)

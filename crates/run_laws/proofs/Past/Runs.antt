@@ -1,19 +1,19 @@
 -- In every run of a sound set, until it stops, the past tells what the world has.
-use Rattle.std.proofs.Common.{◌≡◌, ◌≤◌, ℕ, inl, inr, List, [], length, Option, None, Some, true, false, refl, sym, ◌∙◌, arith}
+use Rattle.std.proofs.Common.{◌≡◌, ◌≤◌, ℕ, inl, inr, List, [], length, Option, None, Some, Bool, true, false, refl, sym, ◌∙◌, arith}
 use Rattle.std.specs.Prelude.{nat_lt}
 use Rattle.std.proofs.lemmas.Bool.{cases_lt}
 use Rattle.model.specs.declared.event.Lock.{Lock}
 use Rattle.model.specs.declared.limits.TheConstants.{MAX_FRAMES}
 use Rattle.model.specs.declared.world.Frame.{Frame}
-use Rattle.model.specs.declared.world.Irql.TheVariants.{Passive}
+use Rattle.model.specs.declared.world.Irql.TheVariants.{Passive, Dispatch as DispatchLevel}
 use Rattle.model.specs.declared.world.Packet.{Packet}
-use Rattle.model.specs.Effect.{Change, rooted, serves_request, with_new_packet, with_stack, top_of, standing}
+use Rattle.model.specs.Effect.{Change, rooted, dpc_activation, serves_request, with_new_packet, with_stack, top_of, standing}
 use Rattle.model.specs.Fault.{first_fault, holds, armed, stack_size, completing, depth}
 use Rattle.model.specs.Run.{begun, Run, frames_on, run}
 use Rattle.model.specs.Set.{Set}
 use Rattle.model.specs.Sound.{IsSound, DeviceFits}
 use Rattle.model.specs.Trace.{Entry, Actor, recorded}
-use Rattle.model.specs.World.{World, packet_of}
+use Rattle.model.specs.World.{World, packet_of, with_dpc}
 use Rattle.run_laws.specs.PastTells.{PastTells, TellsOfPacket, PastTellsOfTheWorld}
 use Rattle.run_laws.proofs.Devices.{device_fits}
 use Rattle.run_laws.proofs.Past.LivePackets.{find_place}
@@ -22,8 +22,8 @@ use Rattle.run_laws.proofs.Past.Owners.{Owned, owned_free, held_owned, owned_hel
 use Rattle.run_laws.proofs.Past.Packets.{Tells, found, lt_true, tells_issue, tells_nothing}
 use Rattle.run_laws.proofs.Past.Stacks.{Measured}
 use Rattle.run_laws.proofs.Past.Steps.{told_arms, told_locks, told_packets}
-use Rattle.run_laws.proofs.Runs.Events.{Happens, nothing, steps, issues}
-use Rattle.run_laws.proofs.Runs.Kept.{GoesOnBy, kept_until}
+use Rattle.run_laws.proofs.Runs.Events.{Happens, nothing, steps, issues, begins}
+use Rattle.run_laws.proofs.Runs.Kept.{GoesOnBy, with_queued, kept_until}
 use Rattle.run_laws.proofs.Runs.Threads.{each_frames, idle_frames}
 
 -- what the threads share tells what the past tells, no cancel routine was stored, and no thread has
@@ -71,6 +71,26 @@ telling_happens set sound w past actor c tells (issues h) quiet within =
           (λ k frames. length frames ≤ MAX_FRAMES) h.thread h.found (omega arith)
           (λ k apart. tells.few k);
     }
+telling_happens set sound w past actor c tells (begins h) quiet within =
+    record {
+      packets = tells.packets;
+      locks = tells.locks;
+      unarmed = tells.unarmed;
+      few = each_frames w actor.thread (with_dpc w.shared h.d false)
+          (rooted h.thread DispatchLevel (dpc_activation set h.d h.routine))
+          (λ k frames. length frames ≤ MAX_FRAMES) h.thread h.found (omega arith)
+          (λ k apart. tells.few k);
+    }
+
+pub telling_queued : (w : World) (past : List Entry) (d : ℕ) (queued : Bool) → Telling w past
+    → Telling (with_queued w d queued) past
+telling_queued w past d queued tells =
+    record {
+      packets = tells.packets;
+      locks = tells.locks;
+      unarmed = tells.unarmed;
+      few = tells.few;
+    }
 
 -- before the first event
 pub telling_begun : (set : Set) (threads : ℕ) → Telling (begun set threads).world []
@@ -113,4 +133,5 @@ past_tells r tells =
 pub telling_runs : PastTellsOfTheWorld
 telling_runs set sound threads events on =
     past_tells (run set threads events)
-    (kept_until Telling set (telling_event set sound) threads events (telling_begun set threads) on)
+    (kept_until Telling set (telling_event set sound)
+    (λ w past d tells. telling_queued w past d true tells) threads events (telling_begun set threads) on)

@@ -1,6 +1,6 @@
 -- What the steps of completion routines and of the I/O manager's frames tell: of the packet that is
 -- on its way up alone, and no status.
-use Rattle.std.proofs.Common.{◌≡◌, Bool, List, None, Option, [], false, refl, sym, true, ℕ, ◌∙◌, ◌∷◌}
+use Rattle.std.proofs.Common.{◌≡◌, Bool, List, None, Option, [], false, refl, sym, true, ℕ, ◌∙◌, ◌∷◌, inl, inr, ◌⊎◌}
 use Rattle.std.specs.Prelude.{⊤, nat_lt}
 use Rattle.std.specs.List.{list_any}
 use Rattle.std.proofs.lemmas.Bool.{cond_both}
@@ -11,19 +11,20 @@ use Rattle.model.specs.declared.abs.Abs.{Abs}
 use Rattle.model.specs.declared.instr.Instr.{Instr}
 use Rattle.model.specs.declared.instr.Instr.TheVariants.{Call, Complete, Pass}
 use Rattle.model.specs.declared.set.Sort.{Sort}
-use Rattle.model.specs.declared.set.Sort.TheVariants.{Dispatch, Propagate}
+use Rattle.model.specs.declared.set.Sort.TheVariants.{Dispatch, Propagate, Dpc}
 use Rattle.model.specs.declared.status.Status.{Status}
 use Rattle.model.specs.declared.world.Activation.{Activation}
 use Rattle.model.specs.declared.world.Frame.{Frame}
 use Rattle.model.specs.declared.world.Frame.TheVariants.{Routine, Walk}
 use Rattle.model.specs.Effect.{Outcome}
-use Rattle.model.specs.LocalRule.{completion_fault, completion_sort_fault, forward_fault, refuses}
+use Rattle.model.specs.LocalRule.{completion_fault, completion_sort_fault, forward_fault, refuses, forward_sort_fault}
 use Rattle.model.specs.Set.{Set, sort_of}
 use Rattle.model.specs.World.{Shared}
 use Rattle.run_laws.proofs.Pending.Returned.{tells_beyond}
+use Rattle.run_laws.proofs.States.Entering.{IsOfSort}
 use Rattle.run_laws.proofs.States.Frames.{state_of}
 use Rattle.run_laws.proofs.States.Rules.{States, first_none, second_none}
-use Rattle.run_laws.proofs.Steps.Comes.{Comes, Executing, GoesTo, Reads, calls_down, completes_packet, computes, jumping, lets_go, lets_walk, looks_at, marks_packet, onward, pages, passes_down, returns_status, turns_loop, walks_gone}
+use Rattle.run_laws.proofs.Steps.Comes.{Comes, Executing, GoesTo, Reads, calls_down, completes_packet, computes, jumping, lets_go, lets_walk, looks_at, marks_packet, onward, pages, passes_down, returns_status, turns_loop, walks_gone, ends_dpc}
 
 -- how an activation goes on leaves its routine alone
 pub goes_same : (a : Activation) (i : Instr) (b : Activation) (jumped : Bool) → GoesTo a i b jumped
@@ -45,7 +46,7 @@ IsAlone a [] = ⊤
 IsAlone a (Routine b ∷ []) = (b.driver ≡ a.driver) × (b.routine ≡ a.routine)
 IsAlone a _ = ⊥
 
--- a completion routine goes on, or is gone
+-- a completion routine or a DPC routine goes on, or is gone
 pub record Looks (m : ℕ) (a : Activation) (o : Outcome) : Type 0 where
   pub told : o.told ≡ None
   pub alone : IsAlone a o.frames
@@ -54,12 +55,18 @@ pub record Looks (m : ℕ) (a : Activation) (o : Outcome) : Type 0 where
 -- it neither forwards nor completes
 never_completes : (sort : Sort) → sort ≡ Propagate → completion_sort_fault sort ≡ None → ⊥
 never_completes Propagate is rule = cc
+never_completes Dpc is rule = cc
 never_completes Dispatch is rule = cc
+
+never_forwards : (sort : Sort) → sort ≡ Propagate → forward_sort_fault sort ≡ None → ⊥
+never_forwards Propagate is rule = cc
+never_forwards Dpc is rule = cc
+never_forwards Dispatch is rule = cc
 
 forwards_never : (s : Abs) (sort : Sort) (set : Set) (driver locations : ℕ) → sort ≡ Propagate
     → forward_fault s sort set driver locations ≡ None → ⊥
 forwards_never s sort set driver locations is rule =
-    never_completes sort is (first_none _ _ (second_none _ _ rule))
+    never_forwards sort is (first_none _ _ (second_none _ _ rule))
 
 completes_never : (s : Abs) (status : Status) (sort : Sort) → sort ≡ Propagate
     → completion_fault s status sort ≡ None → ⊥
@@ -71,9 +78,14 @@ KeepsRules set states a =
     (i : Instr) → Executing set a i → refuses (state_of states a) i (sort_of set a.driver a.routine)
     set a.driver ≡ None
 
--- every step of a completion routine, which has no packet but one
+-- what has no packet but one: a completion routine; or none at all: a DPC routine
+abbrev pub IsLooking : Set → Shared → Activation → Type 0
+IsLooking set s a =
+    IsOfSort set a Propagate ⊎ (IsOfSort set a Dpc × ((r n : ℕ) → Reads s a r n → ⊥))
+
+-- every step of one
 pub completion_looks : (m : ℕ) (set : Set) (states : States) (s : Shared) (t : ℕ) (below : Option Frame)
-    (a : Activation) (o : Outcome) → KeepsRules set states a → sort_of set a.driver a.routine ≡ Propagate
+    (a : Activation) (o : Outcome) → KeepsRules set states a → IsLooking set s a
     → ((r n : ℕ) → Reads s a r n → n ≡ m) → Comes set s t below (Routine a) o → Looks m a o
 completion_looks m set states s t below a o kept is own (marks_packet b r n p at reads there) =
     record {
@@ -83,17 +95,32 @@ completion_looks m set states s t below a o kept is own (marks_packet b r n p at
           eq-eqb n m (own r n reads) in rw same refl;
     }
 completion_looks m set states s t below a o kept is own (completes_packet b r status n p at reads there) =
-    absurd (completes_never (state_of states a) status (sort_of set a.driver a.routine) is
-    (second_none _ _ (kept (Complete r status) at)))
+    elim is [
+      | inl up ↦
+          absurd (completes_never (state_of states a) status (sort_of set a.driver a.routine) up
+          (second_none _ _ (kept (Complete r status) at)))
+      | inr bare ↦ absurd (bare.1 r n reads)
+    ]
 completion_looks m set states s t below a o kept is own (passes_down b r n p lower at reads there under) =
-    absurd (forwards_never (state_of states a) (sort_of set a.driver a.routine) set a.driver 0 is
-    (second_none _ _ (kept (Pass r) at)))
+    elim is [
+      | inl up ↦
+          absurd (forwards_never (state_of states a) (sort_of set a.driver a.routine) set a.driver 0 up
+          (second_none _ _ (kept (Pass r) at)))
+      | inr bare ↦ absurd (bare.1 r n reads)
+    ]
 completion_looks m set states s t below a o kept is own
     (calls_down b r f n p lower at reads there under) =
-    absurd (forwards_never (state_of states a) (sort_of set a.driver a.routine) set a.driver 1 is
-    (second_none _ _ (kept (Call r f) at)))
+    elim is [
+      | inl up ↦
+          absurd (forwards_never (state_of states a) (sort_of set a.driver a.routine) set a.driver 1 up
+          (second_none _ _ (kept (Call r f) at)))
+      | inr bare ↦ absurd (bare.1 r n reads)
+    ]
 completion_looks m set states s t below a o kept is own (returns_status b form status at sort there) =
-    let no : Propagate ≡ Dispatch = sym is ∙ sort in cc
+    elim is [
+      | inl up ↦ let no : Propagate ≡ Dispatch = sym up ∙ sort in cc
+      | inr bare ↦ let no : Dpc ≡ Dispatch = sym bare.0 ∙ sort in cc
+    ]
 completion_looks m set states s t below a o kept is own (computes b i c jumped cells at work goes long) =
     record { told = refl; alone = goes_same a i c jumped goes; silent = refl }
 completion_looks m set states s t below a o kept is own (pages b i c cell cells at work goes long) =
@@ -106,6 +133,8 @@ completion_looks m set states s t below a o kept is own (turns_loop b l at there
 completion_looks m set states s t below a o kept is own (lets_go b at sort bare) =
     record { told = refl; alone = tt; silent = refl }
 completion_looks m set states s t below a o kept is own (lets_walk b n at sort) =
+    record { told = refl; alone = tt; silent = refl }
+completion_looks m set states s t below a o kept is own (ends_dpc b at sort) =
     record { told = refl; alone = tt; silent = refl }
 completion_looks m set states s t below a o kept is own _ =
     record { told = refl; alone = (refl, refl); silent = refl }

@@ -171,7 +171,7 @@ module _ (set : Set) (states : States) (w later_w : World) (past : List Entry) (
     where
       under_put : (u : Option Frame) → OnRoutine u
           → UnderServes set states later_w later u b over (Some v)
-      under_put None on = h
+      under_put None on = inl h
       under_put (Some (Routine c)) on = h
       under_put (Some (Walk m)) on = absurd on
 

@@ -12,8 +12,8 @@ use Rattle.model.specs.declared.event.Reply.TheVariants.{Stepped, Waited}
 use Rattle.model.specs.declared.instr.Instr.{Instr}
 use Rattle.model.specs.declared.instr.Instr.TheVariants.{Call, Complete, Loop, Mark, Pass, Put, Ret}
 use Rattle.model.specs.declared.instr.Return.{Return}
-use Rattle.model.specs.declared.instr.Return.TheVariants.{Continue, Lower as LowerStatus, WithStatus}
-use Rattle.model.specs.declared.set.Sort.TheVariants.{Dispatch, Propagate}
+use Rattle.model.specs.declared.instr.Return.TheVariants.{Continue, Lower as LowerStatus, WithStatus, Void}
+use Rattle.model.specs.declared.set.Sort.TheVariants.{Dispatch, Propagate, Dpc}
 use Rattle.model.specs.declared.status.Status.{Status}
 use Rattle.model.specs.declared.world.Activation.{Activation}
 use Rattle.model.specs.declared.world.Frame.{Frame}
@@ -43,7 +43,7 @@ use Rattle.run_laws.proofs.States.Moves.{arrives, arrives_next, falls_next, has_
 use Rattle.run_laws.proofs.States.Obeyed.{ReturnsBy, completes_one, returns_by}
 use Rattle.run_laws.proofs.Steps.Locking.{LockWord, freed_word, taken_word}
 use Rattle.run_laws.proofs.States.Rules.{States, first_none, second_none, unbroken}
-use Rattle.run_laws.proofs.Steps.Comes.{Comes, Executing, GoesTo, Lacks, Written, awaits_lock, calls_down, completes_gone, completes_packet, computes, errs, frees_lock, jumping, lets_go, lets_walk, looks_at, keeps_all, makes_blank, makes_number, marks_packet, moves_over, onward, opens_loop, pages, passes_down, retakes_lock, returns_status, takes_lock, touches_gone, turns_loop, writes_info}
+use Rattle.run_laws.proofs.Steps.Comes.{Comes, Executing, GoesTo, Lacks, Written, awaits_lock, calls_down, completes_gone, completes_packet, computes, errs, frees_lock, jumping, lets_go, lets_walk, looks_at, keeps_all, makes_blank, makes_number, marks_packet, moves_over, onward, opens_loop, pages, passes_down, retakes_lock, returns_status, takes_lock, touches_gone, turns_loop, writes_info, ends_dpc}
 use Rattle.run_laws.proofs.Steps.Words.{is_giving, keeps_registers, status_returned, work_of}
 use Rattle.run_laws.proofs.Tests.{not_false, or_left, or_right}
 use Rattle.run_laws.proofs.Uses.Steps.{found_put}
@@ -296,6 +296,7 @@ module _ (set : Set) (states : States) (s : Shared) (past : List Entry) (actor :
       (lower_is (kind_of now r) (not_false _ (unbroken _ _ (first_none _ _ by.duty))))
       (status_value (register a r) status there)
   returns_as Continue status by there = cc
+  returns_as Void status by there = cc
 
   never_propagates : sort_of set a.driver a.routine ≡ Propagate → ⊥
   never_propagates is = let no : Dispatch ≡ Propagate = sym h.is ∙ is in cc
@@ -398,3 +399,4 @@ module _ (set : Set) (states : States) (s : Shared) (past : List Entry) (actor :
       (h.routine.runs (Ret form) at).obeys) there)
   dispatch_does below o (lets_go b at sort bare) quiet = absurd (never_propagates sort)
   dispatch_does below o (lets_walk b n at sort) quiet = absurd (never_propagates sort)
+  dispatch_does below o (ends_dpc b at sort) quiet = let no : Dispatch ≡ Dpc = sym h.is ∙ sort in cc

@@ -1,9 +1,9 @@
 -- Each entry of the trace says who acts, or which use its action is about; and each frame's tag
 -- says whose it is.
-use Rattle.std.proofs.Common.{◌≡◌, ℕ, zero, suc, ◌<◌, ◌≤◌, List, [], ◌∷◌, length, drop, Option, None, Some, true, refl, ap, sym, ◌∙◌, subst, arith}
+use Rattle.std.proofs.Common.{◌≡◌, ℕ, zero, suc, ◌<◌, ◌≤◌, List, [], ◌∷◌, length, drop, Option, None, Some, true, refl, ap, sym, ◌∙◌, subst, arith, inl, inr}
 use Rattle.std.specs.Prelude.{All, nat_eq, nat_lt, slice_get, slice_index_or, if◌then◌else◌}
 use Rattle.std.proofs.lemmas.Bool.{eq-eqb, ltb-true}
-use Rattle.model.specs.declared.set.Sort.TheVariants.{Dispatch, Propagate}
+use Rattle.model.specs.declared.set.Sort.TheVariants.{Dispatch, Propagate, Dpc}
 use Rattle.model.specs.declared.world.Activation.{Activation}
 use Rattle.model.specs.declared.world.Frame.{Frame}
 use Rattle.model.specs.declared.world.Frame.TheVariants.{Routine, Walk}
@@ -19,12 +19,12 @@ use Rattle.run_laws.proofs.Past.Packets.{found}
 use Rattle.run_laws.proofs.Pending.Events.{Attends}
 use Rattle.run_laws.proofs.Pending.Serving.{AllServe, FrameServes, MustServe, TagNames, UnderServes, first_served, served}
 use Rattle.run_laws.proofs.Pending.Threads.{TopServes, top_serves}
-use Rattle.run_laws.proofs.Runs.Events.{Happens, issues, nothing, steps}
+use Rattle.run_laws.proofs.Runs.Events.{Happens, issues, nothing, steps, begins}
 use Rattle.run_laws.proofs.Runs.Threads.{frames_there}
 use Rattle.run_laws.proofs.States.Rules.{States}
 use Rattle.run_laws.proofs.States.Stacks.{Stacked, Stands}
 use Rattle.run_laws.proofs.States.Told.{last_under}
-use Rattle.run_laws.proofs.Steps.Comes.{Comes, awaits_lock, calls_down, carries_up, computes, errs, lets_go, marks_packet, opens_loop, returns_status, tops_out, turns_loop, walks_gone, walks_to, walks_up}
+use Rattle.run_laws.proofs.Steps.Comes.{Comes, awaits_lock, calls_down, carries_up, computes, errs, lets_go, marks_packet, opens_loop, returns_status, tops_out, turns_loop, walks_gone, walks_to, walks_up, ends_dpc}
 use Rattle.run_laws.proofs.Uses.Events.{KnownWorld, known_top}
 use Rattle.run_laws.proofs.Uses.Fates.{PacketUses, UsesTell}
 use Rattle.run_laws.proofs.Uses.RoutineSteps.{OnWalk}
@@ -55,7 +55,11 @@ dispatch_serves_use : (set : Set) (states : States) (w : World) (past : List Ent
     (a : Activation) (over : Option Serving) (tag : Tag) → OnWalk set under a
     → UnderServes set states w past under a over (served tag) → sort_of set a.driver a.routine ≡ Dispatch
     → ServesUse tag
-dispatch_serves_use set states w past None a over tag on h is = must_serve set states w past a over tag h
+dispatch_serves_use set states w past None a over tag on h is =
+    elim h [
+      | inl must ↦ must_serve set states w past a over tag must
+      | inr dpc ↦ let no : Dpc ≡ Dispatch = sym dpc ∙ is in cc
+    ]
 dispatch_serves_use set states w past (Some (Routine b)) a over tag on h is =
     must_serve set states w past a over tag h
 dispatch_serves_use set states w past (Some (Walk m)) a over tag on h is =
@@ -109,6 +113,8 @@ module _ (set : Set) (states : States) (w : World) (past : List Entry) (actor : 
     dispatch_serves_use set states w past under a None actor.tag on serves.1 sort,
     (names_activation a.driver a.routine actor.tag serves.0, h),
   )
+  routine_says under below a o on serves (ends_dpc b at sort) h =
+      (names_activation a.driver a.routine actor.tag serves.0, h)
   routine_says under below a o on serves (lets_go b at sort bare) h =
       (names_activation a.driver a.routine actor.tag serves.0, h)
   routine_says under below a o on serves _ h =
@@ -139,6 +145,7 @@ module _ (set : Set) (states : States) (w : World) (past : List Entry) (actor : 
       → EntriesSay (recorded past actor c.actions)
   entries_event tags c known attends (nothing reply right) acts h = h
   entries_event tags c known attends (issues i) acts h = (tt, h)
+  entries_event tags c known attends (begins i) acts h = h
   entries_event tags c known attends (steps i) acts h =
       let row : List Tag = slice_index_or tags actor.thread [] in
       let top : TopServes set states w past None i.below i.frame row =

@@ -1,19 +1,20 @@
 -- Every event keeps that the dispatch routines serve their uses, and that what they return is as
 -- agreed on.
-use Rattle.std.proofs.Common.{◌≡◌, ◌≢◌, ℕ, suc, ◌+◌, ◌-◌, ◌<◌, ◌≤◌, inl, inr, List, [], ◌∷◌, ◌++◌, length, Option, None, Some, false, refl, ap, sym, ◌∙◌, subst, arith}
+use Rattle.std.proofs.Common.{◌≡◌, ◌≢◌, ℕ, suc, ◌+◌, ◌-◌, ◌<◌, ◌≤◌, inl, inr, List, [], ◌∷◌, ◌++◌, length, Option, None, Some, false, refl, ap, sym, ◌∙◌, subst, arith, Bool}
 use Rattle.std.specs.Prelude.{nat_eq, slice_get, slice_index_or, slice_set}
 use Rattle.std.proofs.lemmas.List.{append-nil, append_assoc, get_or-set_other, get_or-set_same, length-replicate, length-set, set-get_or}
 use Rattle.std.proofs.lemmas.Bool.{ne_eqb, cases_eq, eq-eqb}
 use Rattle.std.proofs.lemmas.Option.{slice_get_within}
+use Rattle.model.specs.declared.event.Reply.TheVariants.{Idle}
 use Rattle.model.specs.declared.status.Status.{Status}
 use Rattle.model.specs.declared.world.Activation.{Activation}
 use Rattle.model.specs.declared.world.Frame.{Frame}
 use Rattle.model.specs.declared.world.Frame.TheVariants.{Routine, Walk}
-use Rattle.model.specs.declared.world.Irql.TheVariants.{Passive}
+use Rattle.model.specs.declared.world.Irql.TheVariants.{Passive, Dispatch as DispatchLevel}
 use Rattle.model.specs.declared.world.Packet.{Packet}
 use Rattle.model.specs.declared.world.Thread.{Thread}
 use Rattle.model.specs.Action.{Issues}
-use Rattle.model.specs.Effect.{Change, Outcome, issued, rooted, serves_request, standing, told_to, top_of, with_stack, with_thread}
+use Rattle.model.specs.Effect.{Change, Outcome, issued, rooted, serves_request, standing, told_to, top_of, with_stack, with_thread, dpc_activation, dpc_begun, unchanged}
 use Rattle.model.specs.Fault.{first_fault}
 use Rattle.model.specs.PendingAgreement.{was_marked}
 use Rattle.model.specs.Run.{begun, frames_on, new_tag, tags_after, top_tag}
@@ -36,9 +37,10 @@ use Rattle.run_laws.proofs.Pending.Serving.{AllServe, Current, FrameServes, Keep
 use Rattle.run_laws.proofs.Pending.Threads.{Tagged, TopServes, all_on, all_told, row_same, tagged_all, tags_kept, top_serves}
 use Rattle.run_laws.proofs.Pending.TopDispatch.{begins_serving}
 use Rattle.run_laws.proofs.Pending.UsesServed.{BeginsServing, Settles, begun_serves, new_serving}
-use Rattle.run_laws.proofs.Runs.Events.{Happens, IssuesPacket, StepsFrame, issues, nothing, steps}
+use Rattle.run_laws.proofs.Runs.Events.{Happens, IssuesPacket, StepsFrame, issues, nothing, steps, begins, BeginsDpc}
+use Rattle.run_laws.proofs.Runs.Kept.{with_queued}
 use Rattle.run_laws.proofs.Runs.Threads.{frames_put, frames_there, idle_frames, others_put, thread_put}
-use Rattle.run_laws.proofs.States.Entering.{begins_request}
+use Rattle.run_laws.proofs.States.Entering.{begins_request, begins_dpc}
 use Rattle.run_laws.proofs.States.Fine.{StepLeaves, leaves_fine}
 use Rattle.run_laws.proofs.States.Rules.{States}
 use Rattle.run_laws.proofs.States.Stacks.{Replaces, Stacked, Stands}
@@ -50,7 +52,7 @@ use Rattle.run_laws.proofs.Uses.CurrentUses.{Others, agreed_finished, agreed_mar
 use Rattle.run_laws.proofs.Uses.Events.{KnownWorld, agreed_by, event_turns, known_top, linked_by}
 use Rattle.run_laws.proofs.Uses.Fates.{MarksTell, PacketUses, UsesTell}
 use Rattle.run_laws.proofs.Uses.LateMarks.{no_late_walk}
-use Rattle.run_laws.proofs.Uses.Traced.{SameUses, same_recorded}
+use Rattle.run_laws.proofs.Uses.Traced.{SameUses, same_recorded, same_uses}
 
 -- the frames of all threads, with their tags, serve, and every status that was returned is as
 -- agreed on
@@ -375,12 +377,61 @@ module _ (set : Set) (states : States) (w : World) (past : List Entry) (tags : L
       h.found settles.keeps
       (subst (λ (tag : Tag). AllServe set states c.world later None (Routine a ∷ []) (tag ∷ []))
       (sym tagged)
-      (((refl, refl), begun_serves set states c.world later v a n beginning refl current), tt))
+      (((refl, refl), inl (begun_serves set states c.world later v a n beginning refl current)), tt))
       (λ k apart m some. same_recorded past actor (Issues n h.device.stack ∷ []) m
       (let other : nat_eq n m ≡ false =
       ne_eqb n m (not_yet set states w past known.stands known.kept k m some) in rw other refl))
       (agree_kept states w c.world past actor (Issues n h.device.stack ∷ []) settles.keeps refl
       attends.agree)))
+
+  -- a DPC begins: its routine serves no use
+  dpc_attends : (h : BeginsDpc set w actor.thread)
+      → Settles states w past (dpc_begun set w actor.thread h.d h.thread h.routine).world past
+      → Attends set states (dpc_begun set w actor.thread h.d h.thread h.routine).world past
+      (tags_by (dpc_begun set w actor.thread h.d h.thread h.routine))
+  dpc_attends h settles =
+      let a : Activation = dpc_activation set h.d h.routine in
+      let c : Change = dpc_begun set w actor.thread h.d h.thread h.routine in
+      let after : Thread = rooted h.thread DispatchLevel a in
+      let before : frames_on w actor.thread ≡ [] = frames_there w actor.thread h.thread h.found
+      ∙ h.idle in
+      let now : frames_on c.world actor.thread ≡ Routine a ∷ [] =
+      frames_put w actor.thread c.world.shared after h.thread h.found in
+      subst (λ (all : List Frame). Attends set states c.world past
+      (slice_set tags actor.thread
+      (tags_after set past number all row (frames_on c.world actor.thread)))) (sym before)
+      (subst (λ (all : List Frame). Attends set states c.world past
+      (slice_set tags actor.thread (tags_after set past number [] row all))) (sym now)
+      (attend_put past c.world.shared h.thread after (new_tag set past number (Routine a) ∷ [])
+      h.found settles.keeps (
+        (
+          (refl, refl),
+          inr
+              (begins_dpc set states known.good w.shared.issued h.d h.routine h.there).of_sort,
+        ),
+        tt,
+      )
+      (λ k apart m some. same_uses past m)
+      (agree_kept states w c.world past actor [] settles.keeps refl attends.agree)))
+
+  -- where a DPC is queued or isn't
+  pub attends_queued : (d : ℕ) (queued : Bool) → UsesTell w past
+      → Attends set states (with_queued w d queued) past tags
+  attends_queued d queued told =
+      let now : World = with_queued w d queued in
+      let keeps : KeepsAgreed states w past now past =
+      record {
+        agreed = agreed_by states w now past past told
+            (event_turns set states w past known actor (unchanged w Idle) (nothing Idle refl) refl);
+        linked = linked_by states w now past past told
+            (event_turns set states w past known actor (unchanged w Idle) (nothing Idle refl) refl);
+      } in
+      record {
+        rows = attends.rows;
+        serves_all = λ t. all_kept set states w now past past keeps None (frames_on w t)
+            (slice_index_or tags t []) (λ n some. same_uses past n) (attends.serves_all t);
+        agree = agree_kept states w now past actor [] keeps refl attends.agree;
+      }
 
   -- every event
   pub attend_event : (c : Change) → Happens set w actor.thread c → actor.tag ≡ top_tag row
@@ -412,6 +463,7 @@ module _ (set : Set) (states : States) (w : World) (past : List Entry) (tags : L
           attends)
       attends_by c (steps h) quiet kept settles = step_attends h acts quiet kept settles
       attends_by c (issues h) quiet kept settles = issue_attends h settles
+      attends_by c (begins h) quiet kept settles = dpc_attends h settles
 
 -- before the first event
 pub attends_begun : (set : Set) (states : States) (threads : ℕ)

@@ -1,8 +1,10 @@
 -- The step of a thread's top frame, whatever it is: what it leaves serves on, and what it tells is
 -- of a packet that no other frame has.
-use Rattle.std.proofs.Common.{◌≡◌, Bool, List, None, Option, Some, [], ap, arith, false, inl, inr, refl, subst, sym, true, ℕ, ◌∷◌, ◌≤◌, ◌⊎◌, ◌∙◌}
+use Rattle.std.proofs.Common.{◌≡◌, Bool, List, None, Option, Some, [], ap, arith, false, inl, inr, refl, subst, sym, true, ℕ, ◌∷◌, ◌≤◌, ◌⊎◌, ◌∙◌, suc}
+use Rattle.std.proofs.lemmas.Bool.{ne_eqb}
 use Rattle.std.specs.List.{list_any}
 use Rattle.std.proofs.lemmas.Bool.Decides.{eqb_tells}
+use Rattle.model.specs.declared.set.Sort.TheVariants.{Dispatch, Dpc}
 use Rattle.model.specs.declared.status.Status.{Status}
 use Rattle.model.specs.declared.world.Activation.{Activation}
 use Rattle.model.specs.declared.world.Frame.{Frame}
@@ -27,7 +29,8 @@ use Rattle.run_laws.proofs.Pending.UsesServed.{Settles}
 use Rattle.run_laws.proofs.States.OnTop.{runs}
 use Rattle.run_laws.proofs.States.Rules.{States}
 use Rattle.run_laws.proofs.Steps.Comes.{Comes}
-use Rattle.run_laws.proofs.Live.Sees.{Seen, reads_own}
+use Rattle.run_laws.proofs.Live.Sees.{Seen, reads_own, bare_reads}
+use Rattle.run_laws.proofs.States.Entering.{IsOfSort}
 use Rattle.run_laws.proofs.Uses.Fates.{late_marks}
 use Rattle.run_laws.proofs.Uses.RoutineSteps.{OnWalk}
 use Rattle.run_laws.proofs.Uses.TopFrames.{KnownTop}
@@ -144,6 +147,36 @@ module _ (set : Set) (states : States) (w later_w : World) (past : List Entry) (
         spares = λ n some none. beyond_spares m looks.silent (h.walked m on) n some;
       }
 
+  -- a DPC routine, which nothing stands under
+  dpc_serves : (a : Activation) (frames : List Frame) → IsAlone a frames
+      → TagNames a.driver a.routine actor.tag → IsOfSort set a Dpc
+      → AllServe set states later_w later None frames
+      (tags_after set later number (Routine a ∷ []) (actor.tag ∷ []) frames)
+  dpc_serves a [] same names is = tt
+  dpc_serves a (Routine b ∷ []) same names is =
+      ((rw (same.0, same.1) names, inr (rw (same.0, same.1) is)), tt)
+  dpc_serves a (Routine b ∷ f ∷ frames) same names is = absurd same
+  dpc_serves a (Walk n ∷ frames) same names is = absurd same
+
+  dpc_turned : (a : Activation) → under ≡ None → TagNames a.driver a.routine actor.tag
+      → IsOfSort set a Dpc → ((m : ℕ) → Looks m a o) → Turning (Routine a) → Turned (Routine a)
+  dpc_turned a on names is looks h =
+      record {
+        serve = subst
+            (λ (u : Option Frame). AllServe set states later_w later u o.frames
+            (new_tags (Routine a))) (sym on)
+            (dpc_serves a o.frames (looks 0).alone names is);
+        goes = inl (
+          (looks 0).told,
+          subst (λ (u : Option Frame). SameOver u (served actor.tag)
+              (first_served (new_tags (Routine a)))) (sym on) tt,
+        );
+        agree = agree_kept states w later_w past actor o.actions h.settles.keeps
+            (beyond_returns 0 o.actions (looks 0).silent) h.agree;
+        spares = λ n some none. beyond_uses past actor o.actions (suc n) n (looks (suc n)).silent
+            (ne_eqb (suc n) n (λ same. absurd (omega arith)));
+      }
+
   -- a dispatch routine: what it leaves, by its tag
   dispatch_goes : (u : Option Frame) (v : Serving) (a : Activation) → OnRoutine u
       → served actor.tag ≡ Some v
@@ -208,9 +241,23 @@ module _ (set : Set) (states : States) (w later_w : World) (past : List Entry) (
       → UnderServes set states w past u a None (served actor.tag) → TagNames a.driver a.routine actor.tag
       → Comes set w.shared actor.thread below (Routine a) o → Turning (Routine a) → Turned (Routine a)
   routine_turned None below a is seen on serves names comes h =
-      dispatch_turned a (served actor.tag) refl (rw is tt) names serves
-      (dispatch_does set states w.shared past actor actor.thread under a
-      (steps_dispatch set states w.shared past under a h.known seen) below o comes h.quiet) h
+      elim seen [
+        | inl sort ↦
+            elim serves [
+              | inl must ↦
+                  dispatch_turned a (served actor.tag) refl (rw is tt) names must
+                  (dispatch_does set states w.shared past actor actor.thread under a
+                  (steps_dispatch set states w.shared past under a h.known sort) below o comes
+                  h.quiet) h
+              | inr dpc ↦ let no : Dpc ≡ Dispatch = sym dpc ∙ sort in cc
+            ]
+        | inr bare ↦
+            dpc_turned a is names bare.of_sort
+            (λ m. completion_looks m set states w.shared actor.thread below a o
+            (λ i at. (runs set states w.shared a i h.known.top at).obeys)
+            (inr (bare.of_sort, λ r n reads. bare_reads set w.shared a r n bare reads))
+            (reads_own m w.shared a (bare.refers m)) comes) h
+      ]
   routine_turned (Some (Routine b)) below a is seen on serves names comes h =
       dispatch_turned a (served actor.tag) refl (rw is tt) names serves
       (dispatch_does set states w.shared past actor actor.thread under a
@@ -218,7 +265,8 @@ module _ (set : Set) (states : States) (w later_w : World) (past : List Entry) (
   routine_turned (Some (Walk m)) below a is seen on serves names comes h =
       completion_turned m a is names
       (completion_looks m set states w.shared actor.thread below a o
-      (λ i at. (runs set states w.shared a i h.known.top at).obeys) on (reads_own m w.shared a seen)
+      (λ i at. (runs set states w.shared a i h.known.top at).obeys) (inl on)
+      (reads_own m w.shared a seen)
       comes) h
 
   -- every frame

@@ -1,10 +1,11 @@
 -- Dispatch routines that serve uses: the packet is the use's while the routine has it, and what the
 -- routine will return is what is agreed on for the use.
-use Rattle.std.proofs.Common.{◌≡◌, Bool, List, None, Option, Some, [], ap, arith, false, refl, subst, sym, true, ℕ, ◌-◌, ◌∙◌, ◌∷◌, ◌≤◌}
+use Rattle.std.proofs.Common.{◌≡◌, Bool, List, None, Option, Some, [], ap, arith, false, refl, subst, sym, true, ℕ, ◌-◌, ◌∙◌, ◌∷◌, ◌≤◌, inl, inr, ◌⊎◌}
 use Rattle.std.specs.Prelude.{slice_get, ⊤}
 use Rattle.model.specs.declared.abs.Abs.{Abs}
 use Rattle.model.specs.declared.abs.Duty.{Duty}
 use Rattle.model.specs.declared.abs.Duty.TheVariants.{Finished, Fresh, GivenDown, NoDuty, Pending}
+use Rattle.model.specs.declared.set.Sort.TheVariants.{Dpc}
 use Rattle.model.specs.declared.status.Status.{Status}
 use Rattle.model.specs.declared.world.Activation.{Activation}
 use Rattle.model.specs.declared.world.Frame.{Frame}
@@ -17,8 +18,10 @@ use Rattle.model.specs.Trace.{Serving, Activated, Entry, Managing, Tag, current_
 use Rattle.model.specs.World.{World}
 use Rattle.run_laws.specs.Holder.{frame_rights, stack_sum}
 use Rattle.run_laws.proofs.Pending.LowerStatuses.{Lowers}
+use Rattle.run_laws.proofs.States.Entering.{IsOfSort}
 use Rattle.run_laws.proofs.States.Frames.{state_of}
 use Rattle.run_laws.proofs.States.Rules.{States}
+use Rattle.run_laws.proofs.States.Stacks.{answered_in_sort}
 use Rattle.run_laws.proofs.States.Told.{told_frame}
 use Rattle.run_laws.proofs.Uses.Fates.{Agreed, Linked}
 use Rattle.run_laws.proofs.Uses.Traced.{SameUses}
@@ -82,10 +85,10 @@ module _ (set : Set) (states : States) where
     MustServe a over None = ⊥
     MustServe a over (Some v) = ServesUse v a over
 
-    -- a dispatch routine serves a use; completion routines, which stand on the I/O manager's
-    -- frames, serve none
+    -- a dispatch routine serves a use; a DPC routine and completion routines, which stand on the I/O
+    -- manager's frames, serve none
     abbrev pub UnderServes : Option Frame → Activation → Option Serving → Option Serving → Type 0
-    UnderServes None a over v = MustServe a over v
+    UnderServes None a over v = MustServe a over v ⊎ IsOfSort set a Dpc
     UnderServes (Some (Routine b)) a over v = MustServe a over v
     UnderServes (Some (Walk m)) a over v = ⊤
 
@@ -150,7 +153,8 @@ module _ (set : Set) (states : States) (w later_w : World) (past later : List En
   under_kept : (under : Option Frame) (a : Activation) (over v : Option Serving)
       → ((n : ℕ) → 1 ≤ frame_rights states (Routine a) n → SameUses past later n)
       → UnderServes set states w past under a over v → UnderServes set states later_w later under a over v
-  under_kept None a over v same h = must_kept a over v same h
+  under_kept None a over v same h =
+      elim h [ inl must ↦ inl (must_kept a over v same must) | inr is ↦ inr is ]
   under_kept (Some (Routine b)) a over v same h = must_kept a over v same h
   under_kept (Some (Walk m)) a over v same h = tt
 
@@ -250,7 +254,13 @@ module _ (set : Set) (states : States) (w : World) (past : List Entry)
       → UnderServes set states w past under a (Some lower) v
       → Agreed states w past lower (is_pending status)
       → UnderServes set states w past under (answered set a status) None v
-  under_told None a lower v rights h agreed = must_told a lower v rights h agreed
+  under_told None a lower v rights h agreed =
+      elim h [
+        | inl must ↦ inl (must_told a lower v rights must agreed)
+        | inr is ↦
+            inr (answered_in_sort set a status
+            (operand_of (instruction_at set a.driver a.routine (a.position - 1))) Dpc is)
+      ]
   under_told (Some (Routine b)) a lower v rights h agreed = must_told a lower v rights h agreed
   under_told (Some (Walk m)) a lower v rights h agreed = tt
 

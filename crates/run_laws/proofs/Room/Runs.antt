@@ -11,18 +11,18 @@ use Rattle.model.specs.declared.status.Status.{Status}
 use Rattle.model.specs.declared.world.Activation.{Activation}
 use Rattle.model.specs.declared.world.Frame.{Frame}
 use Rattle.model.specs.declared.world.Frame.TheVariants.{Routine, Walk}
-use Rattle.model.specs.declared.world.Irql.TheVariants.{Passive}
+use Rattle.model.specs.declared.world.Irql.TheVariants.{Passive, Dispatch as DispatchLevel}
 use Rattle.model.specs.declared.world.Packet.{Packet}
 use Rattle.model.specs.declared.world.Thread.{Thread}
-use Rattle.model.specs.Effect.{Change, Outcome, operand_of, answered_in, answered, top_of, told_to, standing, with_thread, with_stack, with_new_packet, rooted, serves_request}
+use Rattle.model.specs.Effect.{Change, Outcome, operand_of, answered_in, answered, top_of, told_to, standing, with_thread, with_stack, with_new_packet, rooted, serves_request, dpc_activation}
 use Rattle.model.specs.Fault.{first_fault}
 use Rattle.model.specs.Run.{begun, frames_on}
 use Rattle.model.specs.Set.{Set, instruction_at}
 use Rattle.model.specs.Trace.{Entry, Actor}
-use Rattle.model.specs.World.{Shared, World, new_packet, unused_location}
+use Rattle.model.specs.World.{Shared, World, new_packet, unused_location, with_dpc}
 use Rattle.run_laws.specs.Holder.{frame_rights, stack_sum}
 use Rattle.run_laws.proofs.Holders.Apart.{IsApart, apart_below, apart_other, not_yet}
-use Rattle.run_laws.proofs.Holders.Rights.{handed_over, begun_rights}
+use Rattle.run_laws.proofs.Holders.Rights.{handed_over, begun_rights, dpc_rights}
 use Rattle.run_laws.proofs.Holders.Runs.{frame_told_rights, top_holding}
 use Rattle.run_laws.proofs.Holders.Steps.{hold}
 use Rattle.run_laws.proofs.Holders.Sums.{Held}
@@ -30,10 +30,10 @@ use Rattle.run_laws.proofs.Lists.{Each, each_append, each_before, each_after}
 use Rattle.run_laws.proofs.Past.LivePackets.{find, find_push}
 use Rattle.run_laws.proofs.Room.Extents.{Extent, extent_of, extent, stack_of, stack_at, some_stack}
 use Rattle.run_laws.proofs.Room.Steps.{HasRoom, LeavesRoom, Even, call_faults, room_step}
-use Rattle.run_laws.proofs.Runs.Events.{StepsFrame, Happens, nothing, steps, issues}
+use Rattle.run_laws.proofs.Runs.Events.{StepsFrame, Happens, nothing, steps, issues, begins}
 use Rattle.run_laws.proofs.Runs.Kept.{GoesOnBy}
 use Rattle.run_laws.proofs.Runs.Threads.{frames_there, each_frames, idle_frames}
-use Rattle.run_laws.proofs.States.Entering.{Begins, begins_request}
+use Rattle.run_laws.proofs.States.Entering.{Begins, begins_request, begins_dpc}
 use Rattle.run_laws.proofs.States.Fine.{StepLeaves, leaves_fine}
 use Rattle.run_laws.proofs.States.Frames.{IsGood}
 use Rattle.run_laws.proofs.States.Rules.{States}
@@ -155,6 +155,7 @@ module _ (set : Set) (states : States) (w : World) (past : List Entry) (good : I
       (even actor h touches)
       h.comes
   call_faults_none actor c (issues h) touches = refl
+  call_faults_none actor c (begins h) touches = refl
 
   -- frames of each thread after an event
   threads_room : (t : ℕ) (s : Shared) (thread after : Thread) → slice_get w.threads t ≡ Some thread
@@ -262,3 +263,15 @@ module _ (set : Set) (states : States) (w : World) (past : List Entry) (good : I
           (request_room h.device h.d h.major h.argument h.there, tt)
           (λ k apart n some. old_extent h.device h.d h.major h.argument h.there n
           (not_yet set states w past stands holds k n some))
+      kept c (begins h) quiet =
+          let a : Activation = dpc_activation set h.d h.routine in
+          threads_room actor.thread (with_dpc w.shared h.d false) h.thread
+          (rooted h.thread DispatchLevel a) h.found (
+            (λ n x is some.
+                let none : frame_rights states (Routine a) n ≡ 0 =
+                dpc_rights set states w.shared.issued a n
+                (begins_dpc set states good w.shared.issued h.d h.routine h.there) in
+                absurd (omega arith)),
+            tt,
+          )
+          (λ k apart n some. refl)

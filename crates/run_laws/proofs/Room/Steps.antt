@@ -33,7 +33,7 @@ use Rattle.run_laws.proofs.States.Lacking.{down, lower_device}
 use Rattle.run_laws.proofs.States.Obeyed.{locations_wanted}
 use Rattle.run_laws.proofs.States.OnTop.{OnTop, runs}
 use Rattle.run_laws.proofs.States.Rules.{States}
-use Rattle.run_laws.proofs.Steps.Comes.{Comes, computes, turns_loop, pages, looks_at, writes_info, marks_packet, completes_packet, passes_down, calls_down, returns_status, lets_go, lets_walk, walks_gone, walks_to, walks_up, carries_up, tops_out}
+use Rattle.run_laws.proofs.Steps.Comes.{Comes, computes, turns_loop, pages, looks_at, writes_info, marks_packet, completes_packet, passes_down, calls_down, returns_status, lets_go, lets_walk, walks_gone, walks_to, walks_up, carries_up, tops_out, ends_dpc}
 use Rattle.run_laws.proofs.Steps.Faults.{is_call, fault_among}
 use Rattle.run_laws.proofs.Steps.Words.{Forwarding, work_of, packet_operand}
 
@@ -130,6 +130,7 @@ module _ (set : Set) (states : States) (s : Shared) where
     devices a under o h (returns_status b form status at sort is) = tt
     devices a under o h (lets_go b at sort isnt) = tt
     devices a under o h (lets_walk b n at sort) = tt
+    devices a under o h (ends_dpc b at sort) = tt
     devices a under o h _ = (omega arith, tt)
 
     -- steps that send no packet down and take none up

@@ -1,11 +1,11 @@
--- What an event can be: nothing happens, the top frame of a thread steps, or a packet is issued;
--- and what a run answers to it.
+-- What an event can be: nothing happens, the top frame of a thread steps, a packet is issued, or a
+-- DPC is queued or begins; and what a run answers to it.
 use Rattle.std.proofs.Common.{◌≡◌, ℕ, ◌-◌, List, [], ◌∷◌, ◌++◌, length, Option, None, Some, Bool, true, false, take, refl}
-use Rattle.std.specs.Prelude.{◌&&◌, nat_eq, slice_get, if◌then◌else◌}
+use Rattle.std.specs.Prelude.{◌&&◌, not, nat_eq, slice_get, if◌then◌else◌}
 use Rattle.std.proofs.lemmas.Bool.{eqb-true}
 use Rattle.model.specs.declared.event.Bug.{Bug}
 use Rattle.model.specs.declared.event.Event.{Event}
-use Rattle.model.specs.declared.event.Event.TheVariants.{Issue, Step}
+use Rattle.model.specs.declared.event.Event.TheVariants.{Issue, Interrupt, Dpc, Step}
 use Rattle.model.specs.declared.event.Place.{Place}
 use Rattle.model.specs.declared.event.Reply.{Reply}
 use Rattle.model.specs.declared.event.Reply.TheVariants.{Idle, Refused, Bug as BugCheckReply, Wrong}
@@ -13,12 +13,12 @@ use Rattle.model.specs.declared.set.Device.{Device}
 use Rattle.model.specs.declared.status.Major.{Major}
 use Rattle.model.specs.declared.world.Frame.{Frame}
 use Rattle.model.specs.declared.world.Thread.{Thread}
-use Rattle.model.specs.Effect.{Change, Outcome, frame_effect, top_of, settled, top_effect, step_thread, unchanged, issued, issue_on, is_idle, can_issue, effect}
+use Rattle.model.specs.Effect.{Change, Outcome, frame_effect, top_of, settled, top_effect, step_thread, unchanged, issued, issue_on, is_idle, can_issue, interrupted, interrupt_on, dpc_begun, dpc_on, effect}
 use Rattle.model.specs.Fault.{first_fault}
 use Rattle.model.specs.Run.{Run, Answered, actor_on, goes, refused, stops, unless_wrong, unless_fault, thread_of, answered_on, step}
-use Rattle.model.specs.Set.{Set}
+use Rattle.model.specs.Set.{Set, dpc_of}
 use Rattle.model.specs.Trace.{Entry, recorded}
-use Rattle.model.specs.World.{World}
+use Rattle.model.specs.World.{World, is_queued}
 use Rattle.run_laws.proofs.Lists.{last_split}
 use Rattle.run_laws.proofs.Steps.Comes.{Comes}
 use Rattle.run_laws.proofs.Steps.Walk.{comes}
@@ -51,18 +51,32 @@ pub record IssuesPacket (set : Set) (w : World) (t : ℕ) : Type 0 where
   pub idle : thread.frames.items ≡ []
   pub there : slice_get set.devices d ≡ Some device
 
+-- the DPC of a device begins on an idle thread
+pub record BeginsDpc (set : Set) (w : World) (t : ℕ) : Type 0 where
+  pub thread : Thread
+  pub d : ℕ
+  pub routine : ℕ
+  pub found : slice_get w.threads t ≡ Some thread
+  pub idle : thread.frames.items ≡ []
+  pub there : dpc_of set d ≡ Some routine
+
 -- what an event on a thread can be, with the change that it makes
 pub data Happens (set : Set) (w : World) (t : ℕ) : Change → Type 0 where
   nothing : (reply : Reply) → stops_run reply ≡ false → Happens set w t (unchanged w reply)
   steps : (h : StepsFrame set w t) → Happens set w t (settled set w t h.thread h.below h.outcome)
   issues : (h : IssuesPacket set w t)
       → Happens set w t (issued set w t h.d h.thread h.device h.major h.argument)
+  begins : (h : BeginsDpc set w t) → Happens set w t (dpc_begun set w t h.d h.thread h.routine)
 
--- an event is about a thread
-pub record OnThread (set : Set) (w : World) (e : Event) : Type 0 where
-  pub thread : ℕ
-  pub is : thread_of e ≡ Some thread
-  pub happens : Happens set w thread (effect set w e)
+-- what one about no thread can be
+pub data Sets (set : Set) (w : World) : Change → Type 0 where
+  sets_nothing : (reply : Reply) → stops_run reply ≡ false → Sets set w (unchanged w reply)
+  queues : (d : ℕ) → Sets set w (interrupted w d)
+
+-- an event is about a thread, or about none
+pub data Concerns (set : Set) (w : World) (e : Event) : Type 0 where
+  a_thread : (t : ℕ) → thread_of e ≡ Some t → Happens set w t (effect set w e) → Concerns set w e
+  no_thread : thread_of e ≡ None → Sets set w (effect set w e) → Concerns set w e
 
 module _ (set : Set) (w : World) (t : ℕ) where
   happens_top : (thread : Thread) (o : Option Frame) → slice_get w.threads t ≡ Some thread
@@ -83,7 +97,8 @@ module _ (set : Set) (w : World) (t : ℕ) where
             (top_of (take (length thread.frames.items - 1) thread.frames.items)) f;
       })
 
-  happens_step : (o : Option Thread) → slice_get w.threads t ≡ o → Happens set w t (step_thread set w t o)
+  pub happens_step : (o : Option Thread) → slice_get w.threads t ≡ o
+      → Happens set w t (step_thread set w t o)
   happens_step None found = nothing Refused refl
   happens_step (Some thread) found =
       happens_top thread (slice_get thread.frames.items (length thread.frames.items - 1)) found refl
@@ -118,16 +133,49 @@ module _ (set : Set) (w : World) (t : ℕ) where
   happens_issue d major argument (Some thread) (Some device) found there =
       happens_if d major argument thread device (is_idle thread && can_issue w.shared) refl found there
 
-pub on_thread : (set : Set) (w : World) (e : Event) → OnThread set w e
-on_thread set w (Issue t d major argument) =
-    record {
-      thread = t;
-      is = refl;
-      happens = happens_issue set w t d major argument (slice_get w.threads t)
-          (slice_get set.devices d) refl refl;
-    }
-on_thread set w (Step t) =
-    record { thread = t; is = refl; happens = happens_step set w t (slice_get w.threads t) refl }
+  happens_queued : (d routine : ℕ) (thread : Thread) (idle queued : Bool) → is_idle thread ≡ idle
+      → slice_get w.threads t ≡ Some thread → dpc_of set d ≡ Some routine
+      → Happens set w t
+      (if not idle then unchanged w Refused else
+      (if queued then dpc_begun set w t d thread routine else unchanged w Idle))
+  happens_queued d routine thread false queued is found there = nothing Refused refl
+  happens_queued d routine thread true false is found there = nothing Idle refl
+  happens_queued d routine thread true true is found there =
+      begins (record {
+        thread = thread;
+        d = d;
+        routine = routine;
+        found = found;
+        idle = none_of_length thread.frames.items is;
+        there = there;
+      })
+
+  happens_dpc : (d : ℕ) (o : Option Thread) (routine : Option ℕ) → slice_get w.threads t ≡ o
+      → dpc_of set d ≡ routine
+      → Happens set w t (dpc_on set w t d o routine)
+  happens_dpc d None routine found there = nothing Refused refl
+  happens_dpc d (Some thread) None found there = nothing Refused refl
+  happens_dpc d (Some thread) (Some routine) found there =
+      happens_queued d routine thread (is_idle thread) (is_queued w.shared d) refl found there
+
+sets_if : (set : Set) (w : World) (d : ℕ) (queued : Bool)
+    → Sets set w (if queued then unchanged w Idle else interrupted w d)
+sets_if set w d true = sets_nothing Idle refl
+sets_if set w d false = queues d
+
+sets_interrupt : (set : Set) (w : World) (d : ℕ) (routine : Option ℕ)
+    → Sets set w (interrupt_on w d routine)
+sets_interrupt set w d None = sets_nothing Refused refl
+sets_interrupt set w d (Some routine) = sets_if set w d (is_queued w.shared d)
+
+pub concerns : (set : Set) (w : World) (e : Event) → Concerns set w e
+concerns set w (Issue t d major argument) =
+    a_thread t refl
+    (happens_issue set w t d major argument (slice_get w.threads t) (slice_get set.devices d) refl refl)
+concerns set w (Interrupt d) = no_thread refl (sets_interrupt set w d (dpc_of set d))
+concerns set w (Dpc t d) =
+    a_thread t refl (happens_dpc set w t d (slice_get w.threads t) (dpc_of set d) refl refl)
+concerns set w (Step t) = a_thread t refl (happens_step set w t (slice_get w.threads t) refl)
 
 -- what a run does with a change that an event would make on a thread
 abbrev pub past_with : Run → ℕ → Change → List Entry
@@ -169,6 +217,14 @@ module _ (set : Set) (r : Run) (t : ℕ) (c : Change) where
   answers_unless o true on_it on = refuses_stopped on
   answers_unless o false on_it on = rw on_it (answers_fault (fault_with r t c) on refl)
 
-pub answers : (set : Set) (r : Run) (e : Event) (h : OnThread set r.world e)
-    → Answers set r h.thread (effect set r.world e) (step set r e)
-answers set r e h = answers_unless set r h.thread (effect set r.world e) (thread_of e) r.stopped h.is refl
+pub answers : (set : Set) (r : Run) (t : ℕ) (e : Event) → thread_of e ≡ Some t
+    → Answers set r t (effect set r.world e) (step set r e)
+answers set r t e is = answers_unless set r t (effect set r.world e) (thread_of e) r.stopped is refl
+
+-- an event about no thread goes on in its world
+abbrev pub set_in : Run → Change → Answered
+set_in r c = record { run = record r { world = c.world }; reply = c.reply }
+
+pub answers_none : (set : Set) (r : Run) (e : Event) → thread_of e ≡ None
+    → step set r e ≡ (if r.stopped then refused r else set_in r (effect set r.world e))
+answers_none set r e is = rw is refl

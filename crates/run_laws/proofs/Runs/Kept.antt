@@ -1,16 +1,16 @@
 -- The induction over runs: what holds before the first event, and of the run after any event on a
 -- run of which it holds, holds of every run. What is said of a world and its past is kept by the
 -- events with which a run goes on.
-use Rattle.std.proofs.Common.{◌≡◌, ℕ, List, [], ◌∷◌, None, false, refl}
-use Rattle.std.specs.Prelude.{slice_get}
+use Rattle.std.proofs.Common.{◌≡◌, ℕ, List, [], ◌∷◌, None, Bool, true, false, refl, sym, subst}
+use Rattle.std.specs.Prelude.{slice_get, if◌then◌else◌}
 use Rattle.model.specs.declared.event.Event.{Event}
 use Rattle.model.specs.Effect.{Change, effect}
 use Rattle.model.specs.Fault.{first_fault}
-use Rattle.model.specs.Run.{Run, Answered, actor_on, begun, root_of, step, run_from, run}
+use Rattle.model.specs.Run.{Run, Answered, actor_on, begun, refused, root_of, step, run_from, run}
 use Rattle.model.specs.Set.{Set}
 use Rattle.model.specs.Trace.{Entry, Actor, recorded}
-use Rattle.model.specs.World.{World}
-use Rattle.run_laws.proofs.Runs.Events.{Happens, OnThread, on_thread, Answers, refuses_stopped, refuses_over, goes_on_with, stops_for, stops_wrong, answers}
+use Rattle.model.specs.World.{World, with_dpc}
+use Rattle.run_laws.proofs.Runs.Events.{Happens, Sets, sets_nothing, queues, Concerns, a_thread, no_thread, concerns, Answers, refuses_stopped, refuses_over, goes_on_with, stops_for, stops_wrong, answers, set_in, answers_none}
 
 module _ (P : Run → Type 0) (set : Set) (kept : (r : Run) (e : Event) → P r → P (step set r e).run) where
   kept_from : (r : Run) (events : List Event) → P r → P (run_from set r events)
@@ -28,6 +28,10 @@ pub record GoesOnBy (set : Set) (w : World) (past : List Entry) (actor : Actor) 
   pub quiet : first_fault past actor c.actions ≡ None
   pub within : c.over ≡ false
 
+-- the world where the DPC of a device is queued or isn't
+abbrev pub with_queued : World → ℕ → Bool → World
+with_queued w d queued = record w { shared = with_dpc w.shared d queued }
+
 -- what is said of the world and the past of a run that hasn't stopped
 abbrev pub Until : (World → List Entry → Type 0) → Run → Type 0
 Until P r = r.stopped ≡ false → P r.world r.past
@@ -35,7 +39,8 @@ Until P r = r.stopped ≡ false → P r.world r.past
 module _ (P : World → List Entry → Type 0) (set : Set)
     (kept : (w : World) (past : List Entry) (actor : Actor) (c : Change) → P w past
     → GoesOnBy set w past actor c
-    → P c.world (recorded past actor c.actions)) where
+    → P c.world (recorded past actor c.actions))
+    (waits : (w : World) (past : List Entry) (d : ℕ) → P w past → P (with_queued w d true) past) where
   until_answered : (r : Run) (t : ℕ) (c : Change) (a : Answered) → Until P r → Happens set r.world t c
       → Answers set r t c a → Until P a.run
   until_answered r t c a h happens (refuses_stopped on) = h
@@ -46,10 +51,22 @@ module _ (P : World → List Entry → Type 0) (set : Set)
   until_answered r t c a h happens (stops_for bug on fault) = λ still. cc
   until_answered r t c a h happens (stops_wrong place on reply) = λ still. cc
 
+  until_sets : (r : Run) (c : Change) (stopped : Bool) → r.stopped ≡ stopped → Until P r
+      → Sets set r.world c → Until P (if stopped then refused r else set_in r c).run
+  until_sets r c true is h of = h
+  until_sets r c false is h (sets_nothing reply right) = h
+  until_sets r c false is h (queues d) = λ still. waits r.world r.past d (h still)
+
+  until_concerned : (r : Run) (e : Event) → Until P r → Concerns set r.world e
+      → Until P (step set r e).run
+  until_concerned r e h (a_thread t is happens) =
+      until_answered r t (effect set r.world e) (step set r e) h happens (answers set r t e is)
+  until_concerned r e h (no_thread is of) =
+      subst (λ (a : Answered). Until P a.run) (sym (answers_none set r e is))
+      (until_sets r (effect set r.world e) r.stopped refl h of)
+
   until_step : (r : Run) (e : Event) → Until P r → Until P (step set r e).run
-  until_step r e h =
-      let on : OnThread set r.world e = on_thread set r.world e in
-      until_answered r on.thread (effect set r.world e) (step set r e) h on.happens (answers set r e on)
+  until_step r e h = until_concerned r e h (concerns set r.world e)
 
   pub kept_until : (threads : ℕ) (events : List Event)
       → P (begun set threads).world [] → Until P (run set threads events)

@@ -3,10 +3,9 @@ use Rattle.std.proofs.Common.{◌≡◌, ◌≢◌, ℕ, zero, suc, inl, inr, Li
 use Rattle.std.specs.Prelude.{replicate, slice_get}
 use Rattle.std.proofs.lemmas.Bool.{cases_eq}
 use Rattle.model.specs.declared.world.Frame.{Frame}
-use Rattle.model.specs.declared.world.Irql.TheVariants.{Passive}
 use Rattle.model.specs.declared.world.Thread.{Thread}
 use Rattle.model.specs.Effect.{with_thread}
-use Rattle.model.specs.Run.{frames_of, root_of, frames_on}
+use Rattle.model.specs.Run.{frames_of, frames_on}
 use Rattle.model.specs.World.{Shared, World, idle_thread}
 use Rattle.run_laws.proofs.Lists.{set_same, set_other}
 
@@ -56,8 +55,3 @@ pub idle_frames : (threads t : ℕ) → frames_of (slice_get (replicate threads 
 idle_frames zero t = refl
 idle_frames (suc threads) zero = refl
 idle_frames (suc threads) (suc t) = idle_frames threads t
-
-pub idle_roots : (threads t : ℕ) → root_of (slice_get (replicate threads idle_thread) t) ≡ Passive
-idle_roots zero t = refl
-idle_roots (suc threads) zero = refl
-idle_roots (suc threads) (suc t) = idle_roots threads t

@@ -1,4 +1,5 @@
--- Routines that begin: those that serve a request of a device, and those that completion calls.
+-- Routines that begin: those that serve a request of a device, its DPC routine, and those that
+-- completion calls.
 use Rattle.std.proofs.Common.{◌≡◌, ℕ, zero, suc, ◌+◌, ◌-◌, ◌<◌, ◌≤◌, Bool, true, false, List, [], ◌∷◌, length, Option, None, Some, refl, ap, sym, ◌∙◌, subst, arith, nat_eq}
 use Rattle.std.specs.Prelude.{◌&&◌, slice_get, slice_index_or, replicate, unwrap_or, option_and_then, is_none, IfSome}
 use Rattle.std.specs.List.{list_any}
@@ -13,19 +14,20 @@ use Rattle.model.specs.declared.set.Device.{Device}
 use Rattle.model.specs.declared.set.Driver.{Driver}
 use Rattle.model.specs.declared.set.Routine.{Routine as RoutineOf}
 use Rattle.model.specs.declared.set.Sort.{Sort}
-use Rattle.model.specs.declared.set.Sort.TheVariants.{Dispatch, Propagate}
+use Rattle.model.specs.declared.set.Sort.TheVariants.{Dispatch, Dpc, Propagate}
 use Rattle.model.specs.declared.status.Major.{Major}
 use Rattle.model.specs.declared.status.Major.TheVariants.{Read, Write, Control}
 use Rattle.model.specs.declared.world.Activation.{Activation}
 use Rattle.model.specs.declared.world.Completion.{Completion}
 use Rattle.model.specs.declared.world.Packet.{Packet}
+use Rattle.model.specs.declared.world.Value.{Value}
 use Rattle.model.specs.declared.world.Value.TheVariants.{Blank, Ref}
 use Rattle.model.specs.Certificate.{certificate, certificate_in, certificate_of}
-use Rattle.model.specs.Effect.{serving_for, dispatched, routine_of_device, completes_with, serves_request}
+use Rattle.model.specs.Effect.{serving_for, dispatched, routine_of_device, completes_with, serves_request, dpc_activation}
 use Rattle.model.specs.Forwarding.{lacks_lower}
 use Rattle.model.specs.LocalRule.{entered_with, entry_of_sort}
-use Rattle.model.specs.Set.{Set, member, handler_of, serving, routine_of, sort_in, sort_of, lower_of, default_number, default_routine}
-use Rattle.model.specs.Sound.{IsSound, DriverFits, DeviceFits, HandlerFits, HasSort, IsDispatch}
+use Rattle.model.specs.Set.{Set, member, handler_of, serving, dpc_of, routine_of, sort_in, sort_of, lower_of, default_number, default_routine}
+use Rattle.model.specs.Sound.{IsSound, DriverFits, DeviceFits, HandlerFits, HasSort, IsDispatch, IsDpc, DpcFits}
 use Rattle.model.specs.World.{Shared, completion_of, current_location, packet_of, entered}
 use Rattle.run_laws.proofs.Devices.{device_fits}
 use Rattle.run_laws.proofs.Lists.{all_at}
@@ -48,7 +50,13 @@ Serving set driver number =
 
 dispatch_sort : (sort : Sort) → IsDispatch sort → sort ≡ Dispatch
 dispatch_sort Dispatch h = refl
+dispatch_sort Dpc h = absurd h
 dispatch_sort Propagate h = absurd h
+
+dpc_sort : (sort : Sort) → IsDpc sort → sort ≡ Dpc
+dpc_sort Dispatch h = absurd h
+dpc_sort Dpc h = refl
+dpc_sort Propagate h = absurd h
 
 handler_fits : (driver : Driver) (major : Major) → DriverFits driver
     → HandlerFits driver.routines (handler_of driver major)
@@ -88,10 +96,12 @@ module _ (set : Set) (sound : IsSound set) (driver : ℕ) where
 -- a routine begins in the state of its sort
 abbrev pub first_state : Sort → Abs
 first_state Dispatch = entered_with New Fresh SettledMark
+first_state Dpc = entered_with BlankKind NoDuty SettledMark
 first_state Propagate = entered_with View NoDuty Open
 
 started : (sort : Sort) (s : Abs) → entry_of_sort sort ≡ Some s → s ≡ first_state sort
 started Dispatch s h = cc
+started Dpc s h = cc
 started Propagate s h = cc
 
 blank_kinds : (issued count : ℕ) → HasKinds issued (replicate count BlankKind) (replicate count Blank)
@@ -101,14 +111,17 @@ blank_kinds issued (suc count) = (tt, blank_kinds issued count)
 first_kinds : (issued n : ℕ) (sort : Sort) → n < issued
     → HasKinds issued (first_state sort).kinds (Ref n ∷ replicate (REGISTERS - 1) Blank)
 first_kinds issued n Dispatch l = ((n, refl, l), blank_kinds issued (REGISTERS - 1))
+first_kinds issued n Dpc l = (tt, blank_kinds issued (REGISTERS - 1))
 first_kinds issued n Propagate l = ((n, refl, l), blank_kinds issued (REGISTERS - 1))
 
 first_sixteen : (sort : Sort) → length (first_state sort).kinds ≡ REGISTERS
 first_sixteen Dispatch = refl
+first_sixteen Dpc = refl
 first_sixteen Propagate = refl
 
 first_eight : (sort : Sort) → length (first_state sort).locks ≡ SPIN_LOCKS
 first_eight Dispatch = refl
+first_eight Dpc = refl
 first_eight Propagate = refl
 
 pub sort_there : (set : Set) (driver number : ℕ) (routine : RoutineOf)
@@ -116,21 +129,26 @@ pub sort_there : (set : Set) (driver number : ℕ) (routine : RoutineOf)
     → sort_of set driver number ≡ routine.sort
 sort_there set driver number routine there = ap sort_in there
 
--- a routine that begins, handed a packet: of a sort, ready, with its certificate left
-pub record Begins (set : Set) (states : States) (issued : ℕ) (a : Activation) (sort : Sort) (n : ℕ)
-    : Type 0 where
+-- a routine that begins, handed a value: of a sort, ready, with its certificate left
+pub record Enters (set : Set) (states : States) (issued : ℕ) (a : Activation) (sort : Sort)
+    (first : Value) : Type 0 where
   pub ready : Ready set states issued a
   pub of_sort : IsOfSort set a sort
   pub due : due set a ≤ certificate_of set a.driver a.routine
   pub start : state_of states a ≡ first_state sort
-  pub registers : a.registers ≡ Ref n ∷ replicate (REGISTERS - 1) Blank
+  pub registers : a.registers ≡ first ∷ replicate (REGISTERS - 1) Blank
 
-module _ (set : Set) (states : States) (good : IsGood set states) (issued n : ℕ) (low : n < issued) where
-  begins_with : (driver number device : ℕ) (routine : RoutineOf) (sort : Sort)
+-- handed a packet
+abbrev pub Begins : Set → States → ℕ → Activation → Sort → ℕ → Type 0
+Begins set states issued a sort n = Enters set states issued a sort (Ref n)
+
+module _ (set : Set) (states : States) (good : IsGood set states) (issued : ℕ) where
+  enters_with : (driver number device : ℕ) (routine : RoutineOf) (sort : Sort) (first : Value)
+      → HasKinds issued (first_state sort).kinds (first ∷ replicate (REGISTERS - 1) Blank)
       → routine_of set driver number ≡ Some routine → routine.sort ≡ sort → Serves set device driver
-      → Begins set states issued (entered driver number device (Ref n)) sort n
-  begins_with driver number device routine sort there is served =
-      let a : Activation = entered driver number device (Ref n) in
+      → Enters set states issued (entered driver number device first) sort first
+  enters_with driver number device routine sort first kinds there is served =
+      let a : Activation = entered driver number device first in
       let known : IsKnown (member set driver number routine) (states driver number) =
       good.led.known driver number routine there in
       let start : states driver number 0 ≡ first_state sort =
@@ -149,7 +167,7 @@ module _ (set : Set) (states : States) (good : IsGood set states) (issued n : �
             serves = served;
             within = known.follows.some;
             nested = refl;
-            kinds = rw start (first_kinds issued n sort low);
+            kinds = rw start kinds;
             eight = rw start (first_eight sort);
             sixteen = rw start (first_sixteen sort);
           },
@@ -159,6 +177,51 @@ module _ (set : Set) (states : States) (good : IsGood set states) (issued n : �
         start = start;
         registers = refl;
       }
+
+  -- the DPC routine of a device
+  dpc_found : (device number : ℕ) (d : Device) (driver : Driver) (o : Option RoutineOf)
+      → slice_get set.devices device ≡ Some d → slice_get set.drivers d.driver ≡ Some driver
+      → slice_get driver.routines number ≡ o → HasSort IsDpc o
+      → Enters set states issued (dpc_activation set device number) Dpc Blank
+  dpc_found device number d driver None there of_driver found h = absurd h
+  dpc_found device number d driver (Some routine) there of_driver found h =
+      let few : length driver.routines ≤ MAX_ROUTINES =
+      (all_at DriverFits set.drivers d.driver driver good.sound.drivers of_driver).few in
+      subst (λ (x : ℕ). Enters set states issued (entered x number device Blank) Dpc Blank)
+      (sym (ap routine_of_device there))
+      (enters_with d.driver number device routine Dpc Blank
+      (tt, blank_kinds issued (REGISTERS - 1))
+      (routine_found set d.driver driver of_driver few number routine found)
+      (dpc_sort routine.sort h) (d, there, refl))
+
+  dpc_driver : (device number : ℕ) (d : Device) (o : Option Driver)
+      → slice_get set.devices device ≡ Some d → slice_get set.drivers d.driver ≡ o → option_and_then (λ driver. driver.dpc) o ≡ Some number
+      → Enters set states issued (dpc_activation set device number) Dpc Blank
+  dpc_driver device number d None there of_driver is = cc
+  dpc_driver device number d (Some driver) there of_driver is =
+      dpc_found device number d driver (slice_get driver.routines number) there of_driver refl
+      (subst (λ (x : Option ℕ). DpcFits driver.routines x) is
+      (all_at DriverFits set.drivers d.driver driver good.sound.drivers of_driver).dpc)
+
+  dpc_device : (device number : ℕ) (o : Option Device) → slice_get set.devices device ≡ o
+      → option_and_then (λ driver. driver.dpc)
+      (option_and_then (λ d. slice_get set.drivers d.driver) o) ≡ Some number
+      → Enters set states issued (dpc_activation set device number) Dpc Blank
+  dpc_device device number None there is = cc
+  dpc_device device number (Some d) there is =
+      dpc_driver device number d (slice_get set.drivers d.driver) there refl is
+
+  pub begins_dpc : (device number : ℕ) → dpc_of set device ≡ Some number
+      → Enters set states issued (dpc_activation set device number) Dpc Blank
+  begins_dpc device number is = dpc_device device number (slice_get set.devices device) refl is
+
+module _ (set : Set) (states : States) (good : IsGood set states) (issued n : ℕ) (low : n < issued) where
+  begins_with : (driver number device : ℕ) (routine : RoutineOf) (sort : Sort)
+      → routine_of set driver number ≡ Some routine → routine.sort ≡ sort → Serves set device driver
+      → Begins set states issued (entered driver number device (Ref n)) sort n
+  begins_with driver number device routine sort there is served =
+      enters_with set states good issued driver number device routine sort (Ref n)
+      (first_kinds issued n sort low) there is served
 
   -- the dispatch routine of a device, for what a packet asks
   pub begins_dispatch : (device : ℕ) (d : Device) (o : Option Device) (major : Option Major)

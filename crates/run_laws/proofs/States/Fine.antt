@@ -13,7 +13,7 @@ use Rattle.model.specs.declared.event.Subject.TheVariants.{Packet as PacketSubje
 use Rattle.model.specs.declared.instr.Instr.{Instr}
 use Rattle.model.specs.declared.instr.Instr.TheVariants.{Loop, End, Mark, Put, Pass, Call, Complete}
 use Rattle.model.specs.declared.set.Sort.{Sort}
-use Rattle.model.specs.declared.set.Sort.TheVariants.{Dispatch, Propagate}
+use Rattle.model.specs.declared.set.Sort.TheVariants.{Dispatch, Dpc, Propagate}
 use Rattle.model.specs.declared.status.Status.{Status}
 use Rattle.model.specs.declared.world.Activation.{Activation}
 use Rattle.model.specs.declared.world.Frame.{Frame}
@@ -44,7 +44,7 @@ use Rattle.run_laws.proofs.States.OnTop.{OnTop, at_routine, runs}
 use Rattle.run_laws.proofs.States.Rules.{States}
 use Rattle.run_laws.proofs.States.Stacks.{Stands, Replaces}
 use Rattle.run_laws.proofs.States.Told.{told_frame}
-use Rattle.run_laws.proofs.Steps.Comes.{onward, keeps_all, Comes, errs, awaits_lock, computes, opens_loop, turns_loop, pages, touches_gone, looks_at, writes_info, marks_packet, takes_lock, retakes_lock, frees_lock, completes_packet, completes_gone, passes_down, calls_down, returns_status, lets_go, lets_walk, walks_gone, walks_to, walks_up, carries_up, tops_out}
+use Rattle.run_laws.proofs.Steps.Comes.{onward, keeps_all, Comes, errs, awaits_lock, computes, opens_loop, turns_loop, pages, touches_gone, looks_at, writes_info, marks_packet, takes_lock, retakes_lock, frees_lock, completes_packet, completes_gone, passes_down, calls_down, returns_status, lets_go, lets_walk, ends_dpc, walks_gone, walks_to, walks_up, carries_up, tops_out}
 use Rattle.run_laws.proofs.Steps.Locking.{freed_word, taken_word}
 use Rattle.run_laws.proofs.Steps.Faults.{none_first}
 use Rattle.run_laws.proofs.Steps.Words.{Forwarding, is_forwarding, work_of, goes_next, keeps_registers, packet_operand}
@@ -99,6 +99,12 @@ module _ (set : Set) (states : States) (issued : ℕ) where
       → Stands set states issued None (told_frame set None g)
   below_propagate a sort (Routine b) h = let no : Propagate ≡ Dispatch = sym sort ∙ h.0 in cc
   below_propagate a sort (Walk n) h = h.1
+
+  below_dpc : (a : Activation) → IsOfSort set a Dpc → (g : Frame)
+      → Stands set states issued (Some (Routine a)) g
+      → Stands set states issued None (told_frame set None g)
+  below_dpc a sort (Routine b) h = let no : Dpc ≡ Dispatch = sym sort ∙ h.0 in cc
+  below_dpc a sort (Walk n) h = let no : Dpc ≡ Propagate = sym sort ∙ h.0 in cc
 
   below_walk : (n : ℕ) (g : Frame) → Stands set states issued (Some (Walk n)) g
       → Stands set states issued None (told_frame set None g)
@@ -334,6 +340,8 @@ module _ (set : Set) (states : States) (s : Shared) (past : List Entry) (actor :
       record { fits = h.fits; issued = refl; stands = below_propagate set states s.issued a sort }
   leaves_fine under f o h quiet (lets_walk a n at sort) =
       record { fits = h.fits; issued = refl; stands = below_propagate set states s.issued a sort }
+  leaves_fine under f o h quiet (ends_dpc a at sort) =
+      record { fits = h.fits; issued = refl; stands = below_dpc set states s.issued a sort }
   leaves_fine under f o h quiet (walks_gone n gone) =
       record { fits = h.fits; issued = refl; stands = below_walk set states s.issued n }
   leaves_fine under f o h quiet (walks_to n p c there with) =

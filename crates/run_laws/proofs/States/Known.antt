@@ -12,7 +12,7 @@ use Rattle.model.specs.declared.limits.TheConstants.{MAX_ROUTINES}
 use Rattle.model.specs.declared.set.Driver.{Driver}
 use Rattle.model.specs.declared.set.Routine.{Routine}
 use Rattle.model.specs.declared.set.Sort.{Sort}
-use Rattle.model.specs.declared.set.Sort.TheVariants.{Dispatch, Propagate}
+use Rattle.model.specs.declared.set.Sort.TheVariants.{Dispatch, Dpc, Propagate}
 use Rattle.model.specs.LocalRule.{entered_with}
 use Rattle.model.specs.Loops.{open_at}
 use Rattle.model.specs.Set.{Set, Member, member, routine_of, default_routine, default_number, default_code}
@@ -63,6 +63,7 @@ Knows m = (state : ℕ → Abs) × IsKnown m state
 completion_sort : (sort : Sort) → IsCompletion sort → sort ≡ Propagate
 completion_sort Propagate h = refl
 completion_sort Dispatch h = absurd h
+completion_sort Dpc h = absurd h
 
 -- a routine in the list of a driver is the one of its number
 module _ (set : Set) (driver : ℕ) (d : Driver) (there : slice_get set.drivers driver ≡ Some d)

@@ -8,10 +8,10 @@ use Rattle.model.specs.declared.event.Lock.TheVariants.{SystemCancel}
 use Rattle.model.specs.declared.instr.Instr.{Instr}
 use Rattle.model.specs.declared.instr.Instr.TheVariants.{Acquire, Release, AcquireCancel, ReleaseCancel, Pass, Call, End, Ret}
 use Rattle.model.specs.declared.instr.Return.{Return}
-use Rattle.model.specs.declared.instr.Return.TheVariants.{WithStatus, Lower, Continue}
+use Rattle.model.specs.declared.instr.Return.TheVariants.{WithStatus, Lower, Continue, Void}
 use Rattle.model.specs.declared.limits.TheConstants.{MAX_LOOPS}
 use Rattle.model.specs.declared.set.Sort.{Sort}
-use Rattle.model.specs.declared.set.Sort.TheVariants.{Dispatch, Propagate}
+use Rattle.model.specs.declared.set.Sort.TheVariants.{Dispatch, Dpc, Propagate}
 use Rattle.model.specs.declared.status.Status.{Status}
 use Rattle.model.specs.declared.world.Activation.{Activation}
 use Rattle.model.specs.declared.world.Frame.TheVariants.{Routine}
@@ -37,8 +37,11 @@ broken_not true rule h = refl
 broken_not false rule h = cc
 
 has_form : (sort : Sort) (form : Return) → form_fault sort form ≡ None → is_form_of sort form ≡ true
-has_form Dispatch Continue h = cc
-has_form Dispatch _ h = refl
+has_form Dispatch (WithStatus status) h = refl
+has_form Dispatch (Lower r) h = refl
+has_form Dispatch _ h = cc
+has_form Dpc Void h = refl
+has_form Dpc _ h = cc
 has_form Propagate Continue h = refl
 has_form Propagate _ h = cc
 
@@ -100,6 +103,7 @@ module _ (set : Set) (states : States) (s : Shared) (a : Activation) where
       let no : None ≡ Some status.0 = sym none ∙ status.1 in
       cc
   some_status Continue h of_form none = cc
+  some_status Void h of_form none = cc
 
   pub never_lacks : OnTop set states s (Routine a) → Lacks set s a → ⊥
   never_lacks h (no_instruction none) =

@@ -11,10 +11,10 @@ use Rattle.model.specs.declared.instr.Instr.{Instr}
 use Rattle.model.specs.declared.instr.Instr.TheVariants.{Pass, Call, Complete, Ret}
 use Rattle.model.specs.declared.instr.Return.{Return}
 use Rattle.model.specs.declared.set.Sort.{Sort}
-use Rattle.model.specs.declared.set.Sort.TheVariants.{Dispatch, Propagate}
+use Rattle.model.specs.declared.set.Sort.TheVariants.{Dispatch, Dpc, Propagate}
 use Rattle.model.specs.declared.status.Status.{Status}
 use Rattle.model.specs.Forwarding.{lacks_lower, is_too_small}
-use Rattle.model.specs.LocalRule.{kind_of, is_kept, is_right, is_pending, is_completion, holds_lock, holds_spin_lock, a_new_one, one_handed_or_owned, demanded, complete_kind, broken_if, least_of, completion_sort_fault, kept_fault, given_down, handed, refuses, forward_fault, duty_fault, form_fault, settled_fault}
+use Rattle.model.specs.LocalRule.{kind_of, is_kept, is_right, is_pending, is_completion, holds_lock, holds_spin_lock, a_new_one, one_handed_or_owned, demanded, complete_kind, broken_if, least_of, completion_sort_fault, forward_sort_fault, kept_fault, given_down, handed, refuses, forward_fault, duty_fault, form_fault, settled_fault}
 use Rattle.model.specs.Set.{Set}
 use Rattle.run_laws.proofs.States.Rules.{first_none, second_none, unbroken}
 use Rattle.run_laws.proofs.Steps.Words.{Forwarding, work_of, packet_operand}
@@ -24,9 +24,10 @@ abbrev pub locations_wanted : Instr → ℕ
 locations_wanted (Call r f) = 1
 locations_wanted _ = 0
 
-dispatch_of : (sort : Sort) → is_completion sort ≡ false → sort ≡ Dispatch
-dispatch_of Dispatch h = refl
-dispatch_of Propagate h = cc
+forwards_of : (sort : Sort) → forward_sort_fault sort ≡ None → sort ≡ Dispatch
+forwards_of Dispatch h = refl
+forwards_of Dpc h = cc
+forwards_of Propagate h = cc
 
 new_right : (k : Kind) → demanded a_new_one k ≡ None → is_right k ≡ true
 new_right New h = refl
@@ -61,13 +62,13 @@ module _ (s : Abs) (sort : Sort) (set : Set) (driver : ℕ) where
       → SendsDown i r
   sends_by i q r same right rule after =
       let one : q ≡ r = cc in
-      let later : least_of (completion_sort_fault sort)
+      let later : least_of (forward_sort_fault sort)
       (least_of (broken_if (is_too_small set driver (locations_wanted i)) StackTooSmall)
       (broken_if (lacks_lower set driver) NoLower)) ≡ None = second_none _ _ rule in
       record {
         right = rw one at right;
         free = unbroken (holds_lock s) LockHeld (first_none _ _ rule);
-        dispatch = dispatch_of sort (unbroken (is_completion sort) CompletionRule (first_none _ _ later));
+        dispatch = forwards_of sort (first_none _ _ later);
         room = unbroken (is_too_small set driver (locations_wanted i)) StackTooSmall
             (first_none _ _ (second_none _ _ later));
         lower = unbroken (lacks_lower set driver) NoLower (second_none _ _ (second_none _ _ later));
@@ -88,7 +89,7 @@ module _ (s : Abs) (sort : Sort) (set : Set) (driver : ℕ) where
     pub right : is_right (kind_of s r) ≡ true
     pub final : is_pending status ≡ false
     pub free : holds_lock s ≡ false
-    pub dispatch : sort ≡ Dispatch
+    pub above : is_completion sort ≡ false
 
   pub completes_one : (r : ℕ) (status : Status) → refuses s (Complete r status) sort set driver ≡ None
       → CompletesOne r status
@@ -100,8 +101,7 @@ module _ (s : Abs) (sort : Sort) (set : Set) (driver : ℕ) where
         right = complete_right (kind_of s r) (first_none _ _ h);
         final = unbroken (is_pending status) MarkIrpPending (first_none _ _ later);
         free = unbroken (holds_lock s) LockHeld (first_none _ _ (second_none _ _ later));
-        dispatch = dispatch_of sort
-            (unbroken (is_completion sort) CompletionRule (second_none _ _ (second_none _ _ later)));
+        above = unbroken (is_completion sort) CompletionRule (second_none _ _ (second_none _ _ later));
       }
 
   -- the routine returns

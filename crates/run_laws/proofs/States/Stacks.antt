@@ -18,7 +18,7 @@ use Rattle.run_laws.proofs.States.Rules.{States}
 use Rattle.run_laws.proofs.States.Told.{told_frame, told_last, told_is}
 
 -- a frame that is told is still of its routine
-answered_in_sort : (set : Set) (a : Activation) (status : Status) (r : Option ℕ) (sort : Sort)
+pub answered_in_sort : (set : Set) (a : Activation) (status : Status) (r : Option ℕ) (sort : Sort)
     → IsOfSort set a sort
     → IsOfSort set (answered_in a status r) sort
 answered_in_sort set a status None sort h = h

@@ -1,42 +1,46 @@
 -- Every run of an accepted set stands as it should: what is shared fits the set, the past tells of
--- it, and each thread has frames that stand on one another, at PASSIVE_LEVEL.
-use Rattle.std.proofs.Common.{◌≡◌, ℕ, ◌+◌, ◌≤◌, List, [], ◌∷◌, ◌++◌, length, None, Some, false, refl, ap, sym, ◌∙◌, subst, arith}
+-- it, and each thread has frames that stand on one another, dispatch routines at PASSIVE_LEVEL.
+use Rattle.std.proofs.Common.{◌≡◌, ℕ, ◌+◌, ◌≤◌, List, [], ◌∷◌, ◌++◌, length, Option, None, Some, Bool, false, refl, sym, ◌∙◌, subst, arith}
 use Rattle.std.specs.Prelude.{slice_get}
 use Rattle.std.specs.List.{list_any}
 use Rattle.model.specs.declared.event.Reply.{Reply}
 use Rattle.model.specs.declared.event.Reply.TheVariants.{Stepped}
+use Rattle.model.specs.declared.set.Sort.TheVariants.{Dispatch, Dpc}
 use Rattle.model.specs.declared.world.Frame.{Frame}
 use Rattle.model.specs.declared.world.Irql.{Irql}
-use Rattle.model.specs.declared.world.Irql.TheVariants.{Passive}
+use Rattle.model.specs.declared.world.Irql.TheVariants.{Passive, Dispatch as DispatchLevel}
 use Rattle.model.specs.declared.world.Thread.{Thread}
-use Rattle.model.specs.Effect.{Change, Outcome, top_of, standing, with_thread, root_over, with_stack, rooted, with_new_packet, serves_request, finished_or}
+use Rattle.model.specs.declared.world.Value.TheVariants.{Blank}
+use Rattle.model.specs.Effect.{Change, Outcome, top_of, standing, with_thread, with_stack, rooted, dpc_activation, with_new_packet, serves_request, finished_or}
 use Rattle.model.specs.Fault.{first_fault}
-use Rattle.model.specs.Run.{begun, root_of, frames_on}
+use Rattle.model.specs.Run.{begun, root_of, frames_of, frames_on}
 use Rattle.model.specs.Set.{Set}
 use Rattle.model.specs.Sound.{DeviceFits}
 use Rattle.model.specs.Trace.{Entry, Actor, recorded}
-use Rattle.model.specs.World.{Shared, World, new_packet}
+use Rattle.model.specs.World.{Shared, World, new_packet, with_dpc}
 use Rattle.run_laws.proofs.Devices.{device_fits}
-use Rattle.run_laws.proofs.Lists.{each_push}
+use Rattle.run_laws.proofs.Lists.{Each, each_push, each_append, each_before, each_after}
 use Rattle.run_laws.proofs.Past.Packets.{Tells, tells_issue, tells_nothing}
 use Rattle.run_laws.proofs.Past.Steps.{told_packets}
-use Rattle.run_laws.proofs.Runs.Events.{stops_run, StepsFrame, Happens, nothing, steps, issues}
-use Rattle.run_laws.proofs.Runs.Kept.{GoesOnBy}
-use Rattle.run_laws.proofs.Runs.Threads.{frames_there, each_thread, each_frames, idle_frames, idle_roots}
-use Rattle.run_laws.proofs.States.Entering.{begins_request}
+use Rattle.run_laws.proofs.Runs.Events.{stops_run, StepsFrame, Happens, nothing, steps, issues, begins}
+use Rattle.run_laws.proofs.Runs.Kept.{GoesOnBy, with_queued}
+use Rattle.run_laws.proofs.Runs.Threads.{frames_there, each_thread, each_frames, idle_frames}
+use Rattle.run_laws.proofs.States.Entering.{Enters, begins_request, begins_dpc}
 use Rattle.run_laws.proofs.States.Fine.{is_wrong, IsRight, is_right_step, StepLeaves, leaves_fine}
 use Rattle.run_laws.proofs.States.Fits.{PacketLeads, Fits, new_leads, unused_fits}
 use Rattle.run_laws.proofs.States.Frames.{IsGood}
 use Rattle.run_laws.proofs.States.OnTop.{OnTop}
+use Rattle.run_laws.proofs.States.Roots.{Low, last_low, step_low, low_over}
 use Rattle.run_laws.proofs.States.Rules.{States}
 use Rattle.run_laws.proofs.States.Stacks.{Stacked, top_stands, replaced, stacked_later}
+use Rattle.run_laws.proofs.States.Told.{told_last, standing_last}
 use Rattle.run_laws.proofs.Steps.Below.{standing_is}
 
 -- what a run keeps
 pub record Standing (set : Set) (states : States) (w : World) (past : List Entry) : Type 0 where
   pub fits : Fits set w.shared
   pub tells : Tells w.shared past
-  pub roots : (t : ℕ) → root_of (slice_get w.threads t) ≡ Passive
+  pub roots : (t : ℕ) → Each (Low set (root_of (slice_get w.threads t))) (frames_on w t)
   pub frames : (t : ℕ) → Stacked set states w.shared.issued (frames_on w t)
 
 -- before the first event
@@ -46,13 +50,9 @@ standing_begun set states threads =
     record {
       fits = unused_fits set;
       tells = tells_nothing;
-      roots = idle_roots threads;
+      roots = λ t. rw (idle_frames threads t) tt;
       frames = λ t. rw (idle_frames threads t) tt;
     }
-
-root_of_stack : (root : Irql) (frames : List Frame) → root ≡ Passive → root_over root frames ≡ Passive
-root_of_stack root [] h = refl
-root_of_stack root (f ∷ frames) h = h
 
 finished_stops : (frames : List Frame) (reply : Reply) → stops_run reply ≡ false
     → stops_run (finished_or frames reply) ≡ false
@@ -86,6 +86,7 @@ module _ (set : Set) (states : States) (w : World) (past : List Entry) (good : I
       is_right_step set states w.shared t (top_of h.below) h.frame h.outcome (on_top t h) h.comes in
       (is.silent, finished_stops (standing set h.below h.outcome) h.outcome.reply is.right)
   right_event t c (issues h) = (refl, refl)
+  right_event t c (begins h) = (refl, refl)
 
   -- each thread where one has other frames
   frames_after : (t : ℕ) (s : Shared) (thread after : Thread) → slice_get w.threads t ≡ Some thread
@@ -95,10 +96,49 @@ module _ (set : Set) (states : States) (w : World) (past : List Entry) (good : I
       each_frames w t s after (λ k frames. Stacked set states s.issued frames) thread found h
       (λ k apart. stacked_later set states w.shared.issued s.issued le (frames_on w k) (stands.frames k))
 
+  -- the levels of a thread that steps
+  pub lows_there : (t : ℕ) (h : StepsFrame set w t)
+      → Each (Low set h.thread.root) (h.below ++ h.frame ∷ [])
+  lows_there t h =
+      subst (λ (frames : List Frame). Each (Low set h.thread.root) frames) h.frames
+      (subst (λ (o : Option Thread). Each (Low set (root_of o)) (frames_of o)) h.found (stands.roots t))
+
+  pub low_there : (t : ℕ) (h : StepsFrame set w t) → Low set h.thread.root h.frame
+  low_there t h = (each_after (Low set h.thread.root) h.below (h.frame ∷ []) (lows_there t h)).0
+
+  lows_after : (t : ℕ) (h : StepsFrame set w t)
+      → Each (Low set h.thread.root) (standing set h.below h.outcome)
+  lows_after t h =
+      let root : Irql = h.thread.root in
+      rw (standing_last set w.shared t (top_of h.below) h.frame h.outcome h.below h.comes)
+      (each_append (Low set root) (told_last set h.outcome.told h.below) h.outcome.frames
+      (last_low set root h.outcome.told h.below
+      (each_before (Low set root) h.below (h.frame ∷ []) (lows_there t h)))
+      (step_low set root states w.shared t (top_of h.below) h.frame h.outcome (on_top t h)
+      (low_there t h) h.comes))
+
   roots_after : (t : ℕ) (s : Shared) (thread after : Thread) → slice_get w.threads t ≡ Some thread
-      → after.root ≡ Passive → (k : ℕ) → root_of (slice_get (with_thread w t s after).threads k) ≡ Passive
+      → Each (Low set after.root) after.frames.items → (k : ℕ)
+      → Each (Low set (root_of (slice_get (with_thread w t s after).threads k)))
+      (frames_on (with_thread w t s after) k)
   roots_after t s thread after found h =
-      each_thread w t s after (λ k o. root_of o ≡ Passive) thread found h (λ k apart. stands.roots k)
+      each_thread w t s after (λ k o. Each (Low set (root_of o)) (frames_of o)) thread found h
+      (λ k apart. stands.roots k)
+
+  -- where a DPC is queued or isn't
+  pub standing_queued : (d : ℕ) (queued : Bool) → Standing set states (with_queued w d queued) past
+  standing_queued d queued =
+      record {
+        fits = record {
+          cells = stands.fits.cells;
+          spin = stands.fits.spin;
+          rows = stands.fits.rows;
+          completions = stands.fits.completions;
+        };
+        tells = stands.tells;
+        roots = stands.roots;
+        frames = stands.frames;
+      }
 
   pub standing_kept : (actor : Actor) (c : Change) → GoesOnBy set w past actor c
       → Standing set states c.world (recorded past actor c.actions)
@@ -119,8 +159,7 @@ module _ (set : Set) (states : States) (w : World) (past : List Entry) (good : I
             fits = leaves.fits;
             tells = told_packets set w.shared past actor (top_of h.below) h.frame o stands.tells h.comes;
             roots = roots_after t o.shared h.thread (with_stack h.thread (standing set h.below o)) h.found
-                (root_of_stack h.thread.root (standing set h.below o)
-                (sym (ap root_of h.found) ∙ stands.roots t));
+                (low_over set h.thread.root (standing set h.below o) (lows_after t h));
             frames = frames_after t o.shared h.thread (with_stack h.thread (standing set h.below o))
                 h.found
                 (omega arith)
@@ -144,10 +183,24 @@ module _ (set : Set) (states : States) (w : World) (past : List Entry) (good : I
             };
             tells = tells_issue w.shared past stands.tells h.d h.major h.argument h.device.stack fits.low;
             roots = roots_after actor.thread s h.thread
-                (rooted h.thread Passive (serves_request set h.d h.device h.major n)) h.found refl;
+                (rooted h.thread Passive (serves_request set h.d h.device h.major n)) h.found
+                ((λ is. refl), tt);
             frames = frames_after actor.thread s h.thread
                 (rooted h.thread Passive (serves_request set h.d h.device h.major n)) h.found
                 (omega arith)
                 (begins_request set states good (n + 1) n (omega arith) h.d h.device h.major
                 h.there).ready;
+          }
+      kept c (begins h) quiet =
+          let t : ℕ = actor.thread in
+          let s : Shared = with_dpc w.shared h.d false in
+          let after : Thread = rooted h.thread DispatchLevel (dpc_activation set h.d h.routine) in
+          let enters : Enters set states s.issued (dpc_activation set h.d h.routine) Dpc Blank =
+          begins_dpc set states good s.issued h.d h.routine h.there in
+          record {
+            fits = (standing_queued h.d false).fits;
+            tells = stands.tells;
+            roots = roots_after t s h.thread after h.found
+                ((λ is. (let no : Dpc ≡ Dispatch = sym enters.of_sort ∙ is in cc)), tt);
+            frames = frames_after t s h.thread after h.found (omega arith) enters.ready;
           }

@@ -8,9 +8,9 @@ use Rattle.model.specs.declared.event.Reply.TheVariants.{Topped}
 use Rattle.model.specs.declared.instr.Instr.{Instr}
 use Rattle.model.specs.declared.instr.Instr.TheVariants.{Move, Clear, Loop, End, Put, Mark, Pass, Call, Complete, Ret}
 use Rattle.model.specs.declared.instr.Return.{Return}
-use Rattle.model.specs.declared.instr.Return.TheVariants.{Continue}
+use Rattle.model.specs.declared.instr.Return.TheVariants.{Continue, Void}
 use Rattle.model.specs.declared.limits.TheConstants.{MAX_LOOPS}
-use Rattle.model.specs.declared.set.Sort.TheVariants.{Dispatch, Propagate}
+use Rattle.model.specs.declared.set.Sort.TheVariants.{Dispatch, Dpc, Propagate}
 use Rattle.model.specs.declared.status.Status.{Status}
 use Rattle.model.specs.declared.world.Activation.{Activation}
 use Rattle.model.specs.declared.world.Cells.{Cells}
@@ -178,6 +178,10 @@ pub data Comes (set : Set) (s : Shared) (t : ℕ) : Option Frame → Frame → O
   lets_walk : (a : Activation) (n : ℕ) → Executing set a (Ret Continue)
       → sort_of set a.driver a.routine ≡ Propagate
       → Comes set s t (Some (Walk n)) (Routine a) (leaves s [] (Executes ∷ Touches n ∷ []))
+  -- a DPC routine ends, and nobody is told
+  ends_dpc : {under : Option Frame} (a : Activation) → Executing set a (Ret Void)
+      → sort_of set a.driver a.routine ≡ Dpc
+      → Comes set s t under (Routine a) (leaves s [] (Executes ∷ []))
   -- the I/O manager finds no packet; it runs the completion routine of the location that it leaves;
   -- where there is none it goes up, without a mark or with one that it carries up; or the packet
   -- tops out

@@ -10,10 +10,10 @@ use Rattle.model.specs.declared.instr.Field.{Field}
 use Rattle.model.specs.declared.instr.Instr.{Instr}
 use Rattle.model.specs.declared.instr.Instr.TheVariants.{Const, Move, Clear, Add, Subtract, JumpIfZero, JumpIfLess, Jump, Loop, End, Load, Store, LoadPaged, StorePaged, Get, Put, Mark, Acquire, Release, AcquireCancel, ReleaseCancel, Pass, Call, Complete, IfPending, Ret}
 use Rattle.model.specs.declared.instr.Return.{Return}
-use Rattle.model.specs.declared.instr.Return.TheVariants.{WithStatus, Lower, Continue}
+use Rattle.model.specs.declared.instr.Return.TheVariants.{WithStatus, Lower, Continue, Void}
 use Rattle.model.specs.declared.limits.TheConstants.{MAX_LOOPS}
 use Rattle.model.specs.declared.set.Sort.{Sort}
-use Rattle.model.specs.declared.set.Sort.TheVariants.{Dispatch, Propagate}
+use Rattle.model.specs.declared.set.Sort.TheVariants.{Dispatch, Dpc, Propagate}
 use Rattle.model.specs.declared.status.Status.{Status}
 use Rattle.model.specs.declared.world.Activation.{Activation}
 use Rattle.model.specs.declared.world.Cells.{Cells}
@@ -28,7 +28,7 @@ use Rattle.model.specs.Effect.{Outcome, leaves, goes_wrong, goes_on, number_effe
 use Rattle.model.specs.Set.{Set, instruction_at, sort_of, lower_of, label_of}
 use Rattle.model.specs.World.{Shared, owner_of, packet_of, with_packet, packet_in, number_in, status_in, register, next, at_label, innermost, mark_current, current_location, left_location, moved_up, is_marked, completion_of}
 use Rattle.run_laws.proofs.Steps.Words.{Computing, work_of, goes_next, number_operand, second_operand, keeps_registers, numbered_by, lock_taken, lock_freed}
-use Rattle.run_laws.proofs.Steps.Comes.{Executing, Reads, Lacks, no_instruction, no_number, no_packet, no_room, no_loop, no_cells, none_taken, none_freed, no_lower, no_status, no_form, Written, keeps_all, makes_number, moves_over, makes_blank, onward, jumping, Comes, errs, awaits_lock, computes, opens_loop, turns_loop, pages, touches_gone, looks_at, writes_info, marks_packet, takes_lock, retakes_lock, frees_lock, completes_packet, completes_gone, passes_down, calls_down, returns_status, lets_go, lets_walk, walks_gone, walks_to, walks_up, carries_up, tops_out}
+use Rattle.run_laws.proofs.Steps.Comes.{Executing, Reads, Lacks, no_instruction, no_number, no_packet, no_room, no_loop, no_cells, none_taken, none_freed, no_lower, no_status, no_form, Written, keeps_all, makes_number, moves_over, makes_blank, onward, jumping, Comes, errs, awaits_lock, computes, opens_loop, turns_loop, pages, touches_gone, looks_at, writes_info, marks_packet, takes_lock, retakes_lock, frees_lock, completes_packet, completes_gone, passes_down, calls_down, returns_status, lets_go, lets_walk, ends_dpc, walks_gone, walks_to, walks_up, carries_up, tops_out}
 
 module _ (set : Set) (s : Shared) (t : ℕ) (under : Option Frame) (a : Activation) where
   abbrev ComesTo : Outcome → Type 0
@@ -256,10 +256,17 @@ returns set s t under a Dispatch (WithStatus status) at is =
 returns set s t under a Dispatch (Lower r) at is =
     returns_lower set s t under a r (status_in (register a r)) at is refl
 returns set s t under a Dispatch Continue at is = errs a (no_form Continue at (rw is refl))
+returns set s t under a Dispatch Void at is = errs a (no_form Void at (rw is refl))
+returns set s t under a Dpc (WithStatus status) at is =
+    errs a (no_form (WithStatus status) at (rw is refl))
+returns set s t under a Dpc (Lower r) at is = errs a (no_form (Lower r) at (rw is refl))
+returns set s t under a Dpc Continue at is = errs a (no_form Continue at (rw is refl))
+returns set s t under a Dpc Void at is = ends_dpc a at is
 returns set s t under a Propagate (WithStatus status) at is =
     errs a (no_form (WithStatus status) at (rw is refl))
 returns set s t under a Propagate (Lower r) at is = errs a (no_form (Lower r) at (rw is refl))
 returns set s t under a Propagate Continue at is = lets set s t a under at is
+returns set s t under a Propagate Void at is = errs a (no_form Void at (rw is refl))
 
 executes : (set : Set) (s : Shared) (t : ℕ) (under : Option Frame) (a : Activation) (i : Instr)
     → Executing set a i

@@ -6,9 +6,9 @@ use Rattle.model.specs.declared.event.Lock.TheVariants.{SystemCancel}
 use Rattle.model.specs.declared.instr.Instr.{Instr}
 use Rattle.model.specs.declared.instr.Instr.TheVariants.{Const, Move, Clear, Add, Subtract, JumpIfZero, JumpIfLess, Jump, Loop, End, Load, Store, LoadPaged, StorePaged, Get, Put, Mark, Acquire, Release, AcquireCancel, ReleaseCancel, Pass, Call, Complete, IfPending, Ret}
 use Rattle.model.specs.declared.instr.Return.{Return}
-use Rattle.model.specs.declared.instr.Return.TheVariants.{WithStatus, Lower, Continue}
+use Rattle.model.specs.declared.instr.Return.TheVariants.{WithStatus, Lower, Continue, Void}
 use Rattle.model.specs.declared.set.Sort.{Sort}
-use Rattle.model.specs.declared.set.Sort.TheVariants.{Dispatch, Propagate}
+use Rattle.model.specs.declared.set.Sort.TheVariants.{Dispatch, Dpc, Propagate}
 use Rattle.model.specs.declared.status.Status.{Status}
 use Rattle.model.specs.declared.world.Activation.{Activation}
 use Rattle.model.specs.declared.world.Packet.{Packet}
@@ -170,12 +170,19 @@ abbrev pub status_returned : Activation → Return → Option Status
 status_returned a (WithStatus status) = Some status
 status_returned a (Lower r) = status_in (register a r)
 status_returned a Continue = None
+status_returned a Void = None
 
 -- the forms of return of a sort of routine
 abbrev pub is_form_of : Sort → Return → Bool
 is_form_of Dispatch (WithStatus status) = true
 is_form_of Dispatch (Lower r) = true
 is_form_of Dispatch Continue = false
+is_form_of Dispatch Void = false
+is_form_of Dpc (WithStatus status) = false
+is_form_of Dpc (Lower r) = false
+is_form_of Dpc Continue = false
+is_form_of Dpc Void = true
 is_form_of Propagate (WithStatus status) = false
 is_form_of Propagate (Lower r) = false
 is_form_of Propagate Continue = true
+is_form_of Propagate Void = false

@@ -1,16 +1,17 @@
 -- What an event does to each packet and its uses; so it keeps what live packets and the trace tell
 -- of each other, what was agreed on for a use, and that a use waits for the one below it.
-use Rattle.std.proofs.Common.{◌≡◌, ℕ, ◌+◌, inl, inr, List, [], ◌∷◌, ◌++◌, None, Option, Some, Bool, refl, ap, sym, ◌∙◌, subst, arith}
+use Rattle.std.proofs.Common.{◌≡◌, ℕ, ◌+◌, inl, inr, List, [], ◌∷◌, ◌++◌, None, Option, Some, Bool, refl, ap, sym, ◌∙◌, subst, arith, slice_get}
 use Rattle.std.specs.Prelude.{nat_lt, slice_set}
 use Rattle.std.proofs.lemmas.Bool.Decides.{eqb_tells}
 use Rattle.model.specs.declared.world.Activation.{Activation}
 use Rattle.model.specs.declared.world.Frame.{Frame}
 use Rattle.model.specs.declared.world.Frame.TheVariants.{Routine, Walk}
-use Rattle.model.specs.declared.world.Irql.TheVariants.{Passive}
+use Rattle.model.specs.declared.world.Irql.{Irql}
+use Rattle.model.specs.declared.world.Irql.TheVariants.{Passive, Dispatch as DispatchLevel}
 use Rattle.model.specs.declared.world.Packet.{Packet}
 use Rattle.model.specs.declared.world.Thread.{Thread}
 use Rattle.model.specs.Action.{Action, Issues}
-use Rattle.model.specs.Effect.{Change, Outcome, rooted, serves_request, standing, top_of, with_new_packet, with_stack}
+use Rattle.model.specs.Effect.{Change, Outcome, rooted, serves_request, standing, top_of, with_new_packet, with_stack, dpc_activation}
 use Rattle.model.specs.Fault.{first_fault}
 use Rattle.model.specs.Run.{frames_on}
 use Rattle.model.specs.Set.{Set}
@@ -19,7 +20,7 @@ use Rattle.model.specs.World.{World, new_packet}
 use Rattle.run_laws.proofs.Holders.Runs.{top_holding}
 use Rattle.run_laws.proofs.Holders.Sums.{Held}
 use Rattle.run_laws.proofs.Past.LivePackets.{find, find_above, find_push}
-use Rattle.run_laws.proofs.Runs.Events.{Happens, IssuesPacket, StepsFrame, issues, nothing, steps}
+use Rattle.run_laws.proofs.Runs.Events.{Happens, IssuesPacket, StepsFrame, issues, nothing, steps, begins}
 use Rattle.run_laws.proofs.Runs.Threads.{frames_there}
 use Rattle.run_laws.proofs.States.Frames.{IsGood}
 use Rattle.run_laws.proofs.States.Rules.{States}
@@ -125,6 +126,23 @@ module _ (set : Set) (states : States) (w : World) (past : List Entry)
             (subst (λ (f : Frame). h.thread.frames.items ≡ h.below ++ f ∷ []) is h.frames);
       })
 
+  -- a routine that begins on an idle thread has marked nothing late
+  root_late : (t : ℕ) (thread : Thread) (level : Irql) (a : Activation) (n : ℕ)
+      → slice_get w.threads t ≡ Some thread
+      → thread.frames.items ≡ [] → (returned : Bool)
+      → late_marks states returned n (slice_set w.threads t (rooted thread level a))
+      ≡ late_marks states returned n w.threads
+  root_late t thread level a n found idle returned =
+      let after : Thread = rooted thread level a in
+      let put : late_marks states returned n (slice_set w.threads t after)
+      + late_in states returned n None thread.frames.items
+      ≡ late_marks states returned n w.threads + late_in states returned n None (Routine a ∷ []) =
+      late_set states returned n w.threads t thread after found in
+      let none : late_in states returned n None thread.frames.items ≡ 0 =
+      ap (λ (frames : List Frame). late_in states returned n None frames) idle in
+      let new : late_in states returned n None (Routine a ∷ []) ≡ 0 = refl in
+      omega arith
+
   -- a packet is issued
   issue_turns : (actor : Actor) (h : IssuesPacket set w actor.thread) (n : ℕ) → WorldTurns states w
       (record {
@@ -145,15 +163,7 @@ module _ (set : Set) (states : States) (w : World) (past : List Entry)
       let late : Bool → ℕ = λ returned. late_marks states returned n w.threads in
       let lately : Bool → ℕ = λ returned. late_marks states returned n threads in
       let same : (returned : Bool) → lately returned ≡ late returned =
-      λ returned.
-      (let put : late_marks states returned n threads + late_in states returned n None
-      h.thread.frames.items
-      ≡ late_marks states returned n w.threads + late_in states returned n None (Routine a ∷ []) =
-      late_set states returned n w.threads t h.thread thread h.found in
-      let idle : late_in states returned n None h.thread.frames.items ≡ 0 =
-      ap (λ (frames : List Frame). late_in states returned n None frames) h.idle in
-      let new : late_in states returned n None (Routine a ∷ []) ≡ 0 = refl in
-      omega arith) in
+      root_late t h.thread Passive a n h.found h.idle in
       let push : find packets n ≡ _ = find_push 0 w.shared.packets m p known.stands.tells.rises refl n in
       turn_recorded past actor actions n before (find packets n) (late_of late before)
       (late_of lately (find packets n))
@@ -192,6 +202,15 @@ module _ (set : Set) (states : States) (w : World) (past : List Entry)
       (same_uses past n) refl (λ p there. refl))
   event_turns actor c (steps h) quiet n = frame_turns actor h quiet n
   event_turns actor c (issues h) quiet n = issue_turns actor h n
+  event_turns actor c (begins h) quiet n =
+      let a : Activation = dpc_activation set h.d h.routine in
+      turn_recorded past actor [] n (find w.shared.packets n) (find w.shared.packets n)
+      (late_in_world states w n) (late_in_world states c.world n)
+      (apart_becomes past past n (find w.shared.packets n) (find w.shared.packets n)
+      (λ returned. late_marks states returned n w.threads)
+      (λ returned. late_marks states returned n c.world.threads)
+      (same_uses past n) refl
+      (λ p there. root_late actor.thread h.thread DispatchLevel a n h.found h.idle p.pending_returned))
 
 -- what is agreed on in a world, in the words of the turns
 module _ (states : States) (w : World) (past : List Entry) where

@@ -17,9 +17,9 @@ use Rattle.model.specs.declared.event.Subject.TheVariants.{Packet as PacketSubje
 use Rattle.model.specs.declared.instr.Instr.{Instr}
 use Rattle.model.specs.declared.instr.Instr.TheVariants.{Call, Complete, End, Get, IfPending, Loop, Mark, Pass, Put, Ret}
 use Rattle.model.specs.declared.instr.Return.{Return}
-use Rattle.model.specs.declared.instr.Return.TheVariants.{Continue}
+use Rattle.model.specs.declared.instr.Return.TheVariants.{Continue, Void}
 use Rattle.model.specs.declared.set.Sort.{Sort}
-use Rattle.model.specs.declared.set.Sort.TheVariants.{Dispatch, Propagate}
+use Rattle.model.specs.declared.set.Sort.TheVariants.{Dispatch, Propagate, Dpc}
 use Rattle.model.specs.declared.world.Activation.{Activation}
 use Rattle.model.specs.declared.world.Frame.{Frame}
 use Rattle.model.specs.declared.world.Frame.TheVariants.{Routine, Walk}
@@ -43,7 +43,7 @@ use Rattle.run_laws.proofs.States.Lacking.{down}
 use Rattle.run_laws.proofs.States.Obeyed.{returns_by}
 use Rattle.run_laws.proofs.Steps.Locking.{LockWord, freed_word, taken_word}
 use Rattle.run_laws.proofs.States.Rules.{States}
-use Rattle.run_laws.proofs.Steps.Comes.{Comes, Executing, GoesTo, Reads, awaits_lock, calls_down, completes_gone, completes_packet, computes, errs, frees_lock, lets_go, lets_walk, looks_at, marks_packet, opens_loop, pages, passes_down, retakes_lock, returns_status, takes_lock, touches_gone, turns_loop, writes_info}
+use Rattle.run_laws.proofs.Steps.Comes.{Comes, Executing, GoesTo, Reads, awaits_lock, calls_down, completes_gone, completes_packet, computes, errs, frees_lock, lets_go, lets_walk, looks_at, marks_packet, opens_loop, pages, passes_down, retakes_lock, returns_status, takes_lock, touches_gone, turns_loop, writes_info, ends_dpc}
 use Rattle.run_laws.proofs.Steps.Faults.{none_first, none_later}
 use Rattle.run_laws.proofs.Steps.Words.{Looking, Marking, Work, jumps_on, packet_operand, work_of}
 use Rattle.run_laws.proofs.Uses.Becomes.{gets_marked, goes_down}
@@ -176,6 +176,8 @@ settled_mark : (carried : Settled) (sort : Sort) → sort ≡ Propagate → sett
 settled_mark SettledMark sort is rule = refl
 settled_mark Open Propagate is rule = cc
 settled_mark NeedMark Propagate is rule = cc
+settled_mark Open Dpc is rule = cc
+settled_mark NeedMark Dpc is rule = cc
 settled_mark Open Dispatch is rule = cc
 settled_mark NeedMark Dispatch is rule = cc
 
@@ -553,4 +555,5 @@ module _ (set : Set) (states : States) (s : Shared) (past : List Entry) (actor :
   routine_used below o (returns_status b form status at sort there) quiet =
       left_used form o at refl refl (λ n. refl)
   routine_used below o (lets_go b at sort bare) quiet = left_used Continue o at refl refl (λ n. refl)
+  routine_used below o (ends_dpc b at sort) quiet = left_used Void o at refl refl (λ n. refl)
   routine_used below o (lets_walk b n at sort) quiet = left_used Continue o at refl refl (λ m. refl)

@@ -1,6 +1,6 @@
 -- What is known of a thread's top frame that steps, over another frame or none: it stands as it
 -- should, its rights are to live packets, and what it sees and stands on is as its sort says.
-use Rattle.std.proofs.Common.{◌≡◌, ℕ, ◌≤◌, List, Option, None, Some, true, false, ap, sym, ◌∙◌, arith}
+use Rattle.std.proofs.Common.{◌≡◌, ℕ, ◌≤◌, List, Option, None, Some, true, false, ap, sym, ◌∙◌, arith, inl, inr}
 use Rattle.std.specs.Prelude.{⊤}
 use Rattle.model.specs.declared.abs.Abs.{Abs}
 use Rattle.model.specs.declared.instr.Instr.TheVariants.{End}
@@ -25,7 +25,7 @@ use Rattle.run_laws.proofs.States.NoViews.{dispatch_no_view, no_view_at}
 use Rattle.run_laws.proofs.States.OnTop.{OnTop, runs}
 use Rattle.run_laws.proofs.States.Rules.{States}
 use Rattle.run_laws.proofs.Steps.Comes.{Reads}
-use Rattle.run_laws.proofs.Live.Sees.{Seen, reads_own}
+use Rattle.run_laws.proofs.Live.Sees.{Seen, reads_own, bare_reads}
 use Rattle.run_laws.proofs.Uses.RoutineSteps.{OnWalk, StepsRoutine}
 use Rattle.run_laws.proofs.Uses.WalkSteps.{StepsWalk}
 
@@ -65,7 +65,11 @@ module _ (set : Set) (states : States) (s : Shared) (past : List Entry) (under :
 
   views_under : (u : Option Frame) → Seen set u (Routine a) → (r n : ℕ)
       → is_view (kind_of (state_of states a) r) ≡ true → Reads s a r n → u ≡ Some (Walk n)
-  views_under None seen r n views reads = absurd (never_views seen r views)
+  views_under None seen r n views reads =
+      elim seen [
+        | inl is ↦ absurd (never_views is r views)
+        | inr bare ↦ absurd (bare_reads set s a r n bare reads)
+      ]
   views_under (Some (Routine b)) seen r n views reads = absurd (never_views seen r views)
   views_under (Some (Walk m)) seen r n views reads =
       ap (λ (k : ℕ). Some (Walk k)) (sym (reads_own m s a seen r n reads))

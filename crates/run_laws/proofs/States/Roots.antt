@@ -1,0 +1,109 @@
+-- Where a thread's lowest frame began: each dispatch routine's frame is on a thread that began at
+-- PASSIVE_LEVEL, since only dispatch routines send packets down.
+use Rattle.std.proofs.Common.{◌≡◌, ℕ, ◌-◌, List, [], ◌∷◌, ◌++◌, Option, None, Some, Bool, false, refl, sym, ◌∙◌}
+use Rattle.std.specs.Prelude.{⊤, nat_lt}
+use Rattle.std.proofs.lemmas.Bool.{cond_both}
+use Rattle.model.specs.declared.instr.Instr.{Instr}
+use Rattle.model.specs.declared.instr.Instr.TheVariants.{Pass, Call}
+use Rattle.model.specs.declared.set.Sort.TheVariants.{Dispatch, Propagate}
+use Rattle.model.specs.declared.status.Status.{Status}
+use Rattle.model.specs.declared.world.Activation.{Activation}
+use Rattle.model.specs.declared.world.Frame.{Frame}
+use Rattle.model.specs.declared.world.Frame.TheVariants.{Routine, Walk}
+use Rattle.model.specs.declared.world.Irql.{Irql}
+use Rattle.model.specs.declared.world.Irql.TheVariants.{Passive}
+use Rattle.model.specs.declared.world.OpenLoop.{OpenLoop}
+use Rattle.model.specs.Effect.{Outcome, answered_in, completes_with, operand_of, root_over, turned}
+use Rattle.model.specs.Set.{Set, instruction_at}
+use Rattle.model.specs.World.{Shared, at_label, next, outer_loops, with_loops}
+use Rattle.run_laws.proofs.Lists.{Each}
+use Rattle.run_laws.proofs.States.Entering.{IsOfSort, Begins, begins_back}
+use Rattle.run_laws.proofs.States.Lacking.{down}
+use Rattle.run_laws.proofs.States.OnTop.{OnTop, runs}
+use Rattle.run_laws.proofs.States.Rules.{States}
+use Rattle.run_laws.proofs.States.Told.{told_frame, told_last}
+use Rattle.run_laws.proofs.Steps.Comes.{GoesTo, onward, jumping, Comes, computes, turns_loop, pages, looks_at, completes_packet, passes_down, calls_down, returns_status, lets_go, lets_walk, ends_dpc, walks_gone, walks_to, walks_up, carries_up, tops_out}
+
+module _ (set : Set) (root : Irql) where
+  abbrev pub Low : Frame → Type 0
+  Low (Routine a) = IsOfSort set a Dispatch → root ≡ Passive
+  Low (Walk n) = ⊤
+
+  goes_low : (a : Activation) (i : Instr) (b : Activation) (jumped : Bool) → GoesTo a i b jumped
+      → Low (Routine a) → Low (Routine b)
+  goes_low a i b jumped (onward registers on written) low = low
+  goes_low a i b jumped (jumping label labelled) low = low
+
+  turned_low : (a : Activation) (l : OpenLoop) → Low (Routine a) → Low (Routine (turned a l))
+  turned_low a l low =
+      cond_both (nat_lt 1 l.turns)
+      (at_label (with_loops a (outer_loops a ++ record { start = l.start; turns = l.turns - 1 } ∷ []))
+      l.start)
+      (next (with_loops a (outer_loops a))) (λ b. Low (Routine b)) (λ more. low) (λ last. low)
+
+  -- a frame that is told something
+  answered_low : (a : Activation) (status : Status) (r : Option ℕ) → Low (Routine a)
+      → Low (Routine (answered_in a status r))
+  answered_low a status None low = low
+  answered_low a status (Some r) low = low
+
+  told_low : (told : Option Status) (f : Frame) → Low f → Low (told_frame set told f)
+  told_low None (Routine a) low = low
+  told_low None (Walk n) low = low
+  told_low (Some status) (Walk n) low = low
+  told_low (Some status) (Routine a) low =
+      answered_low a status (operand_of (instruction_at set a.driver a.routine (a.position - 1))) low
+
+  pub last_low : (told : Option Status) (below : List Frame) → Each Low below
+      → Each Low (told_last set told below)
+  last_low told [] low = tt
+  last_low told (f ∷ []) low = (told_low told f low.0, tt)
+  last_low told (f ∷ g ∷ below) low = (low.0, last_low told (g ∷ below) low.1)
+
+  -- what a step of a frame leaves
+  module _ (states : States) (s : Shared) (t : ℕ) where
+    pub step_low : (under : Option Frame) (f : Frame) (o : Outcome) → OnTop set states s f → Low f
+        → Comes set s t under f o
+        → Each Low o.frames
+    step_low under f o h low (computes a i b jumped cells at work goes long) =
+        (goes_low a i b jumped goes low, tt)
+    step_low under f o h low (turns_loop a l at inner) = (turned_low a l low, tt)
+    step_low under f o h low (pages a i b cell cells at work goes long) = (goes_low a i b false goes low, tt)
+    step_low under f o h low (looks_at a i b jumped r n p at work goes operand reads there jumps) =
+        (goes_low a i b jumped goes low, tt)
+    step_low under f o h low (completes_packet a r status n p at reads there) = (low, (tt, tt))
+    step_low under f o h low (passes_down a r n p lower at reads there below) = (
+      low,
+      (
+        (λ is. low (down set states s a (Pass r) r (runs set states s a (Pass r) h at) refl
+            refl).dispatch),
+        tt,
+      ),
+    )
+    step_low under f o h low (calls_down a r c n p lower at reads there below) = (
+      low,
+      (
+        (λ is. low (down set states s a (Call r c) r (runs set states s a (Call r c) h at) refl
+            refl).dispatch),
+        tt,
+      ),
+    )
+    step_low under f o h low (returns_status a form status at sort is) = tt
+    step_low under f o h low (lets_go a at sort free) = tt
+    step_low under f o h low (lets_walk a n at sort) = tt
+    step_low under f o h low (ends_dpc a at sort) = tt
+    step_low under f o h low (walks_gone n gone) = tt
+    step_low under f o h low (walks_to n p c there set_there) =
+        let begins : Begins set states s.issued (completes_with set c n) Propagate n =
+        begins_back set states s h.good h.fits n p c h.stands there set_there in
+        (tt, ((λ is. (let no : Propagate ≡ Dispatch = sym begins.of_sort ∙ is in cc)), tt))
+    step_low under f o h low (walks_up n p there none more unmarked) = (tt, tt)
+    step_low under f o h low (carries_up n p there none more marked) = (tt, tt)
+    step_low under f o h low (tops_out n p there none last) = tt
+    step_low under f o h low _ = (low, tt)
+
+-- where no frame is left the thread is at PASSIVE_LEVEL
+pub low_over : (set : Set) (root : Irql) (frames : List Frame) → Each (Low set root) frames
+    → Each (Low set (root_over root frames)) frames
+low_over set root [] low = tt
+low_over set root (f ∷ frames) low = low
