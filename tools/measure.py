@@ -44,6 +44,26 @@ def largest_branching_set():
 def one_routine(body):
     return ['driver d', 'dispatch READ f', 'routine f dispatch'] + body + ['endr', 'endd', 'device v d 1']
 
+def through_a_queue():
+    """A driver that puts its packets into a queue, from which its DPC routine completes them: its text, the events of a
+    request and those of a completion."""
+    text = ['driver d', 'queue q l0', 'dispatch READ f', 'dpc g', 'routine f dispatch', 'mark r0', 'acquire l0', 'insert r0 q', 'release l0',
+            'ret PENDING', 'endr', 'routine g dpc', 'acquire l0', 'remove r0 q none', 'release l0', 'complete r0 SUCCESS', 'ret void',
+            'none: release l0', 'ret void', 'endr', 'endd', 'device v d 1']
+    return text, ['issue 0 0 READ 0'] + ['step 0'] * 5, ['interrupt 0', 'dpc 1 0'] + ['step 1'] * 6
+
+def through_startio():
+    """The same of a driver that starts its packets one at a time."""
+    text = ['driver d', 'dispatch READ f', 'startio s', 'dpc g', 'routine f dispatch', 'mark r0', 'start r0', 'ret PENDING', 'endr',
+            'routine s startio', 'begin r0', 'ret void', 'endr', 'routine g dpc', 'take r0 none', 'next', 'complete r0 SUCCESS', 'ret void',
+            'none: ret void', 'endr', 'endd', 'device v d 1']
+    return text, ['issue 0 0 READ 0'] + ['step 0'] * 3, ['startio 1 0'] + ['step 1'] * 2 + ['interrupt 0', 'dpc 1 0'] + ['step 1'] * 5
+
+def events_with(live, request, completion):
+    """300,000 events: so many packets are issued, and then the oldest is completed and another one issued, again and again."""
+    turn = completion + request
+    return ['threads 2'] + (request * live + turn * (300000 // len(turn) + 1))[:300000]
+
 def cases():
     long_routine = one_routine(['const r1 %d' % i for i in range(1022)] + ['complete r0 SUCCESS', 'ret SUCCESS'])
     requests = ['threads 32']
@@ -63,6 +83,9 @@ def cases():
     yield 'trace of 300,000 steps round a lock', 'trace', \
         one_routine(['loop 100', 'loop 150', 'acquire l0', 'load r1 c0', 'store c0 r1', 'release l0', 'clear r1', 'end', 'end', 'complete r0 SUCCESS', 'ret SUCCESS']), \
         ['threads 4'] + ['issue %d 0 READ 0' % t for t in range(4)] + ['step %d' % (i % 4) for i in range(300000)]
+    for way, (text, request, completion) in ('a queue', through_a_queue()), ('StartIo', through_startio()):
+        for live in 1, 1000:
+            yield 'trace of 300,000 events, %s, %s live' % (way, f'{live:,}'), 'trace', text, events_with(live, request, completion)
 
 def spent(program, words):
     begin = time.perf_counter()

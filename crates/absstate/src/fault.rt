@@ -34,7 +34,7 @@ pub fn broken_if(broken: bool, rule: Rule) -> Option<Rule>
     if broken { Some(rule) } else { None }
 }
 
-fn unless(kept: bool, rule: Rule) -> Option<Rule>
+pub fn unless(kept: bool, rule: Rule) -> Option<Rule>
     ensures { result ≡ unless kept rule }
 {
     if kept { None } else { Some(rule) }
@@ -59,6 +59,12 @@ impl Wanted {
     pub const NEW: Wanted = Wanted {
         new: true,
         own: false,
+        view: false,
+    };
+    /// One that it owns.
+    pub const OWN: Wanted = Wanted {
+        new: false,
+        own: true,
         view: false,
     };
     /// One that it was handed, or that it owns.
@@ -148,7 +154,7 @@ pub fn level_fault(state: &Abs, sort: Sort) -> Option<Rule>
 {
     match sort {
         Sort::Dispatch => broken_if(holds_lock(state), Rule::Level),
-        Sort::Dpc | Sort::Propagate => Some(Rule::Level),
+        Sort::StartIo | Sort::Dpc | Sort::Propagate => Some(Rule::Level),
     }
 }
 
@@ -255,7 +261,7 @@ fn is_completion(sort: Sort) -> bool
     ensures { result ≡ is_completion sort }
 {
     match sort {
-        Sort::Dispatch | Sort::Dpc => false,
+        Sort::Dispatch | Sort::StartIo | Sort::Dpc => false,
         Sort::Propagate => true,
     }
 }

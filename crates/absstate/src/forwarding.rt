@@ -72,7 +72,7 @@ fn forward_sort_fault(sort: Sort) -> Option<Rule>
 {
     match sort {
         Sort::Dispatch => None,
-        Sort::Dpc => Some(Rule::Sort),
+        Sort::StartIo | Sort::Dpc => Some(Rule::Sort),
         Sort::Propagate => Some(Rule::Completion),
     }
 }

@@ -5,6 +5,7 @@
 mod fault;
 mod forwarding;
 mod local_rule;
+mod queues;
 mod returns;
 mod state;
 

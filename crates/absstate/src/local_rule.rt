@@ -2,17 +2,21 @@
 
 ghost use Rattle.std.specs.Prelude.{◌≡◌};
 ghost use Rattle.model.specs.LocalRule.{local_rule, refuses, handed, handed_at_label, outs};
+ghost use Rattle.model.specs.LocalRule.{with_kind};
 
 use crate::fault::{
     broken_if, complete_fault, free_fault, least, level_fault, look_fault, mark_fault,
     number_fault, packet_fault,
 };
 use crate::forwarding::{call_fault, pass_fault};
+use crate::queues::{begin_fault, insert_fault, next_fault, remove_fault, start_fault, take_fault};
 use crate::returns::return_fault;
-use crate::state::{complete, give_down, is_held, kind, mark, move_kind, set_kind, set_lock};
+use crate::state::{
+    begin, complete, give_down, is_held, kind, mark, move_kind, set_kind, set_lock, take,
+};
 use image::DriverSet;
 use model::abs::{Abs, Kind, Outs, Rule, Settled};
-use model::instr::Instr;
+use model::instr::{Instr, Register};
 use model::set::Sort;
 
 /// The states that an instruction of a routine of a sort, of a driver of a set, hands on from a
@@ -62,6 +66,12 @@ pub fn broken_rule(
         Instr::Release(lock) => broken_if(!is_held(state, lock), Rule::SpinLock),
         Instr::AcquireCancel => broken_if(state.cancel, Rule::CancelSpinLock),
         Instr::ReleaseCancel => broken_if(!state.cancel, Rule::CancelSpinLock),
+        Instr::Insert(register, queue) => insert_fault(state, register, set, driver, queue),
+        Instr::Remove(to, queue, _) => remove_fault(state, to, set, driver, queue),
+        Instr::Start(register) => start_fault(state, register, set, driver),
+        Instr::Take(to, _) => take_fault(state, to, sort),
+        Instr::Begin(register) => begin_fault(state, register),
+        Instr::Next => next_fault(state),
         Instr::Pass(register) => pass_fault(state, register, sort, set, driver),
         Instr::Call(register, _) => call_fault(state, register, sort, set, driver),
         Instr::Complete(register, status) => complete_fault(state, register, status, sort),
@@ -106,7 +116,13 @@ pub fn advance(state: &mut Abs, instr: &Instr)
         Instr::Const(to, _) | Instr::Load(to, _) | Instr::LoadPaged(to, _) | Instr::Get(to, _, _) =>
             { set_kind(state, to, Kind::Num) }
         Instr::Move(to, from) => move_kind(state, to, from),
-        Instr::Clear(register) => set_kind(state, register, Kind::Blank),
+        Instr::Clear(register) | Instr::Insert(register, _) | Instr::Start(register) => {
+            set_kind(state, register, Kind::Blank)
+        }
+        Instr::Remove(to, _, _) => set_kind(state, to, Kind::Own),
+        Instr::Take(to, _) => take(state, to),
+        Instr::Begin(register) => begin(state, register),
+        Instr::Next => state.token = false,
         Instr::Mark(register) => mark(state, register),
         Instr::Acquire(lock) => set_lock(state, lock, true),
         Instr::Release(lock) => set_lock(state, lock, false),
@@ -128,6 +144,15 @@ pub fn state_at_label(state: &Abs, instr: &Instr) -> Abs
             settled: Settled::NeedMark,
             ..*state
         },
+        Instr::Remove(to, _, _) | Instr::Take(to, _) => without(*state, to),
         _ => *state,
     }
+}
+
+/// The state with nothing in a register: no packet was there to be put into it.
+fn without(mut state: Abs, register: Register) -> Abs
+    ensures { result ≡ with_kind state register Kind.Blank }
+{
+    set_kind(&mut state, register, Kind::Blank);
+    state
 }

@@ -13,8 +13,8 @@ use model::instr::{Register, Return};
 use model::set::Sort;
 use model::status::Status;
 
-/// A return keeps the duty to the packet, leaves no lock and no packet behind, and has its sort's
-/// form.
+/// A return keeps the duty to the packet, leaves no lock, no packet and no token behind, and has
+/// its sort's form.
 pub fn return_fault(state: &Abs, form: &Return, sort: Sort) -> Option<Rule>
     ensures { result ≡ return_fault state.now form.now sort }
 {
@@ -77,10 +77,9 @@ fn form_fault(sort: Sort, form: &Return) -> Option<Rule>
     match (sort, *form) {
         (Sort::Dispatch, Return::WithStatus(_) | Return::Lower(_)) => None,
         (Sort::Dispatch, Return::Continue | Return::Void) => Some(Rule::Sort),
-        (Sort::Dpc, Return::Void) => None,
-        (Sort::Dpc, Return::WithStatus(_) | Return::Lower(_) | Return::Continue) => {
-            Some(Rule::Sort)
-        }
+        (Sort::StartIo | Sort::Dpc, Return::Void) => None,
+        (Sort::StartIo | Sort::Dpc, Return::WithStatus(_) | Return::Lower(_) | Return::Continue) =>
+            Some(Rule::Sort),
         (Sort::Propagate, Return::Continue) => None,
         (Sort::Propagate, Return::WithStatus(_) | Return::Lower(_) | Return::Void) => {
             Some(Rule::Sort)
@@ -93,7 +92,7 @@ fn settled_fault(sort: Sort, settled: Settled) -> Option<Rule>
     ensures { result ≡ settled_fault sort settled }
 {
     match sort {
-        Sort::Dispatch | Sort::Dpc => None,
+        Sort::Dispatch | Sort::StartIo | Sort::Dpc => None,
         Sort::Propagate => broken_if(!is_settled(settled), Rule::Completion),
     }
 }
@@ -104,14 +103,15 @@ fn is_settled(settled: Settled) -> bool
     matches!(settled, Settled::Settled)
 }
 
-/// A routine that returns keeps no lock, and no packet in a register.
+/// A routine that returns keeps no lock, no packet in a register, and no token.
 fn kept_fault(state: &Abs) -> Option<Rule>
     ensures { result ≡ kept_fault state.now }
 {
     let spin = broken_if(holds_spin_lock(state), Rule::SpinLock);
+    let token = broken_if(state.token, Rule::Token);
     least(
         broken_if(state.cancel, Rule::CancelSpinLock),
-        least(spin, left_fault(state)),
+        least(spin, least(left_fault(state), token)),
     )
 }
 

@@ -1,6 +1,6 @@
 //! Abstract states: the one at a routine's entry, their parts and changes, and their equality.
 
-ghost use Rattle.std.specs.Prelude.{◌≡◌, ◌↔◌, IsTrue};
+ghost use Rattle.std.specs.Prelude.{◌≡◌, ◌↔◌, IsTrue, true, false};
 ghost use Rattle.model.specs.LocalRule.{entry_of_sort, entered_with, kind_of, with_kind};
 ghost use Rattle.model.specs.LocalRule.{is_held, with_lock, left_behind, moved};
 ghost use Rattle.model.specs.LocalRule.{marked, given_down, duty_completed};
@@ -11,19 +11,21 @@ use model::limits::{REGISTERS, SPIN_LOCKS};
 use model::set::Sort;
 
 /// The state in which a routine of a sort is entered, if it may be: it finds its packet in the
-/// first register, but for a DPC routine, which is handed none.
+/// first register, but for a DPC routine, which is handed none. A StartIo routine has the token of
+/// its device.
 pub fn entry_state(sort: Sort) -> Option<Abs>
     ensures { result ≡ entry_of_sort sort }
 {
     match sort {
-        Sort::Dispatch => Some(entered_with(Kind::New, Duty::Fresh, Settled::Settled)),
-        Sort::Dpc => Some(entered_with(Kind::Blank, Duty::NoDuty, Settled::Settled)),
-        Sort::Propagate => Some(entered_with(Kind::View, Duty::NoDuty, Settled::Open)),
+        Sort::Dispatch => Some(entered_with(Kind::New, Duty::Fresh, Settled::Settled, false)),
+        Sort::StartIo => Some(entered_with(Kind::Own, Duty::NoDuty, Settled::Settled, true)),
+        Sort::Dpc => Some(entered_with(Kind::Blank, Duty::NoDuty, Settled::Settled, false)),
+        Sort::Propagate => Some(entered_with(Kind::View, Duty::NoDuty, Settled::Open, false)),
     }
 }
 
-fn entered_with(first: Kind, duty: Duty, settled: Settled) -> Abs
-    ensures { result ≡ entered_with first duty settled }
+fn entered_with(first: Kind, duty: Duty, settled: Settled, token: bool) -> Abs
+    ensures { result ≡ entered_with first duty settled token }
 {
     let mut kinds = [Kind::Blank; REGISTERS];
     kinds[0] = first;
@@ -33,6 +35,7 @@ fn entered_with(first: Kind, duty: Duty, settled: Settled) -> Abs
         cancel: false,
         duty,
         settled,
+        token,
     }
 }
 
@@ -45,6 +48,7 @@ pub fn are_same(a: &Abs, b: &Abs) -> bool
         && a.cancel == b.cancel
         && a.duty == b.duty
         && a.settled == b.settled
+        && a.token == b.token
 }
 
 fn same_kinds(a: &[Kind], b: &[Kind]) -> bool
@@ -148,4 +152,20 @@ pub fn complete(state: &mut Abs, register: Register)
         state.duty = Duty::Finished;
     }
     set_kind(state, register, Kind::Blank);
+}
+
+/// Takes the current packet of the device into a register: the routine owns it, and has the token.
+pub fn take(state: &mut Abs, register: Register)
+    ensures { state.new ≡ record (with_kind state.old register Kind.Own) { token = true } }
+{
+    set_kind(state, register, Kind::Own);
+    state.token = true;
+}
+
+/// Makes the packet in a register the current one of the device, which gets the token with it.
+pub fn begin(state: &mut Abs, register: Register)
+    ensures { state.new ≡ record (with_kind state.old register Kind.Blank) { token = false } }
+{
+    set_kind(state, register, Kind::Blank);
+    state.token = false;
 }

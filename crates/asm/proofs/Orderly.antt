@@ -1,5 +1,5 @@
 -- A line without a fault keeps what was read within the limits.
-use Rattle.std.proofs.Common.{◌≡◌, ℕ, suc, ◌+◌, ◌<◌, ◌≤◌, Bool, true, false, not, ◌&&◌, ◌||◌, List, [], ◌∷◌, ◌++◌, length, Option, Some, None, IfSome, get_or, refl, sym, ◌∙◌, ap, subst, arith, length-append, append-nil}
+use Rattle.std.proofs.Common.{◌≡◌, ℕ, zero, suc, ◌+◌, ◌<◌, ◌≤◌, Bool, true, false, not, ◌&&◌, ◌||◌, List, [], ◌∷◌, ◌++◌, length, Option, Some, None, IfSome, get_or, refl, sym, ◌∙◌, ap, subst, arith, length-append, append-nil}
 use Rattle.std.specs.Prelude.{All, map, slice_get, unwrap_or, bytes_eq, nat_le, nat_lt, position, option_to_list, option_map, option_and_then, if◌then◌else◌}
 use Rattle.std.specs.List.{list_any, position_or_len}
 use Rattle.std.proofs.lemmas.List.Elements.{All-push, All-append, All-map, All-nil}
@@ -9,14 +9,16 @@ use Rattle.std.proofs.lemmas.List.Quantifiers.{position-Some}
 use Rattle.std.proofs.lemmas.Bool.{ltb-true}
 use Rattle.std.proofs.lemmas.Bool.Decides.{nat_tests}
 use Rattle.model.specs.declared.set.Device.{Device}
-use Rattle.model.specs.Sound.{DriverFits, DeviceFits, DevicesFit, RoutineFits, HandlerFits, DpcFits, LabelFits, OperandFits, CallFits, CallsFit, HasSort, IsDispatch, IsCompletion, IsDpc, IsSound}
+use Rattle.model.specs.declared.set.Queue.{Queue}
+use Rattle.model.specs.declared.set.Routine.{Routine}
+use Rattle.model.specs.Sound.{DriverFits, DeviceFits, DevicesFit, RoutineFits, HandlerFits, StartIoFits, DpcFits, GuardFits, IsSpinLock, LabelFits, OperandFits, CallFits, CallsFit, QueueFits, QueuesFit, queue_named, HasSort, IsDispatch, IsCompletion, IsStartIo, IsDpc, IsSound}
 use Rattle.model.specs.declared.status.Major.{Major}
 use Rattle.model.specs.declared.status.Major.TheVariants.{Read, Write, Control}
 use Rattle.model.specs.declared.set.Sort.{Sort}
-use Rattle.model.specs.declared.set.Sort.TheVariants.{Dispatch, Dpc, Propagate}
+use Rattle.model.specs.declared.set.Sort.TheVariants.{Dispatch, StartIo, Dpc, Propagate}
 use Rattle.model.specs.declared.instr.Instr.{Instr}
-use Rattle.model.specs.declared.instr.Instr.TheVariants.{JumpIfZero, JumpIfLess, Jump, IfPending, Call}
-use Rattle.model.specs.declared.limits.TheConstants.{MAX_DEVICES, MAX_DRIVERS, MAX_INSTRUCTIONS, MAX_ROUTINES, MAX_STACK}
+use Rattle.model.specs.declared.instr.Instr.TheVariants.{JumpIfZero, JumpIfLess, Jump, Insert, Remove, Take, IfPending, Call}
+use Rattle.model.specs.declared.limits.TheConstants.{MAX_DEVICES, MAX_DRIVERS, MAX_INSTRUCTIONS, MAX_QUEUES, MAX_ROUTINES, MAX_STACK}
 use Rattle.asm.specs.declared.draft.Place.{Place}
 use Rattle.asm.specs.declared.draft.Place.TheVariants.{Outside, InDriver, InRoutine}
 use Rattle.asm.specs.declared.draft.ClosedRoutine.{ClosedRoutine}
@@ -25,13 +27,13 @@ use Rattle.asm.specs.declared.draft.Step.{Step}
 use Rattle.asm.specs.declared.draft.Use.{Use}
 use Rattle.asm.specs.declared.fault.AsmKind.TheVariants.{UnknownWord, DuplicateName, OutOfRange, OverLimit}
 use Rattle.asm_line.specs.declared.line.Body.{Body}
-use Rattle.asm_line.specs.declared.line.Body.TheVariants.{Blank, OpenDriver, CloseDriver, Handle, HandleDpc, OpenRoutine, CloseRoutine, AddDevice, Step as TakeStep}
+use Rattle.asm_line.specs.declared.line.Body.TheVariants.{Blank, OpenDriver, CloseDriver, AddQueue, Handle, HandleStartIo, HandleDpc, OpenRoutine, CloseRoutine, AddDevice, Step as TakeStep}
 use Rattle.asm_line.specs.declared.line.Line.{Line}
 use Rattle.asm_line.specs.declared.line.UsedNames.{UsedNames}
-use Rattle.asm_line.specs.Line.{BodyFits}
+use Rattle.asm_line.specs.Line.{BodyFits, IsNoted, QueueNoted}
 use Rattle.asm.specs.declared.routines.Role.{Role}
-use Rattle.asm.specs.declared.routines.Role.TheVariants.{Handler, Completion, Dpc as DpcRole}
-use Rattle.asm.specs.Outline.{Outline, with_label, with_routine, label_added, call_place, resolved, target_position, used_at, nothing_read, misfit, stands, is_again, is_among, is_out_of_range, is_stack_size, has_room, noted, number_of, number_used, number_for, routine_named, routine_called, entry_in, called, finished, finished_driver, missed, missed_from, missed_routine, earliest, driver_opened, driver_closed, handled, dpc_handled, routine_opened, routine_closed, open_drivers, open_routines, open_sort, device_added, stepped, ClosedFits, DevicesKnown, IsFitting, IsOrderly}
+use Rattle.asm.specs.declared.routines.Role.TheVariants.{Handler, Completion, StartIo as StartIoRole, Dpc as DpcRole}
+use Rattle.asm.specs.Outline.{Outline, with_label, with_queue, with_routine, label_added, use_place, resolved, target_position, used_at, nothing_read, misfit, stands, is_again, is_among, is_out_of_range, is_stack_size, has_room, noted, number_of, number_used, number_for, routine_named, routine_called, entry_in, called, finished, finished_driver, missed, missed_from, missed_in_driver, missed_queue, missed_routine, missed_uses, queue_added, queue_at, startio_handled, earliest, driver_opened, driver_closed, handled, dpc_handled, routine_opened, routine_closed, open_drivers, open_routines, open_sort, device_added, stepped, ClosedFits, DevicesKnown, IsFitting, IsOrderly, IsUse, QueueUsed}
 
 -- no kind is chosen only where each test passes
 none_chosen : (a b c d : Bool)
@@ -59,6 +61,37 @@ number_below names name = below (position (bytes_eq name) names) refl
     below : (o : Option ℕ) → position (bytes_eq name) names ≡ o → IfSome o (λ n. n < length names)
     below None e = tt
     below (Some n) e = (position-Some (bytes_eq name) names n [] e).0
+
+any_within : {X : Type 0} (p : X → Bool) (xs : List X) → list_any p xs ≡ true
+    → position_or_len p xs < length xs
+any_within p [] h = cc
+any_within p (x ∷ xs) h = by (p x) (any_within p xs) h
+  where
+    by : (b : Bool) → (list_any p xs ≡ true → position_or_len p xs < length xs)
+        → (b || list_any p xs) ≡ true → (if not b then 1 + position_or_len p xs else 0)
+        < suc (length xs)
+    by true rest h = omega arith
+    by false rest h = let within = rest h in omega (arith, within)
+
+-- a name that is among these has a number
+number_there : (names : List (List ℕ)) (name : List ℕ) → is_among names name ≡ true
+    → number_of names name ≡ Some (position_or_len (bytes_eq name) names)
+number_there names name h =
+    let within = any_within (bytes_eq name) names h in
+    let test : nat_lt (position_or_len (bytes_eq name) names) (length names) ≡ true =
+    grind (arith, nat_tests, within) in
+    ap (λ (b : Bool). if b then Some (position_or_len (bytes_eq name) names) else None) test
+
+-- a name that isn't missed is among these
+is_there : (known : Bool) (line : ℕ) → (if known then None else Some line) ≡ None → known ≡ true
+is_there true line h = refl
+is_there false line h = cc
+
+-- where the earliest of two lines isn't there, neither is
+neither : (a b : Option ℕ) → earliest a b ≡ None → (a ≡ None) × (b ≡ None)
+neither None b h = (refl, h)
+neither (Some a) None h = cc
+neither (Some a) (Some b) h = cc
 
 -- the sort of a closed routine
 abbrev sort_at : ClosedRoutine → Sort
@@ -97,12 +130,6 @@ devices_push drivers number count [] d is fit one =
     (subst (λ (k : ℕ). DeviceFits drivers k d) same one, tt)
 devices_push drivers number count (e ∷ es) d is fit one =
     (fit.0, devices_push drivers (suc number) count es d (omega (arith, is)) fit.1 one)
-
--- where the earliest of two lines isn't there, neither is
-neither : (a b : Option ℕ) → earliest a b ≡ None → (a ≡ None) × (b ≡ None)
-neither None b h = (refl, h)
-neither (Some a) None h = cc
-neither (Some a) (Some b) h = cc
 
 none_before : (labels : List (List ℕ)) (found : Option ℕ) (steps : List Step)
     → missed_from labels found steps ≡ None → found ≡ None
@@ -151,9 +178,14 @@ driver_opened_orderly o name place room h =
       few_drivers = omega (arith, more);
       few_devices = h.few_devices;
       few_routines = h.few_routines;
+      few_queues = h.few_queues;
       few_steps = h.few_steps;
+      idle = λ none. h.idle p.1;
       positions_fit = h.positions_fit;
       operands_fit = h.operands_fit;
+      queues_used = h.queues_used;
+      guards_fit = h.guards_fit;
+      queue_count = h.queue_count;
       driver_count = omega (arith, more, h.driver_count, p.0);
       routine_count = omega (arith, h.routine_count, p.1);
       sorts_known = ap (λ (opened : List Sort). map sort_at o.routines ++ opened) (sym none)
@@ -176,26 +208,42 @@ labelled_still : (count : ℕ) (i : Instr) (f : Option ℕ) → LabelFits count 
 labelled_still count (Call r old) f h = tt
 labelled_still count _ f h = h
 
+-- and when its queue is known
+label_queued : (count : ℕ) (i : Instr) (q : ℕ) → LabelFits count i
+    → LabelFits count (with_queue i q)
+label_queued count (Insert r old) q h = h
+label_queued count (Remove r old label) q h = h
+label_queued count _ q h = h
+
 -- the operands of an instruction fit still when the routine of a call is known
 operands_still : (i : Instr) (f : Option ℕ) → OperandFits i → OperandFits (with_routine i f)
 operands_still (Call r old) f h = h
 operands_still _ f h = h
 
+operands_queued : (i : Instr) (q : ℕ) → OperandFits i → OperandFits (with_queue i q)
+operands_queued (Insert r old) q h = h
+operands_queued (Remove r old label) q h = h
+operands_queued _ q h = h
+
 -- so a closed routine fits when its driver is finished
-finished_fits : (o : Outline) (routine : ClosedRoutine) → ClosedFits routine
+finished_fits : (o : Outline) (uses : ℕ) (routine : ClosedRoutine) → ClosedFits uses routine
     → RoutineFits (finished o routine)
-finished_fits o routine h =
+finished_fits o uses routine h =
     let same = length-map routine.code (called o) in
     let count = length (map (called o) routine.code) in
     record {
       few = omega (arith, same, h.few);
       labels = All-map (LabelFits count) (called o) routine.code (λ i d inside.
           let step = get_or routine.code i d in
-          labelled_still count step.instr (routine_called o step.call)
-          (subst (λ (k : ℕ). LabelFits k step.instr) (sym same) (h.labels i d inside)));
+          let numbered = with_routine step.instr (routine_called o step.call) in
+          label_queued count numbered (queue_at o step.queue)
+          (labelled_still count step.instr (routine_called o step.call)
+          (subst (λ (k : ℕ). LabelFits k step.instr) (sym same) (h.labels i d inside))));
       operands = All-map OperandFits (called o) routine.code (λ i d inside.
           let step = get_or routine.code i d in
-          operands_still step.instr (routine_called o step.call) (h.operands i d inside));
+          operands_queued (with_routine step.instr (routine_called o step.call))
+          (queue_at o step.queue)
+          (operands_still step.instr (routine_called o step.call) (h.operands i d inside)));
     }
 
 -- a routine's sort stays when its driver is finished
@@ -218,6 +266,7 @@ sort_kept P o number sort sorts is h =
 abbrev SortFor : Role → Sort → Type 0
 SortFor Handler sort = IsDispatch sort
 SortFor Completion sort = IsCompletion sort
+SortFor StartIoRole sort = IsStartIo sort
 SortFor DpcRole sort = IsDpc sort
 
 number_has_sort : (o : Outline) (role : Role) (number : ℕ) (sort : Option Sort)
@@ -227,13 +276,21 @@ number_has_sort : (o : Outline) (role : Role) (number : ℕ) (sort : Option Sort
 number_has_sort o role number None sorts is = tt
 number_has_sort o Handler number (Some Dispatch) sorts is =
     sort_kept IsDispatch o number Dispatch sorts is tt
+number_has_sort o Handler number (Some StartIo) sorts is = tt
 number_has_sort o Handler number (Some Dpc) sorts is = tt
 number_has_sort o Handler number (Some Propagate) sorts is = tt
 number_has_sort o Completion number (Some Dispatch) sorts is = tt
+number_has_sort o Completion number (Some StartIo) sorts is = tt
 number_has_sort o Completion number (Some Dpc) sorts is = tt
 number_has_sort o Completion number (Some Propagate) sorts is =
     sort_kept IsCompletion o number Propagate sorts is tt
+number_has_sort o StartIoRole number (Some Dispatch) sorts is = tt
+number_has_sort o StartIoRole number (Some StartIo) sorts is =
+    sort_kept IsStartIo o number StartIo sorts is tt
+number_has_sort o StartIoRole number (Some Dpc) sorts is = tt
+number_has_sort o StartIoRole number (Some Propagate) sorts is = tt
 number_has_sort o DpcRole number (Some Dispatch) sorts is = tt
+number_has_sort o DpcRole number (Some StartIo) sorts is = tt
 number_has_sort o DpcRole number (Some Dpc) sorts is =
     sort_kept IsDpc o number Dpc sorts is tt
 number_has_sort o DpcRole number (Some Propagate) sorts is = tt
@@ -248,6 +305,12 @@ handler_fits : (o : Outline) (u : Option Use) → map sort_at o.routines ≡ o.s
     → HandlerFits (map (finished o) o.routines) (entry_in o.routine_names o.sorts Handler u)
 handler_fits o None sorts = tt
 handler_fits o (Some u) sorts = named_has_sort o Handler (number_of o.routine_names u.name) sorts
+
+startio_fits : (o : Outline) (u : Option Use) → map sort_at o.routines ≡ o.sorts
+    → StartIoFits (map (finished o) o.routines) (entry_in o.routine_names o.sorts StartIoRole u)
+startio_fits o None sorts = tt
+startio_fits o (Some u) sorts =
+    named_has_sort o StartIoRole (number_of o.routine_names u.name) sorts
 
 dpc_fits : (o : Outline) (u : Option Use) → map sort_at o.routines ≡ o.sorts
     → DpcFits (map (finished o) o.routines) (entry_in o.routine_names o.sorts DpcRole u)
@@ -267,28 +330,108 @@ call_fits : (o : Outline) (i : Instr) (f : Option ℕ)
 call_fits o (Call r old) f h = h
 call_fits o _ f h = tt
 
+call_queued : (routines : List Routine) (i : Instr) (q : ℕ) → CallFits routines i
+    → CallFits routines (with_queue i q)
+call_queued routines (Insert r old) q h = h
+call_queued routines (Remove r old label) q h = h
+call_queued routines _ q h = h
+
 calls_fit : (o : Outline) (routine : ClosedRoutine) → map sort_at o.routines ≡ o.sorts
     → CallsFit (map (finished o) o.routines) (finished o routine)
 calls_fit o routine sorts = All-map (CallFits (map (finished o) o.routines)) (called o) routine.code
     (λ i d inside.
     let step = get_or routine.code i d in
-    call_fits o step.instr (routine_called o step.call)
-    (use_fits o (option_and_then (λ place. slice_get o.calls place) step.call) sorts))
+    call_queued (map (finished o) o.routines) (with_routine step.instr (routine_called o step.call))
+    (queue_at o step.queue)
+    (call_fits o step.instr (routine_called o step.call)
+    (use_fits o (option_and_then (λ place. slice_get o.calls place) step.call) sorts)))
+
+-- where no use is missed, each of them is of a name that is there
+none_found : (names : List (List ℕ)) (found : Option ℕ) (uses : List Use)
+    → missed_uses names found uses ≡ None → found ≡ None
+none_found names found [] h = h
+none_found names found (u ∷ us) h =
+    (neither found (missed names (Some u))
+    (none_found names (earliest found (missed names (Some u))) us h)).0
+
+use_known : (names : List (List ℕ)) (found : Option ℕ) (uses : List Use) (place : ℕ)
+    → missed_uses names found uses ≡ None → place < length uses
+    → (u : Use) × (slice_get uses place ≡ Some u) × (is_among names u.name ≡ true)
+use_known names found [] place h inside = absurd (omega (arith, inside))
+use_known names found (u ∷ us) zero h inside =
+    let here = (neither found (missed names (Some u))
+    (none_found names (earliest found (missed names (Some u))) us h)).1 in
+    (u, refl, is_there (is_among names u.name) u.line here)
+use_known names found (u ∷ us) (suc place) h inside =
+    use_known names (earliest found (missed names (Some u))) us place h (omega (arith, inside))
+
+-- so its number is below the count of names
+number_within : (names : List (List ℕ)) (name : List ℕ) → is_among names name ≡ true
+    → unwrap_or (number_of names name) 0 < length names
+number_within names name h =
+    rw (number_there names name h) (any_within (bytes_eq name) names h)
+
+place_within : (o : Outline) (place : ℕ) → missed_queue o ≡ None → place < length o.queue_uses
+    → queue_at o (Some place) < length o.queue_names
+place_within o place known inside =
+    let used = use_known o.queue_names None o.queue_uses place known inside in
+    rw used.1 (number_within o.queue_names used.0.name used.2)
+
+-- the number of a queue that an instruction names is below the count of queues
+queue_below : (o : Outline) (named place : Option ℕ) → length o.queues ≡ length o.queue_names
+    → missed_queue o ≡ None → IsUse (length o.queue_uses) named place
+    → IfSome named (λ old. queue_at o place < length o.queues)
+queue_below o None place count known used = tt
+queue_below o (Some old) None count known used = absurd used
+queue_below o (Some old) (Some place) count known used =
+    let within = place_within o place known used in omega (arith, within, count)
+
+queue_fits : (count : ℕ) (i : Instr) (q : ℕ) → IfSome (queue_named i) (λ old. q < count)
+    → QueueFits count (with_queue i q)
+queue_fits count (Insert r old) q h = h
+queue_fits count (Remove r old label) q h = h
+queue_fits count _ q h = tt
+
+-- an instruction names the same queue when the routine of a call is known
+queue_still : (i : Instr) (f : Option ℕ) → queue_named (with_routine i f) ≡ queue_named i
+queue_still (Call r old) f = refl
+queue_still _ f = refl
+
+queues_fit : (o : Outline) (routine : ClosedRoutine) → length o.queues ≡ length o.queue_names
+    → missed_queue o ≡ None → ClosedFits (length o.queue_uses) routine
+    → QueuesFit (length o.queues) (finished o routine)
+queues_fit o routine count known h =
+    All-map (QueueFits (length o.queues)) (called o) routine.code (λ i d inside.
+    let step = get_or routine.code i d in
+    let numbered = with_routine step.instr (routine_called o step.call) in
+    let below = queue_below o (queue_named step.instr) step.queue count known
+    (h.queues i d inside) in
+    queue_fits (length o.queues) numbered (queue_at o step.queue)
+    (subst (λ (named : Option ℕ). IfSome named (λ old. queue_at o step.queue < length o.queues))
+    (sym (queue_still step.instr (routine_called o step.call))) below))
 
 finished_driver_fits : (o : Outline) → length o.routine_names ≡ length o.routines
-    → map sort_at o.routines ≡ o.sorts → IsOrderly o → DriverFits (finished_driver o)
-finished_driver_fits o same sorts h =
+    → map sort_at o.routines ≡ o.sorts → missed_queue o ≡ None → IsOrderly o
+    → DriverFits (finished_driver o)
+finished_driver_fits o same sorts known h =
     let count = length-map o.routines (finished o) in
     record {
       few = omega (arith, same, count, h.few_routines);
       routines = All-map RoutineFits (finished o) o.routines
-          (λ i d inside. finished_fits o (get_or o.routines i d) (h.routines_fit i d inside));
+          (λ i d inside. finished_fits o (length o.queue_uses) (get_or o.routines i d)
+          (h.routines_fit i d inside));
       read = handler_fits o o.read sorts;
       write = handler_fits o o.write sorts;
       control = handler_fits o o.control sorts;
+      startio = startio_fits o o.startio sorts;
       dpc = dpc_fits o o.dpc sorts;
       calls = All-map (CallsFit (map (finished o) o.routines)) (finished o) o.routines
           (λ i d inside. calls_fit o (get_or o.routines i d) sorts);
+      few_queues = omega (arith, h.few_queues, h.queue_count);
+      guards = h.guards_fit;
+      queues = All-map (QueuesFit (length o.queues)) (finished o) o.routines
+          (λ i d inside. queues_fit o (get_or o.routines i d) h.queue_count known
+          (h.routines_fit i d inside));
     }
 
 driver_closed_orderly : (o : Outline) → stands o.place CloseDriver ≡ true → IsOrderly o
@@ -306,19 +449,29 @@ driver_closed_orderly o place h =
       few_drivers = h.few_drivers;
       few_devices = h.few_devices;
       few_routines = omega arith;
+      few_queues = omega arith;
       few_steps = h.few_steps;
+      idle = λ none. h.idle p.1;
       positions_fit = h.positions_fit;
       operands_fit = h.operands_fit;
+      queues_used =
+          subst (λ (steps : List Step). All (λ (step : Step). QueueUsed 0 step.instr step.queue)
+          steps) (sym (h.idle p.1))
+          (All-nil (λ (step : Step). QueueUsed 0 step.instr step.queue));
+      guards_fit = All-nil GuardFits;
+      queue_count = refl;
       driver_count = omega (arith, more, h.driver_count, p.0);
       routine_count = refl;
       sorts_known = refl;
-      drivers_fit =
-          All-push DriverFits o.drivers (finished_driver o) h.drivers_fit
-          (finished_driver_fits o same sorts h);
+      drivers_fit = λ known.
+          let both = neither o.unknown (missed_in_driver o) known in
+          let missed = (neither (missed_queue o) (missed_routine o) both.1).0 in
+          All-push DriverFits o.drivers (finished_driver o) (h.drivers_fit both.0)
+          (finished_driver_fits o same sorts missed h);
       devices_known = λ known.
-          let devices = h.devices_known (neither o.unknown (missed_routine o) known).0 in
+          let devices = h.devices_known (neither o.unknown (missed_in_driver o) known).0 in
           record { count = devices.count; fit = devices.fit };
-      routines_fit = All-nil ClosedFits;
+      routines_fit = All-nil (ClosedFits 0);
     }
 
 -- devices are known still where neither they nor the names change
@@ -336,9 +489,14 @@ handled_orderly o u Read h =
       few_drivers = h.few_drivers;
       few_devices = h.few_devices;
       few_routines = h.few_routines;
+      few_queues = h.few_queues;
       few_steps = h.few_steps;
+      idle = h.idle;
       positions_fit = h.positions_fit;
       operands_fit = h.operands_fit;
+      queues_used = h.queues_used;
+      guards_fit = h.guards_fit;
+      queue_count = h.queue_count;
       driver_count = h.driver_count;
       routine_count = h.routine_count;
       sorts_known = h.sorts_known;
@@ -351,9 +509,14 @@ handled_orderly o u Write h =
       few_drivers = h.few_drivers;
       few_devices = h.few_devices;
       few_routines = h.few_routines;
+      few_queues = h.few_queues;
       few_steps = h.few_steps;
+      idle = h.idle;
       positions_fit = h.positions_fit;
       operands_fit = h.operands_fit;
+      queues_used = h.queues_used;
+      guards_fit = h.guards_fit;
+      queue_count = h.queue_count;
       driver_count = h.driver_count;
       routine_count = h.routine_count;
       sorts_known = h.sorts_known;
@@ -366,14 +529,69 @@ handled_orderly o u Control h =
       few_drivers = h.few_drivers;
       few_devices = h.few_devices;
       few_routines = h.few_routines;
+      few_queues = h.few_queues;
       few_steps = h.few_steps;
+      idle = h.idle;
       positions_fit = h.positions_fit;
       operands_fit = h.operands_fit;
+      queues_used = h.queues_used;
+      guards_fit = h.guards_fit;
+      queue_count = h.queue_count;
       driver_count = h.driver_count;
       routine_count = h.routine_count;
       sorts_known = h.sorts_known;
       drivers_fit = h.drivers_fit;
       devices_known = same_devices o (handled o u Control) refl refl refl refl h.devices_known;
+      routines_fit = h.routines_fit;
+    }
+
+startio_handled_orderly : (o : Outline) (u : Use) → IsOrderly o → IsOrderly (startio_handled o u)
+startio_handled_orderly o u h =
+    record {
+      few_drivers = h.few_drivers;
+      few_devices = h.few_devices;
+      few_routines = h.few_routines;
+      few_queues = h.few_queues;
+      few_steps = h.few_steps;
+      idle = h.idle;
+      positions_fit = h.positions_fit;
+      operands_fit = h.operands_fit;
+      queues_used = h.queues_used;
+      guards_fit = h.guards_fit;
+      queue_count = h.queue_count;
+      driver_count = h.driver_count;
+      routine_count = h.routine_count;
+      sorts_known = h.sorts_known;
+      drivers_fit = h.drivers_fit;
+      devices_known = same_devices o (startio_handled o u) refl refl refl refl h.devices_known;
+      routines_fit = h.routines_fit;
+    }
+
+-- a queue more
+queue_added_orderly : (o : Outline) (name : List ℕ) (guard : ℕ)
+    → length o.queue_names < MAX_QUEUES → IsSpinLock guard → IsOrderly o
+    → IsOrderly (queue_added o name guard)
+queue_added_orderly o name guard room fits h =
+    let queue : Queue = record { guard = guard } in
+    let more = length_one_more o.queue_names name in
+    let longer = length_one_more o.queues queue in
+    record {
+      few_drivers = h.few_drivers;
+      few_devices = h.few_devices;
+      few_routines = h.few_routines;
+      few_queues = omega (arith, more, room);
+      few_steps = h.few_steps;
+      idle = h.idle;
+      positions_fit = h.positions_fit;
+      operands_fit = h.operands_fit;
+      queues_used = h.queues_used;
+      guards_fit = All-push GuardFits o.queues queue h.guards_fit fits;
+      queue_count = omega (arith, more, longer, h.queue_count);
+      driver_count = h.driver_count;
+      routine_count = h.routine_count;
+      sorts_known = h.sorts_known;
+      drivers_fit = h.drivers_fit;
+      devices_known = same_devices o (queue_added o name guard) refl refl refl refl h.devices_known;
       routines_fit = h.routines_fit;
     }
 
@@ -383,9 +601,14 @@ dpc_handled_orderly o u h =
       few_drivers = h.few_drivers;
       few_devices = h.few_devices;
       few_routines = h.few_routines;
+      few_queues = h.few_queues;
       few_steps = h.few_steps;
+      idle = h.idle;
       positions_fit = h.positions_fit;
       operands_fit = h.operands_fit;
+      queues_used = h.queues_used;
+      guards_fit = h.guards_fit;
+      queue_count = h.queue_count;
       driver_count = h.driver_count;
       routine_count = h.routine_count;
       sorts_known = h.sorts_known;
@@ -409,9 +632,14 @@ routine_opened_orderly o name sort place room h =
       few_drivers = h.few_drivers;
       few_devices = h.few_devices;
       few_routines = omega (arith, more);
+      few_queues = h.few_queues;
       few_steps = h.few_steps;
+      idle = λ none. cc;
       positions_fit = h.positions_fit;
       operands_fit = h.operands_fit;
+      queues_used = h.queues_used;
+      guards_fit = h.guards_fit;
+      queue_count = h.queue_count;
       driver_count = omega (arith, h.driver_count, p.0);
       routine_count = omega (arith, more, h.routine_count, p.1);
       sorts_known = ap (λ (all : List Sort). all ++ sort ∷ []) sorts;
@@ -447,6 +675,8 @@ label_fits : (count label : ℕ) (i : Instr) → label < count → LabelFits cou
 label_fits count label (JumpIfZero r old) h = h
 label_fits count label (JumpIfLess r s old) h = h
 label_fits count label (Jump old) h = h
+label_fits count label (Remove r q old) h = h
+label_fits count label (Take r old) h = h
 label_fits count label (IfPending r old) h = h
 label_fits count label _ h = tt
 
@@ -455,12 +685,25 @@ operands_labelled : (label : ℕ) (i : Instr) → OperandFits i → OperandFits 
 operands_labelled label (JumpIfZero r old) h = h
 operands_labelled label (JumpIfLess r s old) h = h
 operands_labelled label (Jump old) h = h
+operands_labelled label (Remove r q old) h = h
+operands_labelled label (Take r old) h = h
 operands_labelled label (IfPending r old) h = h
 operands_labelled label _ h = h
 
+-- an instruction names the same queue with its label's position
+queue_labelled : (label : ℕ) (i : Instr) → queue_named (with_label i label) ≡ queue_named i
+queue_labelled label (JumpIfZero r old) = refl
+queue_labelled label (JumpIfLess r s old) = refl
+queue_labelled label (Jump old) = refl
+queue_labelled label (Remove r q old) = refl
+queue_labelled label (Take r old) = refl
+queue_labelled label (IfPending r old) = refl
+queue_labelled label _ = refl
+
 -- so a routine that is closed fits
 closed_fits : (o : Outline) → IsOrderly o
-    → ClosedFits (record { sort = o.sort; code = map (resolved o.labels o.positions) o.steps })
+    → ClosedFits (length o.queue_uses)
+    (record { sort = o.sort; code = map (resolved o.labels o.positions) o.steps })
 closed_fits o h =
     let same = length-map o.steps (resolved o.labels o.positions) in
     let count = length (map (resolved o.labels o.positions) o.steps) in
@@ -479,6 +722,13 @@ closed_fits o h =
           let step = get_or o.steps i d in
           operands_labelled (target_position o.labels o.positions step.label) step.instr
           (h.operands_fit i d inside));
+      queues =
+          All-map (λ (step : Linked). QueueUsed (length o.queue_uses) step.instr step.queue)
+          (resolved o.labels o.positions) o.steps (λ i d inside.
+          let step = get_or o.steps i d in
+          subst (λ (named : Option ℕ). IsUse (length o.queue_uses) named step.queue)
+          (sym (queue_labelled (target_position o.labels o.positions step.label) step.instr))
+          (h.queues_used i d inside));
     }
 
 routine_closed_orderly : (o : Outline) → stands o.place CloseRoutine ≡ true → IsOrderly o
@@ -493,9 +743,15 @@ routine_closed_orderly o place h =
       few_drivers = h.few_drivers;
       few_devices = h.few_devices;
       few_routines = h.few_routines;
+      few_queues = h.few_queues;
       few_steps = omega arith;
+      idle = λ none. refl;
       positions_fit = All-nil (λ p. p < 0);
       operands_fit = All-nil (λ (step : Step). OperandFits step.instr);
+      queues_used =
+          All-nil (λ (step : Step). QueueUsed (length o.queue_uses) step.instr step.queue);
+      guards_fit = h.guards_fit;
+      queue_count = h.queue_count;
       driver_count = omega (arith, h.driver_count, p.0);
       routine_count = omega (arith, more, h.routine_count, p.1);
       sorts_known =
@@ -503,40 +759,16 @@ routine_closed_orderly o place h =
           ∙ map_push sort_at o.routines closed
           ∙ ap (λ (opened : List Sort). map sort_at o.routines ++ opened) (sym open_one)
           ∙ h.sorts_known;
-      drivers_fit = h.drivers_fit;
+      drivers_fit = λ known. h.drivers_fit (none_before o.labels o.unknown o.steps known);
       devices_known = λ known.
           let devices = h.devices_known (none_before o.labels o.unknown o.steps known) in
           record { count = devices.count; fit = devices.fit };
-      routines_fit = All-push ClosedFits o.routines closed h.routines_fit (closed_fits o h);
+      routines_fit = All-push (ClosedFits (length o.queue_uses)) o.routines closed h.routines_fit
+          (closed_fits o h);
     }
 
 size_within : (n : ℕ) → (nat_le 1 n && nat_le n MAX_STACK) ≡ true → (1 ≤ n) × (n ≤ MAX_STACK)
 size_within n h = grind (arith, nat_tests)
-
-any_within : {X : Type 0} (p : X → Bool) (xs : List X) → list_any p xs ≡ true
-    → position_or_len p xs < length xs
-any_within p [] h = cc
-any_within p (x ∷ xs) h = by (p x) (any_within p xs) h
-  where
-    by : (b : Bool) → (list_any p xs ≡ true → position_or_len p xs < length xs)
-        → (b || list_any p xs) ≡ true → (if not b then 1 + position_or_len p xs else 0)
-        < suc (length xs)
-    by true rest h = omega arith
-    by false rest h = let within = rest h in omega (arith, within)
-
--- a name that is among these has a number
-number_there : (names : List (List ℕ)) (name : List ℕ) → is_among names name ≡ true
-    → number_of names name ≡ Some (position_or_len (bytes_eq name) names)
-number_there names name h =
-    let within = any_within (bytes_eq name) names h in
-    let test : nat_lt (position_or_len (bytes_eq name) names) (length names) ≡ true =
-    grind (arith, nat_tests, within) in
-    ap (λ (b : Bool). if b then Some (position_or_len (bytes_eq name) names) else None) test
-
--- a name that isn't missed is among these
-is_there : (known : Bool) (line : ℕ) → (if known then None else Some line) ≡ None → known ≡ true
-is_there true line h = refl
-is_there false line h = cc
 
 number_not_missed : (names : List (List ℕ)) (u : Use) → missed names (Some u) ≡ None
     → number_of names u.name ≡ None → ⊥
@@ -606,13 +838,20 @@ device_added_orderly o name u stack lower size room h =
       few_drivers = h.few_drivers;
       few_devices = omega (arith, more);
       few_routines = h.few_routines;
+      few_queues = h.few_queues;
       few_steps = h.few_steps;
+      idle = h.idle;
       positions_fit = h.positions_fit;
       operands_fit = h.operands_fit;
+      queues_used = h.queues_used;
+      guards_fit = h.guards_fit;
+      queue_count = h.queue_count;
       driver_count = h.driver_count;
       routine_count = h.routine_count;
       sorts_known = h.sorts_known;
-      drivers_fit = h.drivers_fit;
+      drivers_fit = λ known.
+          h.drivers_fit (neither o.unknown
+          (earliest (missed o.driver_names (Some u)) (missed o.device_names lower)) known).0;
       devices_known = added_known o name u stack lower size h.devices_known;
       routines_fit = h.routines_fit;
     }
@@ -636,33 +875,85 @@ added_fits o label n more h =
     one None = All-nil (λ p. p < n)
     one (Some label) = All-push (λ p. p < n) [] (length o.steps) (All-nil (λ p. p < n)) more
 
+-- a use is one still when there are more
+use_stays : (m n : ℕ) (named place : Option ℕ) → m ≤ n → IsUse m named place → IsUse n named place
+use_stays m n None place more h = tt
+use_stays m n (Some q) None more h = absurd h
+use_stays m n (Some q) (Some place) more h = omega (arith, h, more)
+
+closed_stays : (m n : ℕ) (routine : ClosedRoutine) → m ≤ n → ClosedFits m routine
+    → ClosedFits n routine
+closed_stays m n routine more h =
+    record {
+      few = h.few;
+      labels = h.labels;
+      operands = h.operands;
+      queues = λ i d inside.
+          let step = get_or routine.code i d in
+          use_stays m n (queue_named step.instr) step.queue more (h.queues i d inside);
+    }
+
+-- the use of a queue that is added is one of all
+use_noted : (uses : List Use) (n : ℕ) (named : Option ℕ) (name : Option (List ℕ))
+    → IsNoted named name
+    → IsUse (length (uses ++ option_to_list (used_at n name))) named (use_place (length uses) name)
+use_noted uses n None name h = tt
+use_noted uses n (Some q) None h = absurd h
+use_noted uses n (Some q) (Some name) h =
+    let u : Use = record { line = n; name = name } in
+    let more = length_one_more uses u in omega (arith, more)
+
+uses_more : (uses added : List Use) → length uses ≤ length (uses ++ added)
+uses_more uses added = let more = length-append uses added in omega (arith, more)
+
+in_routine : (p : Place) (instr : Option Instr) (used : UsedNames)
+    → stands p (TakeStep instr used) ≡ true → open_routines p ≡ 0 → ⊥
+in_routine Outside instr used h none = cc
+in_routine InDriver instr used h none = cc
+in_routine InRoutine instr used h none = cc
+
 stepped_orderly : (o : Outline) (n : ℕ) (label : Option (List ℕ)) (instr : Instr) (used : UsedNames)
-    → length o.steps < MAX_INSTRUCTIONS → OperandFits instr → IsOrderly o
+    → stands o.place (TakeStep (Some instr) used) ≡ true → length o.steps < MAX_INSTRUCTIONS
+    → OperandFits instr → QueueNoted used instr → IsOrderly o
     → IsOrderly (stepped o n label instr used)
-stepped_orderly o n label instr used room operand h =
+stepped_orderly o n label instr used place room operand noting h =
     let step : Step =
     record {
       instr = instr;
       label = used_at n used.label;
-      call = call_place (length o.calls) used.routine;
+      call = use_place (length o.calls) used.routine;
+      queue = use_place (length o.queue_uses) used.queue;
     } in
     let more = length_one_more o.steps step in
+    let old = length o.queue_uses in
+    let new = length (o.queue_uses ++ option_to_list (used_at n used.queue)) in
+    let longer : old ≤ new = uses_more o.queue_uses (option_to_list (used_at n used.queue)) in
     record {
       few_drivers = h.few_drivers;
       few_devices = h.few_devices;
       few_routines = h.few_routines;
+      few_queues = h.few_queues;
       few_steps = omega (arith, more);
+      idle = λ none. absurd (in_routine o.place (Some instr) used place none);
       positions_fit = added_fits o label (length (o.steps ++ step ∷ [])) (omega (arith, more))
           h.positions_fit;
       operands_fit = All-push (λ (step : Step). OperandFits step.instr) o.steps step h.operands_fit
           operand;
+      queues_used = All-push (λ (step : Step). QueueUsed new step.instr step.queue) o.steps step
+          (λ i d inside.
+          let one = get_or o.steps i d in
+          use_stays old new (queue_named one.instr) one.queue longer (h.queues_used i d inside))
+          (use_noted o.queue_uses n (queue_named instr) used.queue noting);
+      guards_fit = h.guards_fit;
+      queue_count = h.queue_count;
       driver_count = h.driver_count;
       routine_count = h.routine_count;
       sorts_known = h.sorts_known;
       drivers_fit = h.drivers_fit;
       devices_known =
           same_devices o (stepped o n label instr used) refl refl refl refl h.devices_known;
-      routines_fit = h.routines_fit;
+      routines_fit = λ i d inside.
+          closed_stays old new (get_or o.routines i d) longer (h.routines_fit i d inside);
     }
 
 not_false : (b : Bool) → not b ≡ false → b ≡ true
@@ -679,6 +970,11 @@ orderly_with o n label (OpenDriver name) place size room operand h =
 orderly_with o n label CloseDriver place size room operand h = driver_closed_orderly o place h
 orderly_with o n label (Handle major routine) place size room operand h =
     handled_orderly o (record { line = n; name = routine }) major h
+orderly_with o n label (AddQueue name (Some guard)) place size room operand h =
+    queue_added_orderly o name guard (ltb-true (length o.queue_names) MAX_QUEUES room) operand h
+orderly_with o n label (AddQueue name None) place size room operand h = h
+orderly_with o n label (HandleStartIo routine) place size room operand h =
+    startio_handled_orderly o (record { line = n; name = routine }) h
 orderly_with o n label (HandleDpc routine) place size room operand h =
     dpc_handled_orderly o (record { line = n; name = routine }) h
 orderly_with o n label (OpenRoutine name sort) place size room operand h =
@@ -688,7 +984,8 @@ orderly_with o n label (AddDevice name driver stack lower) place size room opera
     device_added_orderly o name (record { line = n; name = driver }) stack (used_at n lower)
     (not_false (is_stack_size stack) size) (ltb-true (length o.device_names) MAX_DEVICES room) h
 orderly_with o n label (TakeStep (Some instr) used) place size room operand h =
-    stepped_orderly o n label instr used (ltb-true (length o.steps) MAX_INSTRUCTIONS room) operand h
+    stepped_orderly o n label instr used place (ltb-true (length o.steps) MAX_INSTRUCTIONS room)
+    operand.0 operand.1 h
 orderly_with o n label (TakeStep None used) place size room operand h = h
 
 pub orderly_on : (o : Outline) (n : ℕ) (l : Line) → IsFitting o l → BodyFits l.body → IsOrderly o
@@ -706,7 +1003,7 @@ sound o h closed known =
     record {
       few_drivers = omega (arith, same, h.few_drivers);
       few_devices = omega (arith, devices.count, h.few_devices);
-      drivers = h.drivers_fit;
+      drivers = h.drivers_fit known;
       devices = subst (λ (n : ℕ). DevicesFit n 0 o.devices) same devices.fit;
     }
 
@@ -715,13 +1012,18 @@ nothing_orderly = record {
   few_drivers = omega arith;
   few_devices = omega arith;
   few_routines = omega arith;
+  few_queues = omega arith;
   few_steps = omega arith;
+  idle = λ none. refl;
   positions_fit = All-nil (λ p. p < 0);
   operands_fit = All-nil (λ (step : Step). OperandFits step.instr);
+  queues_used = All-nil (λ (step : Step). QueueUsed 0 step.instr step.queue);
+  guards_fit = All-nil GuardFits;
+  queue_count = refl;
   driver_count = refl;
   routine_count = refl;
   sorts_known = refl;
-  drivers_fit = All-nil DriverFits;
+  drivers_fit = λ known. All-nil DriverFits;
   devices_known = λ known. record { count = refl; fit = tt };
-  routines_fit = All-nil ClosedFits;
+  routines_fit = All-nil (ClosedFits 0);
 }

@@ -1,5 +1,5 @@
--- The instructions that are read are those of the lines, with each label's position and the number
--- of the routine that each call names.
+-- The instructions that are read are those of the lines, with each label's position, the number of
+-- the routine that each call names, and that of the queue that an instruction names.
 use Rattle.std.proofs.Common.{◌≡◌, ℕ, ◌+◌, ◌≤◌, inl, inr, Bool, true, false, not, cond, List, [], ◌∷◌, ◌++◌, length, suc, Option, Some, None, refl, ap, sym, ◌∙◌, subst, arith, append_assoc, append-nil, length-append}
 use Rattle.std.specs.Prelude.{bytes_eq, map, nat_lt, slice_get, unwrap_or, option_map, option_and_then, option_to_list, Result, Ok, Err, if◌then◌else◌}
 use Rattle.std.specs.List.{position_or_len}
@@ -14,7 +14,7 @@ use Rattle.model.specs.declared.status.Major.{Major}
 use Rattle.model.specs.declared.status.Major.TheVariants.{Read, Write, Control}
 use Rattle.model.specs.Set.{Set}
 use Rattle.asm_line.specs.declared.line.Body.{Body}
-use Rattle.asm_line.specs.declared.line.Body.TheVariants.{Blank, OpenDriver, CloseDriver, Handle, HandleDpc, OpenRoutine, CloseRoutine, AddDevice, Step as TakeStep}
+use Rattle.asm_line.specs.declared.line.Body.TheVariants.{Blank, OpenDriver, CloseDriver, AddQueue, Handle, HandleStartIo, HandleDpc, OpenRoutine, CloseRoutine, AddDevice, Step as TakeStep}
 use Rattle.asm_line.specs.declared.line.Line.{Line}
 use Rattle.asm_line.specs.declared.line.UsedNames.{UsedNames}
 use Rattle.asm.specs.declared.routines.Role.TheVariants.{Completion}
@@ -25,10 +25,10 @@ use Rattle.asm.specs.declared.draft.Place.TheVariants.{Outside, InDriver, InRout
 use Rattle.asm.specs.declared.draft.Step.{Step}
 use Rattle.asm.specs.declared.draft.Use.{Use}
 use Rattle.asm.specs.declared.fault.AsmFault.{AsmFault}
-use Rattle.asm.specs.Outline.{Outline, nothing_read, call_place, called, dpc_handled, driver_closed, driver_opened, finished, finished_driver, handled, is_out_of_range, noted, position_of, resolved, routine_called, routine_closed, routine_named, routine_opened, stands, stepped, target_position, used_at, with_label, with_routine}
+use Rattle.asm.specs.Outline.{Outline, nothing_read, called, dpc_handled, driver_closed, driver_opened, finished, finished_driver, handled, is_out_of_range, noted, number_of, position_of, queue_added, queue_at, resolved, routine_called, routine_closed, routine_named, routine_opened, stands, startio_handled, stepped, target_position, use_place, used_at, with_label, with_queue, with_routine}
 use Rattle.asm.specs.Reading.{named, reading, resolved as set_of}
-use Rattle.asm.specs.Laws.{routines_ahead, sorts_ahead, IsRead, Reads}
-use Rattle.asm.specs.Code.{all_codes, call_number, codes_of, driver_codes, instruction_on, instructions_on, jump_place, label_place, routine_codes, routine_lines, CodeIsOfItsLines, IsOfItsLines}
+use Rattle.asm.specs.Laws.{queues_ahead, routines_ahead, sorts_ahead, IsRead, Reads}
+use Rattle.asm.specs.Code.{all_codes, call_number, codes_of, driver_codes, instruction_on, instructions_on, jump_place, label_place, queue_number, routine_codes, routine_lines, CodeIsOfItsLines, Inventory, IsOfItsLines}
 use Rattle.asm.proofs.First.{reading_closed, reading_ends}
 use Rattle.asm.proofs.Orderly.{fitting}
 
@@ -119,39 +119,34 @@ abbrev jump_to : List (List ℕ) → List ℕ → Option (List ℕ) → ℕ
 jump_to labels positions None = 0
 jump_to labels positions (Some name) = unwrap_or (position_of labels positions name) 0
 
--- the instructions on lines, with labels of these positions, in a driver with routines of these
--- names and sorts
-abbrev linked_on : List (List ℕ) → List Sort → List (List ℕ) → List ℕ → Body → Option Instr
-linked_on names sorts labels positions (TakeStep (Some i) used) =
-    Some (with_routine (with_label i (jump_to labels positions used.label))
-    (call_number names sorts used.routine))
-linked_on names sorts labels positions _ = None
+-- the instructions on lines, with labels of these positions, in a driver that has these things
+abbrev linked_on : Inventory → List (List ℕ) → List ℕ → Body → Option Instr
+linked_on has labels positions (TakeStep (Some i) used) =
+    Some (with_queue (with_routine (with_label i (jump_to labels positions used.label))
+    (call_number has used.routine)) (queue_number has used.queue))
+linked_on has labels positions _ = None
 
-abbrev linked_lines : List (List ℕ) → List Sort → List (List ℕ) → List ℕ → List Line → List Instr
-linked_lines names sorts labels positions [] = []
-linked_lines names sorts labels positions (l ∷ ls) =
-    option_to_list (linked_on names sorts labels positions l.body) ++ linked_lines names sorts
-    labels positions ls
+abbrev linked_lines : Inventory → List (List ℕ) → List ℕ → List Line → List Instr
+linked_lines has labels positions [] = []
+linked_lines has labels positions (l ∷ ls) =
+    option_to_list (linked_on has labels positions l.body) ++ linked_lines has labels positions ls
 
 jump_linked : (all : List Line) (label : Option (List ℕ))
     → jump_to (labels_in all) (positions_in 0 all) label ≡ jump_place all label
 jump_linked all None = refl
 jump_linked all (Some name) = ap (λ (o : Option ℕ). unwrap_or o 0) (named_place name all)
 
-one_linked : (names : List (List ℕ)) (sorts : List Sort) (all : List Line) (body : Body)
-    → linked_on names sorts (labels_in all) (positions_in 0 all) body ≡ instruction_on names sorts
-    all body
-one_linked names sorts all (TakeStep (Some i) used) =
-    ap (λ (p : ℕ). Some (with_routine (with_label i p) (call_number names sorts used.routine)))
-    (jump_linked all used.label)
-one_linked names sorts all _ = refl
+one_linked : (has : Inventory) (all : List Line) (body : Body)
+    → linked_on has (labels_in all) (positions_in 0 all) body ≡ instruction_on has all body
+one_linked has all (TakeStep (Some i) used) =
+    ap (λ (p : ℕ). Some (with_queue (with_routine (with_label i p) (call_number has used.routine))
+    (queue_number has used.queue))) (jump_linked all used.label)
+one_linked has all _ = refl
 
-all_linked : (names : List (List ℕ)) (sorts : List Sort) (all ls : List Line)
-    → linked_lines names sorts (labels_in all) (positions_in 0 all) ls ≡ instructions_on names sorts
-    all ls
-all_linked names sorts all [] = refl
-all_linked names sorts all (l ∷ ls) =
-    rw (one_linked names sorts all l.body, all_linked names sorts all ls) refl
+all_linked : (has : Inventory) (all ls : List Line)
+    → linked_lines has (labels_in all) (positions_in 0 all) ls ≡ instructions_on has all ls
+all_linked has all [] = refl
+all_linked has all (l ∷ ls) = rw (one_linked has all l.body, all_linked has all ls) refl
 
 -- the routines that calls name on lines up to the end of the driver
 abbrev called_ahead : Body → List (List ℕ) → List (List ℕ)
@@ -163,30 +158,60 @@ abbrev calls_ahead : List Line → List (List ℕ)
 calls_ahead [] = []
 calls_ahead (l ∷ ls) = called_ahead l.body (calls_ahead ls)
 
--- the open driver as it is when it is closed: the names and sorts of its routines, and the routines
--- that its calls name
+-- the queues that instructions name on lines up to the end of the driver
+abbrev used_ahead : Body → List (List ℕ) → List (List ℕ)
+used_ahead CloseDriver after = []
+used_ahead (TakeStep instr used) after = option_to_list used.queue ++ after
+used_ahead _ after = after
+
+abbrev uses_ahead : List Line → List (List ℕ)
+uses_ahead [] = []
+uses_ahead (l ∷ ls) = used_ahead l.body (uses_ahead ls)
+
+-- the open driver as it is when it is closed: what it has, the routines that its calls name, and
+-- the queues that its instructions name
 record Whole : Type 0 where
-  names : List (List ℕ)
-  sorts : List Sort
+  has : Inventory
   calls : List (List ℕ)
+  uses : List (List ℕ)
 
 abbrev name_of : Use → List ℕ
 name_of u = u.name
 
 abbrev whole : Outline → List Line → Whole
 whole o ls = record {
-  names = o.routine_names ++ routines_ahead ls;
-  sorts = o.sorts ++ sorts_ahead ls;
+  has = record {
+    routines = o.routine_names ++ routines_ahead ls;
+    sorts = o.sorts ++ sorts_ahead ls;
+    queues = o.queue_names ++ queues_ahead ls;
+  };
   calls = map name_of o.calls ++ calls_ahead ls;
+  uses = map name_of o.queue_uses ++ uses_ahead ls;
+}
+
+-- what the open driver has so far
+abbrev whole_now : Outline → Whole
+whole_now o = record {
+  has = record { routines = o.routine_names; sorts = o.sorts; queues = o.queue_names };
+  calls = map name_of o.calls;
+  uses = map name_of o.queue_uses;
 }
 
 -- the number of the routine that the call of a place sets
 abbrev number_called : Whole → Option ℕ → Option ℕ
-number_called w call = option_and_then (λ name. routine_named w.names w.sorts Completion name)
+number_called w call =
+    option_and_then (λ name. routine_named w.has.routines w.has.sorts Completion name)
     (option_and_then (λ place. slice_get w.calls place) call)
 
+-- the number of the queue that the instruction of a place touches
+abbrev number_touched : Whole → Option ℕ → ℕ
+number_touched w touch =
+    unwrap_or (option_and_then (λ name. number_of w.has.queues name)
+    (option_and_then (λ place. slice_get w.uses place) touch)) 0
+
 abbrev finish : Whole → Linked → Instr
-finish w step = with_routine step.instr (number_called w step.call)
+finish w step =
+    with_queue (with_routine step.instr (number_called w step.call)) (number_touched w step.queue)
 
 abbrev closed_codes : Whole → List ClosedRoutine → List (List Instr)
 closed_codes w routines = map (λ (r : ClosedRoutine). map (finish w) r.code) routines
@@ -197,16 +222,16 @@ open_code o w ls =
     map (finish w)
     (map (resolved (o.labels ++ labels_in ls) (o.positions ++ positions_in (length o.steps) ls))
     o.steps)
-    ++ linked_lines w.names w.sorts (o.labels ++ labels_in ls)
+    ++ linked_lines w.has (o.labels ++ labels_in ls)
     (o.positions ++ positions_in (length o.steps) ls) ls
 
 -- the codes of the open driver in a place: those that were read and those on the lines that are
 -- left
 abbrev driver_left : Outline → Whole → List Line → List (List Instr)
-driver_left o w ls = closed_codes w o.routines ++ routine_codes w.names w.sorts ls
+driver_left o w ls = closed_codes w o.routines ++ routine_codes w.has ls
 
 abbrev routine_left : Outline → Whole → List Instr → List Line → List (List Instr)
-routine_left o w code ls = closed_codes w o.routines ++ code ∷ routine_codes w.names w.sorts ls
+routine_left o w code ls = closed_codes w o.routines ++ code ∷ routine_codes w.has ls
 
 -- the codes of all drivers
 abbrev left_codes : Outline → Place → List Line → List (List (List Instr))
@@ -221,6 +246,7 @@ record IsClear (o : Outline) : Type 0 where
   routines : o.routines ≡ []
   names : o.routine_names ≡ []
   sorts : o.sorts ≡ []
+  queues : o.queue_names ≡ []
 
 -- no routine is open
 record IsIdle (o : Outline) : Type 0 where
@@ -250,9 +276,9 @@ record Turn (o next : Outline) (p : Place) (label : Option (List ℕ)) (body : B
 
 -- a routine that is opened
 fresh_code : (o : Outline) (w : Whole) (ls : List Line) → IsIdle o
-    → open_code o w ls ≡ instructions_on w.names w.sorts ls ls
+    → open_code o w ls ≡ instructions_on w.has ls ls
 fresh_code o w ls idle =
-    rw (idle.labels, idle.positions, idle.steps) (all_linked w.names w.sorts ls ls)
+    rw (idle.labels, idle.positions, idle.steps) (all_linked w.has ls ls)
 
 whole_opened : (o : Outline) (name : List ℕ) (sort : Sort) (label : Option (List ℕ))
     (ls : List Line) → whole o (record { label = label; body = OpenRoutine name sort } ∷ ls)
@@ -289,23 +315,45 @@ whole_stepped : (o : Outline) (n : ℕ) (label : Option (List ℕ)) (i : Instr) 
     (ls : List Line)
     → whole o (record { label = label; body = TakeStep (Some i) used } ∷ ls)
     ≡ whole (stepped o n label i used) ls
-whole_stepped o n label i used ls = rw (calls_noted o.calls n used.routine (calls_ahead ls)) refl
+whole_stepped o n label i used ls =
+    rw (
+      calls_noted o.calls n used.routine (calls_ahead ls),
+      calls_noted o.queue_uses n used.queue (uses_ahead ls),
+    ) refl
 
 -- the call of an instruction that is added has the number of the routine that it names
-number_named : (calls : List Use) (names : List (List ℕ)) (sorts : List Sort)
+number_named : (calls : List Use) (has : Inventory) (uses : List (List ℕ))
     (routine : Option (List ℕ)) (after : List (List ℕ))
     → number_called
     (record {
-      names = names;
-      sorts = sorts;
+      has = has;
       calls = map name_of calls ++ (option_to_list routine ++ after);
+      uses = uses;
     })
-    (call_place (length calls) routine)
-    ≡ call_number names sorts routine
-number_named calls names sorts None after = refl
-number_named calls names sorts (Some name) after =
+    (use_place (length calls) routine)
+    ≡ call_number has routine
+number_named calls has uses None after = refl
+number_named calls has uses (Some name) after =
     ap (λ (found : Option (List ℕ)). option_and_then
-    (λ name. routine_named names sorts Completion name) found) (next_name calls name after)
+    (λ name. routine_named has.routines has.sorts Completion name) found)
+    (next_name calls name after)
+
+-- and it has the number of the queue that it names
+queue_noted : (uses : List Use) (has : Inventory) (calls : List (List ℕ)) (queue : Option (List ℕ))
+    (after : List (List ℕ))
+    → number_touched
+    (record {
+      has = has;
+      calls = calls;
+      uses = map name_of uses ++ (option_to_list queue ++ after);
+    })
+    (use_place (length uses) queue)
+    ≡ queue_number has queue
+queue_noted uses has calls None after = refl
+queue_noted uses has calls (Some name) after =
+    ap (λ (found : Option (List ℕ)). unwrap_or
+    (option_and_then (λ name. number_of has.queues name) found) 0)
+    (next_name uses name after)
 
 jump_same : (labels : List (List ℕ)) (positions : List ℕ) (n : ℕ) (label : Option (List ℕ))
     → target_position labels positions (used_at n label) ≡ jump_to labels positions label
@@ -313,17 +361,21 @@ jump_same labels positions n None = refl
 jump_same labels positions n (Some name) = refl
 
 finished_same : (w : Whole) (labels : List (List ℕ)) (positions : List ℕ) (i : Instr) (n : ℕ)
-    (used : UsedNames) (call : Option ℕ)
-    → number_called w call ≡ call_number w.names w.sorts used.routine
+    (used : UsedNames) (call queue : Option ℕ)
+    → number_called w call ≡ call_number w.has used.routine
+    → number_touched w queue ≡ queue_number w.has used.queue
     → finish w (resolved labels positions
-    (record { instr = i; label = used_at n used.label; call = call }))
-    ≡ with_routine (with_label i (jump_to labels positions used.label))
-    (call_number w.names w.sorts used.routine)
-finished_same w labels positions i n used call is =
-    ap (λ (p : ℕ). with_routine (with_label i p) (number_called w call))
-    (jump_same labels positions n used.label)
-    ∙ ap (λ (number : Option ℕ). with_routine (with_label i (jump_to labels positions used.label))
-    number) is
+    (record { instr = i; label = used_at n used.label; call = call; queue = queue }))
+    ≡ with_queue (with_routine (with_label i (jump_to labels positions used.label))
+    (call_number w.has used.routine)) (queue_number w.has used.queue)
+finished_same w labels positions i n used call queue called touched =
+    ap (λ (p : ℕ). with_queue (with_routine (with_label i p) (number_called w call))
+    (number_touched w queue)) (jump_same labels positions n used.label)
+    ∙ ap (λ (number : Option ℕ). with_queue (with_routine
+    (with_label i (jump_to labels positions used.label)) number) (number_touched w queue)) called
+    ∙ ap (λ (q : ℕ). with_queue (with_routine
+    (with_label i (jump_to labels positions used.label)) (call_number w.has used.routine)) q)
+    touched
 
 map_push : {A B : Type 0} (f : A → B) (xs : List A) (x : A)
     → map f (xs ++ x ∷ []) ≡ map f xs ++ f x ∷ []
@@ -331,21 +383,22 @@ map_push f xs x = map-append f xs (x ∷ [])
 
 step_code : (o : Outline) (w : Whole) (n : ℕ) (label : Option (List ℕ)) (i : Instr)
     (used : UsedNames) (ls : List Line)
-    → number_called w (call_place (length o.calls) used.routine) ≡ call_number w.names w.sorts
-    used.routine
+    → number_called w (use_place (length o.calls) used.routine) ≡ call_number w.has used.routine
+    → number_touched w (use_place (length o.queue_uses) used.queue) ≡ queue_number w.has used.queue
     → open_code o w (record { label = label; body = TakeStep (Some i) used } ∷ ls)
     ≡ open_code (stepped o n label i used) w ls
-step_code o w n label i used ls is =
+step_code o w n label i used ls called touched =
     let step : Step =
     record {
       instr = i;
       label = used_at n used.label;
-      call = call_place (length o.calls) used.routine;
+      call = use_place (length o.calls) used.routine;
+      queue = use_place (length o.queue_uses) used.queue;
     } in
     let new = option_to_list (option_map (λ (label : List ℕ). length o.steps) label) in
     let labels = o.labels ++ (option_to_list label ++ labels_in ls) in
     let positions = o.positions ++ (new ++ positions_in (length o.steps + 1) ls) in
-    let rest = linked_lines w.names w.sorts labels positions ls in
+    let rest = linked_lines w.has labels positions ls in
     rw (
       length-append o.steps (step ∷ []),
       append_assoc o.labels (option_to_list label) (labels_in ls),
@@ -355,7 +408,8 @@ step_code o w n label i used ls is =
           (resolved labels positions step),
       append_assoc (map (finish w) (map (resolved labels positions) o.steps))
           (finish w (resolved labels positions step) ∷ []) rest,
-      finished_same w labels positions i n used (call_place (length o.calls) used.routine) is,
+      finished_same w labels positions i n used (use_place (length o.calls) used.routine)
+          (use_place (length o.queue_uses) used.queue) called touched,
     ) refl
 
 -- the codes of all drivers, of which the open one has these
@@ -368,7 +422,8 @@ step_turn : (o : Outline) (n : ℕ) (label : Option (List ℕ)) (i : Instr) (use
 step_turn o n label i used ls at =
     let next = stepped o n label i used in
     let old = whole o (record { label = label; body = TakeStep (Some i) used } ∷ ls) in
-    let is = number_named o.calls old.names old.sorts used.routine (calls_ahead ls) in
+    let called = number_named o.calls old.has old.uses used.routine (calls_ahead ls) in
+    let touched = queue_noted o.queue_uses old.has old.calls used.queue (uses_ahead ls) in
     record {
       place = at;
       tidy = record {
@@ -377,7 +432,7 @@ step_turn o n label i used ls at =
       };
       same =
           ap (λ (code : List Instr). around o ls (routine_left o old code ls))
-          (step_code o old n label i used (routine_lines ls) is)
+          (step_code o old n label i used (routine_lines ls) called touched)
           ∙ ap (λ (w : Whole). around o ls
           (routine_left o w (open_code next w (routine_lines ls)) ls))
           (whole_stepped o n label i used ls);
@@ -390,7 +445,7 @@ routine_closed_turn o label ls =
     let closed : ClosedRoutine =
     record { sort = o.sort; code = map (resolved o.labels o.positions) o.steps } in
     let code = map (finish w) closed.code in
-    let after = routine_codes w.names w.sorts ls in
+    let after = routine_codes w.has ls in
     let pushed : closed_codes w (o.routines ++ closed ∷ []) ≡ closed_codes w o.routines ++ code
     ∷ [] = map_push (λ (r : ClosedRoutine). map (finish w) r.code) o.routines closed in
     record {
@@ -434,14 +489,13 @@ driver_opened_turn o name label ls clear idle = record {
     idle =
         λ closed. record { labels = idle.labels; positions = idle.positions; steps = idle.steps };
   };
-  same = rw (clear.routines, clear.names, clear.sorts) refl;
+  same = rw (clear.routines, clear.names, clear.sorts, clear.queues) refl;
 }
 
 -- a driver that is closed: its routines have their numbers
 call_same : (o : Outline) (call : Option ℕ)
     → routine_called o call
-    ≡ number_called
-    (record { names = o.routine_names; sorts = o.sorts; calls = map name_of o.calls }) call
+    ≡ number_called (whole_now o) call
 call_same o None = refl
 call_same o (Some place) = by_use (slice_get o.calls place) (slice_get (map name_of o.calls) place)
     (slice_get-map name_of o.calls place)
@@ -453,28 +507,45 @@ call_same o (Some place) = by_use (slice_get o.calls place) (slice_get (map name
     by_use None name is = rw is refl
     by_use (Some u) name is = rw is refl
 
+queue_same : (o : Outline) (touch : Option ℕ)
+    → queue_at o touch ≡ number_touched (whole_now o) touch
+queue_same o None = refl
+queue_same o (Some place) =
+    by_use (slice_get o.queue_uses place) (slice_get (map name_of o.queue_uses) place)
+    (slice_get-map name_of o.queue_uses place)
+  where
+    by_use : (u : Option Use) (name : Option (List ℕ)) → name ≡ option_map name_of u
+        → unwrap_or (option_and_then (λ (u : Use). number_of o.queue_names u.name) u) 0
+        ≡ unwrap_or (option_and_then (λ (name : List ℕ). number_of o.queue_names name) name) 0
+    by_use None name is = rw is refl
+    by_use (Some u) name is = rw is refl
+
 code_same : (o : Outline) (code : List Linked)
     → map (called o) code
-    ≡ map (finish
-    (record { names = o.routine_names; sorts = o.sorts; calls = map name_of o.calls })) code
+    ≡ map (finish (whole_now o)) code
 code_same o [] = refl
-code_same o (step ∷ steps) = rw (call_same o step.call, code_same o steps) refl
+code_same o (step ∷ steps) =
+    rw (call_same o step.call, queue_same o step.queue, code_same o steps) refl
 
 codes_same : (o : Outline) (routines : List ClosedRoutine)
     → codes_of (map (finished o) routines)
-    ≡ closed_codes
-    (record { names = o.routine_names; sorts = o.sorts; calls = map name_of o.calls }) routines
+    ≡ closed_codes (whole_now o) routines
 codes_same o [] = refl
 codes_same o (r ∷ rs) = rw (code_same o r.code, codes_same o rs) refl
 
 driver_closed_turn : (o : Outline) (label : Option (List ℕ)) (ls : List Line) → IsIdle o
     → Turn o (driver_closed o) InDriver label CloseDriver ls
 driver_closed_turn o label ls idle =
-    let w : Whole = record { names = o.routine_names; sorts = o.sorts; calls = map name_of o.calls }
-    in
+    let w = whole_now o in
     let old = whole o (record { label = label; body = CloseDriver } ∷ ls) in
     let same : old ≡ w =
-    rw (append-nil o.routine_names, append-nil o.sorts, append-nil (map name_of o.calls)) refl
+    rw (
+      append-nil o.routine_names,
+      append-nil o.sorts,
+      append-nil o.queue_names,
+      append-nil (map name_of o.calls),
+      append-nil (map name_of o.queue_uses),
+    ) refl
     in
     let codes = codes_of (map (finished o) o.routines) in
     let pushed : all_codes (o.drivers ++ finished_driver o ∷ []) ≡ all_codes o.drivers ++ codes
@@ -482,7 +553,12 @@ driver_closed_turn o label ls idle =
     record {
       place = refl;
       tidy = record {
-        outside = λ is. record { routines = refl; names = refl; sorts = refl };
+        outside = λ is. record {
+          routines = refl;
+          names = refl;
+          sorts = refl;
+          queues = refl;
+        };
         idle = λ closed. record {
           labels = idle.labels;
           positions = idle.positions;
@@ -547,6 +623,25 @@ handled_turn o u Control name label ls at idle =
       same = refl;
     }
 
+startio_handled_turn : (o : Outline) (u : Use) (name : List ℕ) (label : Option (List ℕ))
+    (ls : List Line) → o.place ≡ InDriver → IsIdle o
+    → Turn o (startio_handled o u) InDriver label (HandleStartIo name) ls
+startio_handled_turn o u name label ls at idle =
+    record {
+      place = at;
+      tidy =
+          record {
+            outside = λ is. let bad : InDriver ≡ Outside = sym at ∙ is in cc;
+            idle =
+                λ closed. record {
+                  labels = idle.labels;
+                  positions = idle.positions;
+                  steps = idle.steps;
+                };
+          };
+      same = refl;
+    }
+
 dpc_handled_turn : (o : Outline) (u : Use) (name : List ℕ) (label : Option (List ℕ))
     (ls : List Line) → o.place ≡ InDriver → IsIdle o
     → Turn o (dpc_handled o u) InDriver label (HandleDpc name) ls
@@ -564,6 +659,34 @@ dpc_handled_turn o u name label ls at idle =
                 };
           };
       same = refl;
+    }
+
+-- a queue more: it was ahead
+whole_queued : (o : Outline) (name : List ℕ) (guard : Option ℕ) (lock : ℕ)
+    (label : Option (List ℕ)) (ls : List Line)
+    → whole o (record { label = label; body = AddQueue name guard } ∷ ls)
+    ≡ whole (queue_added o name lock) ls
+whole_queued o name guard lock label ls =
+    rw (append_assoc o.queue_names (name ∷ []) (queues_ahead ls)) refl
+
+queue_added_turn : (o : Outline) (name : List ℕ) (guard : Option ℕ) (lock : ℕ)
+    (label : Option (List ℕ)) (ls : List Line) → o.place ≡ InDriver → IsIdle o
+    → Turn o (queue_added o name lock) InDriver label (AddQueue name guard) ls
+queue_added_turn o name guard lock label ls at idle =
+    record {
+      place = at;
+      tidy =
+          record {
+            outside = λ is. let bad : InDriver ≡ Outside = sym at ∙ is in cc;
+            idle =
+                λ closed. record {
+                  labels = idle.labels;
+                  positions = idle.positions;
+                  steps = idle.steps;
+                };
+          };
+      same = ap (λ (w : Whole). around o ls (driver_left o w ls))
+          (whole_queued o name guard lock label ls);
     }
 
 blank_same : (o : Outline) (p : Place) (label : Option (List ℕ)) (ls : List Line)
@@ -594,6 +717,16 @@ turn o n InDriver label (Handle major name) ls at stood range h =
     (idle_at o InDriver at (λ is. cc) h)
 turn o n Outside label (Handle major name) ls at stood range h = cc
 turn o n InRoutine label (Handle major name) ls at stood range h = cc
+turn o n InDriver label (AddQueue name (Some guard)) ls at stood range h =
+    queue_added_turn o name (Some guard) guard label ls at (idle_at o InDriver at (λ is. cc) h)
+turn o n Outside label (AddQueue name (Some guard)) ls at stood range h = cc
+turn o n InRoutine label (AddQueue name (Some guard)) ls at stood range h = cc
+turn o n p label (AddQueue name None) ls at stood range h = cc
+turn o n InDriver label (HandleStartIo name) ls at stood range h =
+    startio_handled_turn o (record { line = n; name = name }) name label ls at
+    (idle_at o InDriver at (λ is. cc) h)
+turn o n Outside label (HandleStartIo name) ls at stood range h = cc
+turn o n InRoutine label (HandleStartIo name) ls at stood range h = cc
 turn o n InDriver label (HandleDpc name) ls at stood range h =
     dpc_handled_turn o (record { line = n; name = name }) name label ls at
     (idle_at o InDriver at (λ is. cc) h)
@@ -618,6 +751,7 @@ turn o n Outside label (AddDevice name driver stack lower) ls at stood range h =
                   routines = clear.routines;
                   names = clear.names;
                   sorts = clear.sorts;
+                  queues = clear.queues;
                 };
             idle =
                 λ closed. record {
@@ -670,7 +804,7 @@ resolved_lines text set end None is h =
     let same : record { drivers = end.drivers; devices = end.devices } ≡ set = cc in
     let codes = codes_read nothing_read 1 Outside (lines_of text) to.lines end to.read closed refl
     (record {
-      outside = λ is. record { routines = refl; names = refl; sorts = refl };
+      outside = λ is. record { routines = refl; names = refl; sorts = refl; queues = refl };
       idle = λ closed. record { labels = refl; positions = refl; steps = refl };
     }) in
     (all, ap (λ (s : Set). all_codes s.drivers) (sym same) ∙ codes)

@@ -1,6 +1,6 @@
 -- The instructions of a text in other words: those of a routine are on its lines, in order, a label
--- names the position of the instruction on its line, and a `call` has the number of the routine
--- that it names.
+-- names the position of the instruction on its line, a `call` has the number of the routine that it
+-- names, and an instruction that touches a queue has the number of the queue that it names.
 use Rattle.std.specs.Prelude.{ℕ, ◌≡◌, ◌+◌, Bool, false, bytes_eq, List, [], ◌∷◌, ◌++◌, map, Option, Some, None, option_to_list, unwrap_or, if◌then◌else◌}
 use Rattle.model.specs.declared.instr.Instr.{Instr}
 use Rattle.model.specs.declared.set.Driver.{Driver}
@@ -8,12 +8,12 @@ use Rattle.model.specs.declared.set.Routine.{Routine}
 use Rattle.model.specs.declared.set.Sort.{Sort}
 use Rattle.model.specs.Set.{Set}
 use Rattle.asm_line.specs.declared.line.Body.{Body}
-use Rattle.asm_line.specs.declared.line.Body.TheVariants.{Blank, OpenDriver, CloseDriver, Handle, HandleDpc, OpenRoutine, CloseRoutine, AddDevice, Step}
+use Rattle.asm_line.specs.declared.line.Body.TheVariants.{Blank, OpenDriver, CloseDriver, AddQueue, Handle, HandleStartIo, HandleDpc, OpenRoutine, CloseRoutine, AddDevice, Step}
 use Rattle.asm_line.specs.declared.line.Line.{Line}
 use Rattle.asm.specs.declared.routines.Role.TheVariants.{Completion}
-use Rattle.asm.specs.Outline.{routine_named, with_label, with_routine}
+use Rattle.asm.specs.Outline.{number_of, routine_named, with_label, with_queue, with_routine}
 use Rattle.asm.specs.Reading.{IsNamed}
-use Rattle.asm.specs.Laws.{routines_ahead, sorts_ahead, IsRead}
+use Rattle.asm.specs.Laws.{queues_ahead, routines_ahead, sorts_ahead, IsRead}
 
 -- the label is this name
 abbrev pub is_labelled : Option (List ℕ) → List ℕ → Bool
@@ -27,7 +27,9 @@ place_at name p label (Step instr used) later =
 place_at name p label Blank later = later p
 place_at name p label (OpenDriver other) later = later p
 place_at name p label CloseDriver later = later p
+place_at name p label (AddQueue other guard) later = later p
 place_at name p label (Handle major routine) later = later p
+place_at name p label (HandleStartIo routine) later = later p
 place_at name p label (HandleDpc routine) later = later p
 place_at name p label (OpenRoutine other sort) later = later p
 place_at name p label CloseRoutine later = later p
@@ -44,35 +46,51 @@ abbrev pub jump_place : List Line → Option (List ℕ) → ℕ
 jump_place routine None = 0
 jump_place routine (Some name) = unwrap_or (label_place name 0 routine) 0
 
--- the number of the routine that a `call` sets; given are the names and sorts of the driver's
--- routines, in order
-abbrev pub call_number : List (List ℕ) → List Sort → Option (List ℕ) → Option ℕ
-call_number names sorts None = None
-call_number names sorts (Some name) = routine_named names sorts Completion name
+-- what a driver has: the names and sorts of its routines, in order, and the names of its queues
+pub record Inventory : Type 0 where
+  pub routines : List (List ℕ)
+  pub sorts : List Sort
+  pub queues : List (List ℕ)
+
+-- what the driver has whose lines begin here
+abbrev pub inventory : List Line → Inventory
+inventory ls =
+    record { routines = routines_ahead ls; sorts = sorts_ahead ls; queues = queues_ahead ls }
+
+-- the number of the routine that a `call` sets
+abbrev pub call_number : Inventory → Option (List ℕ) → Option ℕ
+call_number has None = None
+call_number has (Some name) = routine_named has.routines has.sorts Completion name
+
+-- the number of the queue that an instruction touches; 0 where it touches none
+abbrev pub queue_number : Inventory → Option (List ℕ) → ℕ
+queue_number has None = 0
+queue_number has (Some name) = unwrap_or (number_of has.queues name) 0
 
 -- the instruction on one of the lines of a routine; where it jumps, to the position that its label
 -- names among them; where it is a `call`, with the number of the routine that it names in its
--- driver
-abbrev pub instruction_on : List (List ℕ) → List Sort → List Line → Body → Option Instr
-instruction_on names sorts routine (Step (Some i) used) =
-    Some (with_routine (with_label i (jump_place routine used.label))
-    (call_number names sorts used.routine))
-instruction_on names sorts routine (Step None used) = None
-instruction_on names sorts routine Blank = None
-instruction_on names sorts routine (OpenDriver name) = None
-instruction_on names sorts routine CloseDriver = None
-instruction_on names sorts routine (Handle major handler) = None
-instruction_on names sorts routine (HandleDpc handler) = None
-instruction_on names sorts routine (OpenRoutine name sort) = None
-instruction_on names sorts routine CloseRoutine = None
-instruction_on names sorts routine (AddDevice name driver stack lower) = None
+-- driver, and where it touches a queue, with the number of that
+abbrev pub instruction_on : Inventory → List Line → Body → Option Instr
+instruction_on has routine (Step (Some i) used) =
+    Some (with_queue (with_routine (with_label i (jump_place routine used.label))
+    (call_number has used.routine)) (queue_number has used.queue))
+instruction_on has routine (Step None used) = None
+instruction_on has routine Blank = None
+instruction_on has routine (OpenDriver name) = None
+instruction_on has routine CloseDriver = None
+instruction_on has routine (AddQueue name guard) = None
+instruction_on has routine (Handle major handler) = None
+instruction_on has routine (HandleStartIo handler) = None
+instruction_on has routine (HandleDpc handler) = None
+instruction_on has routine (OpenRoutine name sort) = None
+instruction_on has routine CloseRoutine = None
+instruction_on has routine (AddDevice name driver stack lower) = None
 
 -- the instructions on some of the lines of a routine
-abbrev pub instructions_on : List (List ℕ) → List Sort → List Line → List Line → List Instr
-instructions_on names sorts routine [] = []
-instructions_on names sorts routine (l ∷ ls) =
-    option_to_list (instruction_on names sorts routine l.body)
-    ++ instructions_on names sorts routine ls
+abbrev pub instructions_on : Inventory → List Line → List Line → List Instr
+instructions_on has routine [] = []
+instructions_on has routine (l ∷ ls) =
+    option_to_list (instruction_on has routine l.body) ++ instructions_on has routine ls
 
 -- a line and those after it, unless it ends the routine
 abbrev pub unless_end : Line → Body → List Line → List Line
@@ -80,7 +98,9 @@ unless_end l CloseRoutine after = []
 unless_end l Blank after = l ∷ after
 unless_end l (OpenDriver name) after = l ∷ after
 unless_end l CloseDriver after = l ∷ after
+unless_end l (AddQueue name guard) after = l ∷ after
 unless_end l (Handle major routine) after = l ∷ after
+unless_end l (HandleStartIo routine) after = l ∷ after
 unless_end l (HandleDpc routine) after = l ∷ after
 unless_end l (OpenRoutine name sort) after = l ∷ after
 unless_end l (AddDevice name driver stack lower) after = l ∷ after
@@ -92,8 +112,8 @@ routine_lines [] = []
 routine_lines (l ∷ ls) = unless_end l l.body (routine_lines ls)
 
 -- the instructions of the routine whose lines begin here
-abbrev pub routine_code : List (List ℕ) → List Sort → List Line → List Instr
-routine_code names sorts ls = instructions_on names sorts (routine_lines ls) (routine_lines ls)
+abbrev pub routine_code : Inventory → List Line → List Instr
+routine_code has ls = instructions_on has (routine_lines ls) (routine_lines ls)
 
 -- the codes of the routines from a line on: that of the routine which it opens, and those after it,
 -- unless it ends the driver
@@ -102,22 +122,23 @@ codes_from CloseDriver code after = []
 codes_from (OpenRoutine name sort) code after = code ∷ after
 codes_from Blank code after = after
 codes_from (OpenDriver name) code after = after
+codes_from (AddQueue name guard) code after = after
 codes_from (Handle major routine) code after = after
+codes_from (HandleStartIo routine) code after = after
 codes_from (HandleDpc routine) code after = after
 codes_from CloseRoutine code after = after
 codes_from (AddDevice name driver stack lower) code after = after
 codes_from (Step instr used) code after = after
 
--- the codes of the routines from here to the end of the driver, of whose routines the names and
--- sorts are given
-abbrev pub routine_codes : List (List ℕ) → List Sort → List Line → List (List Instr)
-routine_codes names sorts [] = []
-routine_codes names sorts (l ∷ ls) =
-    codes_from l.body (routine_code names sorts ls) (routine_codes names sorts ls)
+-- the codes of the routines from here to the end of the driver, which has these things
+abbrev pub routine_codes : Inventory → List Line → List (List Instr)
+routine_codes has [] = []
+routine_codes has (l ∷ ls) =
+    codes_from l.body (routine_code has ls) (routine_codes has ls)
 
 -- the codes of the routines of the driver whose lines begin here
 abbrev pub driver_code : List Line → List (List Instr)
-driver_code ls = routine_codes (routines_ahead ls) (sorts_ahead ls) ls
+driver_code ls = routine_codes (inventory ls) ls
 
 -- the codes of the drivers from a line on: that of the driver which it opens, and those after it
 abbrev pub drivers_from : Body → List (List Instr) → List (List (List Instr))
@@ -125,7 +146,9 @@ abbrev pub drivers_from : Body → List (List Instr) → List (List (List Instr)
 drivers_from (OpenDriver name) codes after = codes ∷ after
 drivers_from Blank codes after = after
 drivers_from CloseDriver codes after = after
+drivers_from (AddQueue name guard) codes after = after
 drivers_from (Handle major routine) codes after = after
+drivers_from (HandleStartIo routine) codes after = after
 drivers_from (HandleDpc routine) codes after = after
 drivers_from (OpenRoutine name sort) codes after = after
 drivers_from CloseRoutine codes after = after

@@ -1,15 +1,16 @@
 -- What the lines of a driver text say so far, and what the next line adds to it.
-use Rattle.std.specs.Prelude.{ℕ, ◌≡◌, ◌<◌, ◌≤◌, All, map, slice_get, unwrap_or, ◌+◌, min, Bool, true, false, not, ◌&&◌, nat_lt, nat_le, bytes_eq, List, [], ◌∷◌, ◌++◌, length, Option, Some, None, is_some, is_none, option_map, option_and_then, option_to_list, position, if◌then◌else◌}
+use Rattle.std.specs.Prelude.{ℕ, ⊤, ◌≡◌, ◌<◌, ◌≤◌, All, map, slice_get, unwrap_or, ◌+◌, min, Bool, true, false, not, ◌&&◌, nat_lt, nat_le, bytes_eq, List, [], ◌∷◌, ◌++◌, length, Option, Some, None, is_some, is_none, option_map, option_and_then, option_to_list, position, if◌then◌else◌}
 use Rattle.std.specs.List.{list_any}
 use Rattle.model.specs.declared.instr.Instr.{Instr}
-use Rattle.model.specs.declared.instr.Instr.TheVariants.{Const, Move, Clear, Add, Subtract, JumpIfZero, JumpIfLess, Jump, Loop, End, Load, Store, LoadPaged, StorePaged, Get, Put, Mark, Acquire, Release, AcquireCancel, ReleaseCancel, Pass, Call, Complete, IfPending, Ret}
-use Rattle.model.specs.declared.limits.TheConstants.{MAX_DEVICES, MAX_DRIVERS, MAX_INSTRUCTIONS, MAX_ROUTINES, MAX_STACK}
+use Rattle.model.specs.declared.instr.Instr.TheVariants.{Const, Move, Clear, Add, Subtract, JumpIfZero, JumpIfLess, Jump, Loop, End, Load, Store, LoadPaged, StorePaged, Get, Put, Mark, Acquire, Release, AcquireCancel, ReleaseCancel, Insert, Remove, Start, Take, Begin, Next, Pass, Call, Complete, IfPending, Ret}
+use Rattle.model.specs.declared.limits.TheConstants.{MAX_DEVICES, MAX_DRIVERS, MAX_INSTRUCTIONS, MAX_QUEUES, MAX_ROUTINES, MAX_STACK}
 use Rattle.model.specs.declared.set.Device.{Device}
 use Rattle.model.specs.declared.set.Driver.{Driver}
+use Rattle.model.specs.declared.set.Queue.{Queue}
 use Rattle.model.specs.declared.set.Routine.{Routine}
 use Rattle.model.specs.declared.set.Sort.{Sort}
-use Rattle.model.specs.declared.set.Sort.TheVariants.{Dispatch, Dpc, Propagate}
-use Rattle.model.specs.Sound.{DriverFits, DevicesFit, LabelFits, OperandFits}
+use Rattle.model.specs.declared.set.Sort.TheVariants.{Dispatch, StartIo, Dpc, Propagate}
+use Rattle.model.specs.Sound.{DriverFits, DevicesFit, GuardFits, LabelFits, OperandFits, queue_named}
 use Rattle.model.specs.declared.status.Major.{Major}
 use Rattle.model.specs.declared.status.Major.TheVariants.{Read, Write, Control}
 use Rattle.asm.specs.declared.draft.Place.{Place}
@@ -19,20 +20,21 @@ use Rattle.asm.specs.declared.draft.Linked.{Linked}
 use Rattle.asm.specs.declared.draft.Step.{Step as StepOf}
 use Rattle.asm.specs.declared.draft.Use.{Use}
 use Rattle.asm.specs.declared.routines.Role.{Role}
-use Rattle.asm.specs.declared.routines.Role.TheVariants.{Handler, Completion, Dpc as DpcRole}
+use Rattle.asm.specs.declared.routines.Role.TheVariants.{Handler, Completion, StartIo as StartIoRole, Dpc as DpcRole}
 use Rattle.asm.specs.declared.fault.AsmKind.{AsmKind}
 use Rattle.asm.specs.declared.fault.AsmKind.TheVariants.{UnknownWord, DuplicateName, OutOfRange, OverLimit}
 use Rattle.asm_line.specs.declared.line.Body.{Body}
-use Rattle.asm_line.specs.declared.line.Body.TheVariants.{Blank, OpenDriver, CloseDriver, Handle, HandleDpc, OpenRoutine, CloseRoutine, AddDevice, Step}
+use Rattle.asm_line.specs.declared.line.Body.TheVariants.{Blank, OpenDriver, CloseDriver, AddQueue, Handle, HandleStartIo, HandleDpc, OpenRoutine, CloseRoutine, AddDevice, Step}
 use Rattle.asm_line.specs.declared.line.Line.{Line}
 use Rattle.asm_line.specs.declared.line.UsedNames.{UsedNames}
 
 -- What was read: the drivers that are closed and the devices, with the names of all of them; of the
 -- open driver its routines that are closed, the names and sorts of all of its routines, the uses of
--- routines by its calls, what serves each major function, and its DPC routine; of the open routine
--- its sort, its labels, the position that each of them names, and its instructions; and the first
--- line that uses a name which nothing has, of those that are weighed already. What is open is empty
--- where nothing is open.
+-- routines by its calls, its queues, their names, the uses of queues by its instructions, what
+-- serves each major function, its StartIo and its DPC routine; of the open routine its sort, its
+-- labels, the position that each of them names, and its instructions; and the first line that uses
+-- a name which nothing has, of those that are weighed already. What is open is empty where nothing
+-- is open.
 pub record Outline : Type 0 where
   pub place : Place
   pub driver_names : List (List ℕ)
@@ -43,9 +45,13 @@ pub record Outline : Type 0 where
   pub sorts : List Sort
   pub routines : List ClosedRoutine
   pub calls : List Use
+  pub queue_names : List (List ℕ)
+  pub queues : List Queue
+  pub queue_uses : List Use
   pub read : Option Use
   pub write : Option Use
   pub control : Option Use
+  pub startio : Option Use
   pub dpc : Option Use
   pub sort : Sort
   pub labels : List (List ℕ)
@@ -65,9 +71,13 @@ nothing_read = record {
   sorts = [];
   routines = [];
   calls = [];
+  queue_names = [];
+  queues = [];
+  queue_uses = [];
   read = None;
   write = None;
   control = None;
+  startio = None;
   dpc = None;
   sort = Dispatch;
   labels = [];
@@ -89,7 +99,9 @@ abbrev pub stands : Place → Body → Bool
 stands place Blank = true
 stands Outside (OpenDriver name) = true
 stands Outside CloseDriver = false
+stands Outside (AddQueue name guard) = false
 stands Outside (Handle major routine) = false
+stands Outside (HandleStartIo routine) = false
 stands Outside (HandleDpc routine) = false
 stands Outside (OpenRoutine name sort) = false
 stands Outside CloseRoutine = false
@@ -97,7 +109,9 @@ stands Outside (AddDevice name driver stack lower) = true
 stands Outside (Step instr used) = false
 stands InDriver (OpenDriver name) = false
 stands InDriver CloseDriver = true
+stands InDriver (AddQueue name guard) = true
 stands InDriver (Handle major routine) = true
+stands InDriver (HandleStartIo routine) = true
 stands InDriver (HandleDpc routine) = true
 stands InDriver (OpenRoutine name sort) = true
 stands InDriver CloseRoutine = false
@@ -105,7 +119,9 @@ stands InDriver (AddDevice name driver stack lower) = false
 stands InDriver (Step instr used) = false
 stands InRoutine (OpenDriver name) = false
 stands InRoutine CloseDriver = false
+stands InRoutine (AddQueue name guard) = false
 stands InRoutine (Handle major routine) = false
+stands InRoutine (HandleStartIo routine) = false
 stands InRoutine (HandleDpc routine) = false
 stands InRoutine (OpenRoutine name sort) = false
 stands InRoutine CloseRoutine = true
@@ -126,7 +142,9 @@ is_known_label labels (Some label) = is_among labels label
 -- the line gives a name, a table entry or a label again
 abbrev pub is_again : Outline → Option (List ℕ) → Body → Bool
 is_again o label (OpenDriver name) = is_among o.driver_names name
+is_again o label (AddQueue name guard) = is_among o.queue_names name
 is_again o label (Handle major routine) = is_some (handler_of o major)
+is_again o label (HandleStartIo routine) = is_some o.startio
 is_again o label (HandleDpc routine) = is_some o.dpc
 is_again o label (OpenRoutine name sort) = is_among o.routine_names name
 is_again o label (AddDevice name driver stack lower) = is_among o.device_names name
@@ -142,11 +160,13 @@ is_stack_size n = nat_le 1 n && nat_le n MAX_STACK
 -- an operand of the line is out of range
 abbrev pub is_out_of_range : Body → Bool
 is_out_of_range (AddDevice name driver stack lower) = not (is_stack_size stack)
+is_out_of_range (AddQueue name guard) = is_none guard
 is_out_of_range (Step instr used) = is_none instr
 is_out_of_range Blank = false
 is_out_of_range (OpenDriver name) = false
 is_out_of_range CloseDriver = false
 is_out_of_range (Handle major routine) = false
+is_out_of_range (HandleStartIo routine) = false
 is_out_of_range (HandleDpc routine) = false
 is_out_of_range (OpenRoutine name sort) = false
 is_out_of_range CloseRoutine = false
@@ -155,11 +175,13 @@ is_out_of_range CloseRoutine = false
 abbrev pub has_room : Outline → Body → Bool
 has_room o (OpenDriver name) = nat_lt (length o.driver_names) MAX_DRIVERS
 has_room o (AddDevice name driver stack lower) = nat_lt (length o.device_names) MAX_DEVICES
+has_room o (AddQueue name guard) = nat_lt (length o.queue_names) MAX_QUEUES
 has_room o (OpenRoutine name sort) = nat_lt (length o.routine_names) MAX_ROUTINES
 has_room o (Step instr used) = nat_lt (length o.steps) MAX_INSTRUCTIONS
 has_room o Blank = true
 has_room o CloseDriver = true
 has_room o (Handle major routine) = true
+has_room o (HandleStartIo routine) = true
 has_room o (HandleDpc routine) = true
 has_room o CloseRoutine = true
 
@@ -196,12 +218,19 @@ driver_opened o name = record o { place = InDriver; driver_names = o.driver_name
 -- routines of this sort are for this role
 abbrev pub serves : Role → Sort → Bool
 serves Handler Dispatch = true
+serves Handler StartIo = false
 serves Handler Dpc = false
 serves Handler Propagate = false
 serves Completion Dispatch = false
+serves Completion StartIo = false
 serves Completion Dpc = false
 serves Completion Propagate = true
+serves StartIoRole Dispatch = false
+serves StartIoRole StartIo = true
+serves StartIoRole Dpc = false
+serves StartIoRole Propagate = false
 serves DpcRole Dispatch = false
+serves DpcRole StartIo = false
 serves DpcRole Dpc = true
 serves DpcRole Propagate = false
 
@@ -255,14 +284,67 @@ with_routine (Acquire lock) routine = Acquire lock
 with_routine (Release lock) routine = Release lock
 with_routine AcquireCancel routine = AcquireCancel
 with_routine ReleaseCancel routine = ReleaseCancel
+with_routine (Insert r q) routine = Insert r q
+with_routine (Remove r q old) routine = Remove r q old
+with_routine (Start r) routine = Start r
+with_routine (Take r old) routine = Take r old
+with_routine (Begin r) routine = Begin r
+with_routine Next routine = Next
 with_routine (Pass r) routine = Pass r
 with_routine (Complete r status) routine = Complete r status
 with_routine (IfPending r old) routine = IfPending r old
 with_routine (Ret what) routine = Ret what
 
--- an instruction of the open driver; if it is a call, with the number of its routine
+-- the number of the queue that the instruction of a place touches, if there is one
+abbrev pub queue_used : Outline → Option ℕ → Option ℕ
+queue_used o place =
+    option_and_then (λ u. number_of o.queue_names u.name)
+    (option_and_then (λ place. slice_get o.queue_uses place) place)
+
+-- 0 where nothing has the name, or where it touches none
+abbrev pub queue_at : Outline → Option ℕ → ℕ
+queue_at o place = unwrap_or (queue_used o place) 0
+
+-- the instruction with this queue in place of its own, if it touches one
+abbrev pub with_queue : Instr → ℕ → Instr
+with_queue (Insert r old) queue = Insert r queue
+with_queue (Remove r old label) queue = Remove r queue label
+with_queue (Call r f) queue = Call r f
+with_queue (Const r value) queue = Const r value
+with_queue (Move r q) queue = Move r q
+with_queue (Clear r) queue = Clear r
+with_queue (Add r q) queue = Add r q
+with_queue (Subtract r q) queue = Subtract r q
+with_queue (JumpIfZero r label) queue = JumpIfZero r label
+with_queue (JumpIfLess r s label) queue = JumpIfLess r s label
+with_queue (Jump label) queue = Jump label
+with_queue (Loop turns) queue = Loop turns
+with_queue End queue = End
+with_queue (Load r cell) queue = Load r cell
+with_queue (Store cell r) queue = Store cell r
+with_queue (LoadPaged r cell) queue = LoadPaged r cell
+with_queue (StorePaged cell r) queue = StorePaged cell r
+with_queue (Get r q field) queue = Get r q field
+with_queue (Put q r) queue = Put q r
+with_queue (Mark r) queue = Mark r
+with_queue (Acquire lock) queue = Acquire lock
+with_queue (Release lock) queue = Release lock
+with_queue AcquireCancel queue = AcquireCancel
+with_queue ReleaseCancel queue = ReleaseCancel
+with_queue (Start r) queue = Start r
+with_queue (Take r label) queue = Take r label
+with_queue (Begin r) queue = Begin r
+with_queue Next queue = Next
+with_queue (Pass r) queue = Pass r
+with_queue (Complete r status) queue = Complete r status
+with_queue (IfPending r label) queue = IfPending r label
+with_queue (Ret what) queue = Ret what
+
+-- an instruction of the open driver; if it is a call, with the number of its routine, and if it
+-- touches a queue, with the number of that
 abbrev pub called : Outline → Linked → Instr
-called o step = with_routine step.instr (routine_called o step.call)
+called o step =
+    with_queue (with_routine step.instr (routine_called o step.call)) (queue_at o step.queue)
 
 -- a routine of the open driver
 abbrev pub finished : Outline → ClosedRoutine → Routine
@@ -272,9 +354,11 @@ finished o routine = record { sort = routine.sort; code = map (called o) routine
 abbrev pub finished_driver : Outline → Driver
 finished_driver o = record {
   routines = map (finished o) o.routines;
+  queues = o.queues;
   read = entry_in o.routine_names o.sorts Handler o.read;
   write = entry_in o.routine_names o.sorts Handler o.write;
   control = entry_in o.routine_names o.sorts Handler o.control;
+  startio = entry_in o.routine_names o.sorts StartIoRole o.startio;
   dpc = entry_in o.routine_names o.sorts DpcRole o.dpc;
 }
 
@@ -292,7 +376,9 @@ abbrev pub missed_handler : List (List ℕ) → List Sort → Outline → Option
 missed_handler names sorts o =
     earliest (missed_entry names sorts Handler o.read)
     (earliest (missed_entry names sorts Handler o.write)
-    (earliest (missed_entry names sorts Handler o.control) (missed_entry names sorts DpcRole o.dpc)))
+    (earliest (missed_entry names sorts Handler o.control)
+    (earliest (missed_entry names sorts StartIoRole o.startio)
+    (missed_entry names sorts DpcRole o.dpc))))
 
 -- the first such line of these calls, or the one found already if that is earlier
 abbrev pub missed_calls : List (List ℕ) → List Sort → Option ℕ → List Use → Option ℕ
@@ -307,7 +393,21 @@ missed_routine o =
     earliest (missed_calls o.routine_names o.sorts None o.calls)
     (missed_handler o.routine_names o.sorts o)
 
--- `endd`: now the driver's routines are known
+-- the first line of these uses of a name that isn't among these, or the one found already if that
+-- is earlier
+abbrev pub missed_uses : List (List ℕ) → Option ℕ → List Use → Option ℕ
+missed_uses names found [] = found
+missed_uses names found (u ∷ us) = missed_uses names (earliest found (missed names (Some u))) us
+
+-- the first line of the open driver that uses a queue which it doesn't have
+abbrev pub missed_queue : Outline → Option ℕ
+missed_queue o = missed_uses o.queue_names None o.queue_uses
+
+-- the first line of the open driver that uses a queue or routine which it doesn't have
+abbrev pub missed_in_driver : Outline → Option ℕ
+missed_in_driver o = earliest (missed_queue o) (missed_routine o)
+
+-- `endd`: now the driver's routines and queues are known
 abbrev pub driver_closed : Outline → Outline
 driver_closed o = record o {
   place = Outside;
@@ -316,11 +416,22 @@ driver_closed o = record o {
   sorts = [];
   routines = [];
   calls = [];
+  queue_names = [];
+  queues = [];
+  queue_uses = [];
   read = None;
   write = None;
   control = None;
+  startio = None;
   dpc = None;
-  unknown = earliest o.unknown (missed_routine o);
+  unknown = earliest o.unknown (missed_in_driver o);
+}
+
+-- `queue NAME LOCK`
+abbrev pub queue_added : Outline → List ℕ → ℕ → Outline
+queue_added o name guard = record o {
+  queue_names = o.queue_names ++ name ∷ [];
+  queues = o.queues ++ record { guard = guard } ∷ [];
 }
 
 -- `dispatch MAJOR ROUTINE`
@@ -328,6 +439,10 @@ abbrev pub handled : Outline → Use → Major → Outline
 handled o u Read = record o { read = Some u }
 handled o u Write = record o { write = Some u }
 handled o u Control = record o { control = Some u }
+
+-- `startio ROUTINE`
+abbrev pub startio_handled : Outline → Use → Outline
+startio_handled o u = record o { startio = Some u }
 
 -- `dpc ROUTINE`
 abbrev pub dpc_handled : Outline → Use → Outline
@@ -357,6 +472,8 @@ abbrev pub with_label : Instr → ℕ → Instr
 with_label (JumpIfZero r old) label = JumpIfZero r label
 with_label (JumpIfLess r s old) label = JumpIfLess r s label
 with_label (Jump old) label = Jump label
+with_label (Remove r q old) label = Remove r q label
+with_label (Take r old) label = Take r label
 with_label (IfPending r old) label = IfPending r label
 with_label (Const r value) label = Const r value
 with_label (Move r q) label = Move r q
@@ -376,6 +493,10 @@ with_label (Acquire lock) label = Acquire lock
 with_label (Release lock) label = Release lock
 with_label AcquireCancel label = AcquireCancel
 with_label ReleaseCancel label = ReleaseCancel
+with_label (Insert r q) label = Insert r q
+with_label (Start r) label = Start r
+with_label (Begin r) label = Begin r
+with_label Next label = Next
 with_label (Pass r) label = Pass r
 with_label (Call r old) label = Call r old
 with_label (Complete r status) label = Complete r status
@@ -386,6 +507,7 @@ abbrev pub resolved : List (List ℕ) → List ℕ → StepOf → Linked
 resolved labels positions s = record {
   instr = with_label s.instr (target_position labels positions s.label);
   call = s.call;
+  queue = s.queue;
 }
 
 -- the earliest line of these steps that uses a label which isn't there, or the one found already if
@@ -442,22 +564,21 @@ label_added o label = record o {
 abbrev pub used_at : ℕ → Option (List ℕ) → Option Use
 used_at n name = option_map (λ name. record { line = n; name = name }) name
 
--- the place of the use of a routine among those of a driver's calls, which were so many
-abbrev pub call_place : ℕ → Option (List ℕ) → Option ℕ
-call_place count routine = option_map (λ name. count) routine
-
--- the use of a routine by a call in a line, if there is one
-abbrev pub call_added : Outline → ℕ → Option (List ℕ) → Outline
-call_added o n routine = record o { calls = o.calls ++ option_to_list (used_at n routine) }
+-- the place of the use of a name, if there is one, among those of its kind, which were so many
+abbrev pub use_place : ℕ → Option (List ℕ) → Option ℕ
+use_place count name = option_map (λ name. count) name
 
 -- an instruction, and the names that it uses
 abbrev pub step_added : Outline → ℕ → Instr → UsedNames → Outline
-step_added o n instr used = record (call_added o n used.routine) {
+step_added o n instr used = record o {
+  calls = o.calls ++ option_to_list (used_at n used.routine);
+  queue_uses = o.queue_uses ++ option_to_list (used_at n used.queue);
   steps = o.steps
       ++ (record {
         instr = instr;
         label = used_at n used.label;
-        call = call_place (length o.calls) used.routine;
+        call = use_place (length o.calls) used.routine;
+        queue = use_place (length o.queue_uses) used.queue;
       }) ∷ [];
 }
 
@@ -470,7 +591,10 @@ abbrev pub noted : Outline → ℕ → Option (List ℕ) → Body → Outline
 noted o n label Blank = o
 noted o n label (OpenDriver name) = driver_opened o name
 noted o n label CloseDriver = driver_closed o
+noted o n label (AddQueue name (Some guard)) = queue_added o name guard
+noted o n label (AddQueue name None) = o
 noted o n label (Handle major routine) = handled o (record { line = n; name = routine }) major
+noted o n label (HandleStartIo routine) = startio_handled o (record { line = n; name = routine })
 noted o n label (HandleDpc routine) = dpc_handled o (record { line = n; name = routine })
 noted o n label (OpenRoutine name sort) = routine_opened o name sort
 noted o n label CloseRoutine = routine_closed o
@@ -497,30 +621,47 @@ open_sort Outside sort = []
 open_sort InDriver sort = []
 open_sort InRoutine sort = sort ∷ []
 
--- a closed routine is within the limits, its labels are among its positions, and its operands fit
-pub record ClosedFits (routine : ClosedRoutine) : Type 0 where
+-- where an instruction names a queue, it has the place of a use, of which there are so many
+abbrev pub IsUse : ℕ → Option ℕ → Option ℕ → Type 0
+IsUse count None place = ⊤
+IsUse count (Some q) None = ⊥
+IsUse count (Some q) (Some place) = place < count
+
+abbrev pub QueueUsed : ℕ → Instr → Option ℕ → Type 0
+QueueUsed count i place = IsUse count (queue_named i) place
+
+-- a closed routine is within the limits, its labels are among its positions, its operands fit, and
+-- the queues that it names are among so many uses
+pub record ClosedFits (uses : ℕ) (routine : ClosedRoutine) : Type 0 where
   pub few : length routine.code ≤ MAX_INSTRUCTIONS
   pub labels : All (λ (step : Linked). LabelFits (length routine.code) step.instr) routine.code
   pub operands : All (λ (step : Linked). OperandFits step.instr) routine.code
+  pub queues : All (λ (step : Linked). QueueUsed uses step.instr step.queue) routine.code
 
 -- each device has the number of its name, and all of them fit
 pub record DevicesKnown (o : Outline) : Type 0 where
   pub count : length o.devices ≡ length o.device_names
   pub fit : DevicesFit (length o.driver_names) 0 o.devices
 
--- what was read is within the limits of a set, and its numbers name things, those of its devices
--- where no name is unknown
+-- what was read is within the limits of a set, and its numbers name things, those of its drivers
+-- and devices where no name is unknown
 pub record IsOrderly (o : Outline) : Type 0 where
   pub few_drivers : length o.driver_names ≤ MAX_DRIVERS
   pub few_devices : length o.device_names ≤ MAX_DEVICES
   pub few_routines : length o.routine_names ≤ MAX_ROUTINES
+  pub few_queues : length o.queue_names ≤ MAX_QUEUES
   pub few_steps : length o.steps ≤ MAX_INSTRUCTIONS
+  pub idle : open_routines o.place ≡ 0 → o.steps ≡ []
   pub positions_fit : All (λ position. position < length o.steps) o.positions
   pub operands_fit : All (λ (step : StepOf). OperandFits step.instr) o.steps
+  pub queues_used : All (λ (step : StepOf). QueueUsed (length o.queue_uses) step.instr step.queue)
+      o.steps
+  pub guards_fit : All GuardFits o.queues
+  pub queue_count : length o.queues ≡ length o.queue_names
   pub driver_count : length o.drivers + open_drivers o.place ≡ length o.driver_names
   pub routine_count : length o.routines + open_routines o.place ≡ length o.routine_names
   pub sorts_known : map (λ (routine : ClosedRoutine). routine.sort) o.routines
       ++ open_sort o.place o.sort ≡ o.sorts
-  pub drivers_fit : All DriverFits o.drivers
+  pub drivers_fit : o.unknown ≡ None → All DriverFits o.drivers
   pub devices_known : o.unknown ≡ None → DevicesKnown o
-  pub routines_fit : All ClosedFits o.routines
+  pub routines_fit : All (ClosedFits (length o.queue_uses)) o.routines

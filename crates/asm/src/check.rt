@@ -7,7 +7,9 @@ use crate::draft::{Draft, Place, Use};
 use crate::fault::AsmKind;
 use crate::names::{is_among, is_known};
 use asm_line::{Body, Line};
-use model::limits::{MAX_DEVICES, MAX_DRIVERS, MAX_INSTRUCTIONS, MAX_ROUTINES, MAX_STACK};
+use model::limits::{
+    MAX_DEVICES, MAX_DRIVERS, MAX_INSTRUCTIONS, MAX_QUEUES, MAX_ROUTINES, MAX_STACK,
+};
 use model::status::Major;
 
 impl<'a> Draft<'a> {
@@ -36,7 +38,9 @@ impl<'a> Draft<'a> {
     {
         match &line.body {
             Body::OpenDriver(name) => is_among(&self.driver_names, name),
+            Body::AddQueue(name, _) => is_among(&self.queue_names, name),
             Body::Handle(major, _) => self.handler_of(*major).is_some(),
+            Body::HandleStartIo(_) => self.startio.is_some(),
             Body::HandleDpc(_) => self.dpc.is_some(),
             Body::OpenRoutine(name, _) => is_among(&self.routine_names, name),
             Body::AddDevice(name, _, _, _) => is_among(&self.device_names, name),
@@ -63,6 +67,7 @@ impl<'a> Draft<'a> {
         match body {
             Body::OpenDriver(_) => self.driver_names.len() < MAX_DRIVERS,
             Body::AddDevice(_, _, _, _) => self.device_names.len() < MAX_DEVICES,
+            Body::AddQueue(_, _) => self.queue_names.len() < MAX_QUEUES,
             Body::OpenRoutine(_, _) => self.routine_names.len() < MAX_ROUTINES,
             Body::Step(_, _) => self.steps.len() < MAX_INSTRUCTIONS,
             _ => true,
@@ -77,9 +82,12 @@ fn stands(place: Place, body: &Body<'_>) -> bool
     match body {
         Body::Blank => true,
         Body::OpenDriver(_) | Body::AddDevice(_, _, _, _) => matches!(place, Place::Outside),
-        Body::CloseDriver | Body::Handle(_, _) | Body::HandleDpc(_) | Body::OpenRoutine(_, _) => {
-            matches!(place, Place::InDriver)
-        }
+        Body::CloseDriver
+        | Body::AddQueue(_, _)
+        | Body::Handle(_, _)
+        | Body::HandleStartIo(_)
+        | Body::HandleDpc(_)
+        | Body::OpenRoutine(_, _) => matches!(place, Place::InDriver),
         Body::CloseRoutine | Body::Step(_, _) => matches!(place, Place::InRoutine),
     }
 }
@@ -90,6 +98,7 @@ fn is_out_of_range(body: &Body<'_>) -> bool
 {
     match body {
         Body::AddDevice(_, _, stack, _) => !is_stack_size(*stack),
+        Body::AddQueue(_, guard) => guard.is_none(),
         Body::Step(instr, _) => instr.is_none(),
         _ => false,
     }

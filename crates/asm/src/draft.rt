@@ -6,7 +6,7 @@ ghost use Rattle.asm.specs.Outline.{nothing_read};
 use indexmap::IndexSet;
 use model::instr::Instr;
 use model::items::Items;
-use model::set::{Device, Driver, Sort};
+use model::set::{Device, Driver, Queue, Sort};
 use std::alloc::Global;
 use std::marker::Model;
 use text::piece::Piece;
@@ -28,19 +28,22 @@ pub struct Use<'a> {
 
 /// An instruction of the open routine. Where it jumps, `label` is the use of its label's name;
 /// where it is a `call` that sets a routine, `call` is the place of the use of that routine's name
-/// among those of the open driver's calls.
+/// among those of the open driver's calls; where it touches a queue, `queue` is the place of the
+/// use of that queue's name among those of the open driver's instructions.
 #[derive(Drop)]
 pub struct Step<'a> {
     pub instr: Instr,
     pub label: Option<Use<'a>>,
     pub call: Option<usize>,
+    pub queue: Option<usize>,
 }
 
-/// An instruction of a closed routine, so its label is known. For `call` see `Step`.
+/// An instruction of a closed routine, so its label is known. For `call` and `queue` see `Step`.
 #[derive(Drop)]
 pub struct Linked {
     pub instr: Instr,
     pub call: Option<usize>,
+    pub queue: Option<usize>,
 }
 
 /// A closed routine of the open driver.
@@ -62,9 +65,13 @@ pub struct Draft<'a> {
     pub(crate) sorts: Vec<Sort>,
     pub(crate) routines: Vec<ClosedRoutine>,
     pub(crate) calls: Vec<Use<'a>>,
+    pub(crate) queue_names: IndexSet<Piece<'a>>,
+    pub(crate) queues: Vec<Queue>,
+    pub(crate) queue_uses: Vec<Use<'a>>,
     pub(crate) read: Option<Use<'a>>,
     pub(crate) write: Option<Use<'a>>,
     pub(crate) control: Option<Use<'a>>,
+    pub(crate) startio: Option<Use<'a>>,
     pub(crate) dpc: Option<Use<'a>>,
     pub(crate) sort: Sort,
     pub(crate) labels: IndexSet<Piece<'a>>,
@@ -88,9 +95,13 @@ impl<'a> Model for Draft<'a> {
       sorts = d.sorts.items;
       routines = d.routines.items;
       calls = d.calls.items;
+      queue_names = d.queue_names.keys;
+      queues = d.queues.items;
+      queue_uses = d.queue_uses.items;
       read = d.read;
       write = d.write;
       control = d.control;
+      startio = d.startio;
       dpc = d.dpc;
       sort = d.sort;
       labels = d.labels.keys;
@@ -115,9 +126,13 @@ impl<'a> Draft<'a> {
             sorts: Vec::new(alloc),
             routines: Vec::new(alloc),
             calls: Vec::new(alloc),
+            queue_names: IndexSet::new(alloc),
+            queues: Vec::new(alloc),
+            queue_uses: Vec::new(alloc),
             read: None,
             write: None,
             control: None,
+            startio: None,
             dpc: None,
             sort: Sort::Dispatch,
             labels: IndexSet::new(alloc),

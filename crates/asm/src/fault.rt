@@ -17,7 +17,7 @@ pub enum AsmKind {
     OutOfRange = 5,
     /// The text ends inside a driver or routine.
     Unclosed = 6,
-    /// More drivers, devices, routines or instructions than a set may have.
+    /// More drivers, devices, queues, routines or instructions than a set may have.
     OverLimit = 7,
     /// A growth was refused.
     Memory = 8,

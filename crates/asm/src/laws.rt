@@ -18,8 +18,9 @@ pub fn named_is_faultless()
 {}
 
 /// A routine of a set that a text names has the instructions on its lines, in order. Each of them
-/// that jumps has the position of the instruction on the line of its label, and each `call` has the
-/// number of the routine that it names.
+/// that jumps has the position of the instruction on the line of its label, each `call` has the
+/// number of the routine that it names, and one that touches a queue has the number of the queue
+/// that it names.
 #[tactic(auto, using(crate::proofs::Written::code_is_of_its_lines))]
 pub fn code_is_of_its_lines()
     ensures { CodeIsOfItsLines }

@@ -12,6 +12,7 @@ pub mod laws;
 mod link;
 mod names;
 mod note;
+mod queues;
 mod reading;
 mod routines;
 

@@ -34,6 +34,7 @@ fn resolved(labels: &IndexSet<Piece<'_>>, positions: &[u16], step: &Step<'_>) ->
     Linked {
         instr: with_label(step.instr, target_position(labels, positions, &step.label)),
         call: step.call,
+        queue: step.queue,
     }
 }
 
@@ -45,6 +46,8 @@ fn with_label(instr: Instr, label: u16) -> Instr
         Instr::JumpIfZero(register, _) => Instr::JumpIfZero(register, label),
         Instr::JumpIfLess(less, more, _) => Instr::JumpIfLess(less, more, label),
         Instr::Jump(_) => Instr::Jump(label),
+        Instr::Remove(register, queue, _) => Instr::Remove(register, queue, label),
+        Instr::Take(register, _) => Instr::Take(register, label),
         Instr::IfPending(register, _) => Instr::IfPending(register, label),
         other => other,
     }

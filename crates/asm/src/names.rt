@@ -1,7 +1,7 @@
 //! Names and what they number.
 
-ghost use Rattle.std.specs.Prelude.{◌≡◌, ◌≤◌, ◌^◌, ◌++◌, [], ◌∷◌, false, length, OnOk, option_to_list};
-ghost use Rattle.asm.specs.Outline.{earliest, is_among, is_known_label, missed, number_of, number_used, used_at};
+ghost use Rattle.std.specs.Prelude.{◌≡◌, ◌≤◌, ◌^◌, ◌++◌, [], ◌∷◌, false, length, IfOk, OnOk, option_to_list};
+ghost use Rattle.asm.specs.Outline.{earliest, is_among, is_known_label, missed, number_of, number_used, use_place, used_at};
 
 use crate::draft::Use;
 use indexmap::IndexSet;
@@ -89,6 +89,25 @@ pub fn add<'a>(names: &mut IndexSet<Piece<'a>>, name: Piece<'a>) -> Result<(), A
 {
     names.insert(name)?;
     Ok(())
+}
+
+/// Adds the use of a name in a line, if there is one, and answers its place.
+pub fn add_use<'a>(
+    uses: &mut Vec<Use<'a>>,
+    line: u64,
+    name: Option<Piece<'a>>,
+) -> Result<Option<usize>, AllocError>
+    ensures uses { OnOk result
+        (uses.new.items ≡ uses.old.items ++ option_to_list (used_at line name.entry)) }
+    ensures place { IfOk result
+        (λ place. place ≡ use_place (length uses.old.items) name.entry) }
+{
+    let Some(name) = name else {
+        return Ok(None);
+    };
+    let place = uses.len();
+    uses.push(Use { line, name })?;
+    Ok(Some(place))
 }
 
 /// Adds what there is.

@@ -1,16 +1,16 @@
 //! What a line adds to what was read.
 
-ghost use Rattle.std.specs.Prelude.{◌≡◌, ◌≤◌, ◌<◌, ◌++◌, false, true, length, option_to_list, IfOk, OnOk};
-ghost use Rattle.model.specs.declared.limits.TheConstants.{MAX_DEVICES, MAX_DRIVERS, MAX_INSTRUCTIONS, MAX_ROUTINES};
-ghost use Rattle.asm.specs.Outline.{call_added, call_place, device_added, device_of, dpc_handled, driver_closed, driver_opened, handled, is_among, is_known_label, is_stack_size, label_added, noted, routine_closed, routine_opened, step_added, stepped, used_at, IsFitting, IsOrderly};
+ghost use Rattle.std.specs.Prelude.{◌≡◌, ◌≤◌, ◌<◌, false, true, length, OnOk};
+ghost use Rattle.model.specs.declared.limits.TheConstants.{MAX_DEVICES, MAX_DRIVERS, MAX_INSTRUCTIONS, MAX_QUEUES, MAX_ROUTINES};
+ghost use Rattle.asm.specs.Outline.{device_added, device_of, dpc_handled, driver_closed, driver_opened, handled, is_among, is_known_label, is_stack_size, label_added, noted, queue_added, routine_closed, routine_opened, startio_handled, step_added, stepped, IsFitting, IsOrderly};
 
 use crate::draft::{ClosedRoutine, Draft, Place, Step, Use};
 use crate::link::{linked, missed_from};
-use crate::names::{add, earliest, missed, number_of, number_used, push_some, used_at};
+use crate::names::{add, add_use, earliest, missed, number_of, number_used, push_some, used_at};
 use asm_line::{Body, Line, UsedNames};
-use model::instr::Instr;
+use model::instr::{Instr, SpinLock};
 use model::items::Items;
-use model::set::{Device, Sort};
+use model::set::{Device, Queue, Sort};
 use model::status::Major;
 use std::alloc::{AllocError, Global};
 use text::piece::Piece;
@@ -31,7 +31,12 @@ impl<'a> Draft<'a> {
             Body::Blank => Ok(()),
             Body::OpenDriver(name) => self.open_driver(name),
             Body::CloseDriver => self.close_driver(alloc),
+            Body::AddQueue(name, guard) => match guard {
+                Some(guard) => self.add_queue(name, guard),
+                None => Ok(()),
+            },
             Body::Handle(major, name) => self.handle(major, Use { line: number, name }),
+            Body::HandleStartIo(name) => self.handle_startio(Use { line: number, name }),
             Body::HandleDpc(name) => self.handle_dpc(Use { line: number, name }),
             Body::OpenRoutine(name, sort) => self.open_routine(name, sort),
             Body::CloseRoutine => self.close_routine(alloc),
@@ -61,21 +66,36 @@ impl<'a> Draft<'a> {
 
     /// `endd`.
     fn close_driver(&mut self, alloc: Global) -> Result<(), AllocError>
-        requires { length self.old.routine_names ≤ MAX_ROUTINES }
+        requires routines { length self.old.routine_names ≤ MAX_ROUTINES }
+        requires queues { length self.old.queue_names ≤ MAX_QUEUES }
         ensures { OnOk result (self.new ≡ driver_closed self.old) }
     {
         let driver = self.finished_driver(alloc)?;
-        self.unknown = earliest(self.unknown, self.missed_routine());
+        self.unknown = earliest(self.unknown, self.missed_in_driver());
         self.drivers.push(driver)?;
         self.routine_names.clear();
         self.sorts.clear();
         self.routines.clear();
         self.calls.clear();
+        self.queue_names.clear();
+        self.queues.clear();
+        self.queue_uses.clear();
         self.read = None;
         self.write = None;
         self.control = None;
+        self.startio = None;
         self.dpc = None;
         self.place = Place::Outside;
+        Ok(())
+    }
+
+    /// `queue NAME LOCK`.
+    fn add_queue(&mut self, name: Piece<'a>, guard: SpinLock) -> Result<(), AllocError>
+        requires { is_among self.old.queue_names name ≡ false }
+        ensures { OnOk result (self.new ≡ queue_added self.old name.entry guard) }
+    {
+        add(&mut self.queue_names, name)?;
+        self.queues.push(Queue { guard })?;
         Ok(())
     }
 
@@ -88,6 +108,14 @@ impl<'a> Draft<'a> {
             Major::Write => self.write = Some(used),
             Major::Control => self.control = Some(used),
         }
+        Ok(())
+    }
+
+    /// `startio ROUTINE`.
+    fn handle_startio(&mut self, used: Use<'a>) -> Result<(), AllocError>
+        ensures { OnOk result (self.new ≡ startio_handled self.old used.entry) }
+    {
+        self.startio = Some(used);
         Ok(())
     }
 
@@ -186,32 +214,20 @@ impl<'a> Draft<'a> {
     fn add_step(&mut self, number: u64, instr: Instr, used: UsedNames<'a>) -> Result<(), AllocError>
         ensures { OnOk result (self.new ≡ step_added self.old number instr used.entry) }
     {
-        let UsedNames { label, routine } = used;
-        let call = self.add_call(number, routine)?;
+        let UsedNames {
+            label,
+            routine,
+            queue,
+        } = used;
+        let call = add_use(&mut self.calls, number, routine)?;
+        let queue = add_use(&mut self.queue_uses, number, queue)?;
         self.steps.push(Step {
             instr,
             label: used_at(number, label),
             call,
+            queue,
         })?;
         Ok(())
-    }
-
-    /// The use of a routine by a call, if there is one, and its place.
-    fn add_call(
-        &mut self,
-        number: u64,
-        routine: Option<Piece<'a>>,
-    ) -> Result<Option<usize>, AllocError>
-        ensures calls { OnOk result (self.new ≡ call_added self.old number routine.entry) }
-        ensures place { IfOk result
-            (λ place. place ≡ call_place (length self.old.calls) routine.entry) }
-    {
-        let Some(name) = routine else {
-            return Ok(None);
-        };
-        let place = self.calls.len();
-        self.calls.push(Use { line: number, name })?;
-        Ok(Some(place))
     }
 
     /// A label, if there is one, which is new: it stands for the position of the next instruction.

@@ -75,7 +75,6 @@ impl<'a> Draft<'a> {
     }
 
     /// Reads one line, whose number is `number`.
-    #[tactic(auto, using(crate::proofs::Orderly::fitting, crate::proofs::Orderly::orderly_on))]
     fn read_on(
         &mut self,
         alloc: Global,

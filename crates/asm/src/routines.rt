@@ -1,11 +1,12 @@
 //! The routines of a driver put in place of their names, once all of them are known.
 
 ghost use Rattle.std.specs.Prelude.{◌≡◌, ◌≤◌, length, map, IfOk, None};
-ghost use Rattle.model.specs.declared.limits.TheConstants.{MAX_ROUTINES};
-ghost use Rattle.asm.specs.Outline.{called, entry_in, finished, missed_calls, missed_entry, missed_handler, missed_routine, missed_use, number_for, finished_driver, routine_called, routine_named, serves, with_routine};
+ghost use Rattle.model.specs.declared.limits.TheConstants.{MAX_QUEUES, MAX_ROUTINES};
+ghost use Rattle.asm.specs.Outline.{called, entry_in, finished, missed_calls, missed_entry, missed_handler, missed_in_driver, missed_routine, missed_use, number_for, finished_driver, routine_called, routine_named, serves, with_routine};
 
 use crate::draft::{ClosedRoutine, Draft, Linked, Use};
 use crate::names::{earliest, number_of};
+use crate::queues::with_queue;
 use indexmap::IndexSet;
 use model::instr::Instr;
 use model::items::Items;
@@ -20,6 +21,8 @@ pub enum Role {
     Handler,
     /// To be set by a `call`.
     Completion,
+    /// To begin the packets of a device one after another.
+    StartIo,
     /// To be queued by an interrupt.
     Dpc,
 }
@@ -31,6 +34,7 @@ fn serves(role: Role, sort: Sort) -> bool
     match (role, sort) {
         (Role::Handler, Sort::Dispatch) => true,
         (Role::Completion, Sort::Propagate) => true,
+        (Role::StartIo, Sort::StartIo) => true,
         (Role::Dpc, Sort::Dpc) => true,
         _ => false,
     }
@@ -77,16 +81,26 @@ fn with_routine(instr: Instr, routine: Option<u8>) -> Instr
 }
 
 impl<'a> Draft<'a> {
+    /// The first line of the open driver that uses a queue or routine which it doesn't have, or a
+    /// routine of a sort that isn't for its role.
+    pub fn missed_in_driver(&self) -> Option<u64>
+        requires { length self.now.routine_names ≤ MAX_ROUTINES }
+        ensures { result ≡ missed_in_driver self.now }
+    {
+        earliest(self.missed_queue(), self.missed_routine())
+    }
+
     /// The first line of the open driver that uses a routine which it doesn't have, or one of a
     /// sort that isn't for its role.
-    pub fn missed_routine(&self) -> Option<u64>
+    fn missed_routine(&self) -> Option<u64>
         requires { length self.now.routine_names ≤ MAX_ROUTINES }
         ensures { result ≡ missed_routine self.now }
     {
         earliest(self.missed_calls(), self.missed_handler())
     }
 
-    /// The first line that names such a routine for a major function or as its DPC routine.
+    /// The first line that names such a routine for a major function, as its StartIo or as its DPC
+    /// routine.
     fn missed_handler(&self) -> Option<u64>
         requires { length self.now.routine_names ≤ MAX_ROUTINES }
         ensures { result ≡ missed_handler self.now.routine_names self.now.sorts self.now }
@@ -94,8 +108,12 @@ impl<'a> Draft<'a> {
         let read = self.missed_entry(Role::Handler, &self.read);
         let write = self.missed_entry(Role::Handler, &self.write);
         let control = self.missed_entry(Role::Handler, &self.control);
+        let startio = self.missed_entry(Role::StartIo, &self.startio);
         let dpc = self.missed_entry(Role::Dpc, &self.dpc);
-        earliest(read, earliest(write, earliest(control, dpc)))
+        earliest(
+            read,
+            earliest(write, earliest(control, earliest(startio, dpc))),
+        )
     }
 
     /// The line of a table entry that names such a routine.
@@ -135,14 +153,17 @@ impl<'a> Draft<'a> {
 
     /// The open driver, whose routines are all closed.
     pub fn finished_driver(&self, alloc: Global) -> Result<Driver, AllocError>
-        requires { length self.now.routine_names ≤ MAX_ROUTINES }
+        requires routines { length self.now.routine_names ≤ MAX_ROUTINES }
+        requires queues { length self.now.queue_names ≤ MAX_QUEUES }
         ensures { IfOk result (λ driver. driver ≡ finished_driver self.now) }
     {
         Ok(Driver {
             routines: Items::of(self.finished_routines(alloc)?),
+            queues: Items::of(self.finished_queues(alloc)?),
             read: self.entry_in(Role::Handler, &self.read),
             write: self.entry_in(Role::Handler, &self.write),
             control: self.entry_in(Role::Handler, &self.control),
+            startio: self.entry_in(Role::StartIo, &self.startio),
             dpc: self.entry_in(Role::Dpc, &self.dpc),
         })
     }
@@ -166,9 +187,10 @@ impl<'a> Draft<'a> {
         routine_named(&self.routine_names, &self.sorts, role, name)
     }
 
-    /// The open driver's routines, whose calls have the numbers of their routines.
+    /// The open driver's routines, whose instructions have the numbers of what they name.
     fn finished_routines(&self, alloc: Global) -> Result<Vec<Routine>, AllocError>
-        requires { length self.now.routine_names ≤ MAX_ROUTINES }
+        requires routines { length self.now.routine_names ≤ MAX_ROUTINES }
+        requires queues { length self.now.queue_names ≤ MAX_QUEUES }
         ensures { IfOk result
             (λ routines. routines.items ≡ map (finished self.now) self.now.routines) }
     {
@@ -179,9 +201,10 @@ impl<'a> Draft<'a> {
         Ok(routines)
     }
 
-    /// A routine whose calls have the numbers of their routines.
+    /// A routine whose instructions have the numbers of what they name.
     fn finished(&self, alloc: Global, routine: &ClosedRoutine) -> Result<Routine, AllocError>
-        requires { length self.now.routine_names ≤ MAX_ROUTINES }
+        requires routines { length self.now.routine_names ≤ MAX_ROUTINES }
+        requires queues { length self.now.queue_names ≤ MAX_QUEUES }
         ensures { IfOk result (λ whole. whole ≡ finished self.now routine.now) }
     {
         Ok(Routine {
@@ -190,16 +213,27 @@ impl<'a> Draft<'a> {
         })
     }
 
-    /// Instructions whose calls have the numbers of their routines.
+    /// Instructions that have the numbers of what they name.
     fn code_of(&self, alloc: Global, steps: &[Linked]) -> Result<Vec<Instr>, AllocError>
-        requires { length self.now.routine_names ≤ MAX_ROUTINES }
+        requires routines { length self.now.routine_names ≤ MAX_ROUTINES }
+        requires queues { length self.now.queue_names ≤ MAX_QUEUES }
         ensures { IfOk result (λ code. code.items ≡ map (called self.now) steps.now) }
     {
         let mut code = Vec::new(alloc);
         for step in steps {
-            code.push(with_routine(step.instr, self.routine_called(step.call)))?;
+            code.push(self.called(step))?;
         }
         Ok(code)
+    }
+
+    /// An instruction that has the numbers of what it names.
+    fn called(&self, step: &Linked) -> Instr
+        requires routines { length self.now.routine_names ≤ MAX_ROUTINES }
+        requires queues { length self.now.queue_names ≤ MAX_QUEUES }
+        ensures { result ≡ called self.now step.now }
+    {
+        let instr = with_routine(step.instr, self.routine_called(step.call));
+        with_queue(instr, self.queue_at(step.queue))
     }
 
     /// The number of the routine that the call of this place sets.

@@ -18,7 +18,11 @@ use Rattle.asm_line.specs.declared.cursor.Cursor.{Cursor}
 -- before the first operand
 abbrev pub beginning : List (List ℕ) → Cursor
 beginning tokens =
-    record { tokens = tokens; in_range = true; used = record { label = None; routine = None } }
+    record {
+      tokens = tokens;
+      in_range = true;
+      used = record { label = None; routine = None; queue = None };
+    }
 
 -- what was read, and the cursor behind it; nothing where the tokens are of another form
 abbrev pub Reading : Type 0 → Type 0
@@ -100,6 +104,12 @@ abbrev pub called : Cursor → Reading (Option ℕ)
 called c =
     then_read (optional_name c)
     (λ n rest. so_far None (record rest { used = record rest.used { routine = n } }))
+
+-- a queue, by its name, which is noted: it stands for 0 until the queues of its driver are known
+abbrev pub queue : Cursor → Reading ℕ
+queue c =
+    then_read (name c)
+    (λ n rest. so_far 0 (record rest { used = record rest.used { queue = Some n } }))
 
 -- a number of a token; one that has more than 64 bits is as far out of range as the largest that
 -- has not

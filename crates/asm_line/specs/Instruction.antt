@@ -1,8 +1,8 @@
 -- The instructions of a driver text, each by its word and what stands behind it.
 use Rattle.std.specs.Prelude.{ℕ, List, bytes_eq, codes, None, if◌then◌else◌}
 use Rattle.model.specs.declared.instr.Instr.{Instr}
-use Rattle.model.specs.declared.instr.Instr.TheVariants.{Const, Move, Clear, Add, Subtract, JumpIfZero, JumpIfLess, Jump, Loop, End, Load, Store, LoadPaged, StorePaged, Get, Put, Mark, Acquire, Release, AcquireCancel, ReleaseCancel, Pass, Call, Complete, IfPending, Ret}
-use Rattle.asm_line.specs.Cursor.{Reading, so_far, one, two, three, called, cell, constant, field, label, paged_cell, register, returned, spin_lock, status, turns}
+use Rattle.model.specs.declared.instr.Instr.TheVariants.{Const, Move, Clear, Add, Subtract, JumpIfZero, JumpIfLess, Jump, Loop, End, Load, Store, LoadPaged, StorePaged, Get, Put, Mark, Acquire, Release, AcquireCancel, ReleaseCancel, Insert, Remove, Start, Take, Begin, Next, Pass, Call, Complete, IfPending, Ret}
+use Rattle.asm_line.specs.Cursor.{Reading, so_far, one, two, three, called, cell, constant, field, label, paged_cell, queue, register, returned, spin_lock, status, turns}
 use Rattle.asm_line.specs.declared.cursor.Cursor.{Cursor}
 
 -- what is done with packets
@@ -17,7 +17,17 @@ on_packets t c =
     (if bytes_eq t (codes "ifpending") then two IfPending register label c else
     (if bytes_eq t (codes "ret") then one Ret returned c else None)))))))
 
--- what is done with the device's locks and cells, or with packets
+-- what is done with the device's queues and its current packet, or with packets
+abbrev pub on_queues : List ℕ → Cursor → Reading Instr
+on_queues t c =
+    if bytes_eq t (codes "insert") then two Insert register queue c else
+    (if bytes_eq t (codes "remove") then three Remove register queue label c else
+    (if bytes_eq t (codes "start") then one Start register c else
+    (if bytes_eq t (codes "take") then two Take register label c else
+    (if bytes_eq t (codes "begin") then one Begin register c else
+    (if bytes_eq t (codes "next") then so_far Next c else on_packets t c)))))
+
+-- what is done with the device's locks and cells, its queues, or packets
 abbrev pub on_devices : List ℕ → Cursor → Reading Instr
 on_devices t c =
     if bytes_eq t (codes "load") then two Load register cell c else
@@ -27,7 +37,7 @@ on_devices t c =
     (if bytes_eq t (codes "acquire") then one Acquire spin_lock c else
     (if bytes_eq t (codes "release") then one Release spin_lock c else
     (if bytes_eq t (codes "acqc") then so_far AcquireCancel c else
-    (if bytes_eq t (codes "relc") then so_far ReleaseCancel c else on_packets t c)))))))
+    (if bytes_eq t (codes "relc") then so_far ReleaseCancel c else on_queues t c)))))))
 
 -- what an instruction's word and the tokens behind it say
 abbrev pub instruction : List ℕ → Cursor → Reading Instr

@@ -5,23 +5,31 @@ use Rattle.text.specs.Cut.{tokens_of}
 use Rattle.text.specs.Class.{label_name}
 use Rattle.text.specs.Lexical.{is_lexical}
 use Rattle.model.specs.declared.instr.Instr.{Instr}
-use Rattle.model.specs.Sound.{OperandFits}
-use Rattle.asm_line.specs.Cursor.{Reading, beginning, so_far, one, two, three, then_read, major, name, number, optional_name, sort}
+use Rattle.model.specs.Sound.{IsSpinLock, OperandFits, queue_named}
+use Rattle.asm_line.specs.Cursor.{Reading, beginning, so_far, one, two, three, then_read, major, name, number, optional_name, sort, spin_lock}
 use Rattle.asm_line.specs.Instruction.{instruction}
 use Rattle.asm_line.specs.declared.cursor.Cursor.{Cursor}
 use Rattle.asm_line.specs.declared.line.LineFault.{LineFault}
 use Rattle.asm_line.specs.declared.line.LineFault.TheVariants.{Lex, UnknownWord}
 use Rattle.asm_line.specs.declared.line.Body.{Body}
-use Rattle.asm_line.specs.declared.line.Body.TheVariants.{Blank, OpenDriver, CloseDriver, Handle, HandleDpc, OpenRoutine, CloseRoutine, AddDevice, Step}
+use Rattle.asm_line.specs.declared.line.Body.TheVariants.{Blank, OpenDriver, CloseDriver, AddQueue, Handle, HandleStartIo, HandleDpc, OpenRoutine, CloseRoutine, AddDevice, Step}
 use Rattle.asm_line.specs.declared.line.Line.{Line}
+use Rattle.asm_line.specs.declared.line.UsedNames.{UsedNames}
 
 -- `device NAME DRIVER STACK` and `device NAME DRIVER STACK LOWER`
 abbrev pub device : Cursor → Reading Body
 device c = then_read (name c) (λ n rest. three (AddDevice n) name number optional_name rest)
 
--- the instruction, if its operands are in range
-abbrev pub if_in_range : Bool → Instr → Option Instr
-if_in_range fine i = if fine then Some i else None
+-- what was read, if its operands are in range
+abbrev pub if_in_range : {A : Type 0} → Bool → A → Option A
+if_in_range fine a = if fine then Some a else None
+
+-- `queue NAME LOCK`
+abbrev pub queue : Cursor → Reading Body
+queue c =
+    then_read (name c)
+    (λ n rest. then_read (spin_lock rest)
+    (λ lock rest. so_far (AddQueue n (if_in_range rest.in_range lock)) rest))
 
 -- an instruction, and the names that it uses
 abbrev pub step : List ℕ → Cursor → Reading Body
@@ -34,11 +42,13 @@ abbrev pub body : List ℕ → Cursor → Reading Body
 body t c =
     if bytes_eq t (codes "driver") then one OpenDriver name c else
     (if bytes_eq t (codes "endd") then so_far CloseDriver c else
+    (if bytes_eq t (codes "queue") then queue c else
     (if bytes_eq t (codes "dispatch") then two Handle major name c else
+    (if bytes_eq t (codes "startio") then one HandleStartIo name c else
     (if bytes_eq t (codes "dpc") then one HandleDpc name c else
     (if bytes_eq t (codes "routine") then two OpenRoutine name sort c else
     (if bytes_eq t (codes "endr") then so_far CloseRoutine c else
-    (if bytes_eq t (codes "device") then device c else step t c))))))
+    (if bytes_eq t (codes "device") then device c else step t c))))))))
 
 -- what was read, if no token is left
 abbrev pub if_ended : List (List ℕ) → Body → Option Body
@@ -59,7 +69,9 @@ labelled label (Step instr used) = Some (record { label = Some label; body = Ste
 labelled label Blank = None
 labelled label (OpenDriver name) = None
 labelled label CloseDriver = None
+labelled label (AddQueue name lock) = None
 labelled label (Handle major routine) = None
+labelled label (HandleStartIo routine) = None
 labelled label (HandleDpc routine) = None
 labelled label (OpenRoutine name sort) = None
 labelled label CloseRoutine = None
@@ -79,14 +91,27 @@ line_of (t ∷ ts) = line_with (t ∷ ts) (label_name t) ts
 abbrev pub read_line : List ℕ → Result Line LineFault
 read_line raw = if is_lexical raw then ok_or (line_of (tokens_of raw)) UnknownWord else Err Lex
 
--- the operands of the line's instruction, if it has one, are those of a sound set
+-- where an instruction names a queue, the name is noted
+abbrev pub IsNoted : Option ℕ → Option (List ℕ) → Type 0
+IsNoted None name = ⊤
+IsNoted (Some q) None = ⊥
+IsNoted (Some q) (Some name) = ⊤
+
+abbrev pub QueueNoted : UsedNames → Instr → Type 0
+QueueNoted used i = IsNoted (queue_named i) used.queue
+
+-- the operands of the line's instruction, if it has one, are those of a sound set, and so is the
+-- guard of its queue
 abbrev pub BodyFits : Body → Type 0
-BodyFits (Step (Some instr) used) = OperandFits instr
+BodyFits (Step (Some instr) used) = OperandFits instr × QueueNoted used instr
 BodyFits (Step None used) = ⊤
 BodyFits Blank = ⊤
 BodyFits (OpenDriver name) = ⊤
 BodyFits CloseDriver = ⊤
+BodyFits (AddQueue name (Some lock)) = IsSpinLock lock
+BodyFits (AddQueue name None) = ⊤
 BodyFits (Handle major routine) = ⊤
+BodyFits (HandleStartIo routine) = ⊤
 BodyFits (HandleDpc routine) = ⊤
 BodyFits (OpenRoutine name sort) = ⊤
 BodyFits CloseRoutine = ⊤

@@ -2,7 +2,7 @@
 
 ghost use Rattle.std.specs.Prelude.{◌≡◌, ◌≤◌, ◌<◌, IfSome, option_map};
 ghost use Rattle.model.specs.declared.limits.TheConstants.{CELLS, MAX_TURNS, REGISTERS, SPIN_LOCKS};
-ghost use Rattle.asm_line.specs.Cursor.{beginning, called, capped, cell, cell_of, constant, constant_of, field, label, lock_of, major, name, name_of, number, numbered, optional_name, paged_cell, ranged, register, register_of, returned, returned_by, sort, spin_lock, status, token, turns, turns_of, Reads};
+ghost use Rattle.asm_line.specs.Cursor.{beginning, called, capped, cell, cell_of, constant, constant_of, field, label, lock_of, major, name, name_of, number, numbered, optional_name, paged_cell, queue, ranged, register, register_of, returned, returned_by, sort, spin_lock, status, token, turns, turns_of, Reads};
 
 use crate::line::UsedNames;
 use crate::words::{field_of, sort_of, status_of};
@@ -37,6 +37,7 @@ impl<'a> Cursor<'a> {
             used: UsedNames {
                 label: None,
                 routine: None,
+                queue: None,
             },
         }
     }
@@ -107,6 +108,14 @@ impl<'a> Cursor<'a> {
     {
         self.used.routine = self.optional_name()?;
         Some(None)
+    }
+
+    /// A queue, by its name.
+    pub fn queue(&mut self) -> Option<u8>
+        ensures { Reads result self.new (queue self.old) }
+    {
+        self.used.queue = Some(self.name()?);
+        Some(0)
     }
 
     /// A number: decimal, or hexadecimal after `0x`.

@@ -2,7 +2,7 @@
 
 ghost use Rattle.std.specs.Prelude.{◌≡◌, IfOk, IfSome};
 ghost use Rattle.asm_line.specs.Cursor.{beginning};
-ghost use Rattle.asm_line.specs.Line.{body, body_of, ended, if_ended, if_in_range, labelled, line_of, read_line, step, BodyFits};
+ghost use Rattle.asm_line.specs.Line.{body, body_of, ended, if_ended, if_in_range, labelled, line_of, queue, read_line, step, BodyFits};
 
 use crate::cursor::Cursor;
 use crate::instruction::instruction;
@@ -76,9 +76,16 @@ fn body_of<'a>(word: &[u8], mut at: Cursor<'a>) -> Option<Body<'a>>
     if is(word, b"endd") {
         return end(at, Body::CloseDriver);
     }
+    if is(word, b"queue") {
+        return queue(at);
+    }
     if is(word, b"dispatch") {
         let (major, routine) = (at.major()?, at.name()?);
         return end(at, Body::Handle(major, routine));
+    }
+    if is(word, b"startio") {
+        let routine = at.name()?;
+        return end(at, Body::HandleStartIo(routine));
     }
     if is(word, b"dpc") {
         let routine = at.name()?;
@@ -97,6 +104,16 @@ fn body_of<'a>(word: &[u8], mut at: Cursor<'a>) -> Option<Body<'a>>
         return end(at, Body::AddDevice(name, driver, stack, lower));
     }
     step(word, at)
+}
+
+/// `queue NAME LOCK`.
+fn queue<'a>(mut at: Cursor<'a>) -> Option<Body<'a>>
+    ensures body { result ≡ ended (queue at.entry) }
+    ensures fits { IfSome result BodyFits }
+{
+    let (name, lock) = (at.name()?, at.spin_lock()?);
+    let guard = if at.in_range { Some(lock) } else { None };
+    end(at, Body::AddQueue(name, guard))
 }
 
 /// An instruction, and the names that it uses.

@@ -3,7 +3,8 @@
 ghost use Rattle.std.specs.Prelude.{IfSome};
 ghost use Rattle.model.specs.Sound.{OperandFits};
 ghost use Rattle.asm_line.specs.Cursor.{Reads};
-ghost use Rattle.asm_line.specs.Instruction.{instruction, on_devices, on_packets};
+ghost use Rattle.asm_line.specs.Instruction.{instruction, on_devices, on_packets, on_queues};
+ghost use Rattle.asm_line.specs.Line.{QueueNoted};
 
 use crate::cursor::Cursor;
 use model::instr::Instr;
@@ -13,6 +14,7 @@ use text::class::is;
 pub fn instruction(word: &[u8], at: &mut Cursor<'_>) -> Option<Instr>
     ensures read { Reads result at.new (instruction word.now at.old) }
     ensures fits { IfSome result OperandFits }
+    ensures noted { IfSome result (QueueNoted at.new.used) }
 {
     if is(word, b"const") {
         return Some(Instr::Const(at.register()?, at.constant()?));
@@ -47,10 +49,11 @@ pub fn instruction(word: &[u8], at: &mut Cursor<'_>) -> Option<Instr>
     on_devices(word, at)
 }
 
-/// What is done with the device's locks and cells, or with packets.
+/// What is done with the device's locks and cells, its queues, or packets.
 fn on_devices(word: &[u8], at: &mut Cursor<'_>) -> Option<Instr>
     ensures read { Reads result at.new (on_devices word.now at.old) }
     ensures fits { IfSome result OperandFits }
+    ensures noted { IfSome result (QueueNoted at.new.used) }
 {
     if is(word, b"load") {
         return Some(Instr::Load(at.register()?, at.cell()?));
@@ -76,6 +79,33 @@ fn on_devices(word: &[u8], at: &mut Cursor<'_>) -> Option<Instr>
     if is(word, b"relc") {
         return Some(Instr::ReleaseCancel);
     }
+    on_queues(word, at)
+}
+
+/// What is done with the device's queues and its current packet, or with packets.
+fn on_queues(word: &[u8], at: &mut Cursor<'_>) -> Option<Instr>
+    ensures read { Reads result at.new (on_queues word.now at.old) }
+    ensures fits { IfSome result OperandFits }
+    ensures noted { IfSome result (QueueNoted at.new.used) }
+{
+    if is(word, b"insert") {
+        return Some(Instr::Insert(at.register()?, at.queue()?));
+    }
+    if is(word, b"remove") {
+        return Some(Instr::Remove(at.register()?, at.queue()?, at.label()?));
+    }
+    if is(word, b"start") {
+        return Some(Instr::Start(at.register()?));
+    }
+    if is(word, b"take") {
+        return Some(Instr::Take(at.register()?, at.label()?));
+    }
+    if is(word, b"begin") {
+        return Some(Instr::Begin(at.register()?));
+    }
+    if is(word, b"next") {
+        return Some(Instr::Next);
+    }
     on_packets(word, at)
 }
 
@@ -83,6 +113,7 @@ fn on_devices(word: &[u8], at: &mut Cursor<'_>) -> Option<Instr>
 fn on_packets(word: &[u8], at: &mut Cursor<'_>) -> Option<Instr>
     ensures read { Reads result at.new (on_packets word.now at.old) }
     ensures fits { IfSome result OperandFits }
+    ensures noted { IfSome result (QueueNoted at.new.used) }
 {
     if is(word, b"get") {
         return Some(Instr::Get(at.register()?, at.register()?, at.field()?));

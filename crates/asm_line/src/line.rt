@@ -1,18 +1,20 @@
 //! A line of a driver text, by its form.
 
-use model::instr::Instr;
+use model::instr::{Instr, SpinLock};
 use model::set::Sort;
 use model::status::Major;
 use text::piece::Piece;
 
-/// The names that an instruction uses. In the instruction itself a label is 0 and a routine none
-/// until they are known.
+/// The names that an instruction uses. In the instruction itself a label or a queue is 0 and a
+/// routine none until they are known.
 #[derive(Drop)]
 pub struct UsedNames<'a> {
     /// Of the label that it jumps to.
     pub label: Option<Piece<'a>>,
     /// Of the routine that a `call` sets.
     pub routine: Option<Piece<'a>>,
+    /// Of the queue that it touches.
+    pub queue: Option<Piece<'a>>,
 }
 
 /// What a line says.
@@ -24,8 +26,12 @@ pub enum Body<'a> {
     OpenDriver(Piece<'a>),
     /// `endd`.
     CloseDriver,
+    /// `queue NAME LOCK`: its name and the spin lock that guards it, if that is in range.
+    AddQueue(Piece<'a>, Option<SpinLock>),
     /// `dispatch MAJOR ROUTINE`.
     Handle(Major, Piece<'a>),
+    /// `startio ROUTINE`.
+    HandleStartIo(Piece<'a>),
     /// `dpc ROUTINE`.
     HandleDpc(Piece<'a>),
     /// `routine NAME SORT`.

@@ -52,6 +52,8 @@ pub fn sort_of(token: &[u8]) -> Option<Sort>
 {
     if is(token, b"dispatch") {
         Some(Sort::Dispatch)
+    } else if is(token, b"startio") {
+        Some(Sort::StartIo)
     } else if is(token, b"dpc") {
         Some(Sort::Dpc)
     } else if is(token, b"propagate") {

@@ -1,6 +1,6 @@
 -- An event on the machine and on the run: both end with the same world and the same reply.
 use Rattle.std.proofs.Common.{◌≡◌, ◌≤◌, ◌<◌, ◌+◌, ◌-◌, ℕ, suc, List, [], ◌∷◌, ◌++◌, Option, None, Some, Bool, true, false, cond, length, take, refl, ap, sym, ◌∙◌, inl, inr, arith, length-append, length-take}
-use Rattle.std.specs.Prelude.{◌&&◌, not, nat_lt, slice_get}
+use Rattle.std.specs.Prelude.{◌&&◌, ◌||◌, not, nat_lt, slice_get}
 use Rattle.std.proofs.lemmas.Bool.Decides.{leb_tells}
 use Rattle.model.specs.declared.limits.TheConstants.{MAX_FRAMES}
 use Rattle.model.specs.declared.world.Frame.{Frame}
@@ -10,18 +10,19 @@ use Rattle.model.specs.declared.status.Major.{Major}
 use Rattle.model.specs.declared.status.Status.{Status}
 use Rattle.model.specs.declared.set.Device.{Device}
 use Rattle.model.specs.declared.event.Event.{Event}
-use Rattle.model.specs.declared.event.Event.TheVariants.{Issue, Interrupt, Dpc, Step}
+use Rattle.model.specs.declared.event.Event.TheVariants.{Issue, Interrupt, Dpc, StartIo, Step}
 use Rattle.model.specs.declared.event.Bug.{Bug}
 use Rattle.model.specs.declared.event.Reply.{Reply}
 use Rattle.model.specs.declared.event.Reply.TheVariants.{Stepped, Idle, Refused, Bug as BugCheckReply, Wrong}
-use Rattle.model.specs.Effect.{Outcome, Change, frame_effect, answered, top_of, told_top, told_to, kept_below, finished_or, with_stack, with_thread, standing, settled, top_effect, step_thread, unchanged, issued, issue_on, interrupted, interrupt_on, dpc_begun, dpc_on, is_idle, can_issue, effect}
+use Rattle.model.specs.Effect.{Outcome, Change, frame_effect, answered, top_of, told_top, told_to, kept_below, finished_or, with_stack, with_thread, standing, settled, top_effect, step_thread, unchanged, issued, issue_on, interrupted, interrupt_on, dpc_begun, dpc_on, startio_begun, startio_for, startio_from, startio_on, is_idle, can_issue, effect}
 use Rattle.model.specs.Run.{Run, Answered, goes, refused, stops, unless_wrong, unless_fault, judged as run_judged, actor_on, answered_on, root_of, tags_on, thread_of, top_tag}
 use Rattle.model.specs.Fault.{first_fault}
-use Rattle.model.specs.Set.{Set, dpc_of}
+use Rattle.model.specs.Queues.{StartState, head_of}
+use Rattle.model.specs.Set.{Set, dpc_of, startio_of}
 use Rattle.model.specs.Trace.{Entry, recorded}
-use Rattle.model.specs.World.{Shared, World, is_queued}
+use Rattle.model.specs.World.{Shared, World, is_queued, start_of}
 use Rattle.checked.specs.declared.frame.Runner.{Runner}
-use Rattle.checked.specs.Step.{Left, Ended, first_now, stays, unless_wrong as wrong_left, left_by, fits, bounded, moved_by, runner, top_now, step_ended, step_now, ended, event_now, is_stop}
+use Rattle.checked.specs.Step.{Left, Ended, first_now, stays, unless_full, unless_wrong as wrong_left, left_by, fits, bounded, moved_by, runner, top_now, step_ended, step_now, ended, event_now, is_stop}
 use Rattle.checked.proofs.Lists.{set_back, last_split}
 use Rattle.checked.proofs.Stacks.{finished_more, root_more}
 use Rattle.checked.proofs.Known.{known, runs}
@@ -137,7 +138,7 @@ module _ (set : Set) (r : Run) (t : ℕ) (past : List Entry) (thread : Thread) (
   }
 
   plain_left : (o : Outcome) (reply : Reply) → is_stop reply ≡ false
-      → wrong_left s f o reply ≡ whole o
+      → wrong_left s f o reply ≡ unless_full s f o
   plain_left o (Wrong place) h = cc
   plain_left o reply h = refl
 
@@ -212,6 +213,14 @@ module _ (set : Set) (r : Run) (t : ℕ) (past : List Entry) (thread : Thread) (
       is in
       rw (ap (nat_lt MAX_FRAMES) count) (compare_over o _ plain)
 
+  -- it would give a list too many entries, or not
+  compare_full : (o : Outcome) (full : Bool) → o.full ≡ full → is_stop o.reply ≡ false →
+      Same (Goes set r t past (settled set r.world t thread below o)
+      (full || nat_lt MAX_FRAMES (length (standing set below o))))
+      (ends_with (bounded below s f (cond {A = Left} full (stays s f Refused) (whole o))))
+  compare_full o true is plain = compare_refusal
+  compare_full o false is plain = compare_frames o o.frames refl plain
+
   -- it has no bug check
   compare_plain : (o : Outcome) (reply : Reply) → o.reply ≡ reply → is_stop reply ≡ false →
       Same (unless_wrong set r t past (settled set r.world t thread below o)
@@ -224,7 +233,7 @@ module _ (set : Set) (r : Run) (t : ℕ) (past : List Entry) (thread : Thread) (
             (finished_or (standing set below o) reply)
             (goes_finished (standing set below o) reply plain),
       )
-      (compare_frames o o.frames refl (rw is plain))
+      (compare_full o o.full refl (rw is plain))
 
   compare_reply : (o : Outcome) (reply : Reply) → o.reply ≡ reply → is_bug reply ≡ false →
       Same (unless_wrong set r t past (settled set r.world t thread below o)
@@ -338,6 +347,43 @@ module _ (set : Set) (r : Run) (t : ℕ) (on : r.stopped ≡ false) (tells : Pas
   compare_dpc d (Some thread) (Some routine) =
       compare_free d thread routine (not (is_idle thread))
 
+-- the start of a StartIo routine
+module _ (set : Set) (r : Run) (t : ℕ) (on : r.stopped ≡ false) (tells : PastTells r)
+    (owning : OwningTells) where
+  compare_first : (d : ℕ) (thread : Thread) (routine : ℕ) (start : StartState) (n : Option ℕ) →
+      Same (run_judged set r (actor_on r t) (startio_for set r.world t d thread routine start n))
+      (ended (startio_for set r.world t d thread routine start n))
+  compare_first d thread routine start None =
+      compare_goes set r t r.past (unchanged r.world Idle) false refl refl
+  compare_first d thread routine start (Some n) =
+      compare_goes set r t r.past (startio_begun set r.world t d thread routine n start) false refl
+      refl
+
+  compare_from : (d : ℕ) (thread : Thread) (routine : ℕ) (o : Option StartState) →
+      Same (run_judged set r (actor_on r t) (startio_from set r.world t d thread routine o))
+      (ended (startio_from set r.world t d thread routine o))
+  compare_from d thread routine None = compare_refused set r t on tells owning
+  compare_from d thread routine (Some start) =
+      compare_first d thread routine start (head_of start.start_list)
+
+  compare_idle : (d : ℕ) (thread : Thread) (routine : ℕ) (idle : Bool) →
+      Same (run_judged set r (actor_on r t)
+      (cond {A = Change} idle (startio_from set r.world t d thread routine (start_of r.world.shared d))
+      (unchanged r.world Refused)))
+      (ended (cond {A = Change} idle
+      (startio_from set r.world t d thread routine (start_of r.world.shared d))
+      (unchanged r.world Refused)))
+  compare_idle d thread routine true =
+      compare_from d thread routine (start_of r.world.shared d)
+  compare_idle d thread routine false = compare_refused set r t on tells owning
+
+  compare_startio : (d : ℕ) (o : Option Thread) (routine : Option ℕ) →
+      Same (run_judged set r (actor_on r t) (startio_on set r.world t d o routine))
+      (ended (startio_on set r.world t d o routine))
+  compare_startio d None routine = compare_refused set r t on tells owning
+  compare_startio d (Some thread) None = compare_refused set r t on tells owning
+  compare_startio d (Some thread) (Some routine) = compare_idle d thread routine (is_idle thread)
+
 -- an interrupt
 compare_queued : (set : Set) (r : Run) → r.stopped ≡ false → (d : ℕ) (queued : Bool) →
     Same (answered_on set r
@@ -363,5 +409,7 @@ compare_event set r (Issue t d major argument) on tells owning =
 compare_event set r (Interrupt d) on tells owning = compare_interrupt set r on d (dpc_of set d)
 compare_event set r (Dpc t d) on tells owning =
     compare_dpc set r t on tells owning d (slice_get r.world.threads t) (dpc_of set d)
+compare_event set r (StartIo t d) on tells owning =
+    compare_startio set r t on tells owning d (slice_get r.world.threads t) (startio_of set d)
 compare_event set r (Step t) on tells owning =
     compare_step set r t on tells owning (slice_get r.world.threads t) refl

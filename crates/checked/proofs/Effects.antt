@@ -5,6 +5,8 @@ use Rattle.std.specs.Prelude.{not, nat_lt}
 use Rattle.std.proofs.lemmas.Bool.{cases_Bool}
 use Rattle.model.specs.declared.world.Frame.{Frame}
 use Rattle.model.specs.declared.world.Packet.{Packet}
+use Rattle.model.specs.declared.instr.Instr.{Instr}
+use Rattle.model.specs.declared.world.Activation.{Activation}
 use Rattle.model.specs.declared.world.Value.{Value}
 use Rattle.model.specs.declared.world.Value.TheVariants.{Blank, Num, Ref, Status as StatusValue}
 use Rattle.model.specs.declared.event.Bug.{Bug}
@@ -19,10 +21,11 @@ use Rattle.model.specs.declared.event.Subject.TheVariants.{Packet as PacketSubje
 use Rattle.model.specs.Action.{Action, Executes, Acquires, Releases, TouchesPaged, Touches, Calls, Completes}
 use Rattle.model.specs.Effect.{Outcome, frame_effect}
 use Rattle.model.specs.Fault.{bug_if, first_or, first_fault}
+use Rattle.model.specs.Queues.{StartState}
 use Rattle.model.specs.Set.{Set}
 use Rattle.model.specs.Trace.{Actor, Entry}
 use Rattle.model.specs.World.{Shared, packet_of, packet_in, register}
-use Rattle.run_laws.proofs.Steps.Comes.{Comes, errs, awaits_lock, computes, opens_loop, turns_loop, pages, touches_gone, looks_at, writes_info, marks_packet, takes_lock, retakes_lock, frees_lock, completes_packet, completes_gone, passes_down, calls_down, ends_dpc, returns_status, lets_go, lets_walk, walks_gone, walks_to, walks_up, carries_up, tops_out}
+use Rattle.run_laws.proofs.Steps.Comes.{Comes, Queued, inserts, removes, removes_none, starts_packet, takes_out, takes_none, puts_in, starts_next, works_on_queues, ends_startio, errs, awaits_lock, computes, opens_loop, turns_loop, pages, touches_gone, looks_at, writes_info, marks_packet, takes_lock, retakes_lock, frees_lock, completes_packet, completes_gone, passes_down, calls_down, ends_dpc, returns_status, lets_go, lets_walk, walks_gone, walks_to, walks_up, carries_up, tops_out}
 use Rattle.run_laws.proofs.Steps.Walk.{comes}
 use Rattle.checked.specs.Step.{first_now}
 use Rattle.checked.proofs.Known.{Known, runs}
@@ -85,6 +88,19 @@ module _ (past : List Entry) (actor : Actor) (s : Shared) (known : Known s past)
       told_twice IrqlNotLessOrEqual NoMoreIrpStackLocations (PacketSubject n) (known.gone n)
       (known.full n p there)
 
+  -- an instruction about queues touches one packet or none
+  queued_fine : (a : Activation) (i : Instr) (b : Activation) (queues : List (List (List ℕ)))
+      (starts : List StartState) (actions : List Action) (full : Bool)
+      → Queued s a i b queues starts actions full → Agree (Executes ∷ actions)
+  queued_fine a i b queues starts actions full (inserts r q n entries reads there) = touched n
+  queued_fine a i b queues starts actions full (removes r q label n entries there) = touched n
+  queued_fine a i b queues starts actions full (removes_none r q label there) = refl
+  queued_fine a i b queues starts actions full (starts_packet r n start reads there) = touched n
+  queued_fine a i b queues starts actions full (takes_out r label n start there slot) = refl
+  queued_fine a i b queues starts actions full (takes_none r label start there slot) = refl
+  queued_fine a i b queues starts actions full (puts_in r n start reads there) = touched n
+  queued_fine a i b queues starts actions full (starts_next start there) = refl
+
   -- a step of each shape
   fine : (set : Set) (under : Option Frame) (f : Frame) (o : Outcome)
       → Comes set s actor.thread under f o → Fine o
@@ -112,6 +128,9 @@ module _ (past : List Entry) (actor : Actor) (s : Shared) (known : Known s past)
   fine set under f o (lets_go a runs sort under_is) = (refl, refl)
   fine set under f o (lets_walk a n runs sort) = (touched n, refl)
   fine set under f o (ends_dpc a runs sort) = (refl, refl)
+  fine set under f o (ends_startio a runs sort) = (refl, refl)
+  fine set under f o (works_on_queues a i b queues starts actions full runs queued) =
+      (queued_fine a i b queues starts actions full queued, refl)
   fine set under f o (walks_gone n there) = (touched n, refl)
   fine set under f o (walks_to n p c there set_there) = (touched n, refl)
   fine set under f o (walks_up n p there none deep unmarked) = (touched n, refl)

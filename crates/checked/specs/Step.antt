@@ -7,17 +7,17 @@ use Rattle.model.specs.declared.world.Packet.{Packet}
 use Rattle.model.specs.declared.limits.TheConstants.{MAX_FRAMES}
 use Rattle.model.specs.declared.status.Status.{Status}
 use Rattle.model.specs.declared.event.Event.{Event}
-use Rattle.model.specs.declared.event.Event.TheVariants.{Issue, Interrupt, Dpc, Step}
+use Rattle.model.specs.declared.event.Event.TheVariants.{Issue, Interrupt, Dpc, StartIo, Step}
 use Rattle.model.specs.declared.event.Bug.{Bug}
 use Rattle.model.specs.declared.event.BugCheck.TheVariants.{IrqlNotLessOrEqual, SpinLockAlreadyOwned, SpinLockNotOwned, NoMoreIrpStackLocations, MultipleIrpCompleteRequests}
 use Rattle.model.specs.declared.event.Subject.TheVariants.{Packet as PacketSubject, Lock as LockSubject, Cell}
 use Rattle.model.specs.declared.event.Reply.{Reply}
 use Rattle.model.specs.declared.event.Reply.TheVariants.{Started, Stepped, Finished, Topped, Waited, Idle, Refused, Bug as BugCheckReply, Wrong}
 use Rattle.model.specs.Action.{Action, Executes, Acquires, Releases, TouchesPaged, Touches, Issues, Calls, Ups, Completes, Continues, Lends, Exchanges, Marks, Leaves, Returns, TopsOut, GoesWrong}
-use Rattle.model.specs.Effect.{Outcome, Change, frame_effect, top_of, told_to, kept_below, with_stack, with_thread, issue_on, interrupt_on, dpc_on, finished_or}
+use Rattle.model.specs.Effect.{Outcome, Change, frame_effect, top_of, told_to, kept_below, with_stack, with_thread, issue_on, interrupt_on, dpc_on, startio_on, finished_or}
 use Rattle.model.specs.Fault.{bug_if, first_or, is_dispatch_level}
 use Rattle.model.specs.Machine.{Machine}
-use Rattle.model.specs.Set.{Set, dpc_of}
+use Rattle.model.specs.Set.{Set, dpc_of, startio_of}
 use Rattle.model.specs.World.{Shared, World, packet_of}
 use Rattle.irql_locks.specs.Owns.{owns, owns_any}
 use Rattle.checked.specs.declared.frame.Runner.{Runner}
@@ -91,17 +91,21 @@ moves o =
       told = o.told;
     }
 
+-- a step that would give a list an entry more than it has room for is refused
+abbrev pub unless_full : Shared → Frame → Outcome → Left
+unless_full s f o = if o.full then stays s f Refused else moves o
+
 -- a step with a bug check, or with a wrong operand, changes nothing
 abbrev pub unless_wrong : Shared → Frame → Outcome → Reply → Left
 unless_wrong s f o (Wrong place) = stays s f (Wrong place)
-unless_wrong s f o (Started packet) = moves o
-unless_wrong s f o Stepped = moves o
-unless_wrong s f o Finished = moves o
-unless_wrong s f o (Topped packet status info) = moves o
-unless_wrong s f o Waited = moves o
-unless_wrong s f o Idle = moves o
-unless_wrong s f o Refused = moves o
-unless_wrong s f o (BugCheckReply bug) = moves o
+unless_wrong s f o (Started packet) = unless_full s f o
+unless_wrong s f o Stepped = unless_full s f o
+unless_wrong s f o Finished = unless_full s f o
+unless_wrong s f o (Topped packet status info) = unless_full s f o
+unless_wrong s f o Waited = unless_full s f o
+unless_wrong s f o Idle = unless_full s f o
+unless_wrong s f o Refused = unless_full s f o
+unless_wrong s f o (BugCheckReply bug) = unless_full s f o
 
 abbrev pub left_by : Shared → Frame → Outcome → Option Bug → Left
 left_by s f o (Some bug) = stays s f (BugCheckReply bug)
@@ -175,6 +179,7 @@ event_now set w (Issue t d major argument) =
     ended (issue_on set w t d major argument (slice_get w.threads t) (slice_get set.devices d))
 event_now set w (Interrupt d) = ended (interrupt_on w d (dpc_of set d))
 event_now set w (Dpc t d) = ended (dpc_on set w t d (slice_get w.threads t) (dpc_of set d))
+event_now set w (StartIo t d) = ended (startio_on set w t d (slice_get w.threads t) (startio_of set d))
 event_now set w (Step t) = step_now set w t (slice_get w.threads t)
 
 -- a bug check or a wrong operand stops the machine

@@ -1,13 +1,15 @@
 //! What the threads of a run share.
 
-ghost use Rattle.std.specs.Prelude.{◌≡◌, ◌≤◌, IfOk, IsTrue};
-ghost use Rattle.model.specs.declared.limits.TheConstants.{MAX_STACK};
+ghost use Rattle.std.specs.Prelude.{◌≡◌, ◌≤◌, [], IfOk, IsSome, IsTrue, Some, option_map, replicate};
+ghost use Rattle.model.specs.declared.limits.TheConstants.{MAX_QUEUES, MAX_STACK};
+ghost use Rattle.model.specs.Queues.{StartState, idle, without_first_to_start};
 
 use crate::frame::Runner;
+use devqueue::{DeviceQueue, Guarded};
 use image::Device;
 use iomgr::PacketTable;
 use irql_locks::LockTable;
-use model::limits::CELLS;
+use model::limits::{CELLS, MAX_QUEUES};
 use model::status::Major;
 use model::world::{Cells, Irql, Value};
 use std::alloc::{AllocError, Global};
@@ -17,14 +19,19 @@ mod cells;
 mod completion;
 mod forwarding;
 pub mod locks;
+mod queues;
+mod starting;
 mod touching;
 
-/// The packets, the locks, and by device its cells, and whether its DPC is queued.
+/// The packets, the locks, and by device its cells, its queues, what it has for StartIo, and whether
+/// its DPC is queued.
 #[derive(Drop)]
 pub struct Shared {
     packet_table: PacketTable,
     lock_table: LockTable,
     cell_list: Vec<Cells>,
+    queue_list: Vec<[Guarded; MAX_QUEUES]>,
+    start_list: Vec<DeviceQueue>,
     dpc_list: Vec<bool>,
 }
 
@@ -38,13 +45,42 @@ impl Model for Shared {
       issued = s.packet_table.issued;
       locks = s.lock_table;
       cells = s.cell_list.items;
+      queues = s.queue_list.items;
+      starts = s.start_list.items;
       dpcs = s.dpc_list.items;
     } };
 }
 
+/// The queues of so many devices, all empty.
+fn empty_queues(alloc: Global, devices: usize) -> Result<Vec<[Guarded; MAX_QUEUES]>, AllocError>
+    ensures { IfOk result (λ queues. queues.items ≡ replicate devices (replicate MAX_QUEUES [])) }
+{
+    let mut queues = Vec::with_capacity(alloc, devices)?;
+    for _device in 0..devices {
+        queues.push([
+            Guarded::new(alloc)?,
+            Guarded::new(alloc)?,
+            Guarded::new(alloc)?,
+            Guarded::new(alloc)?,
+        ])?;
+    }
+    Ok(queues)
+}
+
+/// What so many devices have for StartIo: they are idle.
+fn idle_devices(alloc: Global, devices: usize) -> Result<Vec<DeviceQueue>, AllocError>
+    ensures { IfOk result (λ starts. starts.items ≡ replicate devices idle) }
+{
+    let mut starts = Vec::with_capacity(alloc, devices)?;
+    for _device in 0..devices {
+        starts.push(DeviceQueue::new(alloc)?)?;
+    }
+    Ok(starts)
+}
+
 impl Shared {
     ghost use Rattle.model.specs.Effect.{can_issue, with_new_packet};
-    ghost use Rattle.model.specs.World.{unused, packet_in, is_queued, with_dpc};
+    ghost use Rattle.model.specs.World.{unused, packet_in, start_of, with_start, is_queued, with_dpc};
     ghost use Rattle.checked.specs.Step.{is_gone, is_raised};
 
     /// What is there before the first event, for so many devices. An error where memory is refused;
@@ -60,6 +96,8 @@ impl Shared {
             packet_table: PacketTable::new(alloc)?,
             lock_table: LockTable::new(alloc, devices)?,
             cell_list: vec![in alloc; blank; devices]?,
+            queue_list: empty_queues(alloc, devices)?,
+            start_list: idle_devices(alloc, devices)?,
             dpc_list: vec![in alloc; false; devices]?,
         })
     }
@@ -100,6 +138,22 @@ impl Shared {
         if let Some(dpc) = self.dpc_list.get_mut(device as usize) {
             *dpc = queued;
         }
+    }
+
+    /// What a device has for StartIo, if there is such a device.
+    pub fn start_of(&self, device: u8) -> Option<&DeviceQueue>
+        ensures { option_map (λ start. start.now) result ≡ start_of self.now device }
+    {
+        self.start_list.get(device as usize)
+    }
+
+    /// The StartIo routine of a device begins: the first packet of its start list is taken off.
+    pub fn start_io(&mut self, device: u8)
+        requires { IsSome (start_of self.old device) }
+        ensures { (start : StartState) → start_of self.old device ≡ Some start
+            → self.new ≡ with_start self.old device (without_first_to_start start) }
+    {
+        let _packet = self.start_list[device as usize].start_io();
     }
 
     /// Whether a thread is at DISPATCH_LEVEL.

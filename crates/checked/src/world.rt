@@ -79,6 +79,7 @@ impl World {
             } => self.issue(set, thread, device, major, argument),
             Event::Interrupt { device } => self.interrupt(set, device),
             Event::Dpc { thread, device } => self.begin_dpc(set, thread, device),
+            Event::StartIo { thread, device } => self.begin_startio(set, thread, device),
             Event::Step { thread } => self.step(set, thread),
         }
     }
@@ -149,6 +150,34 @@ impl World {
         let root = entered(driver_of(set, device), routine, device, Value::Blank);
         self.thread_list[thread as usize].begin(Irql::Dispatch, root);
         Reply::Stepped
+    }
+
+    /// The StartIo routine of a device begins on an idle thread, for the first packet of its start
+    /// list.
+    fn begin_startio(&mut self, set: &DriverSet, thread: u8, device: u8) -> Reply
+        ensures { let event = Event.StartIo thread device in
+            record { world = self.new; reply = result } ≡ event_now set.now self.old event }
+    {
+        let idle = match self.thread_list.get(thread as usize) {
+            Some(runner) => runner.is_idle(),
+            None => return Reply::Refused,
+        };
+        let Some(routine) = set.startio(device) else {
+            return Reply::Refused;
+        };
+        if !idle {
+            return Reply::Refused;
+        }
+        let Some(start) = self.shared.start_of(device) else {
+            return Reply::Refused;
+        };
+        let Some(n) = start.first_to_start() else {
+            return Reply::Idle;
+        };
+        self.shared.start_io(device);
+        let root = entered(driver_of(set, device), routine, device, Value::Ref(n));
+        self.thread_list[thread as usize].begin(Irql::Dispatch, root);
+        Reply::Started(n)
     }
 
     /// A step of a thread's top frame.

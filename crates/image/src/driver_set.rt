@@ -6,7 +6,7 @@ ghost use Rattle.model.specs.Set.{default_code};
 ghost use Rattle.model.specs.declared.limits.TheConstants.{MAX_INSTRUCTIONS};
 
 use crate::sound::is_sound;
-use model::instr::{Instr, Register, Return};
+use model::instr::{Instr, Register, Return, SpinLock};
 use model::limits::DEFAULT_ROUTINE;
 use model::set::{Device, Driver, Routine, Sort};
 use model::status::{Major, Status};
@@ -33,7 +33,9 @@ impl Model for DriverSet {
 }
 
 impl DriverSet {
-    ghost use Rattle.model.specs.Set.{Set, serving, instruction_at, sort_of, lower_of, dpc_of};
+    ghost use Rattle.model.specs.Set.{Set, serving, instruction_at, sort_of, lower_of};
+    ghost use Rattle.model.specs.Set.{startio_of, dpc_of, guard_of};
+    ghost use Rattle.model.specs.LocalRule.{has_startio};
     ghost use Rattle.model.specs.Sound.{IsSound};
 
     /// The set of these drivers and devices. They are handed back exactly where they break a limit
@@ -85,12 +87,39 @@ impl DriverSet {
             .unwrap_or(DEFAULT_ROUTINE)
     }
 
+    /// The number of the StartIo routine of a device: that of its driver, if it has one.
+    pub fn startio(&self, device: u8) -> Option<u8>
+        ensures { result ≡ startio_of self.now device }
+    {
+        let device = self.devices().get(device as usize)?;
+        self.drivers().get(device.driver as usize)?.startio
+    }
+
     /// The number of the DPC routine of a device: that of its driver, if it has one.
     pub fn dpc(&self, device: u8) -> Option<u8>
         ensures { result ≡ dpc_of self.now device }
     {
         let device = self.devices().get(device as usize)?;
         self.drivers().get(device.driver as usize)?.dpc
+    }
+
+    /// Whether a driver has a StartIo routine.
+    pub fn has_startio(&self, driver: u8) -> bool
+        ensures { result ≡ has_startio self.now driver }
+    {
+        match self.drivers().get(driver as usize) {
+            Some(driver) => driver.startio.is_some(),
+            None => false,
+        }
+    }
+
+    /// The spin lock that guards a queue of a driver.
+    pub fn guard(&self, driver: u8, queue: u8) -> Option<SpinLock>
+        ensures { result ≡ guard_of self.now driver queue }
+    {
+        let driver = self.drivers().get(driver as usize)?;
+        let queue = driver.queues.as_slice().get(queue as usize)?;
+        Some(queue.guard)
     }
 
     /// The sort of a routine of a driver, the default routine's among them.

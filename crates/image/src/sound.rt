@@ -4,14 +4,15 @@ ghost use Rattle.std.specs.Prelude.{◌≡◌, ◌≤◌, ◌<◌, ◌↔◌, le
 ghost use Rattle.model.specs.Sound.{IsSound, DeviceFits, DevicesFit, DriverFits, RoutineFits};
 ghost use Rattle.model.specs.Sound.{LabelFits, OperandFits, CallFits, CallsFit};
 ghost use Rattle.model.specs.Sound.{HandlerFits, HasSort, IsDispatch, IsCompletion};
-ghost use Rattle.model.specs.Sound.{DpcFits, IsDpc};
+ghost use Rattle.model.specs.Sound.{StartIoFits, IsStartIo, DpcFits, IsDpc};
+ghost use Rattle.model.specs.Sound.{QueueFits, QueuesFit, GuardFits};
 
 use model::instr::{Instr, Return};
 use model::limits::{
-    CELLS, MAX_DEVICES, MAX_DRIVERS, MAX_INSTRUCTIONS, MAX_ROUTINES, MAX_STACK, MAX_TURNS,
-    REGISTERS, SPIN_LOCKS,
+    CELLS, MAX_DEVICES, MAX_DRIVERS, MAX_INSTRUCTIONS, MAX_QUEUES, MAX_ROUTINES, MAX_STACK,
+    MAX_TURNS, REGISTERS, SPIN_LOCKS,
 };
-use model::set::{Device, Driver, Routine, Sort};
+use model::set::{Device, Driver, Queue, Routine, Sort};
 
 fn label_fits(positions: usize, instr: &Instr) -> bool
     ensures { IsTrue result ↔ LabelFits positions instr.now }
@@ -32,6 +33,11 @@ fn operand_fits(instr: &Instr) -> bool
         Instr::Clear(register)
         | Instr::JumpIfZero(register, _)
         | Instr::Mark(register)
+        | Instr::Insert(register, _)
+        | Instr::Remove(register, _, _)
+        | Instr::Start(register)
+        | Instr::Take(register, _)
+        | Instr::Begin(register)
         | Instr::Pass(register)
         | Instr::Call(register, _)
         | Instr::Complete(register, _)
@@ -53,6 +59,7 @@ fn operand_fits(instr: &Instr) -> bool
         | Instr::End
         | Instr::AcquireCancel
         | Instr::ReleaseCancel
+        | Instr::Next
         | Instr::Ret(Return::WithStatus(_) | Return::Continue | Return::Void) => true,
     }
 }
@@ -90,6 +97,16 @@ fn is_dispatch(routines: &[Routine], number: u8) -> bool
     }
 }
 
+/// Whether the routine of a number is a StartIo routine.
+fn is_startio(routines: &[Routine], number: u8) -> bool
+    ensures { IsTrue result ↔ HasSort IsStartIo (slice_get routines.now number) }
+{
+    match routines.get(number as usize) {
+        Some(routine) => matches!(routine.sort, Sort::StartIo),
+        None => false,
+    }
+}
+
 /// Whether the routine of a number is a DPC routine.
 fn is_dpc(routines: &[Routine], number: u8) -> bool
     ensures { IsTrue result ↔ HasSort IsDpc (slice_get routines.now number) }
@@ -119,6 +136,15 @@ fn handler_fits(routines: &[Routine], handler: Option<u8>) -> bool
     }
 }
 
+fn startio_fits(routines: &[Routine], startio: Option<u8>) -> bool
+    ensures { IsTrue result ↔ StartIoFits routines.now startio }
+{
+    match startio {
+        Some(number) => is_startio(routines, number),
+        None => true,
+    }
+}
+
 fn dpc_fits(routines: &[Routine], dpc: Option<u8>) -> bool
     ensures { IsTrue result ↔ DpcFits routines.now dpc }
 {
@@ -144,6 +170,38 @@ fn calls_fit(routines: &[Routine], routine: &Routine) -> bool
     code.iter().all(|instr| call_fits(routines, instr))
 }
 
+/// Whether the queue that an instruction names is one of this many.
+fn queue_fits(queues: usize, instr: &Instr) -> bool
+    ensures { IsTrue result ↔ QueueFits queues instr.now }
+{
+    match *instr {
+        Instr::Insert(_, queue) | Instr::Remove(_, queue, _) => (queue as usize) < queues,
+        _ => true,
+    }
+}
+
+fn queues_fit(queues: usize, routine: &Routine) -> bool
+    ensures { IsTrue result ↔ QueuesFit queues routine.now }
+{
+    let code = routine.code.as_slice();
+    code.iter().all(|instr| queue_fits(queues, instr))
+}
+
+/// Whether the guard of a queue is one of the spin locks. Its type keeps it there.
+fn guard_fits(queue: &Queue) -> bool
+    ensures always { IsTrue result }
+    ensures fits { GuardFits queue.now }
+{
+    queue.guard.index() < SPIN_LOCKS
+}
+
+fn guards_fit(queues: &[Queue]) -> bool
+    ensures always { IsTrue result }
+    ensures fit { All GuardFits queues.now }
+{
+    queues.iter().all(|queue| guard_fits(queue))
+}
+
 fn routines_fit(routines: &[Routine]) -> bool
     ensures { IsTrue result ↔ All RoutineFits routines.now }
 {
@@ -156,17 +214,29 @@ fn all_calls_fit(routines: &[Routine]) -> bool
     routines.iter().all(|routine| calls_fit(routines, routine))
 }
 
+fn all_queues_fit(queues: usize, routines: &[Routine]) -> bool
+    ensures { IsTrue result ↔ All (QueuesFit queues) routines.now }
+{
+    routines.iter().all(|routine| queues_fit(queues, routine))
+}
+
 fn driver_fits(driver: &Driver) -> bool
     ensures { IsTrue result ↔ DriverFits driver.now }
 {
     let routines = driver.routines.as_slice();
+    let queues = driver.queues.as_slice();
+    // the type of a guard keeps it within its limits, so nothing is tested
+    prove!(guards_fit(queues));
     routines.len() <= MAX_ROUTINES
         && routines_fit(routines)
         && handler_fits(routines, driver.read)
         && handler_fits(routines, driver.write)
         && handler_fits(routines, driver.control)
+        && startio_fits(routines, driver.startio)
         && dpc_fits(routines, driver.dpc)
         && all_calls_fit(routines)
+        && queues.len() <= MAX_QUEUES
+        && all_queues_fit(queues.len(), routines)
 }
 
 fn lower_fits(number: usize, lower: Option<u8>) -> bool

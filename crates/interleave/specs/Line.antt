@@ -1,6 +1,6 @@
 -- One line of a schedule: what it stands for, or the least kind of what is wrong with it.
 use Rattle.std.specs.Prelude.{ℕ, ◌^◌, ◌-◌, ◌&&◌, nat_le, List, [], ◌∷◌, bytes_eq, codes, Option, Some, None, Result, Ok, Err, if◌then◌else◌}
-use Rattle.model.specs.declared.event.Event.TheVariants.{Issue, Interrupt, Dpc, Step}
+use Rattle.model.specs.declared.event.Event.TheVariants.{Issue, Interrupt, Dpc, StartIo, Step}
 use Rattle.model.specs.declared.status.Major.{Major}
 use Rattle.text.specs.Cut.{tokens_of}
 use Rattle.text.specs.Class.{is_number}
@@ -108,6 +108,26 @@ abbrev pub dpc_line : List (List ℕ) → Result (Option Repeated) ScheduleKind
 dpc_line (thread ∷ device ∷ []) = dpc_of thread device
 dpc_line _ = Err UnknownWord
 
+-- the start of these numbers, once
+abbrev pub starting : Option ℕ → Option ℕ → Option Repeated
+starting (Some thread) (Some device) = Some (record { event = StartIo thread device; count = 1 })
+starting (Some thread) None = None
+starting None device = None
+
+-- the start, if its numbers are in range
+abbrev pub starts : List ℕ → List ℕ → Option Repeated
+starts thread device = starting (number_within 0 255 thread) (number_within 0 255 device)
+
+-- the start of the StartIo routine of a device, on a thread
+abbrev pub startio_of : List ℕ → List ℕ → Result (Option Repeated) ScheduleKind
+startio_of thread device =
+    if is_number thread && is_number device then ranged (starts thread device) else Err UnknownWord
+
+-- `startio T D`
+abbrev pub startio_line : List (List ℕ) → Result (Option Repeated) ScheduleKind
+startio_line (thread ∷ device ∷ []) = startio_of thread device
+startio_line _ = Err UnknownWord
+
 -- these steps, of these numbers
 abbrev pub stepping : Option ℕ → Option ℕ → Option Repeated
 stepping (Some thread) (Some count) = Some (record { event = Step thread; count = count })
@@ -135,7 +155,8 @@ event_of (word ∷ operands) =
     if bytes_eq word (codes "issue") then issue_line operands else
     (if bytes_eq word (codes "interrupt") then interrupt_line operands else
     (if bytes_eq word (codes "dpc") then dpc_line operands else
-    (if bytes_eq word (codes "step") then step_line operands else Err UnknownWord)))
+    (if bytes_eq word (codes "startio") then startio_line operands else
+    (if bytes_eq word (codes "step") then step_line operands else Err UnknownWord))))
 
 -- the tokens of a line, if its bytes and tokens are all allowed
 abbrev pub checked_tokens : List ℕ → Result (List (List ℕ)) ScheduleKind

@@ -1,7 +1,7 @@
 //! One line of a schedule.
 
 ghost use Rattle.std.specs.Prelude.{◌≡◌, ◌≤◌, IfSome};
-ghost use Rattle.interleave.specs.Line.{begins, checked_tokens, dpc_line, dpc_of, event_line, event_of, interrupt_line, interrupt_of, interrupts, issue_line, issue_of, issues, number_within, opening_line, opening_of, step_line, steps, steps_of, threads_line, threads_of};
+ghost use Rattle.interleave.specs.Line.{begins, checked_tokens, dpc_line, dpc_of, event_line, event_of, interrupt_line, interrupt_of, interrupts, issue_line, issue_of, issues, number_within, opening_line, opening_of, startio_line, startio_of, starts, step_line, steps, steps_of, threads_line, threads_of};
 
 use crate::schedule::ScheduleKind;
 use model::event::Event;
@@ -109,6 +109,8 @@ fn event_of(mut tokens: Tokens) -> Result<Option<Repeated>, ScheduleKind>
                 interrupt_line(tokens)
             } else if is(word, b"dpc") {
                 dpc_line(tokens)
+            } else if is(word, b"startio") {
+                startio_line(tokens)
             } else if is(word, b"step") {
                 step_line(tokens)
             } else {
@@ -236,6 +238,39 @@ fn begins(thread: &[u8], device: &[u8]) -> Option<Repeated>
     let thread = byte(thread)?;
     let device = byte(device)?;
     let event = Event::Dpc { thread, device };
+    Some(Repeated { event, count: 1 })
+}
+
+/// `startio T D`.
+fn startio_line(mut operands: Tokens) -> Result<Option<Repeated>, ScheduleKind>
+    ensures { result ≡ startio_line operands.entry }
+{
+    match (operands.next(), operands.next(), operands.next()) {
+        (Some(thread), Some(device), None) => startio_of(thread, device),
+        _ => Err(ScheduleKind::UnknownWord),
+    }
+}
+
+/// The start of the StartIo routine of a device, on a thread.
+fn startio_of(thread: &[u8], device: &[u8]) -> Result<Option<Repeated>, ScheduleKind>
+    ensures { result ≡ startio_of thread.now device.now }
+{
+    if !(is_number(thread) && is_number(device)) {
+        return Err(ScheduleKind::UnknownWord);
+    }
+    match starts(thread, device) {
+        Some(repeated) => Ok(Some(repeated)),
+        None => Err(ScheduleKind::OutOfRange),
+    }
+}
+
+/// The start, if its numbers are in range.
+fn starts(thread: &[u8], device: &[u8]) -> Option<Repeated>
+    ensures { result ≡ starts thread.now device.now }
+{
+    let thread = byte(thread)?;
+    let device = byte(device)?;
+    let event = Event::StartIo { thread, device };
     Some(Repeated { event, count: 1 })
 }
 

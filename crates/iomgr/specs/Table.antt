@@ -13,7 +13,7 @@ pub record Table : Type 0 where
 abbrev pub with_table : Shared → Table → Shared
 with_table s table = record s { packets = table.packets; issued = table.issued }
 
--- a shared part with this table, without locks, cells and DPCs
+-- a shared part with this table, without locks, cells, queues and DPCs
 abbrev pub shared_of : Table → Shared
 shared_of table =
     record {
@@ -21,6 +21,8 @@ shared_of table =
       issued = table.issued;
       locks = free_locks 0;
       cells = [];
+      queues = [];
+      starts = [];
       dpcs = [];
     }
 

@@ -1,7 +1,7 @@
 -- What an event does to a world: the world after it, the actions that make it up, and the reply. It
 -- tells what is refused, idle, waited for or wrong. It looks for no bug check: those are found from
 -- the actions (the module Fault).
-use Rattle.std.specs.Prelude.{ℕ, ◌+◌, ◌-◌, ◌%◌, ◌^◌, ◌&&◌, not, option_and_then, option_map, slice_index_or, Bool, true, false, List, [], ◌∷◌, ◌++◌, length, Option, None, Some, nat_eq, nat_lt, take, slice_get, slice_set, if◌then◌else◌}
+use Rattle.std.specs.Prelude.{ℕ, ◌+◌, ◌-◌, ◌%◌, ◌^◌, ◌&&◌, ◌||◌, not, option_and_then, option_map, slice_index_or, Bool, true, false, List, [], ◌∷◌, ◌++◌, length, Option, None, Some, nat_eq, nat_lt, take, slice_get, slice_set, if◌then◌else◌}
 use Rattle.model.specs.declared.world.Activation.{Activation}
 use Rattle.model.specs.declared.world.Frame.{Frame}
 use Rattle.model.specs.declared.world.Frame.TheVariants.{Routine, Walk}
@@ -17,27 +17,29 @@ use Rattle.model.specs.declared.status.Status.{Status}
 use Rattle.model.specs.declared.status.Major.{Major}
 use Rattle.model.specs.declared.instr.Instr.{Instr}
 use Rattle.model.specs.declared.instr.Field.{Field}
-use Rattle.model.specs.declared.instr.Instr.TheVariants.{Const, Move, Clear, Add, Subtract, JumpIfZero, JumpIfLess, Jump, Loop, End, Load, Store, LoadPaged, StorePaged, Get, Put, Mark, Acquire, Release, AcquireCancel, ReleaseCancel, Pass, Call, Complete, IfPending, Ret}
+use Rattle.model.specs.declared.instr.Instr.TheVariants.{Const, Move, Clear, Add, Subtract, JumpIfZero, JumpIfLess, Jump, Loop, End, Load, Store, LoadPaged, StorePaged, Get, Put, Mark, Acquire, Release, AcquireCancel, ReleaseCancel, Insert, Remove, Start, Take, Begin, Next, Pass, Call, Complete, IfPending, Ret}
 use Rattle.model.specs.declared.instr.Return.{Return}
 use Rattle.model.specs.declared.instr.Return.TheVariants.{WithStatus, Lower, Continue, Void}
 use Rattle.model.specs.declared.set.Device.{Device}
 use Rattle.model.specs.declared.set.Sort.{Sort}
-use Rattle.model.specs.declared.set.Sort.TheVariants.{Dispatch, Dpc, Propagate}
+use Rattle.model.specs.declared.set.Sort.TheVariants.{Dispatch, StartIo, Dpc, Propagate}
 use Rattle.model.specs.declared.world.Completion.{Completion}
 use Rattle.model.specs.declared.event.Lock.{Lock}
 use Rattle.model.specs.declared.event.Lock.TheVariants.{SystemCancel, Spin}
 use Rattle.model.specs.declared.event.OfDevice.{OfDevice}
 use Rattle.model.specs.declared.event.Event.{Event}
-use Rattle.model.specs.declared.event.Event.TheVariants.{Issue, Interrupt, Dpc as DpcEvent, Step}
+use Rattle.model.specs.declared.event.Event.TheVariants.{Issue, Interrupt, Dpc as DpcEvent, StartIo as StartIoEvent, Step}
 use Rattle.model.specs.declared.event.Reply.{Reply}
 use Rattle.model.specs.declared.event.Reply.TheVariants.{Started, Stepped, Finished, Topped, Waited, Idle, Refused, Bug as BugCheckReply, Wrong}
 use Rattle.model.specs.Action.{Action, Executes, Acquires, Releases, TouchesPaged, Touches, Issues, Calls, Ups, Completes, Marks, Leaves, Returns, TopsOut, GoesWrong}
-use Rattle.model.specs.Set.{Set, serving, instruction_at, sort_of, lower_of, dpc_of, default_number}
-use Rattle.model.specs.World.{Shared, World, owner_of, with_owner, with_locks, with_cells, packet_of, with_packet, without_packet, packet_in, number_in, status_in, register, next, at_label, with_register, innermost, outer_loops, with_loops, field_of, with_info, mark_current, current_location, sent_down, shared_with, left_location, moved_up, carried_up, completion_of, asked_of, completed, new_packet, entered, is_queued, with_dpc}
+use Rattle.model.specs.Queues.{StartState, is_full, inserted, head_of, started, has_room_to_start, next_started, has_room_for_next, without_first_to_start, with_slot}
+use Rattle.model.specs.Set.{Set, serving, instruction_at, sort_of, lower_of, dpc_of, startio_of, default_number}
+use Rattle.model.specs.World.{Shared, World, owner_of, with_owner, with_locks, with_cells, packet_of, with_packet, without_packet, packet_in, number_in, status_in, register, next, at_label, with_register, innermost, outer_loops, with_loops, field_of, with_info, mark_current, current_location, sent_down, shared_with, left_location, moved_up, carried_up, completion_of, asked_of, completed, new_packet, entered, queue_of, with_queue, start_of, with_start, is_queued, with_dpc}
 
 -- what a frame's step leaves: the shared part of the world, the frames that stand in place of the
 -- one that ran (the lowest first), the actions in order, the reply, whether the frame below is
--- taken away with the one that ran, and the status that the frame then below is told
+-- taken away with the one that ran, the status that the frame then below is told, and whether a
+-- list would get an entry more than it has room for
 pub record Outcome : Type 0 where
   pub shared : Shared
   pub frames : List Frame
@@ -45,6 +47,7 @@ pub record Outcome : Type 0 where
   pub reply : Reply
   pub taken_below : Bool
   pub told : Option Status
+  pub full : Bool
 
 -- a step after which these frames stand in place of the one that ran; nothing changes below
 abbrev pub leaves : Shared → List Frame → List Action → Outcome
@@ -56,6 +59,7 @@ leaves s frames actions =
       reply = Stepped;
       taken_below = false;
       told = None;
+      full = false;
     }
 
 -- the frame's step is wrong: nothing but that happens
@@ -199,6 +203,62 @@ release_effect s a lock (Some owner) =
 abbrev pub spin_lock : Activation → ℕ → Lock
 spin_lock a lock = Spin (record { device = a.device; number = lock })
 
+-- `insert r q`: the packet goes to the back of a queue of the device
+abbrev pub insert_into : Shared → Activation → ℕ → ℕ → List ℕ → Outcome
+insert_into s a q n entries =
+    record (goes_on (with_queue s a.device q (inserted entries n)) (next a) (Touches n ∷ [])) {
+      full = is_full entries;
+    }
+
+abbrev pub insert_effect : Shared → Activation → ℕ → Option ℕ → Option (List ℕ) → Outcome
+insert_effect s a q None entries = goes_wrong s a
+insert_effect s a q (Some n) None = goes_wrong s a
+insert_effect s a q (Some n) (Some entries) = insert_into s a q n entries
+
+-- `remove r q L`: the first packet of a queue of the device is taken off; jumps where there is none
+abbrev pub remove_from : Shared → Activation → ℕ → ℕ → ℕ → List ℕ → Outcome
+remove_from s a r q label [] = goes_on s (at_label a label) []
+remove_from s a r q label (n ∷ entries) =
+    goes_on (with_queue s a.device q entries) (next (with_register a r (Ref n))) (Touches n ∷ [])
+
+abbrev pub remove_effect : Shared → Activation → ℕ → ℕ → ℕ → Option (List ℕ) → Outcome
+remove_effect s a r q label None = goes_wrong s a
+remove_effect s a r q label (Some entries) = remove_from s a r q label entries
+
+-- `start r`: IoStartPacket
+abbrev pub start_effect : Shared → Activation → Option ℕ → Option StartState → Outcome
+start_effect s a None start = goes_wrong s a
+start_effect s a (Some n) None = goes_wrong s a
+start_effect s a (Some n) (Some start) =
+    record (goes_on (with_start s a.device (started start n)) (next a) (Touches n ∷ [])) {
+      full = not (has_room_to_start start);
+    }
+
+-- `take r L`: the packet in the current slot is taken out of it; jumps where there is none
+abbrev pub take_from : Shared → Activation → ℕ → ℕ → StartState → Option ℕ → Outcome
+take_from s a r label start None = goes_on s (at_label a label) []
+take_from s a r label start (Some n) =
+    goes_on (with_start s a.device (with_slot start None)) (next (with_register a r (Ref n))) []
+
+abbrev pub take_effect : Shared → Activation → ℕ → ℕ → Option StartState → Outcome
+take_effect s a r label None = goes_wrong s a
+take_effect s a r label (Some start) = take_from s a r label start start.slot
+
+-- `begin r`: the packet is put into the current slot
+abbrev pub begin_effect : Shared → Activation → Option ℕ → Option StartState → Outcome
+begin_effect s a None start = goes_wrong s a
+begin_effect s a (Some n) None = goes_wrong s a
+begin_effect s a (Some n) (Some start) =
+    goes_on (with_start s a.device (with_slot start (Some n))) (next a) (Touches n ∷ [])
+
+-- `next`: IoStartNextPacket
+abbrev pub next_effect : Shared → Activation → Option StartState → Outcome
+next_effect s a None = goes_wrong s a
+next_effect s a (Some start) =
+    record (goes_on (with_start s a.device (next_started start)) (next a) []) {
+      full = not (has_room_for_next start);
+    }
+
 -- `mark r`: the current location of the packet is marked
 abbrev pub mark_packet : Shared → Activation → ℕ → Option Packet → Outcome
 mark_packet s a n None = goes_on s (next a) (Touches n ∷ [])
@@ -292,7 +352,7 @@ touched_under (Some (Walk n)) = Touches n ∷ []
 abbrev pub continued : Shared → Option Frame → Outcome
 continued s under = leaves s [] (Executes ∷ touched_under under)
 
--- a DPC routine returns nothing
+-- a StartIo or DPC routine returns nothing
 abbrev pub ended : Shared → Outcome
 ended s = leaves s [] (Executes ∷ [])
 
@@ -302,6 +362,10 @@ return_effect s a under Dispatch (WithStatus status) = returned s status
 return_effect s a under Dispatch (Lower r) = return_lower s a (status_in (register a r))
 return_effect s a under Dispatch Continue = goes_wrong s a
 return_effect s a under Dispatch Void = goes_wrong s a
+return_effect s a under StartIo (WithStatus status) = goes_wrong s a
+return_effect s a under StartIo (Lower r) = goes_wrong s a
+return_effect s a under StartIo Continue = goes_wrong s a
+return_effect s a under StartIo Void = ended s
 return_effect s a under Dpc (WithStatus status) = goes_wrong s a
 return_effect s a under Dpc (Lower r) = goes_wrong s a
 return_effect s a under Dpc Continue = goes_wrong s a
@@ -344,6 +408,16 @@ instruction_effect set s t under a AcquireCancel =
     acquire_effect s t a SystemCancel (owner_of s.locks SystemCancel)
 instruction_effect set s t under a ReleaseCancel =
     release_effect s a SystemCancel (owner_of s.locks SystemCancel)
+instruction_effect set s t under a (Insert r q) =
+    insert_effect s a q (packet_in s (register a r)) (queue_of s a.device q)
+instruction_effect set s t under a (Remove r q label) =
+    remove_effect s a r q label (queue_of s a.device q)
+instruction_effect set s t under a (Start r) =
+    start_effect s a (packet_in s (register a r)) (start_of s a.device)
+instruction_effect set s t under a (Take r label) = take_effect s a r label (start_of s a.device)
+instruction_effect set s t under a (Begin r) =
+    begin_effect s a (packet_in s (register a r)) (start_of s a.device)
+instruction_effect set s t under a Next = next_effect s a (start_of s a.device)
 instruction_effect set s t under a (Pass r) =
     pass_effect set s a (packet_in s (register a r)) (lower_of set a.device)
 instruction_effect set s t under a (Call r f) =
@@ -430,6 +504,12 @@ told_in (Acquire lock) = None
 told_in (Release lock) = None
 told_in AcquireCancel = None
 told_in ReleaseCancel = None
+told_in (Insert r q) = None
+told_in (Remove r q label) = None
+told_in (Start r) = None
+told_in (Take r label) = None
+told_in (Begin r) = None
+told_in Next = None
 told_in (Pass r) = Some r
 told_in (Call r f) = Some r
 told_in (Complete r status) = None
@@ -466,7 +546,7 @@ abbrev pub kept_below : List Frame → Bool → List Frame
 kept_below below taken = if taken then take (length below - 1) below else below
 
 -- what an event leaves: the world, the actions in order, the reply, and whether it would pass a
--- bound: a 33rd frame on a thread
+-- bound: a 33rd frame on a thread, or a 1,025th entry of a list
 pub record Change : Type 0 where
   pub world : World
   pub actions : List Action
@@ -514,7 +594,7 @@ settled set w t thread below o =
       world = with_thread w t o.shared (with_stack thread (standing set below o));
       actions = o.actions;
       reply = finished_or (standing set below o) o.reply;
-      over = nat_lt MAX_FRAMES (length (standing set below o));
+      over = o.full || nat_lt MAX_FRAMES (length (standing set below o));
     }
 
 abbrev pub top_effect : Set → World → ℕ → Thread → List Frame → Option Frame → Change
@@ -602,10 +682,39 @@ dpc_on set w t d (Some thread) (Some routine) =
     if not (is_idle thread) then unchanged w Refused else
     (if is_queued w.shared d then dpc_begun set w t d thread routine else unchanged w Idle)
 
+-- StartIo: the first packet of the start list of a device is taken off, and the StartIo routine
+-- begins for it at DISPATCH_LEVEL on an idle thread
+abbrev pub startio_begun : Set → World → ℕ → ℕ → Thread → ℕ → ℕ → StartState → Change
+startio_begun set w t d thread routine n start =
+    record (unchanged w (Started n)) {
+      world =
+          with_thread w t (with_start w.shared d (without_first_to_start start))
+          (rooted thread DispatchLevel
+          (entered (routine_of_device (slice_get set.devices d)) routine d (Ref n)));
+    }
+
+abbrev pub startio_for : Set → World → ℕ → ℕ → Thread → ℕ → StartState → Option ℕ → Change
+startio_for set w t d thread routine start None = unchanged w Idle
+startio_for set w t d thread routine start (Some n) =
+    startio_begun set w t d thread routine n start
+
+abbrev pub startio_from : Set → World → ℕ → ℕ → Thread → ℕ → Option StartState → Change
+startio_from set w t d thread routine None = unchanged w Refused
+startio_from set w t d thread routine (Some start) =
+    startio_for set w t d thread routine start (head_of start.start_list)
+
+abbrev pub startio_on : Set → World → ℕ → ℕ → Option Thread → Option ℕ → Change
+startio_on set w t d None routine = unchanged w Refused
+startio_on set w t d (Some thread) None = unchanged w Refused
+startio_on set w t d (Some thread) (Some routine) =
+    if is_idle thread then startio_from set w t d thread routine (start_of w.shared d)
+    else unchanged w Refused
+
 -- what an event does
 abbrev pub effect : Set → World → Event → Change
 effect set w (Issue t d major argument) =
     issue_on set w t d major argument (slice_get w.threads t) (slice_get set.devices d)
 effect set w (Interrupt d) = interrupt_on w d (dpc_of set d)
 effect set w (DpcEvent t d) = dpc_on set w t d (slice_get w.threads t) (dpc_of set d)
+effect set w (StartIoEvent t d) = startio_on set w t d (slice_get w.threads t) (startio_of set d)
 effect set w (Step t) = step_thread set w t (slice_get w.threads t)

@@ -3,6 +3,7 @@ pub mod Set
 pub mod Sound
 pub mod Loops
 pub mod Forwarding
+pub mod Queues
 pub mod World
 pub mod Action
 pub mod Effect

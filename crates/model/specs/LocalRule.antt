@@ -2,7 +2,7 @@
 -- conditions of an instruction are weighed, and the one of the least number is the rule broken.
 -- Static Driver Verifier has rules of the same names: DoubleCompletion, MarkIrpPending,
 -- CancelSpinLock, SpinLock.
-use Rattle.std.specs.Prelude.{ℕ, ◌||◌, ◌&&◌, ◌-◌, nat_le, not, Bool, true, false, ◌∷◌, Option, None, Some, Result, Ok, Err, replicate, slice_index_or, slice_set, if◌then◌else◌}
+use Rattle.std.specs.Prelude.{ℕ, ◌||◌, ◌&&◌, ◌-◌, nat_le, not, Bool, true, false, ◌∷◌, Option, None, Some, Result, Ok, Err, is_some, option_and_then, replicate, slice_get, slice_index_or, slice_set, if◌then◌else◌}
 use Rattle.std.specs.List.{list_any}
 use Rattle.model.specs.declared.abs.Abs.{Abs}
 use Rattle.model.specs.declared.abs.Duty.{Duty}
@@ -13,36 +13,39 @@ use Rattle.model.specs.declared.abs.Outs.{Outs}
 use Rattle.model.specs.declared.abs.Settled.{Settled}
 use Rattle.model.specs.declared.abs.Settled.TheVariants.{Open, NeedMark, Settled as SettledMark}
 use Rattle.model.specs.declared.abs.Rule.{Rule}
-use Rattle.model.specs.declared.abs.Rule.TheVariants.{Malformed, Unreachable, StatesDiffer, WrongKind, DoubleCompletion, MarkIrpPending, CancelSpinLock, SpinLock, LockHeld, Level, Dropped, Sort as SortRule, Completion, StackTooSmall, NoLower, TooLong, Memory}
+use Rattle.model.specs.declared.abs.Rule.TheVariants.{Malformed, Unreachable, StatesDiffer, WrongKind, DoubleCompletion, MarkIrpPending, CancelSpinLock, SpinLock, LockHeld, Level, Guard, Dropped, Token, Sort as SortRule, Completion, StackTooSmall, NoLower, TooLong, Memory}
 use Rattle.model.specs.declared.instr.Instr.{Instr}
-use Rattle.model.specs.declared.instr.Instr.TheVariants.{Const, Move, Clear, Add, Subtract, JumpIfZero, JumpIfLess, Jump, Loop, End, Load, Store, LoadPaged, StorePaged, Get, Put, Mark, Acquire, Release, AcquireCancel, ReleaseCancel, Pass, Call, Complete, IfPending, Ret}
+use Rattle.model.specs.declared.instr.Instr.TheVariants.{Const, Move, Clear, Add, Subtract, JumpIfZero, JumpIfLess, Jump, Loop, End, Load, Store, LoadPaged, StorePaged, Get, Put, Mark, Acquire, Release, AcquireCancel, ReleaseCancel, Insert, Remove, Start, Take, Begin, Next, Pass, Call, Complete, IfPending, Ret}
 use Rattle.model.specs.declared.instr.Return.{Return}
 use Rattle.model.specs.declared.instr.Return.TheVariants.{WithStatus, Lower as LowerStatus, Continue, Void}
 use Rattle.model.specs.declared.set.Sort.{Sort}
-use Rattle.model.specs.declared.set.Sort.TheVariants.{Dispatch, Dpc, Propagate}
+use Rattle.model.specs.declared.set.Sort.TheVariants.{Dispatch, StartIo, Dpc, Propagate}
 use Rattle.model.specs.declared.status.Status.{Status}
 use Rattle.model.specs.declared.status.Status.TheVariants.{Success, Pending as PendingStatus, Busy, Unsuccessful, InvalidParameter, InvalidDeviceRequest, Cancelled}
 use Rattle.model.specs.Forwarding.{lacks_lower, is_too_small}
 use Rattle.model.specs.declared.limits.TheConstants.{REGISTERS, SPIN_LOCKS}
-use Rattle.model.specs.Set.{Set, Member, Flow, Onward, Branches, Jumps, Opens, Closes, Leaves, flow_of}
+use Rattle.model.specs.Set.{Set, Member, Flow, Onward, Branches, Jumps, Opens, Closes, Leaves, flow_of, guard_of}
 
 -- the state in which a routine is entered, if it may be: a dispatch routine may do anything with
 -- the packet in its first register, a completion routine that lets the completion go on may look at
--- it, and a DPC routine is handed none. No lock is held
-abbrev pub entered_with : Kind → Duty → Settled → Abs
-entered_with first duty carried =
+-- it, a StartIo routine owns it and has the token of its device, and a DPC routine is handed none.
+-- No lock is held
+abbrev pub entered_with : Kind → Duty → Settled → Bool → Abs
+entered_with first duty carried token =
     record {
       kinds = first ∷ replicate (REGISTERS - 1) Blank;
       locks = replicate SPIN_LOCKS false;
       cancel = false;
       duty = duty;
       settled = carried;
+      token = token;
     }
 
 abbrev pub entry_of_sort : Sort → Option Abs
-entry_of_sort Dispatch = Some (entered_with New Fresh SettledMark)
-entry_of_sort Dpc = Some (entered_with Blank NoDuty SettledMark)
-entry_of_sort Propagate = Some (entered_with View NoDuty Open)
+entry_of_sort Dispatch = Some (entered_with New Fresh SettledMark false)
+entry_of_sort StartIo = Some (entered_with Own NoDuty SettledMark true)
+entry_of_sort Dpc = Some (entered_with Blank NoDuty SettledMark false)
+entry_of_sort Propagate = Some (entered_with View NoDuty Open false)
 
 abbrev pub entry_state : Member → Option Abs
 entry_state m = entry_of_sort m.routine.sort
@@ -82,7 +85,9 @@ rule_number CancelSpinLock = 7
 rule_number SpinLock = 8
 rule_number LockHeld = 9
 rule_number Level = 10
+rule_number Guard = 11
 rule_number Dropped = 13
+rule_number Token = 14
 rule_number SortRule = 15
 rule_number Completion = 16
 rule_number StackTooSmall = 17
@@ -159,6 +164,9 @@ a_new_one = record { new = true; own = false; view = false }
 abbrev pub one_handed_or_owned : Wanted
 one_handed_or_owned = record { new = true; own = true; view = false }
 
+abbrev pub an_owned_one : Wanted
+an_owned_one = record { new = false; own = true; view = false }
+
 abbrev pub one_to_mark : Wanted
 one_to_mark = record { new = true; own = false; view = true }
 
@@ -167,6 +175,7 @@ one_to_look_at = record { new = false; own = false; view = true }
 
 abbrev pub is_completion : Sort → Bool
 is_completion Dispatch = false
+is_completion StartIo = false
 is_completion Dpc = false
 is_completion Propagate = true
 
@@ -196,6 +205,7 @@ number_kind View = Some WrongKind
 -- while their thread holds no lock
 abbrev pub level_fault : Abs → Sort → Option Rule
 level_fault s Dispatch = broken_if (holds_lock s) Level
+level_fault s StartIo = Some Level
 level_fault s Dpc = Some Level
 level_fault s Propagate = Some Level
 
@@ -243,6 +253,7 @@ completion_sort_fault sort = broken_if (is_completion sort) Completion
 -- only a dispatch routine forwards
 abbrev pub forward_sort_fault : Sort → Option Rule
 forward_sort_fault Dispatch = None
+forward_sort_fault StartIo = Some SortRule
 forward_sort_fault Dpc = Some SortRule
 forward_sort_fault Propagate = Some Completion
 
@@ -293,6 +304,10 @@ form_fault Dispatch (WithStatus status) = None
 form_fault Dispatch (LowerStatus r) = None
 form_fault Dispatch Continue = Some SortRule
 form_fault Dispatch Void = Some SortRule
+form_fault StartIo (WithStatus status) = Some SortRule
+form_fault StartIo (LowerStatus r) = Some SortRule
+form_fault StartIo Continue = Some SortRule
+form_fault StartIo Void = None
 form_fault Dpc (WithStatus status) = Some SortRule
 form_fault Dpc (LowerStatus r) = Some SortRule
 form_fault Dpc Continue = Some SortRule
@@ -310,6 +325,7 @@ is_settled SettledMark = true
 
 abbrev pub settled_fault : Sort → Settled → Option Rule
 settled_fault Dispatch carried = None
+settled_fault StartIo carried = None
 settled_fault Dpc carried = None
 settled_fault Propagate carried = broken_if (not (is_settled carried)) Completion
 
@@ -317,11 +333,12 @@ settled_fault Propagate carried = broken_if (not (is_settled carried)) Completio
 abbrev pub left_packet : Abs → Option Rule
 left_packet s = broken_if (list_any is_kept s.kinds) Dropped
 
--- no lock is kept, and no packet
+-- no lock is kept, no packet, and no token
 abbrev pub kept_fault : Abs → Option Rule
 kept_fault s =
     least_of (broken_if s.cancel CancelSpinLock)
-    (least_of (broken_if (holds_spin_lock s) SpinLock) (left_packet s))
+    (least_of (broken_if (holds_spin_lock s) SpinLock)
+    (least_of (left_packet s) (broken_if s.token Token)))
 
 abbrev pub return_fault : Abs → Return → Sort → Option Rule
 return_fault s form sort =
@@ -334,6 +351,29 @@ abbrev pub completion_fault : Abs → Status → Sort → Option Rule
 completion_fault s status sort =
     least_of (broken_if (is_pending status) MarkIrpPending)
     (least_of (broken_if (holds_lock s) LockHeld) (completion_sort_fault sort))
+
+-- a queue is touched while its guard is held
+abbrev pub is_guarded : Abs → Option ℕ → Bool
+is_guarded s None = false
+is_guarded s (Some guard) = is_held s guard
+
+abbrev pub guard_fault : Abs → Set → ℕ → ℕ → Option Rule
+guard_fault s set driver q = unless (is_guarded s (guard_of set driver q)) Guard
+
+-- a packet is started where the driver has a StartIo routine
+abbrev pub has_startio : Set → ℕ → Bool
+has_startio set driver =
+    is_some (option_and_then (λ d. d.startio) (slice_get set.drivers driver))
+
+-- the current packet is taken in a DPC routine, which gets the token with it
+abbrev pub is_dpc : Sort → Bool
+is_dpc Dispatch = false
+is_dpc StartIo = false
+is_dpc Dpc = true
+is_dpc Propagate = false
+
+abbrev pub take_fault : Abs → Sort → Option Rule
+take_fault s sort = least_of (broken_if s.token Token) (unless (is_dpc sort) SortRule)
 
 -- the least rule that an instruction of a routine of a sort, of a driver of a set, breaks in a
 -- state
@@ -365,6 +405,17 @@ refuses s (Acquire lock) sort set driver = broken_if (is_held s lock) SpinLock
 refuses s (Release lock) sort set driver = broken_if (not (is_held s lock)) SpinLock
 refuses s AcquireCancel sort set driver = broken_if s.cancel CancelSpinLock
 refuses s ReleaseCancel sort set driver = broken_if (not s.cancel) CancelSpinLock
+refuses s (Insert r q) sort set driver =
+    least_of (demanded an_owned_one (kind_of s r)) (guard_fault s set driver q)
+refuses s (Remove r q label) sort set driver =
+    least_of (guard_fault s set driver q) (free_kind (kind_of s r))
+refuses s (Start r) sort set driver =
+    least_of (demanded an_owned_one (kind_of s r)) (unless (has_startio set driver) SortRule)
+refuses s (Take r label) sort set driver =
+    least_of (take_fault s sort) (free_kind (kind_of s r))
+refuses s (Begin r) sort set driver =
+    least_of (demanded an_owned_one (kind_of s r)) (unless s.token Token)
+refuses s Next sort set driver = unless s.token Token
 refuses s (Pass r) sort set driver =
     least_of (demanded a_new_one (kind_of s r)) (forward_fault s sort set driver 0)
 refuses s (Call r f) sort set driver =
@@ -437,6 +488,12 @@ handed s (Acquire lock) = with_lock s lock true
 handed s (Release lock) = with_lock s lock false
 handed s AcquireCancel = with_cancel s true
 handed s ReleaseCancel = with_cancel s false
+handed s (Insert r q) = with_kind s r Blank
+handed s (Remove r q label) = with_kind s r Own
+handed s (Start r) = with_kind s r Blank
+handed s (Take r label) = record (with_kind s r Own) { token = true }
+handed s (Begin r) = record (with_kind s r Blank) { token = false }
+handed s Next = record s { token = false }
 handed s (Pass r) = given_down s r (kind_of s r)
 handed s (Call r f) = given_down s r (kind_of s r)
 handed s (Complete r status) =
@@ -467,6 +524,12 @@ handed_at_label s (Acquire lock) = s
 handed_at_label s (Release lock) = s
 handed_at_label s AcquireCancel = s
 handed_at_label s ReleaseCancel = s
+handed_at_label s (Insert r q) = s
+handed_at_label s (Remove r q label) = with_kind s r Blank
+handed_at_label s (Start r) = s
+handed_at_label s (Take r label) = with_kind s r Blank
+handed_at_label s (Begin r) = s
+handed_at_label s Next = s
 handed_at_label s (Pass r) = s
 handed_at_label s (Call r f) = s
 handed_at_label s (Complete r status) = s

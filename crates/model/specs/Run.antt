@@ -2,7 +2,7 @@
 -- world stays as it was, and every later event is refused without actions.
 use Rattle.std.specs.Prelude.{ℕ, ◌+◌, ◌-◌, Bool, true, false, List, [], ◌∷◌, length, Option, None, Some, slice_get, slice_set, slice_index_or, replicate, if◌then◌else◌}
 use Rattle.model.specs.declared.set.Sort.{Sort}
-use Rattle.model.specs.declared.set.Sort.TheVariants.{Dispatch, Dpc, Propagate}
+use Rattle.model.specs.declared.set.Sort.TheVariants.{Dispatch, StartIo, Dpc, Propagate}
 use Rattle.model.specs.declared.world.Activation.{Activation}
 use Rattle.model.specs.declared.world.Irql.{Irql}
 use Rattle.model.specs.declared.world.Irql.TheVariants.{Passive}
@@ -12,7 +12,7 @@ use Rattle.model.specs.declared.world.Thread.{Thread}
 use Rattle.model.specs.declared.world.Value.{Value}
 use Rattle.model.specs.declared.world.Value.TheVariants.{Blank, Num, Ref, Status as StatusValue}
 use Rattle.model.specs.declared.event.Event.{Event}
-use Rattle.model.specs.declared.event.Event.TheVariants.{Issue, Interrupt, Dpc as DpcEvent, Step}
+use Rattle.model.specs.declared.event.Event.TheVariants.{Issue, Interrupt, Dpc as DpcEvent, StartIo as StartIoEvent, Step}
 use Rattle.model.specs.declared.event.Bug.{Bug}
 use Rattle.model.specs.declared.event.Reply.{Reply}
 use Rattle.model.specs.declared.event.Reply.TheVariants.{Started, Stepped, Finished, Topped, Waited, Idle, Refused, Bug as BugCheckReply, Wrong}
@@ -47,6 +47,7 @@ abbrev pub thread_of : Event → Option ℕ
 thread_of (Issue t d major argument) = Some t
 thread_of (Interrupt d) = None
 thread_of (DpcEvent t d) = Some t
+thread_of (StartIoEvent t d) = Some t
 thread_of (Step t) = Some t
 
 abbrev pub frames_of : Option Thread → List Frame
@@ -87,6 +88,7 @@ serving_in past (StatusValue status) = None
 
 abbrev pub serving_by : List Entry → Activation → Sort → Option Serving
 serving_by past a Dispatch = serving_in past (register a 0)
+serving_by past a StartIo = None
 serving_by past a Dpc = None
 serving_by past a Propagate = None
 

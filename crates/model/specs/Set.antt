@@ -1,7 +1,7 @@
 -- Driver sets: drivers and devices, and which routine serves what.
-use Rattle.std.specs.Prelude.{ℕ, List, [], ◌∷◌, Option, None, Some, nat_eq, unwrap_or, option_and_then, slice_get, if◌then◌else◌}
+use Rattle.std.specs.Prelude.{ℕ, List, [], ◌∷◌, Option, None, Some, nat_eq, unwrap_or, option_and_then, option_map, slice_get, if◌then◌else◌}
 use Rattle.model.specs.declared.instr.Instr.{Instr}
-use Rattle.model.specs.declared.instr.Instr.TheVariants.{Const, Move, Clear, Add, Subtract, JumpIfZero, JumpIfLess, Jump, Loop, End, Load, Store, LoadPaged, StorePaged, Get, Put, Mark, Acquire, Release, AcquireCancel, ReleaseCancel, Pass, Call, Complete, IfPending, Ret}
+use Rattle.model.specs.declared.instr.Instr.TheVariants.{Const, Move, Clear, Add, Subtract, JumpIfZero, JumpIfLess, Jump, Loop, End, Load, Store, LoadPaged, StorePaged, Get, Put, Mark, Acquire, Release, AcquireCancel, ReleaseCancel, Insert, Remove, Start, Take, Begin, Next, Pass, Call, Complete, IfPending, Ret}
 use Rattle.model.specs.declared.instr.Return.TheVariants.{WithStatus}
 use Rattle.model.specs.declared.set.Driver.{Driver}
 use Rattle.model.specs.declared.set.Device.{Device}
@@ -59,6 +59,18 @@ dpc_of set device =
     option_and_then (λ driver. driver.dpc)
     (option_and_then (λ d. slice_get set.drivers d.driver) (slice_get set.devices device))
 
+-- the StartIo routine of a device likewise
+abbrev pub startio_of : Set → ℕ → Option ℕ
+startio_of set device =
+    option_and_then (λ driver. driver.startio)
+    (option_and_then (λ d. slice_get set.drivers d.driver) (slice_get set.devices device))
+
+-- the spin lock that guards a queue of a driver
+abbrev pub guard_of : Set → ℕ → ℕ → Option ℕ
+guard_of set driver q =
+    option_map (λ queue. queue.guard)
+    (option_and_then (λ d. slice_get d.queues q) (slice_get set.drivers driver))
+
 -- the device under a device
 abbrev pub lower_of : Set → ℕ → Option ℕ
 lower_of set device = option_and_then (λ d. d.lower) (slice_get set.devices device)
@@ -107,6 +119,12 @@ flow_of (Acquire lock) = Onward
 flow_of (Release lock) = Onward
 flow_of AcquireCancel = Onward
 flow_of ReleaseCancel = Onward
+flow_of (Insert r q) = Onward
+flow_of (Remove r q label) = Branches label
+flow_of (Start r) = Onward
+flow_of (Take r label) = Branches label
+flow_of (Begin r) = Onward
+flow_of Next = Onward
 flow_of (Pass r) = Onward
 flow_of (Call r f) = Onward
 flow_of (Complete r status) = Onward

@@ -2,15 +2,16 @@
 -- It doesn't keep that a routine ends in a return, nor anything that the verifier decides.
 use Rattle.std.specs.Prelude.{ℕ, suc, ⊤, ◌^◌, ◌<◌, ◌≤◌, List, [], ◌∷◌, length, All, IfSome, Option, None, Some, slice_get}
 use Rattle.model.specs.declared.instr.Instr.{Instr}
-use Rattle.model.specs.declared.instr.Instr.TheVariants.{Const, Move, Clear, Add, Subtract, JumpIfZero, JumpIfLess, Jump, Loop, End, Load, Store, LoadPaged, StorePaged, Get, Put, Mark, Acquire, Release, AcquireCancel, ReleaseCancel, Pass, Call, Complete, IfPending, Ret}
+use Rattle.model.specs.declared.instr.Instr.TheVariants.{Const, Move, Clear, Add, Subtract, JumpIfZero, JumpIfLess, Jump, Loop, End, Load, Store, LoadPaged, StorePaged, Get, Put, Mark, Acquire, Release, AcquireCancel, ReleaseCancel, Insert, Remove, Start, Take, Begin, Next, Pass, Call, Complete, IfPending, Ret}
 use Rattle.model.specs.declared.instr.Return.{Return}
 use Rattle.model.specs.declared.instr.Return.TheVariants.{WithStatus, Lower, Continue, Void}
-use Rattle.model.specs.declared.limits.TheConstants.{CELLS, MAX_DEVICES, MAX_DRIVERS, MAX_INSTRUCTIONS, MAX_ROUTINES, MAX_STACK, MAX_TURNS, REGISTERS, SPIN_LOCKS}
+use Rattle.model.specs.declared.limits.TheConstants.{CELLS, MAX_DEVICES, MAX_DRIVERS, MAX_INSTRUCTIONS, MAX_QUEUES, MAX_ROUTINES, MAX_STACK, MAX_TURNS, REGISTERS, SPIN_LOCKS}
 use Rattle.model.specs.declared.set.Driver.{Driver}
 use Rattle.model.specs.declared.set.Device.{Device}
+use Rattle.model.specs.declared.set.Queue.{Queue}
 use Rattle.model.specs.declared.set.Routine.{Routine}
 use Rattle.model.specs.declared.set.Sort.{Sort}
-use Rattle.model.specs.declared.set.Sort.TheVariants.{Dispatch, Dpc, Propagate}
+use Rattle.model.specs.declared.set.Sort.TheVariants.{Dispatch, StartIo, Dpc, Propagate}
 use Rattle.model.specs.Set.{Set, label_of}
 
 -- a label is a position of its routine
@@ -34,8 +35,8 @@ FormFits (Lower r) = IsRegister r
 FormFits Continue = ⊤
 FormFits Void = ⊤
 
--- all operands of an instruction are within their limits. A label and a `call`'s routine have to
--- name something beside
+-- all operands of an instruction are within their limits. A label, a queue and a `call`'s routine
+-- have to name something beside
 abbrev pub OperandFits : Instr → Type 0
 OperandFits (Const r n) = IsRegister r × (n < 2 ^ 32)
 OperandFits (Move r q) = IsRegister r × IsRegister q
@@ -58,6 +59,12 @@ OperandFits (Acquire lock) = IsSpinLock lock
 OperandFits (Release lock) = IsSpinLock lock
 OperandFits AcquireCancel = ⊤
 OperandFits ReleaseCancel = ⊤
+OperandFits (Insert r q) = IsRegister r
+OperandFits (Remove r q label) = IsRegister r
+OperandFits (Start r) = IsRegister r
+OperandFits (Take r label) = IsRegister r
+OperandFits (Begin r) = IsRegister r
+OperandFits Next = ⊤
 OperandFits (Pass r) = IsRegister r
 OperandFits (Call r f) = IsRegister r
 OperandFits (Complete r status) = IsRegister r
@@ -79,6 +86,7 @@ HasSort P (Some routine) = P routine.sort
 -- a handler is the number of a dispatch routine of the driver
 abbrev pub IsDispatch : Sort → Type 0
 IsDispatch Dispatch = ⊤
+IsDispatch StartIo = ⊥
 IsDispatch Dpc = ⊥
 IsDispatch Propagate = ⊥
 
@@ -86,9 +94,21 @@ abbrev pub HandlerFits : List Routine → Option ℕ → Type 0
 HandlerFits routines handler =
     IfSome handler (λ number. HasSort IsDispatch (slice_get routines number))
 
+-- the StartIo routine is a StartIo routine of the driver
+abbrev pub IsStartIo : Sort → Type 0
+IsStartIo Dispatch = ⊥
+IsStartIo StartIo = ⊤
+IsStartIo Dpc = ⊥
+IsStartIo Propagate = ⊥
+
+abbrev pub StartIoFits : List Routine → Option ℕ → Type 0
+StartIoFits routines startio =
+    IfSome startio (λ number. HasSort IsStartIo (slice_get routines number))
+
 -- the DPC routine is a DPC routine of the driver
 abbrev pub IsDpc : Sort → Type 0
 IsDpc Dispatch = ⊥
+IsDpc StartIo = ⊥
 IsDpc Dpc = ⊤
 IsDpc Propagate = ⊥
 
@@ -98,6 +118,7 @@ DpcFits routines dpc = IfSome dpc (λ number. HasSort IsDpc (slice_get routines 
 -- the routine of a `call` is a completion routine of the driver
 abbrev pub IsCompletion : Sort → Type 0
 IsCompletion Dispatch = ⊥
+IsCompletion StartIo = ⊥
 IsCompletion Dpc = ⊥
 IsCompletion Propagate = ⊤
 
@@ -124,6 +145,12 @@ completion_named (Acquire lock) = None
 completion_named (Release lock) = None
 completion_named AcquireCancel = None
 completion_named ReleaseCancel = None
+completion_named (Insert r q) = None
+completion_named (Remove r q label) = None
+completion_named (Start r) = None
+completion_named (Take r label) = None
+completion_named (Begin r) = None
+completion_named Next = None
 completion_named (Pass r) = None
 completion_named (Call r f) = f
 completion_named (Complete r status) = None
@@ -137,16 +164,66 @@ CallFits routines i =
 abbrev pub CallsFit : List Routine → Routine → Type 0
 CallsFit routines routine = All (CallFits routines) routine.code
 
--- a driver has at most 32 routines, each of which fits, and its handlers, its DPC routine and the
--- routines of its calls are among them
+-- the queue that an instruction names
+abbrev pub queue_named : Instr → Option ℕ
+queue_named (Const r n) = None
+queue_named (Move r q) = None
+queue_named (Clear r) = None
+queue_named (Add r q) = None
+queue_named (Subtract r q) = None
+queue_named (JumpIfZero r label) = None
+queue_named (JumpIfLess r q label) = None
+queue_named (Jump label) = None
+queue_named (Loop turns) = None
+queue_named End = None
+queue_named (Load r c) = None
+queue_named (Store c r) = None
+queue_named (LoadPaged r c) = None
+queue_named (StorePaged c r) = None
+queue_named (Get r q field) = None
+queue_named (Put q r) = None
+queue_named (Mark r) = None
+queue_named (Acquire lock) = None
+queue_named (Release lock) = None
+queue_named AcquireCancel = None
+queue_named ReleaseCancel = None
+queue_named (Insert r q) = Some q
+queue_named (Remove r q label) = Some q
+queue_named (Start r) = None
+queue_named (Take r label) = None
+queue_named (Begin r) = None
+queue_named Next = None
+queue_named (Pass r) = None
+queue_named (Call r f) = None
+queue_named (Complete r status) = None
+queue_named (IfPending r label) = None
+queue_named (Ret form) = None
+
+abbrev pub QueueFits : ℕ → Instr → Type 0
+QueueFits queues i = IfSome (queue_named i) (λ q. q < queues)
+
+abbrev pub QueuesFit : ℕ → Routine → Type 0
+QueuesFit queues routine = All (QueueFits queues) routine.code
+
+-- the guard of a queue is one of the eight spin locks
+abbrev pub GuardFits : Queue → Type 0
+GuardFits queue = IsSpinLock queue.guard
+
+-- a driver has at most 32 routines, each of which fits, and its handlers, its StartIo and its DPC
+-- routine and the routines of its calls are among them; it has at most 4 queues, and the queues that
+-- its instructions name are among them
 pub record DriverFits (driver : Driver) : Type 0 where
   pub few : length driver.routines ≤ MAX_ROUTINES
   pub routines : All RoutineFits driver.routines
   pub read : HandlerFits driver.routines driver.read
   pub write : HandlerFits driver.routines driver.write
   pub control : HandlerFits driver.routines driver.control
+  pub startio : StartIoFits driver.routines driver.startio
   pub dpc : DpcFits driver.routines driver.dpc
   pub calls : All (CallsFit driver.routines) driver.routines
+  pub few_queues : length driver.queues ≤ MAX_QUEUES
+  pub guards : All GuardFits driver.queues
+  pub queues : All (QueuesFit (length driver.queues)) driver.routines
 
 -- a device is of a driver of the set, its stack size is 1 to 16, and it is over an earlier device,
 -- if over any

@@ -12,13 +12,14 @@ use Rattle.model.specs.declared.world.Cells.{Cells}
 use Rattle.model.specs.declared.world.OpenLoop.{OpenLoop}
 use Rattle.model.specs.declared.world.Irql.TheVariants.{Passive}
 use Rattle.model.specs.declared.world.Thread.{Thread}
-use Rattle.model.specs.declared.limits.TheConstants.{CELLS, REGISTERS, SPIN_LOCKS}
+use Rattle.model.specs.declared.limits.TheConstants.{CELLS, MAX_QUEUES, REGISTERS, SPIN_LOCKS}
 use Rattle.model.specs.declared.world.Completion.{Completion}
 use Rattle.model.specs.declared.world.Location.{Location}
 use Rattle.model.specs.declared.world.Packet.{Packet}
 use Rattle.model.specs.declared.status.Status.{Status}
 use Rattle.model.specs.declared.status.Major.{Major}
 use Rattle.model.specs.declared.status.Status.TheVariants.{Success}
+use Rattle.model.specs.Queues.{StartState, idle}
 use Rattle.model.specs.Status.{major_code}
 
 -- which thread owns each lock: the system cancel spin lock, and by device its eight spin locks
@@ -27,12 +28,14 @@ pub record Locks : Type 0 where
   pub spin : List (List (Option ℕ))
 
 -- what the threads share: the live packets in the order of issue, how many were issued, the locks,
--- and by device its cells, and whether its DPC is queued
+-- and by device its cells, its queues, what it has for StartIo, and whether its DPC is queued
 pub record Shared : Type 0 where
   pub packets : List Packet
   pub issued : ℕ
   pub locks : Locks
   pub cells : List Cells
+  pub queues : List (List (List ℕ))
+  pub starts : List StartState
   pub dpcs : List Bool
 
 -- the world
@@ -41,7 +44,7 @@ pub record World : Type 0 where
   pub shared : Shared
 
 -- before the first event: idle threads, no packet was ever issued, every lock is free, every cell
--- is 0, and no DPC is queued
+-- is 0, every queue is empty, every device idle, and no DPC is queued
 abbrev pub idle_thread : Thread
 idle_thread = record { root = Passive; frames = record { items = [] } }
 
@@ -59,6 +62,8 @@ unused devices =
       issued = 0;
       locks = free_locks devices;
       cells = replicate devices blank_cells;
+      queues = replicate devices (replicate MAX_QUEUES []);
+      starts = replicate devices idle;
       dpcs = replicate devices false;
     }
 
@@ -88,6 +93,24 @@ with_locks s locks = record s { locks = locks }
 -- the same with other cells of one device
 abbrev pub with_cells : Shared → ℕ → Cells → Shared
 with_cells s device cells = record s { cells = slice_set s.cells device cells }
+
+-- a queue of a device, and the same with other entries
+abbrev pub queue_of : Shared → ℕ → ℕ → Option (List ℕ)
+queue_of s device q = option_and_then (λ queues. slice_get queues q) (slice_get s.queues device)
+
+abbrev pub with_queue : Shared → ℕ → ℕ → List ℕ → Shared
+with_queue s device q entries =
+    record s {
+      queues =
+          slice_set s.queues device (slice_set (slice_index_or s.queues device []) q entries);
+    }
+
+-- what a device has for StartIo, and the same with something else
+abbrev pub start_of : Shared → ℕ → Option StartState
+start_of s device = slice_get s.starts device
+
+abbrev pub with_start : Shared → ℕ → StartState → Shared
+with_start s device start = record s { starts = slice_set s.starts device start }
 
 -- whether the DPC of a device is queued, and the same where it is or isn't
 abbrev pub is_queued : Shared → ℕ → Bool

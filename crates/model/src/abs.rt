@@ -56,6 +56,9 @@ pub struct Abs {
     pub cancel: bool,
     pub duty: Duty,
     pub settled: Settled,
+    /// Whether the routine has the token of its busy device: it has to begin a packet, or start the
+    /// next one.
+    pub token: bool,
 }
 
 /// The states after an instruction, where it goes on: neither where the routine has returned.
@@ -91,9 +94,14 @@ pub enum Rule {
     LockHeld = 9,
     /// V10: a paged cell is used where the level may be DISPATCH_LEVEL.
     Level = 10,
+    /// V11: a queue is touched while the spin lock that guards it isn't held.
+    Guard = 11,
     /// V13: a packet is lost, or its register is written over.
     Dropped = 13,
-    /// V15: a form of return that isn't the sort's.
+    /// V14: the token of a busy device is lost, doubled, or used without being there.
+    Token = 14,
+    /// V15: an instruction or a form of return that isn't for the sort of its routine, or not for its
+    /// driver.
     Sort = 15,
     /// V16: a completion routine completes, forwards, or returns without carrying the mark up.
     Completion = 16,

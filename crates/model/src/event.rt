@@ -21,6 +21,12 @@ pub enum Event {
         thread: u8,
         device: u8,
     },
+    /// The StartIo routine of the device begins on an idle thread, for the first packet of the start
+    /// list.
+    StartIo {
+        thread: u8,
+        device: u8,
+    },
     /// One step of the thread's top frame.
     Step {
         thread: u8,

@@ -77,6 +77,20 @@ pub enum Instr {
     AcquireCancel,
     /// `relc`: IoReleaseCancelSpinLock.
     ReleaseCancel,
+    /// `insert r q`: the packet goes to the back of the device's queue of this number.
+    Insert(Register, u8),
+    /// `remove r q L`: the register becomes the first packet of the queue, which is taken off; where
+    /// the queue is empty, it jumps to the label.
+    Remove(Register, u8, u16),
+    /// `start r`: IoStartPacket.
+    Start(Register),
+    /// `take r L`: the register becomes the packet in the current slot, which is taken out of it;
+    /// where the slot is empty, it jumps to the label.
+    Take(Register, u16),
+    /// `begin r`: the packet becomes the device's current one: it is put into the current slot.
+    Begin(Register),
+    /// `next`: IoStartNextPacket.
+    Next,
     /// `pass r`: IoSkipCurrentIrpStackLocation and IoCallDriver for the lower device, which is
     /// asked in the caller's own location.
     Pass(Register),
@@ -102,6 +116,8 @@ impl Instr {
             Instr::JumpIfZero(_, label)
             | Instr::JumpIfLess(_, _, label)
             | Instr::Jump(label)
+            | Instr::Remove(_, _, label)
+            | Instr::Take(_, label)
             | Instr::IfPending(_, label) => Some(label),
             _ => None,
         }

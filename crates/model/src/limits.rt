@@ -6,6 +6,8 @@ pub const MAX_DRIVERS: usize = 8;
 pub const MAX_DEVICES: usize = 16;
 /// Routines of a driver, at most.
 pub const MAX_ROUTINES: usize = 32;
+/// Queues of a driver, at most.
+pub const MAX_QUEUES: usize = 4;
 /// Instructions of a routine, at most.
 pub const MAX_INSTRUCTIONS: usize = 1024;
 /// Registers of an activation.
@@ -26,6 +28,8 @@ pub const MAX_STACK: usize = 16;
 pub const MAX_FRAMES: usize = 32;
 /// Packets that are issued and have not topped out, at most.
 pub const MAX_LIVE_PACKETS: usize = 1024;
+/// Entries of a list of packets (a queue, a start list), at most. A packet may stand there twice.
+pub const MAX_ENTRIES: usize = 1_024;
 /// Threads of a run, at most; it has at least one.
 pub const MAX_THREADS: usize = 32;
 /// Packets ever issued in a run, at most.

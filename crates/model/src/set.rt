@@ -4,6 +4,7 @@ ghost use Rattle.std.specs.Prelude.{◌≡◌};
 
 use crate::instr::Instr;
 use crate::items::Items;
+use crate::spin_lock::SpinLock;
 use crate::status::Major;
 
 /// What a routine is for: it decides how the routine is called and what it may do.
@@ -11,6 +12,8 @@ use crate::status::Major;
 pub enum Sort {
     /// A dispatch routine: it is handed a packet at PASSIVE_LEVEL and returns a status.
     Dispatch,
+    /// A StartIo routine: it is handed a packet for which the device is busy, at DISPATCH_LEVEL.
+    StartIo,
     /// A DPC routine: an interrupt queues it, and it runs at DISPATCH_LEVEL without a packet.
     Dpc,
     /// A completion routine that lets the completion go on: it carries the pending mark up.
@@ -24,14 +27,22 @@ pub struct Routine {
     pub code: Items<Instr>,
 }
 
-/// A driver: its routines, and the numbers of those that serve each major function, and of its DPC
-/// routine.
+/// A queue of a driver, which each of its devices has: the number of the spin lock that guards it.
+#[derive(Clone, Copy)]
+pub struct Queue {
+    pub guard: SpinLock,
+}
+
+/// A driver: its routines and queues, and the numbers of the routines that serve each major
+/// function, of its StartIo routine and of its DPC routine.
 #[derive(Drop)]
 pub struct Driver {
     pub routines: Items<Routine>,
+    pub queues: Items<Queue>,
     pub read: Option<u8>,
     pub write: Option<u8>,
     pub control: Option<u8>,
+    pub startio: Option<u8>,
     pub dpc: Option<u8>,
 }
 

@@ -3,14 +3,15 @@ use Rattle.std.specs.Prelude.{ℕ, List, [], ◌∷◌, codes}
 use Rattle.std.specs.Fmt.{decimal}
 use Rattle.model.specs.declared.abs.Refusal.{Refusal}
 use Rattle.model.specs.declared.abs.Rule.{Rule}
-use Rattle.model.specs.declared.abs.Rule.TheVariants.{Malformed, Unreachable, StatesDiffer, WrongKind, DoubleCompletion, MarkIrpPending, CancelSpinLock, SpinLock, LockHeld, Level, Dropped, Sort as SortRule, Completion, StackTooSmall, NoLower, TooLong, Memory}
+use Rattle.model.specs.declared.abs.Rule.TheVariants.{Malformed, Unreachable, StatesDiffer, WrongKind, DoubleCompletion, MarkIrpPending, CancelSpinLock, SpinLock, LockHeld, Level, Guard, Dropped, Token, Sort as SortRule, Completion, StackTooSmall, NoLower, TooLong, Memory}
 use Rattle.model.specs.declared.set.Sort.{Sort}
-use Rattle.model.specs.declared.set.Sort.TheVariants.{Dispatch, Dpc, Propagate}
+use Rattle.model.specs.declared.set.Sort.TheVariants.{Dispatch, StartIo, Dpc, Propagate}
 use Rattle.report.specs.Line.{line_of}
 
 -- the word of a sort
 abbrev pub sort_text : Sort → List ℕ
 sort_text Dispatch = codes "dispatch"
+sort_text StartIo = codes "startio"
 sort_text Dpc = codes "dpc"
 sort_text Propagate = codes "propagate"
 
@@ -26,7 +27,9 @@ rule_text CancelSpinLock = codes "V7 CancelSpinLock"
 rule_text SpinLock = codes "V8 SpinLock"
 rule_text LockHeld = codes "V9 LockHeld"
 rule_text Level = codes "V10 Level"
+rule_text Guard = codes "V11 Guard"
 rule_text Dropped = codes "V13 Dropped"
+rule_text Token = codes "V14 Token"
 rule_text SortRule = codes "V15 Sort"
 rule_text Completion = codes "V16 Completion"
 rule_text StackTooSmall = codes "V17 StackTooSmall"

@@ -44,6 +44,7 @@ pub(crate) fn sort_text(sort: Sort) -> &'static str
 {
     match sort {
         Sort::Dispatch => "dispatch",
+        Sort::StartIo => "startio",
         Sort::Dpc => "dpc",
         Sort::Propagate => "propagate",
     }
@@ -64,7 +65,9 @@ pub(crate) fn rule_text(rule: Rule) -> &'static str
         Rule::SpinLock => "V8 SpinLock",
         Rule::LockHeld => "V9 LockHeld",
         Rule::Level => "V10 Level",
+        Rule::Guard => "V11 Guard",
         Rule::Dropped => "V13 Dropped",
+        Rule::Token => "V14 Token",
         Rule::Sort => "V15 Sort",
         Rule::Completion => "V16 Completion",
         Rule::StackTooSmall => "V17 StackTooSmall",

@@ -15,6 +15,8 @@ mod failures;
 #[cfg(test)]
 mod limits;
 #[cfg(test)]
+mod queues;
+#[cfg(test)]
 mod readers;
 #[cfg(test)]
 mod routines;

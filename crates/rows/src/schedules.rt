@@ -12,7 +12,7 @@ struct Faulty {
     told: &'static str,
 }
 
-static SCHEDULES: [Faulty; 39] = [
+static SCHEDULES: [Faulty; 50] = [
     Faulty {
         schedule: "",
         told: "schedule fault 2 UnknownWord line 1\n",
@@ -167,6 +167,50 @@ static SCHEDULES: [Faulty; 39] = [
     },
     Faulty {
         schedule: "interrupt 0",
+        told: "schedule fault 2 UnknownWord line 1\n",
+    },
+    Faulty {
+        schedule: "threads 1\nstartio",
+        told: "schedule fault 2 UnknownWord line 2\n",
+    },
+    Faulty {
+        schedule: "threads 1\nstartio 0",
+        told: "schedule fault 2 UnknownWord line 2\n",
+    },
+    Faulty {
+        schedule: "threads 1\nstartio 0 0 0",
+        told: "schedule fault 2 UnknownWord line 2\n",
+    },
+    Faulty {
+        schedule: "threads 1\nstartio 256 x",
+        told: "schedule fault 2 UnknownWord line 2\n",
+    },
+    Faulty {
+        schedule: "threads 1\nstartio x 256",
+        told: "schedule fault 2 UnknownWord line 2\n",
+    },
+    Faulty {
+        schedule: "threads 1\nSTARTIO 0 0",
+        told: "schedule fault 2 UnknownWord line 2\n",
+    },
+    Faulty {
+        schedule: "threads 1\nstartio 256 0",
+        told: "schedule fault 3 OutOfRange line 2\n",
+    },
+    Faulty {
+        schedule: "threads 1\nstartio 0 0x100",
+        told: "schedule fault 3 OutOfRange line 2\n",
+    },
+    Faulty {
+        schedule: "threads 1\nstartio 0 99999999999999999999",
+        told: "schedule fault 3 OutOfRange line 2\n",
+    },
+    Faulty {
+        schedule: "startio 0 0\nthreads 1",
+        told: "schedule fault 2 UnknownWord line 1\n",
+    },
+    Faulty {
+        schedule: "startio 0 0",
         told: "schedule fault 2 UnknownWord line 1\n",
     },
 ];

@@ -11,7 +11,7 @@ struct Faulty {
     told: &'static str,
 }
 
-static TEXTS: [Faulty; 56] = [
+static TEXTS: [Faulty; 108] = [
     Faulty {
         text: "driver d",
         told: "text fault 6 Unclosed line 2\n",
@@ -236,6 +236,214 @@ static TEXTS: [Faulty; 56] = [
         text: "driver d\ndpc g",
         told: "text fault 6 Unclosed line 3\n",
     },
+    Faulty {
+        text: "driver d\nqueue\nendd",
+        told: "text fault 2 UnknownWord line 2\n",
+    },
+    Faulty {
+        text: "driver d\nqueue q\nendd",
+        told: "text fault 2 UnknownWord line 2\n",
+    },
+    Faulty {
+        text: "driver d\nqueue l0\nendd",
+        told: "text fault 2 UnknownWord line 2\n",
+    },
+    Faulty {
+        text: "driver d\nqueue q l0 f g\nendd",
+        told: "text fault 2 UnknownWord line 2\n",
+    },
+    Faulty {
+        text: "driver d\nqueue q 0\nendd",
+        told: "text fault 2 UnknownWord line 2\n",
+    },
+    Faulty {
+        text: "driver d\nqueue q c0\nendd",
+        told: "text fault 2 UnknownWord line 2\n",
+    },
+    Faulty {
+        text: "driver d\nqueue q LOCK\nendd",
+        told: "text fault 2 UnknownWord line 2\n",
+    },
+    Faulty {
+        text: "driver d\nqueue READ l0\nendd",
+        told: "text fault 2 UnknownWord line 2\n",
+    },
+    Faulty {
+        text: "driver d\nqueue l0 q\nendd",
+        told: "text fault 2 UnknownWord line 2\n",
+    },
+    Faulty {
+        text: "driver d\nx: queue q l0\nendd",
+        told: "text fault 2 UnknownWord line 2\n",
+    },
+    Faulty {
+        text: "queue q l0",
+        told: "text fault 2 UnknownWord line 1\n",
+    },
+    Faulty {
+        text: "driver d\nroutine f dispatch\nqueue q l0\nendr\nendd",
+        told: "text fault 2 UnknownWord line 3\n",
+    },
+    Faulty {
+        text: "driver d\nqueue q l8\nendd",
+        told: "text fault 5 OutOfRange line 2\n",
+    },
+    Faulty {
+        text: "driver d\nqueue q l99999999999999999999\nendd",
+        told: "text fault 5 OutOfRange line 2\n",
+    },
+    Faulty {
+        text: "driver d\nqueue q l0\nqueue q l1\nendd",
+        told: "text fault 3 DuplicateName line 3\n",
+    },
+    Faulty {
+        text: "driver d\nqueue q l0\nqueue q l8\nendd",
+        told: "text fault 3 DuplicateName line 3\n",
+    },
+    Faulty {
+        text: "driver d\nqueue a l0\nqueue b l1\nqueue c l2\nqueue e l3\nqueue f l4\nendd",
+        told: "text fault 7 OverLimit line 6\n",
+    },
+    Faulty {
+        text: "driver d\nqueue a l0\nqueue b l1\nqueue c l2\nqueue e l3\nqueue f l8\nendd",
+        told: "text fault 5 OutOfRange line 6\n",
+    },
+    Faulty {
+        text: "driver d\nqueue a l0\nqueue b l1\nqueue c l2\nqueue e l3\nqueue e l4\nendd",
+        told: "text fault 3 DuplicateName line 6\n",
+    },
+    Faulty {
+        text: "driver d\nqueue q l0\nendd\ndriver e\nroutine f dispatch\ninsert r0 q\nendr\nendd",
+        told: "text fault 4 UnknownName line 6\n",
+    },
+    Faulty {
+        text: "driver d\nroutine q dispatch\nq: insert r0 q\nendr\nendd",
+        told: "text fault 4 UnknownName line 3\n",
+    },
+    Faulty {
+        text: "driver d\nroutine f dispatch\ninsert r0 p\njmp x\nendr\nqueue q l0\nendd",
+        told: "text fault 4 UnknownName line 3\n",
+    },
+    Faulty {
+        text: "driver d\nroutine f dispatch\njmp x\ninsert r0 p\nendr\nqueue q l0\nendd",
+        told: "text fault 4 UnknownName line 3\n",
+    },
+    Faulty {
+        text: "driver d\ndispatch READ g\nroutine f dispatch\ninsert r0 p\nendr\nendd",
+        told: "text fault 4 UnknownName line 2\n",
+    },
+    Faulty {
+        text: "driver d\nroutine f dispatch\ninsert r0 p\nendr\ndispatch READ g\nendd",
+        told: "text fault 4 UnknownName line 3\n",
+    },
+    Faulty {
+        text: "driver d\nqueue q l0\ndevice v d 1",
+        told: "text fault 2 UnknownWord line 3\n",
+    },
+    Faulty {
+        text: "driver d\nqueue q l0",
+        told: "text fault 6 Unclosed line 3\n",
+    },
+    Faulty {
+        text: "driver d\nstartio\nendd",
+        told: "text fault 2 UnknownWord line 2\n",
+    },
+    Faulty {
+        text: "driver d\nstartio s t u\nendd",
+        told: "text fault 2 UnknownWord line 2\n",
+    },
+    Faulty {
+        text: "driver d\nstartio READ\nendd",
+        told: "text fault 2 UnknownWord line 2\n",
+    },
+    Faulty {
+        text: "driver d\nstartio READ s\nendd",
+        told: "text fault 2 UnknownWord line 2\n",
+    },
+    Faulty {
+        text: "driver d\nstartio 7\nendd",
+        told: "text fault 2 UnknownWord line 2\n",
+    },
+    Faulty {
+        text: "startio s",
+        told: "text fault 2 UnknownWord line 1\n",
+    },
+    Faulty {
+        text: "driver d\nroutine s startio\nstartio s\nendr\nendd",
+        told: "text fault 2 UnknownWord line 3\n",
+    },
+    Faulty {
+        text: "driver d\nx: startio s\nendd",
+        told: "text fault 2 UnknownWord line 2\n",
+    },
+    Faulty {
+        text: "driver d\ndispatch startio f\nendd",
+        told: "text fault 2 UnknownWord line 2\n",
+    },
+    Faulty {
+        text: "driver d\nroutine s STARTIO\nendr\nendd",
+        told: "text fault 2 UnknownWord line 2\n",
+    },
+    Faulty {
+        text: "driver d\nstartio s\nstartio s\nendd",
+        told: "text fault 3 DuplicateName line 3\n",
+    },
+    Faulty {
+        text: "driver d\nstartio s\nstartio t\nroutine s startio\nret void\nendr\nendd",
+        told: "text fault 3 DuplicateName line 3\n",
+    },
+    Faulty {
+        text: "driver d\nstartio s\nendd",
+        told: "text fault 4 UnknownName line 2\n",
+    },
+    Faulty {
+        text: "driver d\nstartio s\nroutine s dispatch\nendr\nendd",
+        told: "text fault 4 UnknownName line 2\n",
+    },
+    Faulty {
+        text: "driver d\nstartio s\nroutine s dpc\nendr\nendd",
+        told: "text fault 4 UnknownName line 2\n",
+    },
+    Faulty {
+        text: "driver d\nstartio s\nroutine s propagate\nendr\nendd",
+        told: "text fault 4 UnknownName line 2\n",
+    },
+    Faulty {
+        text: "driver d\ndispatch READ s\nroutine s startio\nendr\nendd",
+        told: "text fault 4 UnknownName line 2\n",
+    },
+    Faulty {
+        text: "driver d\ndpc s\nroutine s startio\nendr\nendd",
+        told: "text fault 4 UnknownName line 2\n",
+    },
+    Faulty {
+        text: "driver d\nroutine f dispatch\ncall r0 s\nendr\nroutine s startio\nendr\nendd",
+        told: "text fault 4 UnknownName line 3\n",
+    },
+    Faulty {
+        text: "driver d\nroutine s startio\nendr\nendd\ndriver e\nstartio s\nendd",
+        told: "text fault 4 UnknownName line 6\n",
+    },
+    Faulty {
+        text: "driver d\nstartio s\ndpc g\nendd",
+        told: "text fault 4 UnknownName line 2\n",
+    },
+    Faulty {
+        text: "driver d\ndpc g\nstartio s\nendd",
+        told: "text fault 4 UnknownName line 2\n",
+    },
+    Faulty {
+        text: "driver d\ndispatch READ f\nstartio s\nendd",
+        told: "text fault 4 UnknownName line 2\n",
+    },
+    Faulty {
+        text: "driver d\nstartio s\nqueue q l0\nqueue q l0\nendd",
+        told: "text fault 3 DuplicateName line 4\n",
+    },
+    Faulty {
+        text: "driver d\nstartio s",
+        told: "text fault 6 Unclosed line 3\n",
+    },
 ];
 
 /// Tokens in the place of a name and of a stack size, and bytes that no text has.
@@ -343,7 +551,7 @@ static TOKENS: [Faulty; 25] = [
 ];
 
 /// Lines of code, which stand from line 4 on.
-static CODES: [Faulty; 37] = [
+static CODES: [Faulty; 69] = [
     Faulty {
         text: "clear r16\n",
         told: "text fault 5 OutOfRange line 4\n",
@@ -491,6 +699,134 @@ static CODES: [Faulty; 37] = [
     Faulty {
         text: "ret voids\n",
         told: "text fault 2 UnknownWord line 4\n",
+    },
+    Faulty {
+        text: "insert r0\n",
+        told: "text fault 2 UnknownWord line 4\n",
+    },
+    Faulty {
+        text: "insert q r0\n",
+        told: "text fault 2 UnknownWord line 4\n",
+    },
+    Faulty {
+        text: "insert r0 q q\n",
+        told: "text fault 2 UnknownWord line 4\n",
+    },
+    Faulty {
+        text: "insert r0 0\n",
+        told: "text fault 2 UnknownWord line 4\n",
+    },
+    Faulty {
+        text: "insert READ q\n",
+        told: "text fault 2 UnknownWord line 4\n",
+    },
+    Faulty {
+        text: "insert r16 q\n",
+        told: "text fault 5 OutOfRange line 4\n",
+    },
+    Faulty {
+        text: "insert r0 q\n",
+        told: "text fault 4 UnknownName line 4\n",
+    },
+    Faulty {
+        text: "remove r0 q\n",
+        told: "text fault 2 UnknownWord line 4\n",
+    },
+    Faulty {
+        text: "remove r0 x\n",
+        told: "text fault 2 UnknownWord line 4\n",
+    },
+    Faulty {
+        text: "remove r0 q x y\n",
+        told: "text fault 2 UnknownWord line 4\n",
+    },
+    Faulty {
+        text: "remove q r0 x\n",
+        told: "text fault 2 UnknownWord line 4\n",
+    },
+    Faulty {
+        text: "remove r16 q x\n",
+        told: "text fault 5 OutOfRange line 4\n",
+    },
+    Faulty {
+        text: "remove r0 q x\n",
+        told: "text fault 4 UnknownName line 4\n",
+    },
+    Faulty {
+        text: "x: remove r0 q x\n",
+        told: "text fault 4 UnknownName line 4\n",
+    },
+    Faulty {
+        text: "endr\nqueue q l0\nroutine g dispatch\nremove r0 q f\n",
+        told: "text fault 4 UnknownName line 7\n",
+    },
+    Faulty {
+        text: "endr\nqueue q l0\nroutine g dispatch\nx: remove r0 p x\n",
+        told: "text fault 4 UnknownName line 7\n",
+    },
+    Faulty {
+        text: "start\n",
+        told: "text fault 2 UnknownWord line 4\n",
+    },
+    Faulty {
+        text: "start r0 q\n",
+        told: "text fault 2 UnknownWord line 4\n",
+    },
+    Faulty {
+        text: "start 0\n",
+        told: "text fault 2 UnknownWord line 4\n",
+    },
+    Faulty {
+        text: "start r16\n",
+        told: "text fault 5 OutOfRange line 4\n",
+    },
+    Faulty {
+        text: "take r0\n",
+        told: "text fault 2 UnknownWord line 4\n",
+    },
+    Faulty {
+        text: "take x r0\n",
+        told: "text fault 2 UnknownWord line 4\n",
+    },
+    Faulty {
+        text: "take r0 x x\n",
+        told: "text fault 2 UnknownWord line 4\n",
+    },
+    Faulty {
+        text: "take r16 x\n",
+        told: "text fault 5 OutOfRange line 4\n",
+    },
+    Faulty {
+        text: "take r0 x\n",
+        told: "text fault 4 UnknownName line 4\n",
+    },
+    Faulty {
+        text: "begin\n",
+        told: "text fault 2 UnknownWord line 4\n",
+    },
+    Faulty {
+        text: "begin r0 r1\n",
+        told: "text fault 2 UnknownWord line 4\n",
+    },
+    Faulty {
+        text: "begin r16\n",
+        told: "text fault 5 OutOfRange line 4\n",
+    },
+    Faulty {
+        text: "next r0\n",
+        told: "text fault 2 UnknownWord line 4\n",
+    },
+    Faulty {
+        text: "NEXT\n",
+        told: "text fault 2 UnknownWord line 4\n",
+    },
+    Faulty {
+        text: "endr\nqueue f l0\nroutine g dispatch\njmp f\n",
+        told: "text fault 4 UnknownName line 7\n",
+    },
+    Faulty {
+        text: "endr\nqueue g l0\nroutine h dispatch\ncall r0 g\n",
+        told: "text fault 4 UnknownName line 7\n",
     },
 ];
 

@@ -19,3 +19,4 @@ pub mod Fine
 pub mod Roots
 pub mod Standing
 pub mod Inside
+pub mod Queueless

@@ -4,3 +4,4 @@ pub mod Walk
 pub mod Faults
 pub mod Below
 pub mod Locking
+pub mod Queues

@@ -20,9 +20,11 @@ abbrev pub driver_of : List Instr → Driver
 driver_of code =
     record {
       routines = record { sort = Dispatch; code = code } ∷ [];
+      queues = [];
       read = Some 0;
       write = None;
       control = None;
+      startio = None;
       dpc = None;
     }
 

@@ -21,6 +21,7 @@ use Rattle.model.specs.Set.{Set, member, routine_of}
 use Rattle.model.specs.Sound.{IsSound}
 use Rattle.model.specs.Typable.{IsTypable}
 use Rattle.model.specs.World.{packet_of}
+use Rattle.run_laws.specs.NoQueues.{UsesNoQueues}
 
 -- 1 where a value refers to a packet, else 0
 abbrev pub names : Value → ℕ → ℕ
@@ -92,5 +93,5 @@ pub record HasOneHolder (set : Set) (threads : ℕ) (events : List Event) : Type
 
 abbrev pub PacketsHaveOneHolder : Type 0
 PacketsHaveOneHolder =
-    (set : Set) → IsTypable set → IsSound set → (threads : ℕ) (events : List Event)
+    (set : Set) → IsTypable set → IsSound set → UsesNoQueues set → (threads : ℕ) (events : List Event)
     → HasOneHolder set threads events

@@ -1,3 +1,4 @@
+pub mod NoQueues
 pub mod NoWrong
 pub mod LockOrder
 pub mod Holder
@@ -6,6 +7,7 @@ pub mod NeverStops
 pub mod Rules
 pub mod CarriedMark
 pub mod SharedMark
+pub mod DoubledToken
 pub mod PendingReturns
 pub mod PastTells
 pub mod Lifetime

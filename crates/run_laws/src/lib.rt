@@ -1,8 +1,10 @@
-//! Laws of runs: what holds of every run of an accepted set, whatever its threads and events. Nothing
-//! runs here: each law is the contract of a function that does nothing.
+//! Laws of runs: what holds of every run of an accepted set that uses no queues, whatever its threads
+//! and events; and what holds of any set's. Nothing runs here: each law is the contract of a function
+//! that does nothing.
 #![tactic(auto)]
 
 ghost use Rattle.run_laws.specs.CarriedMark.{CarriedUp};
+ghost use Rattle.run_laws.specs.DoubledToken.{TokenDoubled};
 ghost use Rattle.run_laws.specs.Holder.{PacketsHaveOneHolder};
 ghost use Rattle.run_laws.specs.Lifetime.{ActivationsKeepTheirCertificate};
 ghost use Rattle.run_laws.specs.LockOrder.{LocksAreOrderly};
@@ -22,14 +24,14 @@ pub fn the_past_tells_of_the_world()
     ensures { PastTellsOfTheWorld }
 {}
 
-/// No run of an accepted set goes wrong: no operand is of a wrong kind, no position is outside its
+/// No run of an accepted set that uses no queues goes wrong: no operand is of a wrong kind, no position is outside its
 /// routine, no loop instruction is without its loop, and an activation's device is there with its locks
 /// and cells.
 pub fn accepted_runs_never_go_wrong()
     ensures { AcceptedRunsNeverGoWrong }
 {}
 
-/// Every activation executes at most as many instructions as the certificate of its routine.
+/// Every activation of an accepted set that uses no queues executes at most as many instructions as the certificate of its routine.
 pub fn activations_keep_their_certificate()
     ensures { ActivationsKeepTheirCertificate }
 {}
@@ -46,7 +48,7 @@ pub fn packets_have_one_holder()
     ensures { PacketsHaveOneHolder }
 {}
 
-/// No run of an accepted set stops: there is no bug check of any kind, nothing goes wrong, and no step of a
+/// No run of an accepted set that uses no queues stops: there is no bug check of any kind, nothing goes wrong, and no step of a
 /// thread is refused.
 pub fn accepted_runs_never_stop()
     ensures { AcceptedRunsNeverStop }
@@ -65,7 +67,7 @@ pub fn nothing_is_skipped()
     ensures { NothingIsSkipped }
 {}
 
-/// Every run of an accepted set keeps all these rules.
+/// Every run of an accepted set that uses no queues keeps all these rules.
 pub fn accepted_runs_keep_the_rules()
     ensures { AcceptedRunsKeepTheRules }
 {}
@@ -85,4 +87,11 @@ pub fn a_mark_is_carried_up()
 /// A worked run in which two routines share a stack location: it is left marked, and both return STATUS_PENDING.
 pub fn a_mark_is_shared()
     ensures { SharedByBoth }
+{}
+
+/// A worked run in which a DPC routine gives the token away twice, by `next` and by `begin`: the
+/// device then has a current packet and another one to be started. The local rule refuses that
+/// `begin`.
+pub fn a_token_is_doubled()
+    ensures { TokenDoubled }
 {}

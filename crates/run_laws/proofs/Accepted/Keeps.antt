@@ -91,7 +91,7 @@ module _ (set : Set) (states : States) (threads : ℕ) (w : World) (past : List 
         happens = happens;
         root = root;
         quiet = no_fault past actor c.actions none;
-        within = within_bounds set states w actor.thread keeps.falls c good.sound
+        within = within_bounds set states w actor.thread keeps.falls c good
             (falls_event set states w actor.thread keeps.falls past c good keeps.stands happens) happens;
       }
 

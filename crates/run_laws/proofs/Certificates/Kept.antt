@@ -20,11 +20,12 @@ use Rattle.run_laws.proofs.Certificates.Steps.{frame_due, pays, told_alike}
 use Rattle.run_laws.proofs.Certificates.Tags.{Fits, IsKnown, Matched, Named, fits_known, named}
 use Rattle.run_laws.proofs.Certificates.Tally.{AllKnown, Tally, known_kept, one_of_known, turned}
 use Rattle.run_laws.proofs.Lists.{last_of}
-use Rattle.run_laws.proofs.Runs.Events.{StepsFrame, Happens, nothing, steps, issues, past_with, begins}
+use Rattle.run_laws.proofs.Runs.Events.{StepsFrame, Happens, nothing, steps, issues, past_with, begins, begins_startio}
 use Rattle.run_laws.proofs.Runs.Kept.{with_queued}
 use Rattle.run_laws.proofs.Runs.Threads.{frames_there, frames_put}
 use Rattle.run_laws.proofs.States.Entering.{begins_request, begins_dpc}
 use Rattle.run_laws.proofs.States.Frames.{IsGood, due}
+use Rattle.run_laws.proofs.States.Queueless.{never_starts}
 use Rattle.run_laws.proofs.States.Rules.{States}
 use Rattle.run_laws.proofs.States.Standing.{Standing, on_top}
 use Rattle.run_laws.proofs.Steps.Below.{standing_is}
@@ -209,6 +210,7 @@ module _ (set : Set) (states : States) (good : IsGood set states) (r : Run) (t :
       begins_tally h.thread c.world.shared DispatchLevel (dpc_activation set h.d h.routine) [] c.reply
       h.found h.idle refl
       (begins_dpc set states good r.world.shared.issued h.d h.routine h.there).due
+  tally_kept c (begins_startio h) = absurd (never_starts good h)
 
 -- where a DPC is queued
 pub tally_queued : (set : Set) (r : Run) (d : ℕ) → Tallied set r

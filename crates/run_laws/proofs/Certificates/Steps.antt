@@ -27,10 +27,11 @@ use Rattle.run_laws.proofs.States.Lacking.{never_lacks}
 use Rattle.run_laws.proofs.States.LoopEnds.{moved_loop, moved_end}
 use Rattle.run_laws.proofs.States.Moves.{falls_plain, is_plain, onto, moved, plain_open, plain_left, some_due}
 use Rattle.run_laws.proofs.States.OnTop.{OnTop, runs}
+use Rattle.run_laws.proofs.States.Queueless.{never_queued}
 use Rattle.run_laws.proofs.States.Remaining.{rest, summed}
 use Rattle.run_laws.proofs.States.Rules.{States}
 use Rattle.run_laws.proofs.States.Told.{told_frame, told_last, told_is}
-use Rattle.run_laws.proofs.Steps.Comes.{Executing, Comes, errs, awaits_lock, computes, opens_loop, turns_loop, pages, touches_gone, looks_at, writes_info, marks_packet, takes_lock, retakes_lock, frees_lock, completes_packet, completes_gone, passes_down, calls_down, returns_status, lets_go, lets_walk, walks_gone, walks_to, walks_up, carries_up, tops_out, ends_dpc}
+use Rattle.run_laws.proofs.Steps.Comes.{Executing, Comes, errs, awaits_lock, computes, opens_loop, turns_loop, pages, touches_gone, looks_at, writes_info, marks_packet, takes_lock, retakes_lock, frees_lock, completes_packet, completes_gone, passes_down, calls_down, returns_status, lets_go, lets_walk, walks_gone, walks_to, walks_up, carries_up, tops_out, ends_dpc, works_on_queues, ends_startio}
 use Rattle.run_laws.proofs.Steps.Words.{lock_taken, lock_freed}
 
 -- what a frame has left to execute
@@ -174,6 +175,8 @@ module _ (set : Set) (states : States) (s : Shared) where
       goes_next_on a i 1 refl h at (takes_plain a i lock taken)
   pays t under f o h (frees_lock a i lock owner at freed owned) =
       goes_next_on a i 1 refl h at (frees_plain a i lock freed)
+  pays t under f o h (works_on_queues a i b queues starts actions full at queued) =
+      absurd (never_queued h.good at queued)
   pays t under f o h (completes_packet a r status n p at reads there) =
       let here : Pays (frame_due set) set (Routine a) 1 (Routine (next a) ∷ []) =
       goes_next_on a (Complete r status) 1 refl h at refl in
@@ -187,6 +190,7 @@ module _ (set : Set) (states : States) (s : Shared) where
   pays t under f o h (returns_status a form status at sort is) = ends a (Ret form) 1 refl h at refl
   pays t under f o h (lets_go a at sort free) = ends a (Ret Continue) 1 refl h at refl
   pays t under f o h (lets_walk a n at sort) = ends a (Ret Continue) 1 refl h at refl
+  pays t under f o h (ends_startio a at sort) = ends a (Ret Void) 1 refl h at refl
   pays t under f o h (ends_dpc a at sort) = ends a (Ret Void) 1 refl h at refl
   pays t under f o h (walks_gone n gone) = omega arith
   pays t under f o h (walks_to n p c there set_there) =

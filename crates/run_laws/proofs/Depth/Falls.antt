@@ -8,7 +8,7 @@ use Rattle.model.specs.declared.instr.Instr.{Instr}
 use Rattle.model.specs.declared.instr.Instr.TheVariants.{Pass, Call, Complete}
 use Rattle.model.specs.declared.set.Device.{Device}
 use Rattle.model.specs.declared.set.Sort.{Sort}
-use Rattle.model.specs.declared.set.Sort.TheVariants.{Dispatch, Dpc, Propagate}
+use Rattle.model.specs.declared.set.Sort.TheVariants.{Dispatch, Dpc, Propagate, StartIo}
 use Rattle.model.specs.declared.status.Major.{Major}
 use Rattle.model.specs.declared.status.Status.{Status}
 use Rattle.model.specs.declared.world.Activation.{Activation}
@@ -27,10 +27,11 @@ use Rattle.run_laws.proofs.States.Frames.{state_of}
 use Rattle.run_laws.proofs.States.Lacking.{down}
 use Rattle.run_laws.proofs.States.Obeyed.{completes_one}
 use Rattle.run_laws.proofs.States.OnTop.{OnTop, runs}
+use Rattle.run_laws.proofs.States.Queueless.{never_queued}
 use Rattle.run_laws.proofs.States.Rules.{States}
 use Rattle.run_laws.proofs.States.Stacks.{Stacked}
 use Rattle.run_laws.proofs.States.Told.{told_frame, told_last, told_is}
-use Rattle.run_laws.proofs.Steps.Comes.{GoesTo, onward, jumping, Comes, computes, turns_loop, pages, looks_at, completes_packet, passes_down, calls_down, returns_status, lets_go, lets_walk, ends_dpc, walks_gone, walks_to, walks_up, carries_up, tops_out}
+use Rattle.run_laws.proofs.Steps.Comes.{GoesTo, onward, jumping, Comes, computes, turns_loop, pages, looks_at, completes_packet, passes_down, calls_down, returns_status, lets_go, lets_walk, ends_dpc, walks_gone, walks_to, walks_up, carries_up, tops_out, works_on_queues, ends_startio}
 
 -- frames of a thread, the lowest first: routines for lower and lower devices, all under a first
 -- one; on an I/O manager's frame at most one stands
@@ -67,6 +68,7 @@ module _ (set : Set) where
   -- frame
   not_both : (sort : Sort) → is_completion sort ≡ false → sort ≡ Propagate → ⊥
   not_both Dispatch h g = cc
+  not_both StartIo h g = cc
   not_both Dpc h g = cc
   not_both Propagate h g = cc
 
@@ -232,9 +234,12 @@ module _ (set : Set) (states : States) (s : Shared) where
       asks_short a lower n p h
       (down set states s a (Call r completion) r (runs set states s a (Call r completion) h at) refl
       refl).dispatch below
+  short t under f o h (works_on_queues a i b queues starts actions full at queued) =
+      absurd (never_queued h.good at queued)
   short t under f o h (returns_status a form status at sort is) = tt
   short t under f o h (lets_go a at sort free) = tt
   short t under f o h (lets_walk a n at sort) = tt
+  short t under f o h (ends_startio a at sort) = tt
   short t under f o h (ends_dpc a at sort) = tt
   short t under f o h (walks_gone n gone) = tt
   short t under f o h (walks_to n p c there set_there) = tt

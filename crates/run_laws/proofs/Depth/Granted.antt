@@ -12,7 +12,7 @@ use Rattle.model.specs.declared.world.Thread.{Thread}
 use Rattle.model.specs.Effect.{Change, Outcome, top_of, frame_effect, finished_or, standing, top_effect, step_thread, effect}
 use Rattle.model.specs.Set.{Set}
 use Rattle.model.specs.World.{Shared, World, idle_thread}
-use Rattle.run_laws.proofs.Runs.Events.{Happens, nothing, steps, issues, begins}
+use Rattle.run_laws.proofs.Runs.Events.{Happens, nothing, steps, issues, begins, begins_startio}
 use Rattle.run_laws.proofs.Steps.Comes.{Comes, errs}
 use Rattle.run_laws.proofs.Steps.Walk.{comes}
 
@@ -62,3 +62,4 @@ same_count set w t c (nothing reply right) = refl
 same_count set w t c (steps h) = length-set w.threads t _
 same_count set w t c (issues h) = length-set w.threads t _
 same_count set w t c (begins h) = length-set w.threads t _
+same_count set w t c (begins_startio h) = length-set w.threads t _

@@ -1,6 +1,6 @@
 -- No thread of an accepted set ever has more than 18 frames, so no step of a thread that is there
 -- is refused.
-use Rattle.std.proofs.Common.{◌≡◌, ℕ, ◌+◌, ◌<◌, ◌≤◌, List, [], ◌∷◌, ◌++◌, length, Some, false, refl, sym, ◌∙◌, subst, arith}
+use Rattle.std.proofs.Common.{◌≡◌, ℕ, ◌+◌, ◌<◌, ◌≤◌, List, [], ◌∷◌, ◌++◌, length, Some, false, refl, sym, ◌∙◌, subst, arith, Option}
 use Rattle.std.specs.Prelude.{slice_get}
 use Rattle.std.proofs.lemmas.Bool.{le-ltb}
 use Rattle.std.proofs.lemmas.Option.{slice_get_within}
@@ -15,13 +15,15 @@ use Rattle.model.specs.Sound.{IsSound}
 use Rattle.model.specs.Trace.{Entry}
 use Rattle.model.specs.World.{Shared, World, with_dpc}
 use Rattle.run_laws.proofs.Depth.Falls.{Falls, falls_length, falls_after, short}
-use Rattle.run_laws.proofs.Runs.Events.{Happens, nothing, steps, issues, begins}
+use Rattle.run_laws.proofs.Runs.Events.{Happens, nothing, steps, issues, begins, begins_startio}
 use Rattle.run_laws.proofs.Runs.Threads.{frames_there, frames_put, each_frames, idle_frames}
 use Rattle.run_laws.proofs.States.Entering.{begins_dpc}
 use Rattle.run_laws.proofs.States.Frames.{IsGood, Serves}
+use Rattle.run_laws.proofs.States.Queueless.{never_queued, never_starts}
 use Rattle.run_laws.proofs.States.Rules.{States}
 use Rattle.run_laws.proofs.States.Standing.{Standing, stands_there, on_top}
 use Rattle.run_laws.proofs.Steps.Below.{standing_is}
+use Rattle.run_laws.proofs.Steps.Comes.{Comes, works_on_queues}
 
 -- the frames of every thread stand for lower and lower devices
 abbrev pub AllFall : Set → World → Type 0
@@ -79,18 +81,28 @@ module _ (set : Set) (states : States) (w : World) (t : ℕ) (falls : AllFall se
             slice_get_within set.devices h.d served.0 served.1),
         tt,
       )
+  falls_event past c good stands (begins_startio h) = absurd (never_starts good h)
+
+  -- no list is full
+  not_full : IsGood set states → (s : Shared) (under : Option Frame) (f : Frame) (o : Outcome)
+      → Comes set s t under f o → o.full ≡ false
+  not_full good s under f o (works_on_queues a i b queues starts actions full at queued) =
+      absurd (never_queued good at queued)
+  not_full good s under f o _ = refl
 
   -- and passes no bound
-  pub within_bounds : (c : Change) → IsSound set → AllFall set c.world → Happens set w t c
+  pub within_bounds : (c : Change) → IsGood set states → AllFall set c.world → Happens set w t c
       → c.over ≡ false
-  within_bounds c sound later (nothing reply right) = refl
-  within_bounds c sound later (issues h) = refl
-  within_bounds c sound later (begins h) = refl
-  within_bounds c sound later (steps h) =
-      let few : length (frames_on c.world t) ≤ 18 = few_frames set c.world t sound later in
+  within_bounds c good later (nothing reply right) = refl
+  within_bounds c good later (issues h) = refl
+  within_bounds c good later (begins h) = refl
+  within_bounds c good later (begins_startio h) = refl
+  within_bounds c good later (steps h) =
+      let few : length (frames_on c.world t) ≤ 18 = few_frames set c.world t good.sound later in
       let same : frames_on c.world t ≡ standing set h.below h.outcome =
       frames_put w t h.outcome.shared (with_stack h.thread (standing set h.below h.outcome))
       h.thread h.found in
       let less : length (standing set h.below h.outcome) ≤ 18 =
       subst (λ (frames : List Frame). length frames ≤ 18) same few in
-      le-ltb MAX_FRAMES (length (standing set h.below h.outcome)) (omega arith)
+      rw (not_full good w.shared (top_of h.below) h.frame h.outcome h.comes)
+      (le-ltb MAX_FRAMES (length (standing set h.below h.outcome)) (omega arith))

@@ -10,8 +10,9 @@ use Rattle.model.specs.Trace.{Entry, Actor, recorded}
 use Rattle.model.specs.World.{Shared, World}
 use Rattle.run_laws.specs.TopsOnce.{times_topped}
 use Rattle.run_laws.proofs.Past.Packets.{Tells, found, untopped}
-use Rattle.run_laws.proofs.Runs.Events.{Happens, nothing, steps, issues, begins}
-use Rattle.run_laws.proofs.Steps.Comes.{Comes, tops_out}
+use Rattle.run_laws.proofs.Runs.Events.{Happens, nothing, steps, issues, begins, begins_startio}
+use Rattle.run_laws.proofs.Steps.Comes.{Comes, tops_out, works_on_queues}
+use Rattle.run_laws.proofs.Steps.Queues.{queued_touches}
 
 -- a packet that hasn't topped out has done so no time, and one that has, once
 abbrev pub ToppedOnce : List Entry → Type 0
@@ -31,6 +32,10 @@ module _ (set : Set) (past : List Entry) (actor : Actor) (once : ToppedOnce past
             let before : times_topped past m ≡ (if topped past m then 1 else 0) = once m in
             rw apart.0 (omega arith)
       ]
+  once_step s under f o tells (works_on_queues a i b queues starts actions full at queued) m =
+      let before : times_topped past m ≡ (if topped past m then 1 else 0) = once m in
+      elim (queued_touches queued)
+      [ inl none ↦ rw none (omega arith) | inr one ↦ rw one.1 (omega arith) ]
   once_step s under f o tells _ m =
       let before : times_topped past m ≡ (if topped past m then 1 else 0) = once m in
       omega arith
@@ -40,6 +45,7 @@ module _ (set : Set) (past : List Entry) (actor : Actor) (once : ToppedOnce past
   once_kept w c tells (nothing reply right) = once
   once_kept w c tells (steps h) = once_step w.shared (top_frame h.below) h.frame h.outcome tells h.comes
   once_kept w c tells (begins h) = once
+  once_kept w c tells (begins_startio h) = once
   once_kept w c tells (issues h) =
       λ m. (let before : times_topped past m ≡ (if topped past m then 1 else 0) = once m in omega arith)
 

@@ -8,7 +8,7 @@ use Rattle.model.specs.declared.abs.Abs.{Abs}
 use Rattle.model.specs.declared.abs.Kind.{Kind}
 use Rattle.model.specs.declared.abs.Kind.TheVariants.{Blank as BlankKind, New, Own}
 use Rattle.model.specs.declared.set.Sort.{Sort}
-use Rattle.model.specs.declared.set.Sort.TheVariants.{Dispatch, Dpc, Propagate}
+use Rattle.model.specs.declared.set.Sort.TheVariants.{Dispatch, Dpc, Propagate, StartIo}
 use Rattle.model.specs.declared.status.Status.{Status}
 use Rattle.model.specs.declared.world.Activation.{Activation}
 use Rattle.model.specs.declared.world.Frame.TheVariants.{Routine}
@@ -185,12 +185,17 @@ blank_rights (suc count) n =
 
 abbrev pub handed_over : Sort → ℕ → ℕ → ℕ
 handed_over Dispatch m n = if nat_eq m n then 1 else 0
+handed_over StartIo m n = if nat_eq m n then 1 else 0
 handed_over Dpc m n = 0
 handed_over Propagate m n = 0
 
 first_rights : (sort : Sort) (m n : ℕ)
     → rights (first_state sort).kinds (Ref m ∷ replicate (REGISTERS - 1) Blank) n ≡ handed_over sort m n
 first_rights Dispatch m n =
+    let others : rights (replicate (REGISTERS - 1) BlankKind) (replicate (REGISTERS - 1) Blank) n
+    ≡ 0 = blank_rights (REGISTERS - 1) n in
+    omega arith
+first_rights StartIo m n =
     let others : rights (replicate (REGISTERS - 1) BlankKind) (replicate (REGISTERS - 1) Blank) n
     ≡ 0 = blank_rights (REGISTERS - 1) n in
     omega arith

@@ -23,11 +23,12 @@ use Rattle.run_laws.proofs.Holders.Steps.{HoldStep, hold, completion_faults}
 use Rattle.run_laws.proofs.Holders.Sums.{Held, unheld, held, stack_append, thread_set, top_le}
 use Rattle.run_laws.proofs.Past.LivePackets.{find, find_place, find_above}
 use Rattle.run_laws.proofs.Past.Packets.{Tells}
-use Rattle.run_laws.proofs.Runs.Events.{StepsFrame, Happens, nothing, steps, issues, begins}
+use Rattle.run_laws.proofs.Runs.Events.{StepsFrame, Happens, nothing, steps, issues, begins, begins_startio}
 use Rattle.run_laws.proofs.Runs.Kept.{GoesOnBy}
 use Rattle.run_laws.proofs.States.Entering.{begins_request, begins_dpc}
 use Rattle.run_laws.proofs.States.Fine.{StepLeaves, leaves_fine}
 use Rattle.run_laws.proofs.States.Frames.{IsGood, Ready, state_of}
+use Rattle.run_laws.proofs.States.Queueless.{never_starts}
 use Rattle.run_laws.proofs.States.Rules.{States}
 use Rattle.run_laws.proofs.States.Stacks.{Stands, Stacked, Replaces}
 use Rattle.run_laws.proofs.States.Standing.{Standing, stands_there, on_top}
@@ -225,6 +226,7 @@ module _ (set : Set) (states : States) (w : World) (past : List Entry) (good : I
             (held (find w.shared.packets n)) (held (find w.shared.packets n)) (kept.walks n)
             (omega arith);
       }
+  held_happens actor c (begins_startio h) quiet = absurd (never_starts good h)
 
   pub held_kept : (actor : Actor) (c : Change) → GoesOnBy set w past actor c → Held states c.world
   held_kept actor c on = held_happens actor c on.happens on.quiet
@@ -238,6 +240,7 @@ module _ (set : Set) (states : States) (w : World) (past : List Entry) (good : I
       (top_holding set states w past stands kept actor.thread h) h.comes
   completion_faults_none unarmed actor c (issues h) = refl
   completion_faults_none unarmed actor c (begins h) = refl
+  completion_faults_none unarmed actor c (begins_startio h) = refl
 
 -- before the first event
 idle_sum : (count : Frame → ℕ) (threads : ℕ) → thread_sum count (replicate threads idle_thread) ≡ 0

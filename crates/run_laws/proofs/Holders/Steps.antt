@@ -39,14 +39,15 @@ use Rattle.run_laws.proofs.Lists.{all_at}
 use Rattle.run_laws.proofs.Past.LivePackets.{find}
 use Rattle.run_laws.proofs.Past.Packets.{found, named, numbered, untopped, gone_topped}
 use Rattle.run_laws.proofs.States.Entering.{begins_lower, begins_back}
-use Rattle.run_laws.proofs.States.Frames.{state_of, Moved, Runs}
+use Rattle.run_laws.proofs.States.Frames.{state_of, Moved, Runs, no_queue_word}
 use Rattle.run_laws.proofs.States.Kinds.{HasKinds, kinds_get, kinds_set, label_kinds, number_kinds, still_kinds}
 use Rattle.run_laws.proofs.States.LoopEnds.{moved_end}
 use Rattle.run_laws.proofs.States.Moves.{has_next, falls_next, arrives, arrives_next}
 use Rattle.run_laws.proofs.States.Obeyed.{SendsDown, sends_down, completes_one, returns_by}
 use Rattle.run_laws.proofs.States.OnTop.{OnTop, runs}
+use Rattle.run_laws.proofs.States.Queueless.{never_queued}
 use Rattle.run_laws.proofs.States.Rules.{States, first_none, second_none, unbroken}
-use Rattle.run_laws.proofs.Steps.Comes.{Written, keeps_all, makes_number, moves_over, makes_blank, GoesTo, onward, jumping, Reads, Comes, errs, awaits_lock, computes, opens_loop, turns_loop, pages, touches_gone, looks_at, writes_info, marks_packet, takes_lock, retakes_lock, frees_lock, completes_packet, completes_gone, passes_down, calls_down, returns_status, lets_go, lets_walk, walks_gone, walks_to, walks_up, carries_up, tops_out, ends_dpc}
+use Rattle.run_laws.proofs.Steps.Comes.{Written, keeps_all, makes_number, moves_over, makes_blank, GoesTo, onward, jumping, Reads, Comes, errs, awaits_lock, computes, opens_loop, turns_loop, pages, touches_gone, looks_at, writes_info, marks_packet, takes_lock, retakes_lock, frees_lock, completes_packet, completes_gone, passes_down, calls_down, returns_status, lets_go, lets_walk, walks_gone, walks_to, walks_up, carries_up, tops_out, ends_dpc, works_on_queues, ends_startio}
 use Rattle.run_laws.proofs.Steps.Faults.{is_touch, is_completion, fault_among}
 use Rattle.run_laws.proofs.Steps.Locking.{LockWord, taken_word, freed_word}
 use Rattle.run_laws.proofs.Steps.Words.{is_giving, Forwarding, work_of, packet_operand, keeps_registers, numbered_by}
@@ -172,7 +173,8 @@ module _ (set : Set) (states : States) (s : Shared) (a : Activation) (i : Instr)
   goes_rights b jumped quiet (jumping label labelled) n =
       ap (λ (state : Abs). rights state.kinds a.registers n)
       (arrives set states s a i h _ true (jumping label labelled))
-      ∙ ap (λ (kinds : List Kind). rights kinds a.registers n) (label_kinds (state_of states a) i)
+      ∙ ap (λ (kinds : List Kind). rights kinds a.registers n)
+      (label_kinds (state_of states a) i (no_queue_word set states s a i h))
 
   next_state_rights : has_next (flow_of i) ≡ true → (n : ℕ)
       → frame_rights states (Routine (next a)) n ≡ rights (handed (state_of states a) i).kinds
@@ -394,6 +396,8 @@ module _ (set : Set) (states : States) (s : Shared) (past : List Entry) (actor :
       kept a (next a) o refl
       (lock_rights set states s a i (runs set states s a i top at) (freed_word a i lock frees))
       (λ n. refl) (λ n. refl)
+  hold under f o top holding (works_on_queues a i b queues starts actions full at queued) quiet =
+      absurd (never_queued top.good at queued)
   hold under f o top holding (completes_packet a r status n p at reads there) quiet =
       completes a r status n p o (runs set states s a (Complete r status) top at) holding reads
       there refl refl
@@ -416,6 +420,8 @@ module _ (set : Set) (states : States) (s : Shared) (past : List Entry) (actor :
       returns a Continue o (runs set states s a (Ret Continue) top at) refl refl
   hold under f o top holding (lets_walk a n at is) quiet =
       returns a Continue o (runs set states s a (Ret Continue) top at) refl refl
+  hold under f o top holding (ends_startio a at is) quiet =
+      returns a Void o (runs set states s a (Ret Void) top at) refl refl
   hold under f o top holding (ends_dpc a at is) quiet =
       returns a Void o (runs set states s a (Ret Void) top at) refl refl
   hold under f o top holding (walks_gone n gone) quiet = absurd (walk_lives states s past n holding gone)
@@ -479,4 +485,7 @@ module _ (set : Set) (states : States) (s : Shared) (past : List Entry) (actor :
       absurd (right_lives states s past a holding h.stays.kinds r n
       (completes_one (state_of states a) (sort_of set a.driver a.routine) set a.driver r status
       h.obeys).right reads gone)
+  completion_faults under f o unarmed top holding
+      (works_on_queues a i b queues starts actions full at queued) =
+      absurd (never_queued top.good at queued)
   completion_faults under f o unarmed top holding _ = refl

@@ -23,10 +23,11 @@ use Rattle.run_laws.proofs.Live.Sees.{Seen, AllSeen, seen_append, seen_below, se
 use Rattle.run_laws.proofs.Live.Steps.{UnderLives, seen, touch_faults}
 use Rattle.run_laws.proofs.Past.LivePackets.{find}
 use Rattle.run_laws.proofs.Past.Packets.{found}
-use Rattle.run_laws.proofs.Runs.Events.{StepsFrame, Happens, nothing, steps, issues, begins}
+use Rattle.run_laws.proofs.Runs.Events.{StepsFrame, Happens, nothing, steps, issues, begins, begins_startio}
 use Rattle.run_laws.proofs.Runs.Threads.{frames_there, each_frames, idle_frames}
 use Rattle.run_laws.proofs.States.Entering.{begins_request, begins_dpc}
 use Rattle.run_laws.proofs.States.Frames.{IsGood}
+use Rattle.run_laws.proofs.States.Queueless.{never_starts}
 use Rattle.run_laws.proofs.States.Rules.{States}
 use Rattle.run_laws.proofs.States.Standing.{Standing, on_top}
 use Rattle.run_laws.proofs.States.Told.{last_under}
@@ -148,6 +149,7 @@ module _ (set : Set) (states : States) (w : World) (past : List Entry) (good : I
         }),
         tt,
       )
+  sees_event t c (begins_startio h) = absurd (never_starts good h)
 
   -- and touches live packets alone
   pub touches_none : (actor : Actor) (c : Change) → Held states w
@@ -156,6 +158,7 @@ module _ (set : Set) (states : States) (w : World) (past : List Entry) (good : I
   touches_none actor c kept holding (nothing reply right) = refl
   touches_none actor c kept holding (issues h) = refl
   touches_none actor c kept holding (begins h) = refl
+  touches_none actor c kept holding (begins_startio h) = refl
   touches_none actor c kept holding (steps h) =
       touch_faults set states w.shared past actor (top_of h.below) h.frame h.outcome stands.tells
       (on_top set states w past good stands actor.thread h) (holding h)

@@ -34,8 +34,9 @@ use Rattle.run_laws.proofs.States.Frames.{Runs, state_of}
 use Rattle.run_laws.proofs.States.Kinds.{packet_ref, packet_wanted}
 use Rattle.run_laws.proofs.States.Lacking.{never_lacks}
 use Rattle.run_laws.proofs.States.OnTop.{OnTop, runs, value_suits}
+use Rattle.run_laws.proofs.States.Queueless.{never_queued}
 use Rattle.run_laws.proofs.States.Rules.{States}
-use Rattle.run_laws.proofs.Steps.Comes.{GoesTo, onward, jumping, Executing, Reads, Comes, errs, awaits_lock, computes, opens_loop, turns_loop, pages, touches_gone, looks_at, writes_info, marks_packet, takes_lock, retakes_lock, frees_lock, completes_packet, completes_gone, passes_down, calls_down, returns_status, lets_go, lets_walk, walks_gone, walks_to, walks_up, carries_up, tops_out, ends_dpc}
+use Rattle.run_laws.proofs.Steps.Comes.{GoesTo, onward, jumping, Executing, Reads, Comes, errs, awaits_lock, computes, opens_loop, turns_loop, pages, touches_gone, looks_at, writes_info, marks_packet, takes_lock, retakes_lock, frees_lock, completes_packet, completes_gone, passes_down, calls_down, returns_status, lets_go, lets_walk, walks_gone, walks_to, walks_up, carries_up, tops_out, ends_dpc, works_on_queues, ends_startio}
 use Rattle.run_laws.proofs.Steps.Faults.{fault_among, is_touch}
 use Rattle.run_laws.proofs.Steps.Words.{packet_operand}
 
@@ -132,6 +133,8 @@ module _ (set : Set) (states : States) (s : Shared) where
   seen t under top f o h sees (takes_lock a i lock at taken free) = (next_seen under a sees, tt)
   seen t under top f o h sees (retakes_lock a i lock at taken owned) = (next_seen under a sees, tt)
   seen t under top f o h sees (frees_lock a i lock owner at freed owned) = (next_seen under a sees, tt)
+  seen t under top f o h sees (works_on_queues a i b queues starts actions full at queued) =
+      absurd (never_queued h.good at queued)
   seen t under top f o h sees (completes_packet a r status n p at reads there) =
       (next_seen under a sees, (tt, tt))
   seen t under top f o h sees (completes_gone a r status n at reads gone) = (next_seen under a sees, tt)
@@ -142,6 +145,7 @@ module _ (set : Set) (states : States) (s : Shared) where
   seen t under top f o h sees (returns_status a form status at sort is) = tt
   seen t under top f o h sees (lets_go a at sort free) = tt
   seen t under top f o h sees (lets_walk a n at sort) = tt
+  seen t under top f o h sees (ends_startio a at sort) = tt
   seen t under top f o h sees (ends_dpc a at sort) = tt
   seen t under top f o h sees (walks_gone n gone) = tt
   seen t under top f o h sees (walks_to n p c there set_there) =
@@ -263,4 +267,7 @@ module _ (set : Set) (states : States) (s : Shared) (past : List Entry) where
       first_only _ (touched_one actor n p tells there)
   touch_faults actor under f o tells h holding seen live (tops_out n p there none last) =
       first_only _ (touched_one actor n p tells there)
+  touch_faults actor under f o tells h holding seen live
+      (works_on_queues a i b queues starts actions full at queued) =
+      absurd (never_queued h.good at queued)
   touch_faults actor under f o tells h holding seen live _ = refl

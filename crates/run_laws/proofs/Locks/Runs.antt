@@ -23,11 +23,12 @@ use Rattle.model.specs.Trace.{Entry, Actor, entry, recorded}
 use Rattle.model.specs.World.{Shared, World, with_dpc}
 use Rattle.run_laws.proofs.Locks.Says.{frame_says, top_says, free_says}
 use Rattle.run_laws.proofs.Locks.Steps.{begun_says, own, lock_faults}
-use Rattle.run_laws.proofs.Runs.Events.{StepsFrame, Happens, nothing, steps, issues, begins}
+use Rattle.run_laws.proofs.Runs.Events.{StepsFrame, Happens, nothing, steps, issues, begins, begins_startio}
 use Rattle.run_laws.proofs.Runs.Kept.{GoesOnBy}
 use Rattle.run_laws.proofs.Runs.Threads.{frames_there, each_frames, idle_frames}
 use Rattle.run_laws.proofs.States.Entering.{begins_request, begins_dpc}
 use Rattle.run_laws.proofs.States.Frames.{state_of, IsGood}
+use Rattle.run_laws.proofs.States.Queueless.{never_starts}
 use Rattle.run_laws.proofs.States.Roots.{Low}
 use Rattle.run_laws.proofs.States.Rules.{States}
 use Rattle.run_laws.proofs.States.Stacks.{Stands, Stacked}
@@ -157,6 +158,7 @@ module _ (set : Set) (states : States) (w : World) (past : List Entry) (good : I
       (frames_there w actor.thread h.thread h.found ∙ h.idle)
       ∙ sym (begun_says set states w.shared.issued a Dpc Blank l
       (begins_dpc set states good w.shared.issued h.d h.routine h.there)))
+  locks_happen actor c (begins_startio h) = absurd (never_starts good h)
 
   pub locks_kept : (actor : Actor) (c : Change) → GoesOnBy set w past actor c
       → LocksAgree states c.world (recorded past actor c.actions)
@@ -173,6 +175,7 @@ module _ (set : Set) (states : States) (w : World) (past : List Entry) (good : I
       (on_top set states w past good stands actor.thread h) (own_top actor.thread h) h.comes
   lock_faults_none actor c root (issues h) = refl
   lock_faults_none actor c root (begins h) = refl
+  lock_faults_none actor c root (begins_startio h) = refl
 
 -- before the first event
 pub locks_begun : (set : Set) (states : States) (threads : ℕ)

@@ -15,7 +15,7 @@ use Rattle.model.specs.declared.instr.Instr.TheVariants.{Loop, End, LoadPaged, S
 use Rattle.model.specs.declared.instr.Return.{Return}
 use Rattle.model.specs.declared.instr.Return.TheVariants.{Continue, Void}
 use Rattle.model.specs.declared.set.Sort.{Sort}
-use Rattle.model.specs.declared.set.Sort.TheVariants.{Dispatch, Dpc, Propagate}
+use Rattle.model.specs.declared.set.Sort.TheVariants.{Dispatch, Dpc, Propagate, StartIo}
 use Rattle.model.specs.declared.world.Activation.{Activation}
 use Rattle.model.specs.declared.world.Frame.{Frame}
 use Rattle.model.specs.declared.world.Frame.TheVariants.{Routine}
@@ -38,9 +38,10 @@ use Rattle.run_laws.proofs.States.LoopEnds.{moved_end}
 use Rattle.run_laws.proofs.States.Moves.{has_next, falls_next, arrives, arrives_next}
 use Rattle.run_laws.proofs.States.Obeyed.{sends_down, completes_one, returns_by}
 use Rattle.run_laws.proofs.States.OnTop.{OnTop, runs}
+use Rattle.run_laws.proofs.States.Queueless.{never_queued}
 use Rattle.run_laws.proofs.States.Roots.{Low}
 use Rattle.run_laws.proofs.States.Rules.{States, first_none, second_none, unbroken}
-use Rattle.run_laws.proofs.Steps.Comes.{Reads, GoesTo, onward, jumping, Comes, computes, opens_loop, turns_loop, pages, touches_gone, looks_at, writes_info, marks_packet, takes_lock, retakes_lock, frees_lock, completes_packet, completes_gone, passes_down, calls_down, returns_status, lets_go, lets_walk, ends_dpc, walks_to}
+use Rattle.run_laws.proofs.Steps.Comes.{Reads, GoesTo, onward, jumping, Comes, computes, opens_loop, turns_loop, pages, touches_gone, looks_at, writes_info, marks_packet, takes_lock, retakes_lock, frees_lock, completes_packet, completes_gone, passes_down, calls_down, returns_status, lets_go, lets_walk, ends_dpc, walks_to, works_on_queues, ends_startio}
 use Rattle.run_laws.proofs.Steps.Faults.{is_of_locks, fault_among}
 use Rattle.run_laws.proofs.Steps.Locking.{taken_word, freed_word}
 use Rattle.run_laws.proofs.Steps.Words.{Work, Locking, Paging, Forwarding, work_of, is_touching, packet_operand, lock_taken, lock_freed}
@@ -71,6 +72,7 @@ module _ (set : Set) (states : States) (s : Shared) (a : Activation) (i : Instr)
 module _ (set : Set) (states : States) where
   first_says : (sort : Sort) (d : ℕ) (l : Lock) → state_says (first_state sort) d l ≡ false
   first_says Dispatch d l = free_says (first_state Dispatch) d l refl
+  first_says StartIo d l = free_says (first_state StartIo) d l refl
   first_says Dpc d l = free_says (first_state Dpc) d l refl
   first_says Propagate d l = free_says (first_state Propagate) d l refl
 
@@ -86,6 +88,7 @@ LevelFree s sort = (sort ≡ Dispatch) × (holds_lock s ≡ false)
 
 level_free : (s : Abs) (sort : Sort) → level_fault s sort ≡ None → LevelFree s sort
 level_free s Dispatch rule = (refl, unbroken _ _ rule)
+level_free s StartIo rule = cc
 level_free s Dpc rule = cc
 level_free s Propagate rule = cc
 
@@ -207,6 +210,8 @@ module _ (set : Set) (states : States) (s : Shared) (past : List Entry) (actor :
       let h : Runs set states s a i = runs set states s a i top at in
       own_now a i h agrees lock true false (falls_next (flow_of i) (freed_word a i lock frees).on)
       (locks_freed a i h agrees lock frees).now l
+  own under f o top agrees (works_on_queues a i b queues starts actions full at queued) l =
+      absurd (never_queued top.good at queued)
   own under f o top agrees (completes_packet a r status n p at reads there) l =
       let h : Runs set states s a (Complete r status) = runs set states s a (Complete r status) top at in
       agrees l ∙ free_says (state_of states a) a.device l
@@ -229,6 +234,8 @@ module _ (set : Set) (states : States) (s : Shared) (past : List Entry) (actor :
       agrees l ∙ returns set states s a Continue (runs set states s a (Ret Continue) top at) l
   own under f o top agrees (lets_walk a n at is) l =
       agrees l ∙ returns set states s a Continue (runs set states s a (Ret Continue) top at) l
+  own under f o top agrees (ends_startio a at is) l =
+      agrees l ∙ returns set states s a Void (runs set states s a (Ret Void) top at) l
   own under f o top agrees (ends_dpc a at is) l =
       agrees l ∙ returns set states s a Void (runs set states s a (Ret Void) top at) l
   own under f o top agrees (walks_to n p c there set_there) l =
@@ -275,4 +282,7 @@ module _ (set : Set) (states : States) (s : Shared) (past : List Entry) (actor :
       let h : Runs set states s a i = runs set states s a i top at in
       no_bug (not (holds past actor.thread lock)) SpinLockNotOwned (LockSubject lock)
       (ap not (agrees lock ∙ (locks_freed a i h agrees lock frees).before))
+  lock_faults under f o low top agrees
+      (works_on_queues a i b queues starts actions full at queued) =
+      absurd (never_queued top.good at queued)
   lock_faults under f o low top agrees _ = refl

@@ -1,19 +1,21 @@
 -- In every run of a sound set, until it stops, the past tells what the world has.
 use Rattle.std.proofs.Common.{◌≡◌, ◌≤◌, ℕ, inl, inr, List, [], length, Option, None, Some, Bool, true, false, refl, sym, ◌∙◌, arith}
-use Rattle.std.specs.Prelude.{nat_lt}
+use Rattle.std.specs.Prelude.{nat_lt, slice_get}
 use Rattle.std.proofs.lemmas.Bool.{cases_lt}
 use Rattle.model.specs.declared.event.Lock.{Lock}
 use Rattle.model.specs.declared.limits.TheConstants.{MAX_FRAMES}
 use Rattle.model.specs.declared.world.Frame.{Frame}
 use Rattle.model.specs.declared.world.Irql.TheVariants.{Passive, Dispatch as DispatchLevel}
 use Rattle.model.specs.declared.world.Packet.{Packet}
-use Rattle.model.specs.Effect.{Change, rooted, dpc_activation, serves_request, with_new_packet, with_stack, top_of, standing}
+use Rattle.model.specs.declared.world.Value.TheVariants.{Ref}
+use Rattle.model.specs.Effect.{Change, rooted, dpc_activation, serves_request, with_new_packet, with_stack, top_of, standing, routine_of_device}
 use Rattle.model.specs.Fault.{first_fault, holds, armed, stack_size, completing, depth}
+use Rattle.model.specs.Queues.{without_first_to_start}
 use Rattle.model.specs.Run.{begun, Run, frames_on, run}
 use Rattle.model.specs.Set.{Set}
 use Rattle.model.specs.Sound.{IsSound, DeviceFits}
 use Rattle.model.specs.Trace.{Entry, Actor, recorded}
-use Rattle.model.specs.World.{World, packet_of, with_dpc}
+use Rattle.model.specs.World.{World, packet_of, with_dpc, with_start, entered}
 use Rattle.run_laws.specs.PastTells.{PastTells, TellsOfPacket, PastTellsOfTheWorld}
 use Rattle.run_laws.proofs.Devices.{device_fits}
 use Rattle.run_laws.proofs.Past.LivePackets.{find_place}
@@ -22,9 +24,10 @@ use Rattle.run_laws.proofs.Past.Owners.{Owned, owned_free, held_owned, owned_hel
 use Rattle.run_laws.proofs.Past.Packets.{Tells, found, lt_true, tells_issue, tells_nothing}
 use Rattle.run_laws.proofs.Past.Stacks.{Measured}
 use Rattle.run_laws.proofs.Past.Steps.{told_arms, told_locks, told_packets}
-use Rattle.run_laws.proofs.Runs.Events.{Happens, nothing, steps, issues, begins}
+use Rattle.run_laws.proofs.Runs.Events.{Happens, nothing, steps, issues, begins, begins_startio}
 use Rattle.run_laws.proofs.Runs.Kept.{GoesOnBy, with_queued, kept_until}
 use Rattle.run_laws.proofs.Runs.Threads.{each_frames, idle_frames}
+use Rattle.run_laws.proofs.Tests.{or_right}
 
 -- what the threads share tells what the past tells, no cancel routine was stored, and no thread has
 -- more than 32 frames
@@ -57,7 +60,8 @@ telling_happens set sound w past actor c tells (steps h) quiet within =
       few = each_frames w actor.thread h.outcome.shared
           (with_stack h.thread (standing set h.below h.outcome))
           (λ k frames. length frames ≤ MAX_FRAMES) h.thread h.found
-          (not_over (length (standing set h.below h.outcome)) within) (λ k apart. tells.few k);
+          (not_over (length (standing set h.below h.outcome)) (or_right h.outcome.full _ within))
+          (λ k apart. tells.few k);
     }
 telling_happens set sound w past actor c tells (issues h) quiet within =
     let fits : DeviceFits (length set.drivers) h.d h.device =
@@ -78,6 +82,17 @@ telling_happens set sound w past actor c tells (begins h) quiet within =
       unarmed = tells.unarmed;
       few = each_frames w actor.thread (with_dpc w.shared h.d false)
           (rooted h.thread DispatchLevel (dpc_activation set h.d h.routine))
+          (λ k frames. length frames ≤ MAX_FRAMES) h.thread h.found (omega arith)
+          (λ k apart. tells.few k);
+    }
+telling_happens set sound w past actor c tells (begins_startio h) quiet within =
+    record {
+      packets = tells.packets;
+      locks = tells.locks;
+      unarmed = tells.unarmed;
+      few = each_frames w actor.thread (with_start w.shared h.d (without_first_to_start h.start))
+          (rooted h.thread DispatchLevel
+          (entered (routine_of_device (slice_get set.devices h.d)) h.routine h.d (Ref h.n)))
           (λ k frames. length frames ≤ MAX_FRAMES) h.thread h.found (omega arith)
           (λ k apart. tells.few k);
     }

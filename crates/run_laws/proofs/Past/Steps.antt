@@ -1,6 +1,6 @@
 -- After every step what the threads share tells what the past tells: of the packets, and, where
 -- there was no bug check, of the owners of the locks.
-use Rattle.std.proofs.Common.{◌≡◌, ◌+◌, ◌-◌, ℕ, List, [], ◌∷◌, Option, None, Some, Bool, true, false, refl, ap, sym, ◌∙◌}
+use Rattle.std.proofs.Common.{◌≡◌, ◌+◌, ◌-◌, ℕ, List, [], ◌∷◌, Option, None, Some, Bool, true, false, refl, ap, sym, ◌∙◌, inl, inr}
 use Rattle.std.specs.Prelude.{not}
 use Rattle.std.proofs.lemmas.Bool.{eq-eqb}
 use Rattle.model.specs.declared.event.Bug.{Bug}
@@ -18,7 +18,8 @@ use Rattle.run_laws.proofs.Past.Owners.{Owned, owns, owned_acquire, owned_releas
 use Rattle.run_laws.proofs.Past.Packets.{Tells, named, tells_moved, tells_kept, tells_taken, tells_late, tells_top}
 use Rattle.run_laws.proofs.Past.Stacks.{changed_info, changed_mark, changed_completed, changed_share, changed_down, changed_up, changed_marked_up}
 use Rattle.run_laws.proofs.Steps.Faults.{none_first}
-use Rattle.run_laws.proofs.Steps.Comes.{Comes, writes_info, marks_packet, takes_lock, retakes_lock, frees_lock, completes_packet, completes_gone, passes_down, calls_down, walks_to, walks_up, carries_up, tops_out}
+use Rattle.run_laws.proofs.Steps.Comes.{Comes, writes_info, marks_packet, takes_lock, retakes_lock, frees_lock, completes_packet, completes_gone, passes_down, calls_down, walks_to, walks_up, carries_up, tops_out, works_on_queues}
+use Rattle.run_laws.proofs.Steps.Queues.{queued_touches}
 
 module _ (set : Set) (s : Shared) (past : List Entry) (actor : Actor) where
   -- the packets
@@ -45,6 +46,8 @@ module _ (set : Set) (s : Shared) (past : List Entry) (actor : Actor) where
       tells_moved s past tells n p (mark_current (moved_up (left_location p))) there (λ d. d - 1)
       (changed_marked_up p)
   told_packets under f o tells (tops_out n p there without first) = tells_top s past tells n p there
+  told_packets under f o tells (works_on_queues a i b queues starts actions full at queued) =
+      elim (queued_touches queued) [ inl none ↦ rw none tells | inr one ↦ rw one.1 tells ]
   told_packets under f o tells _ = tells
 
   -- a lock that is freed was the thread's, or there was a bug check
@@ -77,6 +80,8 @@ module _ (set : Set) (s : Shared) (past : List Entry) (actor : Actor) where
       cc
   told_locks under f o owned (frees_lock a i lock owner at frees there) quiet =
       freed lock owner there owned (holds past actor.thread lock) refl (none_first _ _ quiet)
+  told_locks under f o owned (works_on_queues a i b queues starts actions full at queued) quiet =
+      elim (queued_touches queued) [ inl none ↦ rw none owned | inr one ↦ rw one.1 owned ]
   told_locks under f o owned _ quiet = owned
 
   -- no step exchanges a cancel routine
@@ -84,4 +89,6 @@ module _ (set : Set) (s : Shared) (past : List Entry) (actor : Actor) where
       → Comes set s actor.thread under f o → (n : ℕ)
       → armed (recorded past actor o.actions) n ≡ armed past n
   told_arms under f o (tops_out m p there without first) n = refl
+  told_arms under f o (works_on_queues a i b queues starts actions full at queued) n =
+      elim (queued_touches queued) [ inl none ↦ rw none refl | inr one ↦ rw one.1 refl ]
   told_arms under f o _ n = refl

@@ -11,7 +11,7 @@ use Rattle.model.specs.declared.abs.Abs.{Abs}
 use Rattle.model.specs.declared.instr.Instr.{Instr}
 use Rattle.model.specs.declared.instr.Instr.TheVariants.{Call, Complete, Pass}
 use Rattle.model.specs.declared.set.Sort.{Sort}
-use Rattle.model.specs.declared.set.Sort.TheVariants.{Dispatch, Propagate, Dpc}
+use Rattle.model.specs.declared.set.Sort.TheVariants.{Dispatch, Propagate, Dpc, StartIo}
 use Rattle.model.specs.declared.status.Status.{Status}
 use Rattle.model.specs.declared.world.Activation.{Activation}
 use Rattle.model.specs.declared.world.Frame.{Frame}
@@ -22,9 +22,10 @@ use Rattle.model.specs.Set.{Set, sort_of}
 use Rattle.model.specs.World.{Shared}
 use Rattle.run_laws.proofs.Pending.Returned.{tells_beyond}
 use Rattle.run_laws.proofs.States.Entering.{IsOfSort}
-use Rattle.run_laws.proofs.States.Frames.{state_of}
+use Rattle.run_laws.proofs.States.Frames.{state_of, IsGood}
+use Rattle.run_laws.proofs.States.Queueless.{never_queued}
 use Rattle.run_laws.proofs.States.Rules.{States, first_none, second_none}
-use Rattle.run_laws.proofs.Steps.Comes.{Comes, Executing, GoesTo, Reads, calls_down, completes_packet, computes, jumping, lets_go, lets_walk, looks_at, marks_packet, onward, pages, passes_down, returns_status, turns_loop, walks_gone, ends_dpc}
+use Rattle.run_laws.proofs.Steps.Comes.{Comes, Executing, GoesTo, Reads, calls_down, completes_packet, computes, jumping, lets_go, lets_walk, looks_at, marks_packet, onward, pages, passes_down, returns_status, turns_loop, walks_gone, ends_dpc, works_on_queues, ends_startio}
 
 -- how an activation goes on leaves its routine alone
 pub goes_same : (a : Activation) (i : Instr) (b : Activation) (jumped : Bool) → GoesTo a i b jumped
@@ -55,11 +56,13 @@ pub record Looks (m : ℕ) (a : Activation) (o : Outcome) : Type 0 where
 -- it neither forwards nor completes
 never_completes : (sort : Sort) → sort ≡ Propagate → completion_sort_fault sort ≡ None → ⊥
 never_completes Propagate is rule = cc
+never_completes StartIo is rule = cc
 never_completes Dpc is rule = cc
 never_completes Dispatch is rule = cc
 
 never_forwards : (sort : Sort) → sort ≡ Propagate → forward_sort_fault sort ≡ None → ⊥
 never_forwards Propagate is rule = cc
+never_forwards StartIo is rule = cc
 never_forwards Dpc is rule = cc
 never_forwards Dispatch is rule = cc
 
@@ -85,30 +88,33 @@ IsLooking set s a =
 
 -- every step of one
 pub completion_looks : (m : ℕ) (set : Set) (states : States) (s : Shared) (t : ℕ) (below : Option Frame)
-    (a : Activation) (o : Outcome) → KeepsRules set states a → IsLooking set s a
+    (a : Activation) (o : Outcome) → IsGood set states → KeepsRules set states a
+    → IsLooking set s a
     → ((r n : ℕ) → Reads s a r n → n ≡ m) → Comes set s t below (Routine a) o → Looks m a o
-completion_looks m set states s t below a o kept is own (marks_packet b r n p at reads there) =
+completion_looks m set states s t below a o good kept is own (marks_packet b r n p at reads there) =
     record {
       told = refl;
       alone = (refl, refl);
       silent = let same =
           eq-eqb n m (own r n reads) in rw same refl;
     }
-completion_looks m set states s t below a o kept is own (completes_packet b r status n p at reads there) =
+completion_looks m set states s t below a o good kept is own
+    (completes_packet b r status n p at reads there) =
     elim is [
       | inl up ↦
           absurd (completes_never (state_of states a) status (sort_of set a.driver a.routine) up
           (second_none _ _ (kept (Complete r status) at)))
       | inr bare ↦ absurd (bare.1 r n reads)
     ]
-completion_looks m set states s t below a o kept is own (passes_down b r n p lower at reads there under) =
+completion_looks m set states s t below a o good kept is own
+    (passes_down b r n p lower at reads there under) =
     elim is [
       | inl up ↦
           absurd (forwards_never (state_of states a) (sort_of set a.driver a.routine) set a.driver 0 up
           (second_none _ _ (kept (Pass r) at)))
       | inr bare ↦ absurd (bare.1 r n reads)
     ]
-completion_looks m set states s t below a o kept is own
+completion_looks m set states s t below a o good kept is own
     (calls_down b r f n p lower at reads there under) =
     elim is [
       | inl up ↦
@@ -116,27 +122,35 @@ completion_looks m set states s t below a o kept is own
           (second_none _ _ (kept (Call r f) at)))
       | inr bare ↦ absurd (bare.1 r n reads)
     ]
-completion_looks m set states s t below a o kept is own (returns_status b form status at sort there) =
+completion_looks m set states s t below a o good kept is own
+    (returns_status b form status at sort there) =
     elim is [
       | inl up ↦ let no : Propagate ≡ Dispatch = sym up ∙ sort in cc
       | inr bare ↦ let no : Dpc ≡ Dispatch = sym bare.0 ∙ sort in cc
     ]
-completion_looks m set states s t below a o kept is own (computes b i c jumped cells at work goes long) =
+completion_looks m set states s t below a o good kept is own
+    (computes b i c jumped cells at work goes long) =
     record { told = refl; alone = goes_same a i c jumped goes; silent = refl }
-completion_looks m set states s t below a o kept is own (pages b i c cell cells at work goes long) =
+completion_looks m set states s t below a o good kept is own
+    (pages b i c cell cells at work goes long) =
     record { told = refl; alone = goes_same a i c false goes; silent = refl }
-completion_looks m set states s t below a o kept is own
+completion_looks m set states s t below a o good kept is own
     (looks_at b i c jumped r n p at work goes operand reads there jumps) =
     record { told = refl; alone = goes_same a i c jumped goes; silent = refl }
-completion_looks m set states s t below a o kept is own (turns_loop b l at there) =
+completion_looks m set states s t below a o good kept is own (turns_loop b l at there) =
     record { told = refl; alone = ((turned_same a l).0, (turned_same a l).1); silent = refl }
-completion_looks m set states s t below a o kept is own (lets_go b at sort bare) =
+completion_looks m set states s t below a o good kept is own (lets_go b at sort bare) =
     record { told = refl; alone = tt; silent = refl }
-completion_looks m set states s t below a o kept is own (lets_walk b n at sort) =
+completion_looks m set states s t below a o good kept is own (lets_walk b n at sort) =
     record { told = refl; alone = tt; silent = refl }
-completion_looks m set states s t below a o kept is own (ends_dpc b at sort) =
+completion_looks m set states s t below a o good kept is own
+    (works_on_queues b i c queues starts actions full at queued) =
+    absurd (never_queued good at queued)
+completion_looks m set states s t below a o good kept is own (ends_startio b at sort) =
     record { told = refl; alone = tt; silent = refl }
-completion_looks m set states s t below a o kept is own _ =
+completion_looks m set states s t below a o good kept is own (ends_dpc b at sort) =
+    record { told = refl; alone = tt; silent = refl }
+completion_looks m set states s t below a o good kept is own _ =
     record { told = refl; alone = (refl, refl); silent = refl }
 
 -- frames that the I/O manager's frame leaves: none, or one of its own, with a completion routine on

@@ -13,7 +13,7 @@ use Rattle.model.specs.declared.instr.Instr.{Instr}
 use Rattle.model.specs.declared.instr.Instr.TheVariants.{Call, Complete, Loop, Mark, Pass, Put, Ret}
 use Rattle.model.specs.declared.instr.Return.{Return}
 use Rattle.model.specs.declared.instr.Return.TheVariants.{Continue, Lower as LowerStatus, WithStatus, Void}
-use Rattle.model.specs.declared.set.Sort.TheVariants.{Dispatch, Propagate, Dpc}
+use Rattle.model.specs.declared.set.Sort.TheVariants.{Dispatch, Propagate, Dpc, StartIo}
 use Rattle.model.specs.declared.status.Status.{Status}
 use Rattle.model.specs.declared.world.Activation.{Activation}
 use Rattle.model.specs.declared.world.Frame.{Frame}
@@ -36,14 +36,15 @@ use Rattle.run_laws.proofs.Pending.Duties.{Arrived, Dutied, Dutiful, counted, is
 use Rattle.run_laws.proofs.Pending.LowerStatuses.{LowerIs, Lowers, lowers_get, lowers_move, lowers_none, lowers_set}
 use Rattle.run_laws.proofs.Pending.UsesServed.{BeginsServing, Called, Completed, GivesDown}
 use Rattle.run_laws.proofs.States.Fine.{completion_top, not_gone, touch_top}
-use Rattle.run_laws.proofs.States.Frames.{Runs, state_of}
+use Rattle.run_laws.proofs.States.Frames.{Runs, state_of, no_queue_word}
 use Rattle.run_laws.proofs.States.Kinds.{still_kinds, label_kinds, number_kinds}
 use Rattle.run_laws.proofs.States.Lacking.{down}
 use Rattle.run_laws.proofs.States.Moves.{arrives, arrives_next, falls_next, has_next, onto}
 use Rattle.run_laws.proofs.States.Obeyed.{ReturnsBy, completes_one, returns_by}
+use Rattle.run_laws.proofs.States.Queueless.{runs_no_queues}
 use Rattle.run_laws.proofs.Steps.Locking.{LockWord, freed_word, taken_word}
 use Rattle.run_laws.proofs.States.Rules.{States, first_none, second_none, unbroken}
-use Rattle.run_laws.proofs.Steps.Comes.{Comes, Executing, GoesTo, Lacks, Written, awaits_lock, calls_down, completes_gone, completes_packet, computes, errs, frees_lock, jumping, lets_go, lets_walk, looks_at, keeps_all, makes_blank, makes_number, marks_packet, moves_over, onward, opens_loop, pages, passes_down, retakes_lock, returns_status, takes_lock, touches_gone, turns_loop, writes_info, ends_dpc}
+use Rattle.run_laws.proofs.Steps.Comes.{Comes, Executing, GoesTo, Lacks, Written, awaits_lock, calls_down, completes_gone, completes_packet, computes, errs, frees_lock, jumping, lets_go, lets_walk, looks_at, keeps_all, makes_blank, makes_number, marks_packet, moves_over, onward, opens_loop, pages, passes_down, retakes_lock, returns_status, takes_lock, touches_gone, turns_loop, writes_info, ends_dpc, works_on_queues, ends_startio}
 use Rattle.run_laws.proofs.Steps.Words.{is_giving, keeps_registers, status_returned, work_of}
 use Rattle.run_laws.proofs.Tests.{not_false, or_left, or_right}
 use Rattle.run_laws.proofs.Uses.Steps.{found_put}
@@ -202,7 +203,8 @@ module _ (set : Set) (states : States) (s : Shared) (past : List Entry) (actor :
   lowers_to x i b jumped run duty (onward registers on written) left =
       lowers_on x i registers run duty written left
   lowers_to x i b jumped run duty (jumping label labelled) left =
-      subst (λ (kinds : List Kind). Lowers x kinds a.registers) (sym (label_kinds now i)) left
+      subst (λ (kinds : List Kind). Lowers x kinds a.registers)
+      (sym (label_kinds now i (no_queue_word set states s a i run))) left
 
   goes_as : (i : Instr) (b : Activation) (jumped : Bool) → Executing set a i
       → is_giving (work_of i) ≡ false
@@ -361,6 +363,8 @@ module _ (set : Set) (states : States) (s : Shared) (past : List Entry) (actor :
       stays_quiet (with_locks s (with_owner s.locks lock None)) (next a)
       (Executes ∷ Releases lock ∷ []) Stepped
       (locks_as i at (freed_word a i lock freed)) refl
+  dispatch_does below o (works_on_queues b i c queues starts actions full at queued) quiet =
+      absurd (runs_no_queues set states s a i (h.routine.runs i at) queued)
   dispatch_does below o (completes_packet b r status n p at reads there) quiet =
       let run : Runs set states s a (Complete r status) = h.routine.runs (Complete r status) at in
       let rule : complete_kind (kind_of now r) ≡ None = first_none _ _ run.obeys in
@@ -399,4 +403,6 @@ module _ (set : Set) (states : States) (s : Shared) (past : List Entry) (actor :
       (h.routine.runs (Ret form) at).obeys) there)
   dispatch_does below o (lets_go b at sort bare) quiet = absurd (never_propagates sort)
   dispatch_does below o (lets_walk b n at sort) quiet = absurd (never_propagates sort)
+  dispatch_does below o (ends_startio b at sort) quiet =
+      let no : Dispatch ≡ StartIo = sym h.is ∙ sort in cc
   dispatch_does below o (ends_dpc b at sort) quiet = let no : Dispatch ≡ Dpc = sym h.is ∙ sort in cc

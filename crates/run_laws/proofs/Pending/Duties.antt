@@ -2,7 +2,7 @@
 -- positions: a packet that it was handed goes with no duty done yet, one that it owns with
 -- STATUS_PENDING owed, and a lower driver's status with a packet that was given down.
 use Rattle.std.proofs.Common.{◌≡◌, ℕ, zero, suc, ◌+◌, ◌<◌, ◌≤◌, Bool, true, false, List, [], ◌∷◌, length, None, Some, refl, ap, sym, ◌∙◌, subst, arith}
-use Rattle.std.specs.Prelude.{slice_set, slice_index_or, if◌then◌else◌, All}
+use Rattle.std.specs.Prelude.{slice_set, slice_index_or, if◌then◌else◌, All, slice_get}
 use Rattle.model.specs.declared.abs.Abs.{Abs}
 use Rattle.model.specs.declared.abs.Duty.{Duty}
 use Rattle.model.specs.declared.abs.Duty.TheVariants.{Fresh, Pending, Finished, GivenDown, NoDuty}
@@ -10,13 +10,14 @@ use Rattle.model.specs.declared.abs.Kind.{Kind}
 use Rattle.model.specs.declared.abs.Kind.TheVariants.{Blank, Num, Lower, New, Own, View}
 use Rattle.model.specs.declared.abs.Settled.TheVariants.{Settled as SettledMark}
 use Rattle.model.specs.declared.instr.Instr.{Instr}
-use Rattle.model.specs.declared.instr.Instr.TheVariants.{Const, Move, Clear, Load, LoadPaged, Get, Mark, Pass, Call, Complete, IfPending}
+use Rattle.model.specs.declared.instr.Instr.TheVariants.{Const, Move, Clear, Load, LoadPaged, Get, Mark, Pass, Call, Complete, IfPending, Insert, Remove, Start, Take, Begin}
 use Rattle.model.specs.declared.set.Sort.{Sort}
 use Rattle.model.specs.declared.set.Sort.TheVariants.{Dispatch}
 use Rattle.model.specs.LocalRule.{a_new_one, complete_kind, demanded, duty_completed, entered_with, entry_of_sort, given_down, handed, handed_at_label, is_lower, is_packet, kind_of, left_behind, mark_fault, marked, one_handed_or_owned, refuses}
 use Rattle.model.specs.Paths.{Arrives}
 use Rattle.model.specs.Set.{Set, Member}
 use Rattle.model.specs.Sound.{OperandFits}
+use Rattle.run_laws.specs.NoQueues.{is_of_queues}
 use Rattle.run_laws.proofs.Lists.{all_at, copied}
 use Rattle.run_laws.proofs.States.Along.{arrives_keep}
 use Rattle.run_laws.proofs.States.Kinds.{handed_long}
@@ -291,57 +292,66 @@ passes_new Blank h = cc
 passes_new Num h = cc
 passes_new Lower h = cc
 
--- every instruction that breaks no rule
-handed_dutiful : (s : Abs) (i : Instr) (set : Set) (driver : ℕ)
+-- every instruction that breaks no rule, but for those about queues
+handed_dutiful : (s : Abs) (i : Instr) (set : Set) (driver : ℕ) → is_of_queues i ≡ false
     → refuses s i Dispatch set driver ≡ None → OperandFits i
     → length s.kinds ≡ 16 → Dutiful s → Dutiful (handed s i)
-handed_dutiful s (Const r n) set driver rule fits long h =
+handed_dutiful s (Const r n) set driver plain rule fits long h =
     dutied_written s.duty s.kinds r Num (unbroken _ _ rule) refl refl h
-handed_dutiful s (Move r q) set driver rule fits long h =
+handed_dutiful s (Move r q) set driver plain rule fits long h =
     let small : r < 16 = fits.0 in
     dutied_moved s.duty s.kinds r q (unbroken _ _ rule) (omega arith) h
-handed_dutiful s (Clear r) set driver rule fits long h =
+handed_dutiful s (Clear r) set driver plain rule fits long h =
     dutied_written s.duty s.kinds r Blank (unbroken _ _ rule) refl refl h
-handed_dutiful s (Load r c) set driver rule fits long h =
+handed_dutiful s (Load r c) set driver plain rule fits long h =
     dutied_written s.duty s.kinds r Num (unbroken _ _ rule) refl refl h
-handed_dutiful s (LoadPaged r c) set driver rule fits long h =
+handed_dutiful s (LoadPaged r c) set driver plain rule fits long h =
     dutied_written s.duty s.kinds r Num (unbroken _ _ (second_none _ _ rule)) refl refl h
-handed_dutiful s (Get r q field) set driver rule fits long h =
+handed_dutiful s (Get r q field) set driver plain rule fits long h =
     dutied_written s.duty s.kinds r Num (unbroken _ _ (second_none _ _ rule)) refl refl h
-handed_dutiful s (Mark r) set driver rule fits long h = marked_dutiful s r (kind_of s r) rule refl h
-handed_dutiful s (Pass r) set driver rule fits long h =
+handed_dutiful s (Mark r) set driver plain rule fits long h = marked_dutiful s r (kind_of s r) rule refl h
+handed_dutiful s (Insert r q) set driver plain rule fits long h = cc
+handed_dutiful s (Remove r q label) set driver plain rule fits long h = cc
+handed_dutiful s (Start r) set driver plain rule fits long h = cc
+handed_dutiful s (Take r label) set driver plain rule fits long h = cc
+handed_dutiful s (Begin r) set driver plain rule fits long h = cc
+handed_dutiful s (Pass r) set driver plain rule fits long h =
     given_dutiful s r (kind_of s r)
     (ap (demanded one_handed_or_owned) (passes_new (kind_of s r) (first_none _ _ rule))) refl h
-handed_dutiful s (Call r f) set driver rule fits long h =
+handed_dutiful s (Call r f) set driver plain rule fits long h =
     given_dutiful s r (kind_of s r) (first_none _ _ rule) refl h
-handed_dutiful s (Complete r status) set driver rule fits long h =
+handed_dutiful s (Complete r status) set driver plain rule fits long h =
     completed_dutiful s r (kind_of s r) (first_none _ _ rule) refl h
-handed_dutiful s _ set driver rule fits long h = h
+handed_dutiful s _ set driver plain rule fits long h = h
 
 -- what arrives in a dispatch routine
 pub record Arrived (s : Abs) : Type 0 where
   pub long : length s.kinds ≡ 16
   pub dutiful : Dutiful s
 
-label_arrived : (s : Abs) (i : Instr) → Arrived s → Arrived (handed_at_label s i)
-label_arrived s (IfPending r label) h = record { long = h.long; dutiful = h.dutiful }
-label_arrived s _ h = h
+label_arrived : (s : Abs) (i : Instr) → is_of_queues i ≡ false → Arrived s
+    → Arrived (handed_at_label s i)
+label_arrived s (Remove r q label) plain h = cc
+label_arrived s (Take r label) plain h = cc
+label_arrived s (IfPending r label) plain h = record { long = h.long; dutiful = h.dutiful }
+label_arrived s _ plain h = h
 
 pub dispatch_arrived : (m : Member) (p : ℕ) (s : Abs) → m.routine.sort ≡ Dispatch
     → All OperandFits m.routine.code
+    → ((q : ℕ) (i : Instr) → slice_get m.routine.code q ≡ Some i → is_of_queues i ≡ false)
     → Arrives m p s → Arrived s
-dispatch_arrived m p s is fit arrives =
+dispatch_arrived m p s is fit plain arrives =
     arrives_keep Arrived m
     (λ first there.
-    let start : Some (entered_with New Fresh SettledMark) ≡ Some first = sym (ap entry_of_sort is)
+    let start : Some (entered_with New Fresh SettledMark false) ≡ Some first = sym (ap entry_of_sort is)
     ∙ there in
-    let same : entered_with New Fresh SettledMark ≡ first = cc in
+    let same : entered_with New Fresh SettledMark false ≡ first = cc in
     subst Arrived same (record { long = refl; dutiful = (refl, refl, refl) }))
     (λ before i q at rule h.
     record {
       long = handed_long before i ∙ h.long;
-      dutiful = handed_dutiful before i m.set m.driver
+      dutiful = handed_dutiful before i m.set m.driver (plain q i at)
           (ap (λ (sort : Sort). refuses before i sort m.set m.driver) (sym is) ∙ rule)
           (all_at OperandFits m.routine.code q i fit at) h.long h.dutiful;
     })
-    label_arrived p s arrives
+    (λ before i q at h. label_arrived before i (plain q i at) h) p s arrives

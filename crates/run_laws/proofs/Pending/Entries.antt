@@ -19,12 +19,13 @@ use Rattle.run_laws.proofs.Past.Packets.{found}
 use Rattle.run_laws.proofs.Pending.Events.{Attends}
 use Rattle.run_laws.proofs.Pending.Serving.{AllServe, FrameServes, MustServe, TagNames, UnderServes, first_served, served}
 use Rattle.run_laws.proofs.Pending.Threads.{TopServes, top_serves}
-use Rattle.run_laws.proofs.Runs.Events.{Happens, issues, nothing, steps, begins}
+use Rattle.run_laws.proofs.Runs.Events.{Happens, issues, nothing, steps, begins, begins_startio}
 use Rattle.run_laws.proofs.Runs.Threads.{frames_there}
 use Rattle.run_laws.proofs.States.Rules.{States}
 use Rattle.run_laws.proofs.States.Stacks.{Stacked, Stands}
 use Rattle.run_laws.proofs.States.Told.{last_under}
-use Rattle.run_laws.proofs.Steps.Comes.{Comes, awaits_lock, calls_down, carries_up, computes, errs, lets_go, marks_packet, opens_loop, returns_status, tops_out, turns_loop, walks_gone, walks_to, walks_up, ends_dpc}
+use Rattle.run_laws.proofs.Steps.Comes.{Comes, awaits_lock, calls_down, carries_up, computes, errs, lets_go, marks_packet, opens_loop, returns_status, tops_out, turns_loop, walks_gone, walks_to, walks_up, ends_dpc, works_on_queues, ends_startio}
+use Rattle.run_laws.proofs.Steps.Queues.{queued_touches}
 use Rattle.run_laws.proofs.Uses.Events.{KnownWorld, known_top}
 use Rattle.run_laws.proofs.Uses.Fates.{PacketUses, UsesTell}
 use Rattle.run_laws.proofs.Uses.RoutineSteps.{OnWalk}
@@ -113,6 +114,13 @@ module _ (set : Set) (states : States) (w : World) (past : List Entry) (actor : 
     dispatch_serves_use set states w past under a None actor.tag on serves.1 sort,
     (names_activation a.driver a.routine actor.tag serves.0, h),
   )
+  routine_says under below a o on serves (works_on_queues b i c queues starts actions full at queued) h =
+      elim (queued_touches queued) [
+        | inl none ↦ rw none (names_activation a.driver a.routine actor.tag serves.0, h)
+        | inr one ↦ rw one.1 (tt, (names_activation a.driver a.routine actor.tag serves.0, h))
+      ]
+  routine_says under below a o on serves (ends_startio b at sort) h =
+      (names_activation a.driver a.routine actor.tag serves.0, h)
   routine_says under below a o on serves (ends_dpc b at sort) h =
       (names_activation a.driver a.routine actor.tag serves.0, h)
   routine_says under below a o on serves (lets_go b at sort bare) h =
@@ -146,6 +154,7 @@ module _ (set : Set) (states : States) (w : World) (past : List Entry) (actor : 
   entries_event tags c known attends (nothing reply right) acts h = h
   entries_event tags c known attends (issues i) acts h = (tt, h)
   entries_event tags c known attends (begins i) acts h = h
+  entries_event tags c known attends (begins_startio i) acts h = h
   entries_event tags c known attends (steps i) acts h =
       let row : List Tag = slice_index_or tags actor.thread [] in
       let top : TopServes set states w past None i.below i.frame row =

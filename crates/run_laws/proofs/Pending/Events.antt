@@ -37,11 +37,12 @@ use Rattle.run_laws.proofs.Pending.Serving.{AllServe, Current, FrameServes, Keep
 use Rattle.run_laws.proofs.Pending.Threads.{Tagged, TopServes, all_on, all_told, row_same, tagged_all, tags_kept, top_serves}
 use Rattle.run_laws.proofs.Pending.TopDispatch.{begins_serving}
 use Rattle.run_laws.proofs.Pending.UsesServed.{BeginsServing, Settles, begun_serves, new_serving}
-use Rattle.run_laws.proofs.Runs.Events.{Happens, IssuesPacket, StepsFrame, issues, nothing, steps, begins, BeginsDpc}
+use Rattle.run_laws.proofs.Runs.Events.{Happens, IssuesPacket, StepsFrame, issues, nothing, steps, begins, BeginsDpc, begins_startio}
 use Rattle.run_laws.proofs.Runs.Kept.{with_queued}
 use Rattle.run_laws.proofs.Runs.Threads.{frames_put, frames_there, idle_frames, others_put, thread_put}
 use Rattle.run_laws.proofs.States.Entering.{begins_request, begins_dpc}
 use Rattle.run_laws.proofs.States.Fine.{StepLeaves, leaves_fine}
+use Rattle.run_laws.proofs.States.Queueless.{never_starts}
 use Rattle.run_laws.proofs.States.Rules.{States}
 use Rattle.run_laws.proofs.States.Stacks.{Replaces, Stacked, Stands}
 use Rattle.run_laws.proofs.States.Standing.{on_top, stands_there}
@@ -464,6 +465,7 @@ module _ (set : Set) (states : States) (w : World) (past : List Entry) (tags : L
       attends_by c (steps h) quiet kept settles = step_attends h acts quiet kept settles
       attends_by c (issues h) quiet kept settles = issue_attends h settles
       attends_by c (begins h) quiet kept settles = dpc_attends h settles
+      attends_by c (begins_startio h) quiet kept settles = absurd (never_starts known.good h)
 
 -- before the first event
 pub attends_begun : (set : Set) (states : States) (threads : ℕ)

@@ -254,7 +254,7 @@ module _ (set : Set) (states : States) (w later_w : World) (past : List Entry) (
         | inr bare ↦
             dpc_turned a is names bare.of_sort
             (λ m. completion_looks m set states w.shared actor.thread below a o
-            (λ i at. (runs set states w.shared a i h.known.top at).obeys)
+            h.known.top.good (λ i at. (runs set states w.shared a i h.known.top at).obeys)
             (inr (bare.of_sort, λ r n reads. bare_reads set w.shared a r n bare reads))
             (reads_own m w.shared a (bare.refers m)) comes) h
       ]
@@ -265,7 +265,7 @@ module _ (set : Set) (states : States) (w later_w : World) (past : List Entry) (
   routine_turned (Some (Walk m)) below a is seen on serves names comes h =
       completion_turned m a is names
       (completion_looks m set states w.shared actor.thread below a o
-      (λ i at. (runs set states w.shared a i h.known.top at).obeys) (inl on)
+      h.known.top.good (λ i at. (runs set states w.shared a i h.known.top at).obeys) (inl on)
       (reads_own m w.shared a seen)
       comes) h
 

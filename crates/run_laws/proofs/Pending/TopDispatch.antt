@@ -20,7 +20,7 @@ use Rattle.run_laws.proofs.Pending.Duties.{dispatch_arrived}
 use Rattle.run_laws.proofs.Pending.UsesServed.{BeginsServing}
 use Rattle.run_laws.proofs.States.Entering.{Begins, IsOfSort, begins_lower}
 use Rattle.run_laws.proofs.States.Fine.{answered_is}
-use Rattle.run_laws.proofs.States.Frames.{state_of}
+use Rattle.run_laws.proofs.States.Frames.{state_of, no_queues_in}
 use Rattle.run_laws.proofs.States.Lacking.{never_lacks}
 use Rattle.run_laws.proofs.States.OnTop.{runs}
 use Rattle.run_laws.proofs.States.Rules.{States}
@@ -61,6 +61,8 @@ steps_dispatch set states s past under a h is =
       arrived = dispatch_arrived (member set a.driver a.routine h.top.stands.0) a.position
           (state_of states a)
           (sort_is set states s past under a h Dispatch is) (known set states s past under a h).operands
+          (no_queues_in set states a.driver a.routine h.top.stands.0 h.top.good
+          (stays set states s past under a h).is_of)
           ((known set states s past under a h).follows.arrives a.position
           (stays set states s past under a h).within);
       unseen = unseen set states s past under a h is;

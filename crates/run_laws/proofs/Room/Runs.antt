@@ -30,12 +30,13 @@ use Rattle.run_laws.proofs.Lists.{Each, each_append, each_before, each_after}
 use Rattle.run_laws.proofs.Past.LivePackets.{find, find_push}
 use Rattle.run_laws.proofs.Room.Extents.{Extent, extent_of, extent, stack_of, stack_at, some_stack}
 use Rattle.run_laws.proofs.Room.Steps.{HasRoom, LeavesRoom, Even, call_faults, room_step}
-use Rattle.run_laws.proofs.Runs.Events.{StepsFrame, Happens, nothing, steps, issues, begins}
+use Rattle.run_laws.proofs.Runs.Events.{StepsFrame, Happens, nothing, steps, issues, begins, begins_startio}
 use Rattle.run_laws.proofs.Runs.Kept.{GoesOnBy}
 use Rattle.run_laws.proofs.Runs.Threads.{frames_there, each_frames, idle_frames}
 use Rattle.run_laws.proofs.States.Entering.{Begins, begins_request, begins_dpc}
 use Rattle.run_laws.proofs.States.Fine.{StepLeaves, leaves_fine}
 use Rattle.run_laws.proofs.States.Frames.{IsGood}
+use Rattle.run_laws.proofs.States.Queueless.{never_starts}
 use Rattle.run_laws.proofs.States.Rules.{States}
 use Rattle.run_laws.proofs.States.Stacks.{Stands, Stacked, Replaces}
 use Rattle.run_laws.proofs.States.Standing.{Standing, stands_there, on_top}
@@ -156,6 +157,7 @@ module _ (set : Set) (states : States) (w : World) (past : List Entry) (good : I
       h.comes
   call_faults_none actor c (issues h) touches = refl
   call_faults_none actor c (begins h) touches = refl
+  call_faults_none actor c (begins_startio h) touches = refl
 
   -- frames of each thread after an event
   threads_room : (t : ℕ) (s : Shared) (thread after : Thread) → slice_get w.threads t ≡ Some thread
@@ -263,6 +265,7 @@ module _ (set : Set) (states : States) (w : World) (past : List Entry) (good : I
           (request_room h.device h.d h.major h.argument h.there, tt)
           (λ k apart n some. old_extent h.device h.d h.major h.argument h.there n
           (not_yet set states w past stands holds k n some))
+      kept c (begins_startio h) quiet = absurd (never_starts good h)
       kept c (begins h) quiet =
           let a : Activation = dpc_activation set h.d h.routine in
           threads_room actor.thread (with_dpc w.shared h.d false) h.thread

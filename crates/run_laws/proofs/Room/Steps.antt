@@ -32,8 +32,9 @@ use Rattle.run_laws.proofs.States.Frames.{Runs}
 use Rattle.run_laws.proofs.States.Lacking.{down, lower_device}
 use Rattle.run_laws.proofs.States.Obeyed.{locations_wanted}
 use Rattle.run_laws.proofs.States.OnTop.{OnTop, runs}
+use Rattle.run_laws.proofs.States.Queueless.{never_queued}
 use Rattle.run_laws.proofs.States.Rules.{States}
-use Rattle.run_laws.proofs.Steps.Comes.{Comes, computes, turns_loop, pages, looks_at, writes_info, marks_packet, completes_packet, passes_down, calls_down, returns_status, lets_go, lets_walk, walks_gone, walks_to, walks_up, carries_up, tops_out, ends_dpc}
+use Rattle.run_laws.proofs.Steps.Comes.{Comes, computes, turns_loop, pages, looks_at, writes_info, marks_packet, completes_packet, passes_down, calls_down, returns_status, lets_go, lets_walk, walks_gone, walks_to, walks_up, carries_up, tops_out, ends_dpc, works_on_queues, ends_startio}
 use Rattle.run_laws.proofs.Steps.Faults.{is_call, fault_among}
 use Rattle.run_laws.proofs.Steps.Words.{Forwarding, work_of, packet_operand}
 
@@ -127,9 +128,12 @@ module _ (set : Set) (states : States) (s : Shared) where
         (asked_of (current_location p)) n) in
         let less : stack_at set lower + 1 ≤ stack_at set a.device = small.0 in
         (omega arith, (omega arith, tt))
+    devices a under o h (works_on_queues b i c queues starts actions full at queued) =
+        absurd (never_queued h.good at queued)
     devices a under o h (returns_status b form status at sort is) = tt
     devices a under o h (lets_go b at sort isnt) = tt
     devices a under o h (lets_walk b n at sort) = tt
+    devices a under o h (ends_startio b at sort) = tt
     devices a under o h (ends_dpc b at sort) = tt
     devices a under o h _ = (omega arith, tt)
 
@@ -312,6 +316,9 @@ module _ (set : Set) (states : States) (s : Shared) where
     call_faults under f o h holding room even (calls_down a r g n p lower at reads there below) =
         rw (call_fits past a r g n p lower (runs set states s a (Call r g) h at) there below
         (named s (register a r) n reads) holding room even) refl
+    call_faults under f o h holding room even
+        (works_on_queues a i b queues starts actions full at queued) =
+        absurd (never_queued h.good at queued)
     call_faults under f o h holding room even _ = refl
 
     routine_room : (a : Activation) (under : Option Frame) (o : Outcome) → OnTop set states s (Routine a)

@@ -1,11 +1,11 @@
--- What an event can be: nothing happens, the top frame of a thread steps, a packet is issued, or a
--- DPC is queued or begins; and what a run answers to it.
+-- What an event can be: nothing happens, the top frame of a thread steps, a packet is issued, a DPC
+-- is queued or begins, or a StartIo routine begins; and what a run answers to it.
 use Rattle.std.proofs.Common.{◌≡◌, ℕ, ◌-◌, List, [], ◌∷◌, ◌++◌, length, Option, None, Some, Bool, true, false, take, refl}
 use Rattle.std.specs.Prelude.{◌&&◌, not, nat_eq, slice_get, if◌then◌else◌}
-use Rattle.std.proofs.lemmas.Bool.{eqb-true}
+use Rattle.std.proofs.lemmas.Bool.{eqb-true, cond_both}
 use Rattle.model.specs.declared.event.Bug.{Bug}
 use Rattle.model.specs.declared.event.Event.{Event}
-use Rattle.model.specs.declared.event.Event.TheVariants.{Issue, Interrupt, Dpc, Step}
+use Rattle.model.specs.declared.event.Event.TheVariants.{Issue, Interrupt, Dpc, StartIo as StartIoEvent, Step}
 use Rattle.model.specs.declared.event.Place.{Place}
 use Rattle.model.specs.declared.event.Reply.{Reply}
 use Rattle.model.specs.declared.event.Reply.TheVariants.{Idle, Refused, Bug as BugCheckReply, Wrong}
@@ -13,12 +13,13 @@ use Rattle.model.specs.declared.set.Device.{Device}
 use Rattle.model.specs.declared.status.Major.{Major}
 use Rattle.model.specs.declared.world.Frame.{Frame}
 use Rattle.model.specs.declared.world.Thread.{Thread}
-use Rattle.model.specs.Effect.{Change, Outcome, frame_effect, top_of, settled, top_effect, step_thread, unchanged, issued, issue_on, is_idle, can_issue, interrupted, interrupt_on, dpc_begun, dpc_on, effect}
+use Rattle.model.specs.Effect.{Change, Outcome, frame_effect, top_of, settled, top_effect, step_thread, unchanged, issued, issue_on, is_idle, can_issue, interrupted, interrupt_on, dpc_begun, dpc_on, effect, startio_begun, startio_for, startio_from, startio_on}
 use Rattle.model.specs.Fault.{first_fault}
+use Rattle.model.specs.Queues.{StartState, head_of}
 use Rattle.model.specs.Run.{Run, Answered, actor_on, goes, refused, stops, unless_wrong, unless_fault, thread_of, answered_on, step}
-use Rattle.model.specs.Set.{Set, dpc_of}
+use Rattle.model.specs.Set.{Set, dpc_of, startio_of}
 use Rattle.model.specs.Trace.{Entry, recorded}
-use Rattle.model.specs.World.{World, is_queued}
+use Rattle.model.specs.World.{World, is_queued, start_of}
 use Rattle.run_laws.proofs.Lists.{last_split}
 use Rattle.run_laws.proofs.Steps.Comes.{Comes}
 use Rattle.run_laws.proofs.Steps.Walk.{comes}
@@ -60,6 +61,19 @@ pub record BeginsDpc (set : Set) (w : World) (t : ℕ) : Type 0 where
   pub idle : thread.frames.items ≡ []
   pub there : dpc_of set d ≡ Some routine
 
+-- the StartIo routine of a device begins on an idle thread, for the first packet of its start list
+pub record BeginsStartIo (set : Set) (w : World) (t : ℕ) : Type 0 where
+  pub thread : Thread
+  pub d : ℕ
+  pub routine : ℕ
+  pub start : StartState
+  pub n : ℕ
+  pub found : slice_get w.threads t ≡ Some thread
+  pub idle : thread.frames.items ≡ []
+  pub there : startio_of set d ≡ Some routine
+  pub has : start_of w.shared d ≡ Some start
+  pub first : head_of start.start_list ≡ Some n
+
 -- what an event on a thread can be, with the change that it makes
 pub data Happens (set : Set) (w : World) (t : ℕ) : Change → Type 0 where
   nothing : (reply : Reply) → stops_run reply ≡ false → Happens set w t (unchanged w reply)
@@ -67,6 +81,8 @@ pub data Happens (set : Set) (w : World) (t : ℕ) : Change → Type 0 where
   issues : (h : IssuesPacket set w t)
       → Happens set w t (issued set w t h.d h.thread h.device h.major h.argument)
   begins : (h : BeginsDpc set w t) → Happens set w t (dpc_begun set w t h.d h.thread h.routine)
+  begins_startio : (h : BeginsStartIo set w t)
+      → Happens set w t (startio_begun set w t h.d h.thread h.routine h.n h.start)
 
 -- what one about no thread can be
 pub data Sets (set : Set) (w : World) : Change → Type 0 where
@@ -158,6 +174,45 @@ module _ (set : Set) (w : World) (t : ℕ) where
   happens_dpc d (Some thread) (Some routine) found there =
       happens_queued d routine thread (is_idle thread) (is_queued w.shared d) refl found there
 
+  happens_first : (d routine : ℕ) (thread : Thread) (start : StartState) (n : Option ℕ)
+      → slice_get w.threads t ≡ Some thread → is_idle thread ≡ true
+      → startio_of set d ≡ Some routine → start_of w.shared d ≡ Some start
+      → head_of start.start_list ≡ n
+      → Happens set w t (startio_for set w t d thread routine start n)
+  happens_first d routine thread start None found is there has first = nothing Idle refl
+  happens_first d routine thread start (Some n) found is there has first =
+      begins_startio (record {
+        thread = thread;
+        d = d;
+        routine = routine;
+        start = start;
+        n = n;
+        found = found;
+        idle = none_of_length thread.frames.items is;
+        there = there;
+        has = has;
+        first = first;
+      })
+
+  happens_started : (d routine : ℕ) (thread : Thread) (start : Option StartState)
+      → slice_get w.threads t ≡ Some thread → is_idle thread ≡ true
+      → startio_of set d ≡ Some routine → start_of w.shared d ≡ start
+      → Happens set w t (startio_from set w t d thread routine start)
+  happens_started d routine thread None found is there has = nothing Refused refl
+  happens_started d routine thread (Some start) found is there has =
+      happens_first d routine thread start (head_of start.start_list) found is there has refl
+
+  happens_startio : (d : ℕ) (o : Option Thread) (routine : Option ℕ) → slice_get w.threads t ≡ o
+      → startio_of set d ≡ routine
+      → Happens set w t (startio_on set w t d o routine)
+  happens_startio d None routine found there = nothing Refused refl
+  happens_startio d (Some thread) None found there = nothing Refused refl
+  happens_startio d (Some thread) (Some routine) found there =
+      cond_both (is_idle thread) (startio_from set w t d thread routine (start_of w.shared d))
+      (unchanged w Refused) (Happens set w t)
+      (λ is. happens_started d routine thread (start_of w.shared d) found is there refl)
+      (λ busy. nothing Refused refl)
+
 sets_if : (set : Set) (w : World) (d : ℕ) (queued : Bool)
     → Sets set w (if queued then unchanged w Idle else interrupted w d)
 sets_if set w d true = sets_nothing Idle refl
@@ -175,6 +230,9 @@ concerns set w (Issue t d major argument) =
 concerns set w (Interrupt d) = no_thread refl (sets_interrupt set w d (dpc_of set d))
 concerns set w (Dpc t d) =
     a_thread t refl (happens_dpc set w t d (slice_get w.threads t) (dpc_of set d) refl refl)
+concerns set w (StartIoEvent t d) =
+    a_thread t refl
+    (happens_startio set w t d (slice_get w.threads t) (startio_of set d) refl refl)
 concerns set w (Step t) = a_thread t refl (happens_step set w t (slice_get w.threads t) refl)
 
 -- what a run does with a change that an event would make on a thread

@@ -7,14 +7,14 @@ use Rattle.std.proofs.lemmas.Bool.{eq-eqb}
 use Rattle.std.proofs.lemmas.Option.{slice_get_within, slice_get-get_or}
 use Rattle.model.specs.declared.abs.Abs.{Abs}
 use Rattle.model.specs.declared.abs.Duty.TheVariants.{Fresh, NoDuty}
-use Rattle.model.specs.declared.abs.Kind.TheVariants.{Blank as BlankKind, New, View}
+use Rattle.model.specs.declared.abs.Kind.TheVariants.{Blank as BlankKind, New, Own, View}
 use Rattle.model.specs.declared.abs.Settled.TheVariants.{Open, Settled as SettledMark}
 use Rattle.model.specs.declared.limits.TheConstants.{MAX_ROUTINES, REGISTERS, SPIN_LOCKS}
 use Rattle.model.specs.declared.set.Device.{Device}
 use Rattle.model.specs.declared.set.Driver.{Driver}
 use Rattle.model.specs.declared.set.Routine.{Routine as RoutineOf}
 use Rattle.model.specs.declared.set.Sort.{Sort}
-use Rattle.model.specs.declared.set.Sort.TheVariants.{Dispatch, Dpc, Propagate}
+use Rattle.model.specs.declared.set.Sort.TheVariants.{Dispatch, Dpc, Propagate, StartIo}
 use Rattle.model.specs.declared.status.Major.{Major}
 use Rattle.model.specs.declared.status.Major.TheVariants.{Read, Write, Control}
 use Rattle.model.specs.declared.world.Activation.{Activation}
@@ -50,11 +50,13 @@ Serving set driver number =
 
 dispatch_sort : (sort : Sort) → IsDispatch sort → sort ≡ Dispatch
 dispatch_sort Dispatch h = refl
+dispatch_sort StartIo h = absurd h
 dispatch_sort Dpc h = absurd h
 dispatch_sort Propagate h = absurd h
 
 dpc_sort : (sort : Sort) → IsDpc sort → sort ≡ Dpc
 dpc_sort Dispatch h = absurd h
+dpc_sort StartIo h = absurd h
 dpc_sort Dpc h = refl
 dpc_sort Propagate h = absurd h
 
@@ -95,12 +97,14 @@ module _ (set : Set) (sound : IsSound set) (driver : ℕ) where
 
 -- a routine begins in the state of its sort
 abbrev pub first_state : Sort → Abs
-first_state Dispatch = entered_with New Fresh SettledMark
-first_state Dpc = entered_with BlankKind NoDuty SettledMark
-first_state Propagate = entered_with View NoDuty Open
+first_state Dispatch = entered_with New Fresh SettledMark false
+first_state StartIo = entered_with Own NoDuty SettledMark true
+first_state Dpc = entered_with BlankKind NoDuty SettledMark false
+first_state Propagate = entered_with View NoDuty Open false
 
 started : (sort : Sort) (s : Abs) → entry_of_sort sort ≡ Some s → s ≡ first_state sort
 started Dispatch s h = cc
+started StartIo s h = cc
 started Dpc s h = cc
 started Propagate s h = cc
 
@@ -111,16 +115,19 @@ blank_kinds issued (suc count) = (tt, blank_kinds issued count)
 first_kinds : (issued n : ℕ) (sort : Sort) → n < issued
     → HasKinds issued (first_state sort).kinds (Ref n ∷ replicate (REGISTERS - 1) Blank)
 first_kinds issued n Dispatch l = ((n, refl, l), blank_kinds issued (REGISTERS - 1))
+first_kinds issued n StartIo l = ((n, refl, l), blank_kinds issued (REGISTERS - 1))
 first_kinds issued n Dpc l = (tt, blank_kinds issued (REGISTERS - 1))
 first_kinds issued n Propagate l = ((n, refl, l), blank_kinds issued (REGISTERS - 1))
 
 first_sixteen : (sort : Sort) → length (first_state sort).kinds ≡ REGISTERS
 first_sixteen Dispatch = refl
+first_sixteen StartIo = refl
 first_sixteen Dpc = refl
 first_sixteen Propagate = refl
 
 first_eight : (sort : Sort) → length (first_state sort).locks ≡ SPIN_LOCKS
 first_eight Dispatch = refl
+first_eight StartIo = refl
 first_eight Dpc = refl
 first_eight Propagate = refl
 
@@ -195,7 +202,8 @@ module _ (set : Set) (states : States) (good : IsGood set states) (issued : ℕ)
       (dpc_sort routine.sort h) (d, there, refl))
 
   dpc_driver : (device number : ℕ) (d : Device) (o : Option Driver)
-      → slice_get set.devices device ≡ Some d → slice_get set.drivers d.driver ≡ o → option_and_then (λ driver. driver.dpc) o ≡ Some number
+      → slice_get set.devices device ≡ Some d → slice_get set.drivers d.driver ≡ o
+      → option_and_then (λ driver. driver.dpc) o ≡ Some number
       → Enters set states issued (dpc_activation set device number) Dpc Blank
   dpc_driver device number d None there of_driver is = cc
   dpc_driver device number d (Some driver) there of_driver is =

@@ -13,7 +13,7 @@ use Rattle.model.specs.declared.event.Subject.TheVariants.{Packet as PacketSubje
 use Rattle.model.specs.declared.instr.Instr.{Instr}
 use Rattle.model.specs.declared.instr.Instr.TheVariants.{Loop, End, Mark, Put, Pass, Call, Complete}
 use Rattle.model.specs.declared.set.Sort.{Sort}
-use Rattle.model.specs.declared.set.Sort.TheVariants.{Dispatch, Dpc, Propagate}
+use Rattle.model.specs.declared.set.Sort.TheVariants.{Dispatch, Dpc, Propagate, StartIo}
 use Rattle.model.specs.declared.status.Status.{Status}
 use Rattle.model.specs.declared.world.Activation.{Activation}
 use Rattle.model.specs.declared.world.Frame.{Frame}
@@ -41,10 +41,11 @@ use Rattle.run_laws.proofs.States.LoopEnds.{moved_loop, moved_end}
 use Rattle.run_laws.proofs.States.Moves.{falls_next, moved, moved_next, arrives_next}
 use Rattle.run_laws.proofs.States.Obeyed.{SendsDown, CompletesOne, completes_one}
 use Rattle.run_laws.proofs.States.OnTop.{OnTop, at_routine, runs}
+use Rattle.run_laws.proofs.States.Queueless.{never_queued}
 use Rattle.run_laws.proofs.States.Rules.{States}
 use Rattle.run_laws.proofs.States.Stacks.{Stands, Replaces}
 use Rattle.run_laws.proofs.States.Told.{told_frame}
-use Rattle.run_laws.proofs.Steps.Comes.{onward, keeps_all, Comes, errs, awaits_lock, computes, opens_loop, turns_loop, pages, touches_gone, looks_at, writes_info, marks_packet, takes_lock, retakes_lock, frees_lock, completes_packet, completes_gone, passes_down, calls_down, returns_status, lets_go, lets_walk, ends_dpc, walks_gone, walks_to, walks_up, carries_up, tops_out}
+use Rattle.run_laws.proofs.Steps.Comes.{onward, keeps_all, Comes, errs, awaits_lock, computes, opens_loop, turns_loop, pages, touches_gone, looks_at, writes_info, marks_packet, takes_lock, retakes_lock, frees_lock, completes_packet, completes_gone, passes_down, calls_down, returns_status, lets_go, lets_walk, ends_dpc, walks_gone, walks_to, walks_up, carries_up, tops_out, works_on_queues, ends_startio}
 use Rattle.run_laws.proofs.Steps.Locking.{freed_word, taken_word}
 use Rattle.run_laws.proofs.Steps.Faults.{none_first}
 use Rattle.run_laws.proofs.Steps.Words.{Forwarding, is_forwarding, work_of, goes_next, keeps_registers, packet_operand}
@@ -63,6 +64,8 @@ pub is_right_step : (set : Set) (states : States) (s : Shared) (t : ℕ) (under 
     (f : Frame) (o : Outcome)
     → OnTop set states s f → Comes set s t under f o → IsRight o
 is_right_step set states s t under f o h (errs a lacks) = absurd (never_lacks set states s a h lacks)
+is_right_step set states s t under f o h (works_on_queues a i b queues starts actions full at queued) =
+    absurd (never_queued h.good at queued)
 is_right_step set states s t under f o h _ = record { silent = refl; right = refl }
 
 -- a packet that was issued and hasn't topped out is live
@@ -99,6 +102,12 @@ module _ (set : Set) (states : States) (issued : ℕ) where
       → Stands set states issued None (told_frame set None g)
   below_propagate a sort (Routine b) h = let no : Propagate ≡ Dispatch = sym sort ∙ h.0 in cc
   below_propagate a sort (Walk n) h = h.1
+
+  below_startio : (a : Activation) → IsOfSort set a StartIo → (g : Frame)
+      → Stands set states issued (Some (Routine a)) g
+      → Stands set states issued None (told_frame set None g)
+  below_startio a sort (Routine b) h = let no : StartIo ≡ Dispatch = sym sort ∙ h.0 in cc
+  below_startio a sort (Walk n) h = let no : StartIo ≡ Propagate = sym sort ∙ h.0 in cc
 
   below_dpc : (a : Activation) → IsOfSort set a Dpc → (g : Frame)
       → Stands set states issued (Some (Routine a)) g
@@ -293,6 +302,8 @@ module _ (set : Set) (states : States) (s : Shared) (past : List Entry) (actor :
       (moved_on set states s a i run (freed_word a i lock frees).on (freed_word a i lock frees).keeps
       (ap is_forwarding (freed_word a i lock frees).work))
       (with_owner_fits set s h.fits lock None (freed_there set states s a i lock run frees)) refl
+  leaves_fine under f o h quiet (works_on_queues a i b queues starts actions full at queued) =
+      absurd (never_queued h.good at queued)
   leaves_fine under f o h quiet (completes_packet a r status n p at reads there) =
       let run : Runs set states s a (Complete r status) = runs set states s a (Complete r status) h at in
       let m : Moved set states s.issued a (next a) (handed (state_of states a) (Complete r status)) =
@@ -340,6 +351,8 @@ module _ (set : Set) (states : States) (s : Shared) (past : List Entry) (actor :
       record { fits = h.fits; issued = refl; stands = below_propagate set states s.issued a sort }
   leaves_fine under f o h quiet (lets_walk a n at sort) =
       record { fits = h.fits; issued = refl; stands = below_propagate set states s.issued a sort }
+  leaves_fine under f o h quiet (ends_startio a at sort) =
+      record { fits = h.fits; issued = refl; stands = below_startio set states s.issued a sort }
   leaves_fine under f o h quiet (ends_dpc a at sort) =
       record { fits = h.fits; issued = refl; stands = below_dpc set states s.issued a sort }
   leaves_fine under f o h quiet (walks_gone n gone) =

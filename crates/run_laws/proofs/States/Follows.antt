@@ -145,7 +145,7 @@ module _ (m : Member) (typable : IsTypableRoutine m) where
 
   abbrev fine_state : (p : ℕ) → Within p ⊎ (length m.routine.code ≤ p) → Abs
   fine_state p (inl within) = (typable.each p within).state
-  fine_state p (inr past) = entered_with Blank NoDuty Open
+  fine_state p (inr past) = entered_with Blank NoDuty Open false
 
   abbrev state_at : ℕ → Abs
   state_at p = fine_state p (cases_lt p (length m.routine.code))
@@ -228,7 +228,7 @@ module _ (m : Member) (typable : IsTypableRoutine m) where
 
 -- the default routine: its packet is new at first, and then completed
 abbrev default_entry : Abs
-default_entry = entered_with New Fresh SettledMark
+default_entry = entered_with New Fresh SettledMark false
 
 abbrev default_state : ℕ → Abs
 default_state zero = default_entry

@@ -9,15 +9,16 @@ use Rattle.model.specs.declared.abs.Abs.{Abs}
 use Rattle.model.specs.declared.abs.Kind.{Kind}
 use Rattle.model.specs.declared.abs.Kind.TheVariants.{Blank as BlankKind, Num as NumKind, Lower, New, Own, View}
 use Rattle.model.specs.declared.instr.Instr.{Instr}
-use Rattle.model.specs.declared.instr.Instr.TheVariants.{Const, Move, Clear, Add, Subtract, JumpIfZero, JumpIfLess, Load, Store, LoadPaged, StorePaged, Get, Put, Mark, Acquire, Release, Pass, Call, Complete, IfPending}
+use Rattle.model.specs.declared.instr.Instr.TheVariants.{Const, Move, Clear, Add, Subtract, JumpIfZero, JumpIfLess, Load, Store, LoadPaged, StorePaged, Get, Put, Mark, Acquire, Release, Pass, Call, Complete, IfPending, Insert, Remove, Start, Take, Begin}
 use Rattle.model.specs.declared.set.Sort.{Sort}
 use Rattle.model.specs.declared.status.Status.{Status}
 use Rattle.model.specs.declared.world.Activation.{Activation}
 use Rattle.model.specs.declared.world.Value.{Value}
 use Rattle.model.specs.declared.world.Value.TheVariants.{Blank, Num, Ref, Status as StatusValue}
-use Rattle.model.specs.LocalRule.{kind_of, is_packet, is_right, is_lower, Wanted, demanded, any_packet, a_new_one, one_handed_or_owned, one_to_mark, one_to_look_at, number_kind, complete_kind, mark_fault, refuses, left_behind, marked, given_down, handed, handed_at_label}
+use Rattle.model.specs.LocalRule.{kind_of, is_packet, is_right, is_lower, Wanted, demanded, any_packet, a_new_one, one_handed_or_owned, one_to_mark, one_to_look_at, number_kind, complete_kind, mark_fault, refuses, left_behind, marked, given_down, handed, handed_at_label, an_owned_one}
 use Rattle.model.specs.Set.{Set}
 use Rattle.model.specs.World.{Shared, number_in, packet_in, status_in}
+use Rattle.run_laws.specs.NoQueues.{is_of_queues}
 use Rattle.run_laws.proofs.Lists.{copied}
 use Rattle.run_laws.proofs.States.Rules.{first_none, second_none}
 use Rattle.run_laws.proofs.Steps.Comes.{Written, keeps_all, makes_number, moves_over, makes_blank}
@@ -165,6 +166,9 @@ module _ (s : Abs) (sort : Sort) (set : Set) (driver : ℕ) where
   packet_wanted (Get p q field) r h is = demands any_packet q r (first_none _ _ h) is
   packet_wanted (Put q p) r h is = demands any_packet q r (first_none _ _ h) is
   packet_wanted (Mark q) r h is = demands one_to_mark q r (first_none _ _ h) is
+  packet_wanted (Insert q list) r h is = demands an_owned_one q r (first_none _ _ h) is
+  packet_wanted (Start q) r h is = demands an_owned_one q r (first_none _ _ h) is
+  packet_wanted (Begin q) r h is = demands an_owned_one q r (first_none _ _ h) is
   packet_wanted (Pass q) r h is = demands a_new_one q r (first_none _ _ h) is
   packet_wanted (Call q f) r h is = demands one_handed_or_owned q r (first_none _ _ h) is
   packet_wanted (Complete q status) r h is =
@@ -236,10 +240,18 @@ module _ (s : Abs) (sort : Sort) (set : Set) (driver : ℕ) where
   same_kinds issued values (Load r c) keeps same on stays h = cc
   same_kinds issued values (LoadPaged r c) keeps same on stays h = cc
   same_kinds issued values (Get r q field) keeps same on stays h = cc
+  same_kinds issued values (Remove r q label) keeps same on stays h = cc
+  same_kinds issued values (Take r label) keeps same on stays h = cc
   same_kinds issued values (Pass r) keeps same on stays h = cc
   same_kinds issued values (Call r f) keeps same on stays h = cc
   same_kinds issued values (Mark r) keeps same on stays h =
       mark_kinds issued values r (kind_of s r) keeps (kinds_get issued s.kinds values r h) h
+  same_kinds issued values (Insert r q) keeps same on stays h =
+      kinds_turn issued s.kinds values r BlankKind h tt
+  same_kinds issued values (Start r) keeps same on stays h =
+      kinds_turn issued s.kinds values r BlankKind h tt
+  same_kinds issued values (Begin r) keeps same on stays h =
+      kinds_turn issued s.kinds values r BlankKind h tt
   same_kinds issued values (Complete r status) keeps same on stays h =
       kinds_turn issued s.kinds values r BlankKind h tt
   same_kinds issued values _ keeps same on stays h = h
@@ -278,6 +290,11 @@ still_kinds s (Load r c) same quiet = cc
 still_kinds s (LoadPaged r c) same quiet = cc
 still_kinds s (Get r q field) same quiet = cc
 still_kinds s (Mark r) same quiet = cc
+still_kinds s (Insert r q) same quiet = cc
+still_kinds s (Remove r q label) same quiet = cc
+still_kinds s (Start r) same quiet = cc
+still_kinds s (Take r label) same quiet = cc
+still_kinds s (Begin r) same quiet = cc
 still_kinds s (Pass r) same quiet = cc
 still_kinds s (Call r f) same quiet = cc
 still_kinds s (Complete r status) same quiet = cc
@@ -303,6 +320,11 @@ handed_long s (Load r c) = length-set s.kinds r NumKind
 handed_long s (LoadPaged r c) = length-set s.kinds r NumKind
 handed_long s (Get r q field) = length-set s.kinds r NumKind
 handed_long s (Mark r) = marked_long s r (kind_of s r)
+handed_long s (Insert r q) = length-set s.kinds r BlankKind
+handed_long s (Remove r q label) = length-set s.kinds r Own
+handed_long s (Start r) = length-set s.kinds r BlankKind
+handed_long s (Take r label) = length-set s.kinds r Own
+handed_long s (Begin r) = length-set s.kinds r BlankKind
 handed_long s (Pass r) = given_long s r (kind_of s r)
 handed_long s (Call r f) = given_long s r (kind_of s r)
 handed_long s (Complete r status) = length-set s.kinds r BlankKind
@@ -324,10 +346,18 @@ handed_locks s (Acquire lock) = length-set s.locks lock true
 handed_locks s (Release lock) = length-set s.locks lock false
 handed_locks s _ = refl
 
--- nor does a jump change the kinds and the locks
-pub label_kinds : (s : Abs) (i : Instr) → (handed_at_label s i).kinds ≡ s.kinds
-label_kinds s (IfPending r label) = refl
-label_kinds s _ = refl
+-- nor does a jump, and it changes the kinds where there was no packet to take alone, and no locks
+pub label_long : (s : Abs) (i : Instr) → length (handed_at_label s i).kinds ≡ length s.kinds
+label_long s (Remove r q label) = length-set s.kinds r BlankKind
+label_long s (Take r label) = length-set s.kinds r BlankKind
+label_long s (IfPending r label) = refl
+label_long s _ = refl
+
+pub label_kinds : (s : Abs) (i : Instr) → is_of_queues i ≡ false → (handed_at_label s i).kinds ≡ s.kinds
+label_kinds s (Remove r q label) plain = cc
+label_kinds s (Take r label) plain = cc
+label_kinds s (IfPending r label) plain = refl
+label_kinds s _ plain = refl
 
 pub label_locks : (s : Abs) (i : Instr) → (handed_at_label s i).locks ≡ s.locks
 label_locks s (IfPending r label) = refl

@@ -1,5 +1,5 @@
 -- A state for every position of every routine of an accepted set, the default routine included.
-use Rattle.std.proofs.Common.{◌≡◌, ℕ, zero, suc, ◌<◌, ◌≤◌, inl, inr, List, [], ◌∷◌, length, Option, None, Some, refl, arith, subst}
+use Rattle.std.proofs.Common.{◌≡◌, ℕ, zero, suc, ◌<◌, ◌≤◌, inl, inr, List, [], ◌∷◌, length, Option, None, Some, refl, arith, subst, false}
 use Rattle.std.specs.Prelude.{⊤, All, IfSome, slice_get, slice_index_or, option_and_then}
 use Rattle.std.proofs.lemmas.Bool.Decides.{eqb_tells}
 use Rattle.std.proofs.lemmas.Option.{slice_get_within}
@@ -12,7 +12,7 @@ use Rattle.model.specs.declared.limits.TheConstants.{MAX_ROUTINES}
 use Rattle.model.specs.declared.set.Driver.{Driver}
 use Rattle.model.specs.declared.set.Routine.{Routine}
 use Rattle.model.specs.declared.set.Sort.{Sort}
-use Rattle.model.specs.declared.set.Sort.TheVariants.{Dispatch, Dpc, Propagate}
+use Rattle.model.specs.declared.set.Sort.TheVariants.{Dispatch, Dpc, Propagate, StartIo}
 use Rattle.model.specs.LocalRule.{entered_with}
 use Rattle.model.specs.Loops.{open_at}
 use Rattle.model.specs.Set.{Set, Member, member, routine_of, default_routine, default_number, default_code}
@@ -63,6 +63,7 @@ Knows m = (state : ℕ → Abs) × IsKnown m state
 completion_sort : (sort : Sort) → IsCompletion sort → sort ≡ Propagate
 completion_sort Propagate h = refl
 completion_sort Dispatch h = absurd h
+completion_sort StartIo h = absurd h
 completion_sort Dpc h = absurd h
 
 -- a routine in the list of a driver is the one of its number
@@ -154,7 +155,7 @@ pub record IsLed (set : Set) (states : States) : Type 0 where
 
 abbrev states_in : (set : Set) (driver number : ℕ) (o : Option Routine)
     → ((routine : Routine) → o ≡ Some routine → Knows (member set driver number routine)) → ℕ → Abs
-states_in set driver number None h = λ p. entered_with Blank NoDuty Open
+states_in set driver number None h = λ p. entered_with Blank NoDuty Open false
 states_in set driver number (Some routine) h = (h routine refl).0
 
 known_in : (set : Set) (driver number : ℕ) (o : Option Routine)

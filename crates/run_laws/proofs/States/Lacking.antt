@@ -11,7 +11,7 @@ use Rattle.model.specs.declared.instr.Return.{Return}
 use Rattle.model.specs.declared.instr.Return.TheVariants.{WithStatus, Lower, Continue, Void}
 use Rattle.model.specs.declared.limits.TheConstants.{MAX_LOOPS}
 use Rattle.model.specs.declared.set.Sort.{Sort}
-use Rattle.model.specs.declared.set.Sort.TheVariants.{Dispatch, Dpc, Propagate}
+use Rattle.model.specs.declared.set.Sort.TheVariants.{Dispatch, Dpc, Propagate, StartIo}
 use Rattle.model.specs.declared.status.Status.{Status}
 use Rattle.model.specs.declared.world.Activation.{Activation}
 use Rattle.model.specs.declared.world.Frame.TheVariants.{Routine}
@@ -28,8 +28,9 @@ use Rattle.run_laws.proofs.States.Kinds.{status_there}
 use Rattle.run_laws.proofs.States.LoopEnds.{room_for_loop, some_loop}
 use Rattle.run_laws.proofs.States.Obeyed.{SendsDown, sends_down, returns_by}
 use Rattle.run_laws.proofs.States.OnTop.{OnTop, at_routine, runs, value_suits, packet_there, number_found}
+use Rattle.run_laws.proofs.States.Queueless.{never_of_queues}
 use Rattle.run_laws.proofs.States.Rules.{States, first_none}
-use Rattle.run_laws.proofs.Steps.Comes.{Lacks, no_instruction, no_number, no_packet, no_room, no_loop, no_cells, none_taken, none_freed, no_lower, no_status, no_form}
+use Rattle.run_laws.proofs.Steps.Comes.{Lacks, no_instruction, no_number, no_packet, no_room, no_loop, no_cells, none_taken, none_freed, no_queue, no_start, no_lower, no_status, no_form}
 use Rattle.run_laws.proofs.Steps.Words.{Forwarding, work_of, packet_operand, lock_taken, lock_freed, status_returned, is_form_of}
 
 broken_not : (b : Bool) (rule : Rule) → broken_if (not b) rule ≡ None → b ≡ true
@@ -40,6 +41,8 @@ has_form : (sort : Sort) (form : Return) → form_fault sort form ≡ None → i
 has_form Dispatch (WithStatus status) h = refl
 has_form Dispatch (Lower r) h = refl
 has_form Dispatch _ h = cc
+has_form StartIo Void h = refl
+has_form StartIo _ h = cc
 has_form Dpc Void h = refl
 has_form Dpc _ h = cc
 has_form Propagate Continue h = refl
@@ -134,6 +137,8 @@ module _ (set : Set) (states : States) (s : Shared) (a : Activation) where
       owner_there set s h.fits lock (taken_there i lock (runs set states s a i h at) is) none
   never_lacks h (none_freed i lock at is none) =
       owner_there set s h.fits lock (freed_there i lock (runs set states s a i h at) is) none
+  never_lacks h (no_queue i q at is queue none) = absurd (never_of_queues h.good a i at is)
+  never_lacks h (no_start i at is none) = absurd (never_of_queues h.good a i at is)
   never_lacks h (no_lower i at is none) =
       let lower : LowerThere set a.device = lower_device i (runs set states s a i h at) is in
       let no : None ≡ Some lower.0 = sym none ∙ lower.1 in

@@ -9,7 +9,7 @@ use Rattle.model.specs.declared.abs.Kind.{Kind}
 use Rattle.model.specs.declared.abs.Kind.TheVariants.{Blank, Num, Lower, New, Own, View}
 use Rattle.model.specs.declared.abs.Settled.TheVariants.{Settled as SettledMark}
 use Rattle.model.specs.declared.instr.Instr.{Instr}
-use Rattle.model.specs.declared.instr.Instr.TheVariants.{Const, Move, Clear, Load, LoadPaged, Get, Mark, Pass, Call, Complete, IfPending}
+use Rattle.model.specs.declared.instr.Instr.TheVariants.{Const, Move, Clear, Load, LoadPaged, Get, Mark, Pass, Call, Complete, IfPending, Insert, Remove, Start, Take, Begin}
 use Rattle.model.specs.declared.set.Sort.TheVariants.{Dispatch}
 use Rattle.model.specs.LocalRule.{entered_with, entry_of_sort, given_down, handed, handed_at_label, is_view, kind_of, left_behind, marked}
 use Rattle.model.specs.Paths.{Arrives}
@@ -67,12 +67,19 @@ handed_no_view s (Load r c) h = no_view_set s.kinds r Num refl h
 handed_no_view s (LoadPaged r c) h = no_view_set s.kinds r Num refl h
 handed_no_view s (Get r q field) h = no_view_set s.kinds r Num refl h
 handed_no_view s (Mark r) h = marked_no_view s r (kind_of s r) h
+handed_no_view s (Insert r q) h = no_view_set s.kinds r Blank refl h
+handed_no_view s (Remove r q label) h = no_view_set s.kinds r Own refl h
+handed_no_view s (Start r) h = no_view_set s.kinds r Blank refl h
+handed_no_view s (Take r label) h = no_view_set s.kinds r Own refl h
+handed_no_view s (Begin r) h = no_view_set s.kinds r Blank refl h
 handed_no_view s (Pass r) h = given_no_view s r (kind_of s r) h
 handed_no_view s (Call r f) h = given_no_view s r (kind_of s r) h
 handed_no_view s (Complete r status) h = no_view_set s.kinds r Blank refl h
 handed_no_view s _ h = h
 
 label_no_view : (s : Abs) (i : Instr) → HasNoView s → HasNoView (handed_at_label s i)
+label_no_view s (Remove r q label) h = no_view_set s.kinds r Blank refl h
+label_no_view s (Take r label) h = no_view_set s.kinds r Blank refl h
 label_no_view s (IfPending r label) h = h
 label_no_view s _ h = h
 
@@ -81,8 +88,9 @@ pub dispatch_no_view : (m : Member) (p : ℕ) (s : Abs) → m.routine.sort ≡ D
 dispatch_no_view m p s is arrives =
     arrives_keep HasNoView m
     (λ first there.
-    let start : Some (entered_with New Fresh SettledMark) ≡ Some first = sym (ap entry_of_sort is)
+    let start : Some (entered_with New Fresh SettledMark false) ≡ Some first = sym (ap entry_of_sort is)
     ∙ there in
-    let same : entered_with New Fresh SettledMark ≡ first = cc in
+    let same : entered_with New Fresh SettledMark false ≡ first = cc in
     subst HasNoView same refl)
-    (λ before i q at rule h. handed_no_view before i h) label_no_view p s arrives
+    (λ before i q at rule h. handed_no_view before i h)
+    (λ before i q at h. label_no_view before i h) p s arrives

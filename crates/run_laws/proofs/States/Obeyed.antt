@@ -11,7 +11,7 @@ use Rattle.model.specs.declared.instr.Instr.{Instr}
 use Rattle.model.specs.declared.instr.Instr.TheVariants.{Pass, Call, Complete, Ret}
 use Rattle.model.specs.declared.instr.Return.{Return}
 use Rattle.model.specs.declared.set.Sort.{Sort}
-use Rattle.model.specs.declared.set.Sort.TheVariants.{Dispatch, Dpc, Propagate}
+use Rattle.model.specs.declared.set.Sort.TheVariants.{Dispatch, Dpc, Propagate, StartIo}
 use Rattle.model.specs.declared.status.Status.{Status}
 use Rattle.model.specs.Forwarding.{lacks_lower, is_too_small}
 use Rattle.model.specs.LocalRule.{kind_of, is_kept, is_right, is_pending, is_completion, holds_lock, holds_spin_lock, a_new_one, one_handed_or_owned, demanded, complete_kind, broken_if, least_of, completion_sort_fault, forward_sort_fault, kept_fault, given_down, handed, refuses, forward_fault, duty_fault, form_fault, settled_fault}
@@ -26,6 +26,7 @@ locations_wanted _ = 0
 
 forwards_of : (sort : Sort) → forward_sort_fault sort ≡ None → sort ≡ Dispatch
 forwards_of Dispatch h = refl
+forwards_of StartIo h = cc
 forwards_of Dpc h = cc
 forwards_of Propagate h = cc
 
@@ -124,7 +125,8 @@ module _ (s : Abs) (sort : Sort) (set : Set) (driver : ℕ) where
             (unbroken s.cancel CancelSpinLock (first_none _ _ kept))
             (unbroken (holds_spin_lock s) SpinLock (first_none _ _ (second_none _ _ kept)));
         nothing_left =
-            unbroken (list_any is_kept s.kinds) Dropped (second_none _ _ (second_none _ _ kept));
+            unbroken (list_any is_kept s.kinds) Dropped
+            (first_none _ _ (second_none _ _ (second_none _ _ kept)));
         of_form = first_none _ _ (second_none _ _ rest);
         settled = second_none _ _ (second_none _ _ rest);
       }

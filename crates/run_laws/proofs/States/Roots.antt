@@ -20,9 +20,10 @@ use Rattle.run_laws.proofs.Lists.{Each}
 use Rattle.run_laws.proofs.States.Entering.{IsOfSort, Begins, begins_back}
 use Rattle.run_laws.proofs.States.Lacking.{down}
 use Rattle.run_laws.proofs.States.OnTop.{OnTop, runs}
+use Rattle.run_laws.proofs.States.Queueless.{never_queued}
 use Rattle.run_laws.proofs.States.Rules.{States}
 use Rattle.run_laws.proofs.States.Told.{told_frame, told_last}
-use Rattle.run_laws.proofs.Steps.Comes.{GoesTo, onward, jumping, Comes, computes, turns_loop, pages, looks_at, completes_packet, passes_down, calls_down, returns_status, lets_go, lets_walk, ends_dpc, walks_gone, walks_to, walks_up, carries_up, tops_out}
+use Rattle.run_laws.proofs.Steps.Comes.{GoesTo, onward, jumping, Comes, computes, turns_loop, pages, looks_at, completes_packet, passes_down, calls_down, returns_status, lets_go, lets_walk, ends_dpc, walks_gone, walks_to, walks_up, carries_up, tops_out, works_on_queues, ends_startio}
 
 module _ (set : Set) (root : Irql) where
   abbrev pub Low : Frame → Type 0
@@ -91,6 +92,9 @@ module _ (set : Set) (root : Irql) where
     step_low under f o h low (returns_status a form status at sort is) = tt
     step_low under f o h low (lets_go a at sort free) = tt
     step_low under f o h low (lets_walk a n at sort) = tt
+    step_low under f o h low (works_on_queues a i b queues starts actions full at queued) =
+        absurd (never_queued h.good at queued)
+    step_low under f o h low (ends_startio a at sort) = tt
     step_low under f o h low (ends_dpc a at sort) = tt
     step_low under f o h low (walks_gone n gone) = tt
     step_low under f o h low (walks_to n p c there set_there) =

@@ -22,7 +22,7 @@ use Rattle.run_laws.proofs.Devices.{device_fits}
 use Rattle.run_laws.proofs.Lists.{Each, each_push, each_append, each_before, each_after}
 use Rattle.run_laws.proofs.Past.Packets.{Tells, tells_issue, tells_nothing}
 use Rattle.run_laws.proofs.Past.Steps.{told_packets}
-use Rattle.run_laws.proofs.Runs.Events.{stops_run, StepsFrame, Happens, nothing, steps, issues, begins}
+use Rattle.run_laws.proofs.Runs.Events.{stops_run, StepsFrame, Happens, nothing, steps, issues, begins, begins_startio}
 use Rattle.run_laws.proofs.Runs.Kept.{GoesOnBy, with_queued}
 use Rattle.run_laws.proofs.Runs.Threads.{frames_there, each_thread, each_frames, idle_frames}
 use Rattle.run_laws.proofs.States.Entering.{Enters, begins_request, begins_dpc}
@@ -30,6 +30,7 @@ use Rattle.run_laws.proofs.States.Fine.{is_wrong, IsRight, is_right_step, StepLe
 use Rattle.run_laws.proofs.States.Fits.{PacketLeads, Fits, new_leads, unused_fits}
 use Rattle.run_laws.proofs.States.Frames.{IsGood}
 use Rattle.run_laws.proofs.States.OnTop.{OnTop}
+use Rattle.run_laws.proofs.States.Queueless.{never_starts}
 use Rattle.run_laws.proofs.States.Roots.{Low, last_low, step_low, low_over}
 use Rattle.run_laws.proofs.States.Rules.{States}
 use Rattle.run_laws.proofs.States.Stacks.{Stacked, top_stands, replaced, stacked_later}
@@ -87,6 +88,7 @@ module _ (set : Set) (states : States) (w : World) (past : List Entry) (good : I
       (is.silent, finished_stops (standing set h.below h.outcome) h.outcome.reply is.right)
   right_event t c (issues h) = (refl, refl)
   right_event t c (begins h) = (refl, refl)
+  right_event t c (begins_startio h) = (refl, refl)
 
   -- each thread where one has other frames
   frames_after : (t : ℕ) (s : Shared) (thread after : Thread) → slice_get w.threads t ≡ Some thread
@@ -191,6 +193,7 @@ module _ (set : Set) (states : States) (w : World) (past : List Entry) (good : I
                 (begins_request set states good (n + 1) n (omega arith) h.d h.device h.major
                 h.there).ready;
           }
+      kept c (begins_startio h) quiet = absurd (never_starts good h)
       kept c (begins h) quiet =
           let t : ℕ = actor.thread in
           let s : Shared = with_dpc w.shared h.d false in

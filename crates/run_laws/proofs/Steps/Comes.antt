@@ -1,16 +1,16 @@
 -- The shapes of a step: a thread's top frame, over another frame or none, leaves one of these
 -- outcomes. Each shape has the instruction, and all that decided it. What a step does to a law is
 -- then said once a shape, and an instruction of a known shape costs a law nothing.
-use Rattle.std.specs.Prelude.{ℕ, ◌≡◌, ◌⊎◌, ◌+◌, ◌∷◌, ◌++◌, Bool, true, false, List, [], length, Option, None, Some, nat_eq, nat_lt, slice_get, slice_set}
+use Rattle.std.specs.Prelude.{ℕ, ◌≡◌, ◌⊎◌, ◌+◌, ◌∷◌, ◌++◌, not, Bool, true, false, List, [], length, Option, None, Some, nat_eq, nat_lt, slice_get, slice_set}
 use Rattle.model.specs.declared.event.Lock.{Lock}
 use Rattle.model.specs.declared.event.OfDevice.{OfDevice}
 use Rattle.model.specs.declared.event.Reply.TheVariants.{Topped}
 use Rattle.model.specs.declared.instr.Instr.{Instr}
-use Rattle.model.specs.declared.instr.Instr.TheVariants.{Move, Clear, Loop, End, Put, Mark, Pass, Call, Complete, Ret}
+use Rattle.model.specs.declared.instr.Instr.TheVariants.{Move, Clear, Loop, End, Put, Mark, Insert, Remove, Start, Take, Begin, Next, Pass, Call, Complete, Ret}
 use Rattle.model.specs.declared.instr.Return.{Return}
 use Rattle.model.specs.declared.instr.Return.TheVariants.{Continue, Void}
 use Rattle.model.specs.declared.limits.TheConstants.{MAX_LOOPS}
-use Rattle.model.specs.declared.set.Sort.TheVariants.{Dispatch, Dpc, Propagate}
+use Rattle.model.specs.declared.set.Sort.TheVariants.{Dispatch, StartIo, Dpc, Propagate}
 use Rattle.model.specs.declared.status.Status.{Status}
 use Rattle.model.specs.declared.world.Activation.{Activation}
 use Rattle.model.specs.declared.world.Cells.{Cells}
@@ -20,11 +20,14 @@ use Rattle.model.specs.declared.world.Frame.TheVariants.{Routine, Walk}
 use Rattle.model.specs.declared.world.OpenLoop.{OpenLoop}
 use Rattle.model.specs.declared.world.Packet.{Packet}
 use Rattle.model.specs.declared.world.Value.{Value}
-use Rattle.model.specs.declared.world.Value.TheVariants.{Blank, Num}
-use Rattle.model.specs.Action.{Executes, Acquires, Releases, TouchesPaged, Touches, Calls, Ups, Completes, Marks, Leaves, TopsOut}
+use Rattle.model.specs.declared.world.Value.TheVariants.{Blank, Num, Ref}
+use Rattle.model.specs.Action.{Action, Executes, Acquires, Releases, TouchesPaged, Touches, Calls, Ups, Completes, Marks, Leaves, TopsOut}
 use Rattle.model.specs.Effect.{Outcome, leaves, goes_wrong, goes_on, waits, turned, asks, set_by, returned, completes_with}
+use Rattle.model.specs.Queues.{StartState, has_room_for_next, has_room_to_start, inserted, is_full, next_started, started, with_slot}
 use Rattle.model.specs.Set.{Set, instruction_at, sort_of, lower_of, label_of}
-use Rattle.model.specs.World.{Shared, owner_of, with_owner, with_locks, packet_of, with_packet, without_packet, packet_in, number_in, register, next, at_label, innermost, with_loops, with_info, mark_current, current_location, sent_down, shared_with, left_location, moved_up, is_marked, completion_of, completed}
+use Rattle.model.specs.Sound.{queue_named}
+use Rattle.model.specs.World.{Shared, queue_of, with_queue, start_of, with_start, with_register, owner_of, with_owner, with_locks, packet_of, with_packet, without_packet, packet_in, number_in, register, next, at_label, innermost, with_loops, with_info, mark_current, current_location, sent_down, shared_with, left_location, moved_up, is_marked, completion_of, completed}
+use Rattle.run_laws.specs.NoQueues.{is_of_queues}
 use Rattle.run_laws.proofs.Steps.Words.{Computing, Paging, Looking, Forwarding, work_of, is_touching, goes_next, packet_operand, number_operand, second_operand, keeps_registers, numbered_by, is_of_cells, lock_taken, lock_freed, jumps_on, status_returned, is_form_of}
 
 -- the instruction at an activation's position
@@ -35,8 +38,8 @@ Executing set a i = instruction_at set a.driver a.routine a.position ≡ Some i
 abbrev pub Reads : Shared → Activation → ℕ → ℕ → Type 0
 Reads s a r n = packet_in s (register a r) ≡ Some n
 
--- why a step is wrong: there is no instruction, or an operand, a loop, a cell, a lock, a device or
--- a form of return that it wants isn't there
+-- why a step is wrong: there is no instruction, or an operand, a loop, a cell, a lock, a queue, what
+-- a device has for StartIo, a device or a form of return that it wants isn't there
 pub data Lacks (set : Set) (s : Shared) (a : Activation) : Type 0 where
   no_instruction : instruction_at set a.driver a.routine a.position ≡ None → Lacks set s a
   no_number : (i : Instr) (r : ℕ) → Executing set a i → (number_operand i ≡ Some r)
@@ -53,6 +56,11 @@ pub data Lacks (set : Set) (s : Shared) (a : Activation) : Type 0 where
       → owner_of s.locks lock ≡ None → Lacks set s a
   none_freed : (i : Instr) (lock : Lock) → Executing set a i → lock_freed a i ≡ Some lock
       → owner_of s.locks lock ≡ None → Lacks set s a
+  no_queue : (i : Instr) (q : ℕ) → Executing set a i → is_of_queues i ≡ true
+      → queue_named i ≡ Some q
+      → queue_of s a.device q ≡ None → Lacks set s a
+  no_start : (i : Instr) → Executing set a i → is_of_queues i ≡ true → start_of s a.device ≡ None
+      → Lacks set s a
   no_lower : (i : Instr) → Executing set a i → work_of i ≡ Forwarding → lower_of set a.device ≡ None
       → Lacks set s a
   no_status : (form : Return) → Executing set a (Ret form) → sort_of set a.driver a.routine ≡ Dispatch
@@ -75,6 +83,44 @@ pub data GoesTo (a : Activation) (i : Instr) : Activation → Bool → Type 0 wh
   onward : (registers : List Value) → goes_next i ≡ true → Written a i registers
       → GoesTo a i (record a { position = a.position + 1; registers = registers }) false
   jumping : (label : ℕ) → label_of i ≡ Some label → GoesTo a i (at_label a label) true
+
+-- what an instruction about queues comes to: a packet is put into a queue of the device or taken off
+-- one, given to the device for StartIo, taken out of its current slot or put into it, or the next
+-- one is started; or there is none to take off or out, and it jumps. How the activation goes on, the
+-- queues and what the devices have for StartIo after it, the packet that it touches, if any, and
+-- whether a list has no room
+pub data Queued (s : Shared) (a : Activation) : Instr → Activation → List (List (List ℕ))
+    → List StartState → List Action → Bool → Type 0 where
+  inserts : (r q n : ℕ) (entries : List ℕ) → Reads s a r n → queue_of s a.device q ≡ Some entries
+      → Queued s a (Insert r q) (next a) (with_queue s a.device q (inserted entries n)).queues s.starts
+      (Touches n ∷ []) (is_full entries)
+  removes : (r q label n : ℕ) (entries : List ℕ) → queue_of s a.device q ≡ Some (n ∷ entries)
+      → Queued s a (Remove r q label) (next (with_register a r (Ref n)))
+      (with_queue s a.device q entries).queues s.starts (Touches n ∷ []) false
+  removes_none : (r q label : ℕ) → queue_of s a.device q ≡ Some []
+      → Queued s a (Remove r q label) (at_label a label) s.queues s.starts [] false
+  starts_packet : (r n : ℕ) (start : StartState) → Reads s a r n → start_of s a.device ≡ Some start
+      → Queued s a (Start r) (next a) s.queues (with_start s a.device (started start n)).starts
+      (Touches n ∷ []) (not (has_room_to_start start))
+  takes_out : (r label n : ℕ) (start : StartState) → start_of s a.device ≡ Some start
+      → start.slot ≡ Some n
+      → Queued s a (Take r label) (next (with_register a r (Ref n))) s.queues
+      (with_start s a.device (with_slot start None)).starts [] false
+  takes_none : (r label : ℕ) (start : StartState) → start_of s a.device ≡ Some start
+      → start.slot ≡ None
+      → Queued s a (Take r label) (at_label a label) s.queues s.starts [] false
+  puts_in : (r n : ℕ) (start : StartState) → Reads s a r n → start_of s a.device ≡ Some start
+      → Queued s a (Begin r) (next a) s.queues (with_start s a.device (with_slot start (Some n))).starts
+      (Touches n ∷ []) false
+  starts_next : (start : StartState) → start_of s a.device ≡ Some start
+      → Queued s a Next (next a) s.queues (with_start s a.device (next_started start)).starts []
+      (not (has_room_for_next start))
+
+-- the outcome
+abbrev pub queued_to : Shared → Activation → List (List (List ℕ)) → List StartState → List Action
+    → Bool → Outcome
+queued_to s b queues starts actions full =
+    record (goes_on (record s { queues = queues; starts = starts }) b actions) { full = full }
 
 -- what stands under a frame is the I/O manager's
 abbrev pub is_walk : Option Frame → Bool
@@ -144,6 +190,11 @@ pub data Comes (set : Set) (s : Shared) (t : ℕ) : Option Frame → Frame → O
       → lock_freed a i ≡ Some lock → owner_of s.locks lock ≡ Some owner
       → Comes set s t under (Routine a)
       (goes_on (with_locks s (with_owner s.locks lock None)) (next a) (Releases lock ∷ []))
+  -- queues of the device, or what it has for StartIo
+  works_on_queues : {under : Option Frame} (a : Activation) (i : Instr) (b : Activation)
+      (queues : List (List (List ℕ))) (starts : List StartState) (actions : List Action) (full : Bool)
+      → Executing set a i → Queued s a i b queues starts actions full
+      → Comes set s t under (Routine a) (queued_to s b queues starts actions full)
   completes_packet : {under : Option Frame} (a : Activation) (r : ℕ) (status : Status) (n : ℕ)
       (p : Packet)
       → Executing set a (Complete r status) → Reads s a r n → packet_of s n ≡ Some p
@@ -178,7 +229,10 @@ pub data Comes (set : Set) (s : Shared) (t : ℕ) : Option Frame → Frame → O
   lets_walk : (a : Activation) (n : ℕ) → Executing set a (Ret Continue)
       → sort_of set a.driver a.routine ≡ Propagate
       → Comes set s t (Some (Walk n)) (Routine a) (leaves s [] (Executes ∷ Touches n ∷ []))
-  -- a DPC routine ends, and nobody is told
+  -- a StartIo or DPC routine ends, and nobody is told
+  ends_startio : {under : Option Frame} (a : Activation) → Executing set a (Ret Void)
+      → sort_of set a.driver a.routine ≡ StartIo
+      → Comes set s t under (Routine a) (leaves s [] (Executes ∷ []))
   ends_dpc : {under : Option Frame} (a : Activation) → Executing set a (Ret Void)
       → sort_of set a.driver a.routine ≡ Dpc
       → Comes set s t under (Routine a) (leaves s [] (Executes ∷ []))

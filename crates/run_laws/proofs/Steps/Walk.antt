@@ -8,12 +8,12 @@ use Rattle.model.specs.declared.event.Lock.{Lock}
 use Rattle.model.specs.declared.event.Lock.TheVariants.{SystemCancel}
 use Rattle.model.specs.declared.instr.Field.{Field}
 use Rattle.model.specs.declared.instr.Instr.{Instr}
-use Rattle.model.specs.declared.instr.Instr.TheVariants.{Const, Move, Clear, Add, Subtract, JumpIfZero, JumpIfLess, Jump, Loop, End, Load, Store, LoadPaged, StorePaged, Get, Put, Mark, Acquire, Release, AcquireCancel, ReleaseCancel, Pass, Call, Complete, IfPending, Ret}
+use Rattle.model.specs.declared.instr.Instr.TheVariants.{Const, Move, Clear, Add, Subtract, JumpIfZero, JumpIfLess, Jump, Loop, End, Load, Store, LoadPaged, StorePaged, Get, Put, Mark, Acquire, Release, AcquireCancel, ReleaseCancel, Insert, Remove, Start, Take, Begin, Next, Pass, Call, Complete, IfPending, Ret}
 use Rattle.model.specs.declared.instr.Return.{Return}
 use Rattle.model.specs.declared.instr.Return.TheVariants.{WithStatus, Lower, Continue, Void}
 use Rattle.model.specs.declared.limits.TheConstants.{MAX_LOOPS}
 use Rattle.model.specs.declared.set.Sort.{Sort}
-use Rattle.model.specs.declared.set.Sort.TheVariants.{Dispatch, Dpc, Propagate}
+use Rattle.model.specs.declared.set.Sort.TheVariants.{Dispatch, StartIo, Dpc, Propagate}
 use Rattle.model.specs.declared.status.Status.{Status}
 use Rattle.model.specs.declared.world.Activation.{Activation}
 use Rattle.model.specs.declared.world.Cells.{Cells}
@@ -24,11 +24,12 @@ use Rattle.model.specs.declared.world.OpenLoop.{OpenLoop}
 use Rattle.model.specs.declared.world.Packet.{Packet}
 use Rattle.model.specs.declared.world.Value.{Value}
 use Rattle.model.specs.Action.{Acquires, Touches, Ups, Marks, Leaves}
-use Rattle.model.specs.Effect.{Outcome, leaves, goes_wrong, goes_on, number_effect, of_both, sum_of, difference_of, jump_effect, is_zero_at, is_less_at, loop_effect, end_effect, cell_of, load_effect, load_paged_effect, stored, stored_paged, store_effect, store_paged_effect, get_packet, get_effect, put_packet, put_effect, waits, acquire_owned, acquire_effect, release_effect, spin_lock, mark_packet, mark_effect, complete_packet, complete_effect, pass_packet, pass_effect, call_packet, call_effect, look_packet, look_effect, return_lower, continued, return_effect, instruction_effect, routine_effect, walk_up, walk_out, walk_from, walk_packet, frame_effect}
+use Rattle.model.specs.Effect.{Outcome, leaves, goes_wrong, goes_on, number_effect, of_both, sum_of, difference_of, jump_effect, is_zero_at, is_less_at, loop_effect, end_effect, cell_of, load_effect, load_paged_effect, stored, stored_paged, store_effect, store_paged_effect, get_packet, get_effect, put_packet, put_effect, waits, acquire_owned, acquire_effect, release_effect, spin_lock, insert_effect, remove_from, remove_effect, start_effect, take_from, take_effect, begin_effect, next_effect, mark_packet, mark_effect, complete_packet, complete_effect, pass_packet, pass_effect, call_packet, call_effect, look_packet, look_effect, return_lower, continued, return_effect, instruction_effect, routine_effect, walk_up, walk_out, walk_from, walk_packet, frame_effect}
+use Rattle.model.specs.Queues.{StartState}
 use Rattle.model.specs.Set.{Set, instruction_at, sort_of, lower_of, label_of}
-use Rattle.model.specs.World.{Shared, owner_of, packet_of, with_packet, packet_in, number_in, status_in, register, next, at_label, innermost, mark_current, current_location, left_location, moved_up, is_marked, completion_of}
+use Rattle.model.specs.World.{Shared, queue_of, start_of, owner_of, packet_of, with_packet, packet_in, number_in, status_in, register, next, at_label, innermost, mark_current, current_location, left_location, moved_up, is_marked, completion_of}
 use Rattle.run_laws.proofs.Steps.Words.{Computing, work_of, goes_next, number_operand, second_operand, keeps_registers, numbered_by, lock_taken, lock_freed}
-use Rattle.run_laws.proofs.Steps.Comes.{Executing, Reads, Lacks, no_instruction, no_number, no_packet, no_room, no_loop, no_cells, none_taken, none_freed, no_lower, no_status, no_form, Written, keeps_all, makes_number, moves_over, makes_blank, onward, jumping, Comes, errs, awaits_lock, computes, opens_loop, turns_loop, pages, touches_gone, looks_at, writes_info, marks_packet, takes_lock, retakes_lock, frees_lock, completes_packet, completes_gone, passes_down, calls_down, returns_status, lets_go, lets_walk, ends_dpc, walks_gone, walks_to, walks_up, carries_up, tops_out}
+use Rattle.run_laws.proofs.Steps.Comes.{Executing, Reads, Lacks, no_instruction, no_number, no_packet, no_room, no_loop, no_cells, none_taken, none_freed, no_queue, no_start, no_lower, no_status, no_form, Written, keeps_all, makes_number, moves_over, makes_blank, onward, jumping, inserts, removes, removes_none, starts_packet, takes_out, takes_none, puts_in, starts_next, Comes, errs, awaits_lock, computes, opens_loop, turns_loop, pages, touches_gone, looks_at, writes_info, marks_packet, takes_lock, retakes_lock, frees_lock, works_on_queues, completes_packet, completes_gone, passes_down, calls_down, returns_status, lets_go, lets_walk, ends_startio, ends_dpc, walks_gone, walks_to, walks_up, carries_up, tops_out}
 
 module _ (set : Set) (s : Shared) (t : ℕ) (under : Option Frame) (a : Activation) where
   abbrev ComesTo : Outcome → Type 0
@@ -179,6 +180,58 @@ module _ (set : Set) (s : Shared) (t : ℕ) (under : Option Frame) (a : Activati
   frees i lock None at is there = errs a (none_freed i lock at is there)
   frees i lock (Some o) at is there = frees_lock a i lock o at is there
 
+  -- the queues of the device, and what it has for StartIo
+  inserted_in : (r q : ℕ) (o : Option ℕ) (entries : Option (List ℕ)) → Executing set a (Insert r q)
+      → packet_in s (register a r) ≡ o → queue_of s a.device q ≡ entries
+      → ComesTo (insert_effect s a q o entries)
+  inserted_in r q None entries at reads there = errs a (no_packet (Insert r q) r at refl reads)
+  inserted_in r q (Some n) None at reads there = errs a (no_queue (Insert r q) q at refl refl there)
+  inserted_in r q (Some n) (Some entries) at reads there =
+      works_on_queues a (Insert r q) _ _ _ _ _ at (inserts r q n entries reads there)
+
+  removed_from : (r q label : ℕ) (entries : List ℕ) → Executing set a (Remove r q label)
+      → queue_of s a.device q ≡ Some entries → ComesTo (remove_from s a r q label entries)
+  removed_from r q label [] at there = works_on_queues a (Remove r q label) _ _ _ _ _ at (removes_none r q label there)
+  removed_from r q label (n ∷ entries) at there =
+      works_on_queues a (Remove r q label) _ _ _ _ _ at (removes r q label n entries there)
+
+  removed_in : (r q label : ℕ) (entries : Option (List ℕ)) → Executing set a (Remove r q label)
+      → queue_of s a.device q ≡ entries → ComesTo (remove_effect s a r q label entries)
+  removed_in r q label None at there = errs a (no_queue (Remove r q label) q at refl refl there)
+  removed_in r q label (Some entries) at there = removed_from r q label entries at there
+
+  started_in : (r : ℕ) (o : Option ℕ) (start : Option StartState) → Executing set a (Start r)
+      → packet_in s (register a r) ≡ o → start_of s a.device ≡ start
+      → ComesTo (start_effect s a o start)
+  started_in r None start at reads there = errs a (no_packet (Start r) r at refl reads)
+  started_in r (Some n) None at reads there = errs a (no_start (Start r) at refl there)
+  started_in r (Some n) (Some start) at reads there = works_on_queues a (Start r) _ _ _ _ _ at (starts_packet r n start reads there)
+
+  taken_from : (r label : ℕ) (start : StartState) (slot : Option ℕ) → Executing set a (Take r label)
+      → start_of s a.device ≡ Some start → start.slot ≡ slot
+      → ComesTo (take_from s a r label start slot)
+  taken_from r label start None at there slot =
+      works_on_queues a (Take r label) _ _ _ _ _ at (takes_none r label start there slot)
+  taken_from r label start (Some n) at there slot =
+      works_on_queues a (Take r label) _ _ _ _ _ at (takes_out r label n start there slot)
+
+  taken_in : (r label : ℕ) (start : Option StartState) → Executing set a (Take r label)
+      → start_of s a.device ≡ start → ComesTo (take_effect s a r label start)
+  taken_in r label None at there = errs a (no_start (Take r label) at refl there)
+  taken_in r label (Some start) at there = taken_from r label start start.slot at there refl
+
+  begun_in : (r : ℕ) (o : Option ℕ) (start : Option StartState) → Executing set a (Begin r)
+      → packet_in s (register a r) ≡ o → start_of s a.device ≡ start
+      → ComesTo (begin_effect s a o start)
+  begun_in r None start at reads there = errs a (no_packet (Begin r) r at refl reads)
+  begun_in r (Some n) None at reads there = errs a (no_start (Begin r) at refl there)
+  begun_in r (Some n) (Some start) at reads there = works_on_queues a (Begin r) _ _ _ _ _ at (puts_in r n start reads there)
+
+  next_in : (start : Option StartState) → Executing set a Next → start_of s a.device ≡ start
+      → ComesTo (next_effect s a start)
+  next_in None at there = errs a (no_start Next at refl there)
+  next_in (Some start) at there = works_on_queues a Next _ _ _ _ _ at (starts_next start there)
+
   completes_in : (r : ℕ) (status : Status) (n : ℕ) (o : Option Packet)
       → Executing set a (Complete r status)
       → Reads s a r n → packet_of s n ≡ o → ComesTo (complete_packet s a status n o)
@@ -257,6 +310,11 @@ returns set s t under a Dispatch (Lower r) at is =
     returns_lower set s t under a r (status_in (register a r)) at is refl
 returns set s t under a Dispatch Continue at is = errs a (no_form Continue at (rw is refl))
 returns set s t under a Dispatch Void at is = errs a (no_form Void at (rw is refl))
+returns set s t under a StartIo (WithStatus status) at is =
+    errs a (no_form (WithStatus status) at (rw is refl))
+returns set s t under a StartIo (Lower r) at is = errs a (no_form (Lower r) at (rw is refl))
+returns set s t under a StartIo Continue at is = errs a (no_form Continue at (rw is refl))
+returns set s t under a StartIo Void at is = ends_startio a at is
 returns set s t under a Dpc (WithStatus status) at is =
     errs a (no_form (WithStatus status) at (rw is refl))
 returns set s t under a Dpc (Lower r) at is = errs a (no_form (Lower r) at (rw is refl))
@@ -314,6 +372,17 @@ executes set s t under a AcquireCancel at =
     takes set s t under a AcquireCancel SystemCancel (owner_of s.locks SystemCancel) at refl refl
 executes set s t under a ReleaseCancel at =
     frees set s t under a ReleaseCancel SystemCancel (owner_of s.locks SystemCancel) at refl refl
+executes set s t under a (Insert r q) at =
+    inserted_in set s t under a r q (packet_in s (register a r)) (queue_of s a.device q) at refl refl
+executes set s t under a (Remove r q label) at =
+    removed_in set s t under a r q label (queue_of s a.device q) at refl
+executes set s t under a (Start r) at =
+    started_in set s t under a r (packet_in s (register a r)) (start_of s a.device) at refl refl
+executes set s t under a (Take r label) at =
+    taken_in set s t under a r label (start_of s a.device) at refl
+executes set s t under a (Begin r) at =
+    begun_in set s t under a r (packet_in s (register a r)) (start_of s a.device) at refl refl
+executes set s t under a Next at = next_in set s t under a (start_of s a.device) at refl
 executes set s t under a (Pass r) at =
     passes set s t under a r (packet_in s (register a r)) (lower_of set a.device) at refl refl
 executes set s t under a (Call r f) at =

@@ -4,11 +4,11 @@ use Rattle.std.specs.Prelude.{ℕ, Bool, true, false, Option, None, Some}
 use Rattle.model.specs.declared.event.Lock.{Lock}
 use Rattle.model.specs.declared.event.Lock.TheVariants.{SystemCancel}
 use Rattle.model.specs.declared.instr.Instr.{Instr}
-use Rattle.model.specs.declared.instr.Instr.TheVariants.{Const, Move, Clear, Add, Subtract, JumpIfZero, JumpIfLess, Jump, Loop, End, Load, Store, LoadPaged, StorePaged, Get, Put, Mark, Acquire, Release, AcquireCancel, ReleaseCancel, Pass, Call, Complete, IfPending, Ret}
+use Rattle.model.specs.declared.instr.Instr.TheVariants.{Const, Move, Clear, Add, Subtract, JumpIfZero, JumpIfLess, Jump, Loop, End, Load, Store, LoadPaged, StorePaged, Get, Put, Mark, Acquire, Release, AcquireCancel, ReleaseCancel, Insert, Remove, Start, Take, Begin, Next, Pass, Call, Complete, IfPending, Ret}
 use Rattle.model.specs.declared.instr.Return.{Return}
 use Rattle.model.specs.declared.instr.Return.TheVariants.{WithStatus, Lower, Continue, Void}
 use Rattle.model.specs.declared.set.Sort.{Sort}
-use Rattle.model.specs.declared.set.Sort.TheVariants.{Dispatch, Dpc, Propagate}
+use Rattle.model.specs.declared.set.Sort.TheVariants.{Dispatch, StartIo, Dpc, Propagate}
 use Rattle.model.specs.declared.status.Status.{Status}
 use Rattle.model.specs.declared.world.Activation.{Activation}
 use Rattle.model.specs.declared.world.Packet.{Packet}
@@ -17,8 +17,8 @@ use Rattle.model.specs.Set.{Flow, Onward, Branches, Jumps, Opens, Closes, Leaves
 use Rattle.model.specs.World.{register, status_in}
 
 -- computing with registers and cells, opening and turning loops, touching paged cells, looking at a
--- packet, writing to it, marking it, taking and freeing locks, sending a packet down, completing
--- it, and returning
+-- packet, writing to it, marking it, taking and freeing locks, working on the queues of a device or
+-- on what it has for StartIo, sending a packet down, completing it, and returning
 pub data Work : Type 0 where
   Computing : Work
   Looping : Work
@@ -27,6 +27,7 @@ pub data Work : Type 0 where
   Writing : Work
   Marking : Work
   Locking : Work
+  Queueing : Work
   Forwarding : Work
   Completing : Work
   Returning : Work
@@ -53,6 +54,12 @@ work_of (Acquire lock) = Locking
 work_of (Release lock) = Locking
 work_of AcquireCancel = Locking
 work_of ReleaseCancel = Locking
+work_of (Insert r q) = Queueing
+work_of (Remove r q label) = Queueing
+work_of (Start r) = Queueing
+work_of (Take r label) = Queueing
+work_of (Begin r) = Queueing
+work_of Next = Queueing
 work_of (Pass r) = Forwarding
 work_of (Call r f) = Forwarding
 work_of (Complete r status) = Completing
@@ -71,10 +78,11 @@ abbrev pub is_forwarding : Work → Bool
 is_forwarding Forwarding = true
 is_forwarding _ = false
 
--- work that changes the kind of the packet's register alone: a mark, what sends it down, and its
--- completion
+-- work that changes the kind of the packet's register alone: a mark, what puts it into a queue or
+-- sends it down, and its completion
 abbrev pub is_giving : Work → Bool
 is_giving Marking = true
+is_giving Queueing = true
 is_giving Forwarding = true
 is_giving Completing = true
 is_giving _ = false
@@ -96,6 +104,9 @@ abbrev pub packet_operand : Instr → Option ℕ
 packet_operand (Get r q field) = Some q
 packet_operand (Put q r) = Some q
 packet_operand (Mark r) = Some r
+packet_operand (Insert r q) = Some r
+packet_operand (Start r) = Some r
+packet_operand (Begin r) = Some r
 packet_operand (Pass r) = Some r
 packet_operand (Call r f) = Some r
 packet_operand (Complete r status) = Some r
@@ -129,6 +140,8 @@ keeps_registers (Subtract r q) = false
 keeps_registers (Load r c) = false
 keeps_registers (LoadPaged r c) = false
 keeps_registers (Get r q field) = false
+keeps_registers (Remove r q label) = false
+keeps_registers (Take r label) = false
 keeps_registers _ = true
 
 abbrev pub numbered_by : Instr → Option ℕ
@@ -178,6 +191,10 @@ is_form_of Dispatch (WithStatus status) = true
 is_form_of Dispatch (Lower r) = true
 is_form_of Dispatch Continue = false
 is_form_of Dispatch Void = false
+is_form_of StartIo (WithStatus status) = false
+is_form_of StartIo (Lower r) = false
+is_form_of StartIo Continue = false
+is_form_of StartIo Void = true
 is_form_of Dpc (WithStatus status) = false
 is_form_of Dpc (Lower r) = false
 is_form_of Dpc Continue = false

@@ -20,9 +20,10 @@ use Rattle.model.specs.World.{World, new_packet}
 use Rattle.run_laws.proofs.Holders.Runs.{top_holding}
 use Rattle.run_laws.proofs.Holders.Sums.{Held}
 use Rattle.run_laws.proofs.Past.LivePackets.{find, find_above, find_push}
-use Rattle.run_laws.proofs.Runs.Events.{Happens, IssuesPacket, StepsFrame, issues, nothing, steps, begins}
+use Rattle.run_laws.proofs.Runs.Events.{Happens, IssuesPacket, StepsFrame, issues, nothing, steps, begins, begins_startio}
 use Rattle.run_laws.proofs.Runs.Threads.{frames_there}
 use Rattle.run_laws.proofs.States.Frames.{IsGood}
+use Rattle.run_laws.proofs.States.Queueless.{never_starts}
 use Rattle.run_laws.proofs.States.Rules.{States}
 use Rattle.run_laws.proofs.States.Stacks.{Stacked}
 use Rattle.run_laws.proofs.States.Standing.{Standing, on_top, stands_there}
@@ -211,6 +212,7 @@ module _ (set : Set) (states : States) (w : World) (past : List Entry)
       (λ returned. late_marks states returned n c.world.threads)
       (same_uses past n) refl
       (λ p there. root_late actor.thread h.thread DispatchLevel a n h.found h.idle p.pending_returned))
+  event_turns actor c (begins_startio h) quiet n = absurd (never_starts known.good h)
 
 -- what is agreed on in a world, in the words of the turns
 module _ (states : States) (w : World) (past : List Entry) where

@@ -19,7 +19,7 @@ use Rattle.model.specs.declared.instr.Instr.TheVariants.{Call, Complete, End, Ge
 use Rattle.model.specs.declared.instr.Return.{Return}
 use Rattle.model.specs.declared.instr.Return.TheVariants.{Continue, Void}
 use Rattle.model.specs.declared.set.Sort.{Sort}
-use Rattle.model.specs.declared.set.Sort.TheVariants.{Dispatch, Propagate, Dpc}
+use Rattle.model.specs.declared.set.Sort.TheVariants.{Dispatch, Propagate, Dpc, StartIo}
 use Rattle.model.specs.declared.world.Activation.{Activation}
 use Rattle.model.specs.declared.world.Frame.{Frame}
 use Rattle.model.specs.declared.world.Frame.TheVariants.{Routine, Walk}
@@ -41,9 +41,10 @@ use Rattle.run_laws.proofs.States.Frames.{Runs, state_of}
 use Rattle.run_laws.proofs.States.Moves.{arrives, arrives_next, falls_next, has_next, onto}
 use Rattle.run_laws.proofs.States.Lacking.{down}
 use Rattle.run_laws.proofs.States.Obeyed.{returns_by}
+use Rattle.run_laws.proofs.States.Queueless.{runs_no_queues}
 use Rattle.run_laws.proofs.Steps.Locking.{LockWord, freed_word, taken_word}
 use Rattle.run_laws.proofs.States.Rules.{States}
-use Rattle.run_laws.proofs.Steps.Comes.{Comes, Executing, GoesTo, Reads, awaits_lock, calls_down, completes_gone, completes_packet, computes, errs, frees_lock, lets_go, lets_walk, looks_at, marks_packet, opens_loop, pages, passes_down, retakes_lock, returns_status, takes_lock, touches_gone, turns_loop, writes_info, ends_dpc}
+use Rattle.run_laws.proofs.Steps.Comes.{Comes, Executing, GoesTo, Reads, awaits_lock, calls_down, completes_gone, completes_packet, computes, errs, frees_lock, lets_go, lets_walk, looks_at, marks_packet, opens_loop, pages, passes_down, retakes_lock, returns_status, takes_lock, touches_gone, turns_loop, writes_info, ends_dpc, works_on_queues, ends_startio}
 use Rattle.run_laws.proofs.Steps.Faults.{none_first, none_later}
 use Rattle.run_laws.proofs.Steps.Words.{Looking, Marking, Work, jumps_on, packet_operand, work_of}
 use Rattle.run_laws.proofs.Uses.Becomes.{gets_marked, goes_down}
@@ -176,6 +177,8 @@ settled_mark : (carried : Settled) (sort : Sort) → sort ≡ Propagate → sett
 settled_mark SettledMark sort is rule = refl
 settled_mark Open Propagate is rule = cc
 settled_mark NeedMark Propagate is rule = cc
+settled_mark Open StartIo is rule = cc
+settled_mark NeedMark StartIo is rule = cc
 settled_mark Open Dpc is rule = cc
 settled_mark NeedMark Dpc is rule = cc
 settled_mark Open Dispatch is rule = cc
@@ -528,6 +531,8 @@ module _ (set : Set) (states : States) (s : Shared) (past : List Entry) (actor :
       on_used (with_locks s (with_owner s.locks lock None)) (next a) (Executes ∷ Releases lock ∷ [])
       Stepped
       (settled_word i at (freed_word a i lock freed)) refl (λ n. refl)
+  routine_used below o (works_on_queues b i c queues starts actions full at queued) quiet =
+      absurd (runs_no_queues set states s a i (h.runs i at) queued)
   routine_used below o (completes_packet b r status n p at reads there) quiet =
       written_used n p (completed p status) (Routine (next a) ∷ Walk n ∷ [])
       (Executes ∷ Completes n ∷ []) there refl
@@ -555,5 +560,6 @@ module _ (set : Set) (states : States) (s : Shared) (past : List Entry) (actor :
   routine_used below o (returns_status b form status at sort there) quiet =
       left_used form o at refl refl (λ n. refl)
   routine_used below o (lets_go b at sort bare) quiet = left_used Continue o at refl refl (λ n. refl)
+  routine_used below o (ends_startio b at sort) quiet = left_used Void o at refl refl (λ n. refl)
   routine_used below o (ends_dpc b at sort) quiet = left_used Void o at refl refl (λ n. refl)
   routine_used below o (lets_walk b n at sort) quiet = left_used Continue o at refl refl (λ m. refl)

@@ -15,4 +15,7 @@ returns c =
       c.new-9.ensures.empty,
       c.new-10.ensures.items,
       c.new-11.ensures.items,
+      c.new-12.ensures.empty,
+      c.new-13.ensures.items,
+      c.new-14.ensures.items,
     ) refl

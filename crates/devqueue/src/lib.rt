@@ -1,0 +1,8 @@
+//! The queues of a device, as lists of packet numbers, with what it has for StartIo.
+#![tactic(auto)]
+
+pub mod device_queue;
+pub mod guarded;
+
+pub use device_queue::DeviceQueue;
+pub use guarded::Guarded;

@@ -1,0 +1,34 @@
+-- What the instructions about queues have in common: they touch one packet or none.
+use Rattle.std.proofs.Common.{◌≡◌, ◌⊎◌, ℕ, Bool, true, List, [], ◌∷◌, refl, inl, inr}
+use Rattle.model.specs.declared.instr.Instr.{Instr}
+use Rattle.model.specs.declared.world.Activation.{Activation}
+use Rattle.model.specs.Action.{Action, Touches}
+use Rattle.model.specs.Queues.{StartState}
+use Rattle.model.specs.World.{Shared}
+use Rattle.run_laws.specs.NoQueues.{is_of_queues}
+use Rattle.run_laws.proofs.Steps.Comes.{Queued, inserts, removes, removes_none, starts_packet, takes_out, takes_none, puts_in, starts_next}
+
+pub queued_is : {s : Shared} {a b : Activation} {i : Instr} {queues : List (List (List ℕ))}
+    {lists : List StartState} {actions : List Action} {full : Bool}
+    → Queued s a i b queues lists actions full → is_of_queues i ≡ true
+queued_is (inserts r q n entries reads there) = refl
+queued_is (removes r q label n entries there) = refl
+queued_is (removes_none r q label there) = refl
+queued_is (starts_packet r n start reads there) = refl
+queued_is (takes_out r label n start there slot) = refl
+queued_is (takes_none r label start there slot) = refl
+queued_is (puts_in r n start reads there) = refl
+queued_is (starts_next start there) = refl
+
+pub queued_touches : {s : Shared} {a b : Activation} {i : Instr} {queues : List (List (List ℕ))}
+    {lists : List StartState} {actions : List Action} {full : Bool}
+    → Queued s a i b queues lists actions full
+    → (actions ≡ []) ⊎ ((n : ℕ) × (actions ≡ Touches n ∷ []))
+queued_touches (inserts r q n entries reads there) = inr (n, refl)
+queued_touches (removes r q label n entries there) = inr (n, refl)
+queued_touches (removes_none r q label there) = inl refl
+queued_touches (starts_packet r n start reads there) = inr (n, refl)
+queued_touches (takes_out r label n start there slot) = inl refl
+queued_touches (takes_none r label start there slot) = inl refl
+queued_touches (puts_in r n start reads there) = inr (n, refl)
+queued_touches (starts_next start there) = inl refl

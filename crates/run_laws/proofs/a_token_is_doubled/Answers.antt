@@ -1,0 +1,5 @@
+use Rattle.std.proofs.Common.{refl}
+use Rattle.run_laws.proofs.a_token_is_doubled.Goals as goal
+
+pub returns : goal.returns
+returns c = record { two = refl; refused = refl }
