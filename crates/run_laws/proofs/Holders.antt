@@ -1,7 +1,9 @@
 pub mod Sums
 pub mod Rights
+pub mod Queued
 pub mod Counts
 pub mod Steps
 pub mod Runs
 pub mod Once
 pub mod Apart
+pub mod Full

@@ -1,5 +1,5 @@
 -- Small facts on lists: from a place on, and at the end.
-use Rattle.std.proofs.Common.{◌≡◌, ◌≢◌, ◌<◌, ◌+◌, ◌-◌, ℕ, zero, suc, List, [], ◌∷◌, ◌++◌, Some, length, take, drop, get_or, refl, ap, sym, ◌∙◌, arith, subst}
+use Rattle.std.proofs.Common.{◌≤◌, ◌≡◌, ◌≢◌, ◌<◌, ◌+◌, ◌-◌, ℕ, zero, suc, List, [], ◌∷◌, ◌++◌, Some, length, take, drop, get_or, refl, ap, sym, ◌∙◌, arith, subst}
 use Rattle.std.specs.Prelude.{⊤, slice_get, slice_index_or, slice_set, remove, replicate, All}
 use Rattle.std.proofs.lemmas.List.{take_all, take_more, take_at, length-append}
 use Rattle.std.proofs.lemmas.Option.{slice_get_within, get_or_from_slice_get}
@@ -101,6 +101,18 @@ each_remove P [] zero h = tt
 each_remove P [] (suc i) h = tt
 each_remove P (x ∷ xs) zero h = h.1
 each_remove P (x ∷ xs) (suc i) h = (h.0, each_remove P xs i h.1)
+
+pub length_removed : {A : Type 0} (xs : List A) (i : ℕ) → length (remove xs i) ≤ length xs
+length_removed [] zero = omega arith
+length_removed [] (suc i) = omega arith
+length_removed (x ∷ xs) zero = omega arith
+length_removed (x ∷ xs) (suc i) =
+    let less : length (remove xs i) ≤ length xs = length_removed xs i in omega arith
+
+pub each_map : {A : Type 0} (P Q : A → Type 0) (xs : List A) → ((x : A) → P x → Q x) → Each P xs
+    → Each Q xs
+each_map P Q [] f h = tt
+each_map P Q (x ∷ xs) f h = (f x h.0, each_map P Q xs f h.1)
 
 pub each_same : {A : Type 0} (P : A → Type 0) (n : ℕ) (x : A) → P x → Each P (replicate n x)
 each_same P zero x h = tt

@@ -19,4 +19,5 @@ pub mod Fine
 pub mod Roots
 pub mod Standing
 pub mod Inside
-pub mod Queueless
+pub mod Queueing
+pub mod HandedOver

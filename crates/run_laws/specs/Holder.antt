@@ -1,5 +1,5 @@
--- Who holds a packet: a register that has the right to it, or the I/O manager's frame that
--- completes it.
+-- Who holds a packet: a register that has the right to it, the I/O manager's frame that completes it,
+-- or a queue.
 use Rattle.std.specs.Prelude.{ℕ, ◌≡◌, ◌<◌, ◌+◌, ◌&&◌, not, Bool, List, [], ◌∷◌, length, Option, None, Some, nat_eq, nat_lt, slice_get, if◌then◌else◌}
 use Rattle.model.specs.declared.abs.Abs.{Abs}
 use Rattle.model.specs.declared.abs.Kind.{Kind}
@@ -21,7 +21,7 @@ use Rattle.model.specs.Set.{Set, member, routine_of}
 use Rattle.model.specs.Sound.{IsSound}
 use Rattle.model.specs.Typable.{IsTypable}
 use Rattle.model.specs.World.{packet_of}
-use Rattle.run_laws.specs.NoQueues.{UsesNoQueues}
+use Rattle.run_laws.specs.StartsNoPackets.{StartsNoPackets}
 
 -- 1 where a value refers to a packet, else 0
 abbrev pub names : Value → ℕ → ℕ
@@ -59,6 +59,19 @@ thread_sum count (thread ∷ threads) = stack_sum count thread.frames.items + th
 abbrev pub holders : (ℕ → ℕ → ℕ → Abs) → List Thread → ℕ → ℕ
 holders states threads n = thread_sum (λ f. frame_rights states f n + frame_walks f n) threads
 
+-- how often a packet stands in a queue, in the queues of a device, and in those of all devices
+abbrev pub times_in : List ℕ → ℕ → ℕ
+times_in [] n = 0
+times_in (m ∷ entries) n = (if nat_eq m n then 1 else 0) + times_in entries n
+
+abbrev pub times_on : List (List ℕ) → ℕ → ℕ
+times_on [] n = 0
+times_on (entries ∷ lists) n = times_in entries n + times_on lists n
+
+abbrev pub times_queued : List (List (List ℕ)) → ℕ → ℕ
+times_queued [] n = 0
+times_queued (lists ∷ queues) n = times_on lists n + times_queued queues n
+
 abbrev pub alive : Option Packet → ℕ
 alive None = 0
 alive (Some p) = 1
@@ -74,8 +87,9 @@ pub record StandsInside (set : Set) (a : Activation) : Type 0 where
   pub inside : a.position < length routine.code
   pub registers : length a.registers ≡ REGISTERS
 
--- a packet of a run that was issued and hasn't topped out has one holder, and is in the list of
--- live packets; any other one has none, and isn't there. The states are those that arrive at the
+-- a packet of a run that was issued and hasn't topped out has one holder, be it a register, the I/O
+-- manager's frame or a place in a queue, and is in the list of live packets; any other one has none,
+-- and isn't there. The states are those that arrive at the
 -- positions of the routines, and every routine's frame, on top of its thread or below, stands at
 -- one of them
 pub record HasOneHolder (set : Set) (threads : ℕ) (events : List Event) : Type 0 where
@@ -87,11 +101,12 @@ pub record HasOneHolder (set : Set) (threads : ℕ) (events : List Event) : Type
       ≡ Some (Routine a)
       → StandsInside set a
   pub one : (n : ℕ) → holders states (run set threads events).world.threads n
+      + times_queued (run set threads events).world.shared.queues n
       ≡ (if is_live (run set threads events) n then 1 else 0)
   pub listed : (n : ℕ) → alive (packet_of (run set threads events).world.shared n)
       ≡ (if is_live (run set threads events) n then 1 else 0)
 
 abbrev pub PacketsHaveOneHolder : Type 0
 PacketsHaveOneHolder =
-    (set : Set) → IsTypable set → IsSound set → UsesNoQueues set → (threads : ℕ) (events : List Event)
+    (set : Set) → IsTypable set → IsSound set → StartsNoPackets set → (threads : ℕ) (events : List Event)
     → HasOneHolder set threads events

@@ -1,4 +1,4 @@
-pub mod NoQueues
+pub mod StartsNoPackets
 pub mod NoWrong
 pub mod LockOrder
 pub mod Holder

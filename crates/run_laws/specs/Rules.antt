@@ -11,7 +11,7 @@ use Rattle.model.specs.Typable.{IsTypable}
 use Rattle.run_laws.specs.Holder.{HasOneHolder}
 use Rattle.run_laws.specs.Lifetime.{KeepCertificates}
 use Rattle.run_laws.specs.NeverStops.{NeverStops}
-use Rattle.run_laws.specs.NoQueues.{UsesNoQueues}
+use Rattle.run_laws.specs.StartsNoPackets.{StartsNoPackets}
 use Rattle.run_laws.specs.NothingSkipped.{SkipsNothing}
 use Rattle.run_laws.specs.NoWrong.{NeverGoesWrong}
 use Rattle.run_laws.specs.TopsOnce.{times_topped}
@@ -37,5 +37,5 @@ pub record KeepsTheRules (set : Set) (threads : ℕ) (events : List Event) : Typ
 
 abbrev pub AcceptedRunsKeepTheRules : Type 0
 AcceptedRunsKeepTheRules =
-    (set : Set) → IsTypable set → IsSound set → UsesNoQueues set → (threads : ℕ) (events : List Event)
+    (set : Set) → IsTypable set → IsSound set → StartsNoPackets set → (threads : ℕ) (events : List Event)
     → KeepsTheRules set threads events

@@ -1,6 +1,6 @@
-//! Laws of runs: what holds of every run of an accepted set that uses no queues, whatever its threads
-//! and events; and what holds of any set's. Nothing runs here: each law is the contract of a function
-//! that does nothing.
+//! Laws of runs: what holds of every run of an accepted set that starts no packets, whatever its
+//! threads and events; and what holds of any set's. Nothing runs here: each law is the contract of
+//! a function that does nothing.
 #![tactic(auto)]
 
 ghost use Rattle.run_laws.specs.CarriedMark.{CarriedUp};
@@ -17,39 +17,41 @@ ghost use Rattle.run_laws.specs.Rules.{AcceptedRunsKeepTheRules};
 ghost use Rattle.run_laws.specs.SharedMark.{SharedByBoth};
 ghost use Rattle.run_laws.specs.TopsOnce.{PacketsTopOutOnce};
 
-/// Of any set, accepted or not, until its run stops: a packet has topped out exactly where it was issued and isn't
-/// live, the live packets are as the trace says and none has a cancel routine, a thread holds a lock exactly where it
-/// is its owner, and no thread has more than 32 frames.
+/// Of any set, accepted or not, until its run stops: a packet has topped out exactly where it was
+/// issued and isn't live, the live packets are as the trace says and none has a cancel routine, a
+/// thread holds a lock exactly where it is its owner, and no thread has more than 32 frames.
 pub fn the_past_tells_of_the_world()
     ensures { PastTellsOfTheWorld }
 {}
 
-/// No run of an accepted set that uses no queues goes wrong: no operand is of a wrong kind, no position is outside its
-/// routine, no loop instruction is without its loop, and an activation's device is there with its locks
-/// and cells.
+/// No run of an accepted set that starts no packets goes wrong: no operand is of a wrong kind, no
+/// position is outside its routine, no loop instruction is without its loop, and an activation's
+/// device is there with its locks and cells.
 pub fn accepted_runs_never_go_wrong()
     ensures { AcceptedRunsNeverGoWrong }
 {}
 
-/// Every activation of an accepted set that uses no queues executes at most as many instructions as the certificate of its routine.
+/// Every activation of an accepted set that starts no packets executes at most as many instructions
+/// as the certificate of its routine.
 pub fn activations_keep_their_certificate()
     ensures { ActivationsKeepTheirCertificate }
 {}
 
-/// No lock is acquired by a thread that owns it, or released by one that doesn't, and no paged cell is
-/// touched at DISPATCH_LEVEL.
+/// No lock is acquired by a thread that owns it, or released by one that doesn't, and no paged cell
+/// is touched at DISPATCH_LEVEL.
 pub fn locks_are_orderly()
     ensures { LocksAreOrderly }
 {}
 
-/// Each live packet has one holder: a register that has the right to it, or the I/O manager's frame that
-/// completes it. One that has topped out has none. Every routine's frame stands inside its code.
+/// Each live packet has one holder: a register that has the right to it, the I/O manager's frame
+/// that completes it, or a place in a queue. One that has topped out has none. Every routine's
+/// frame stands inside its code.
 pub fn packets_have_one_holder()
     ensures { PacketsHaveOneHolder }
 {}
 
-/// No run of an accepted set that uses no queues stops: there is no bug check of any kind, nothing goes wrong, and no step of a
-/// thread is refused.
+/// No run of an accepted set that starts no packets stops: there is no bug check of any kind,
+/// nothing goes wrong, and no step of a thread is refused.
 pub fn accepted_runs_never_stop()
     ensures { AcceptedRunsNeverStop }
 {}
@@ -59,32 +61,33 @@ pub fn packets_top_out_once()
     ensures { PacketsTopOutOnce }
 {}
 
-/// Nothing that counts of instructions and pending agreement go by is missing: each frame has a tag of its own,
-/// and a dispatch routine's names the use that it serves; a live packet has as many uses as it is deep; an entry
-/// of an executed instruction names its activation, of a return its use, and of a mark, a leave, an issue or a
-/// call its location.
+/// Nothing that counts of instructions and pending agreement go by is missing: each frame has a tag
+/// of its own, and a dispatch routine's names the use that it serves; a live packet has as many
+/// uses as it is deep; an entry of an executed instruction names its activation, of a return its
+/// use, and of a mark, a leave, an issue or a call its location.
 pub fn nothing_is_skipped()
     ensures { NothingIsSkipped }
 {}
 
-/// Every run of an accepted set that uses no queues keeps all these rules.
+/// Every run of an accepted set that starts no packets keeps all these rules.
 pub fn accepted_runs_keep_the_rules()
     ensures { AcceptedRunsKeepTheRules }
 {}
 
-/// Dispatch routines return STATUS_PENDING exactly where their stack location was marked pending when
-/// completion left it.
+/// Dispatch routines return STATUS_PENDING exactly where their stack location was marked pending
+/// when completion left it.
 pub fn pending_returns_agree()
     ensures { AcceptedRunsAgreeOnPending }
 {}
 
-/// A worked run in which a mark is carried up, as a check of the definitions: both locations are left marked,
-/// and STATUS_PENDING is returned from both.
+/// A worked run in which a mark is carried up, as a check of the definitions: both locations are
+/// left marked, and STATUS_PENDING is returned from both.
 pub fn a_mark_is_carried_up()
     ensures { CarriedUp }
 {}
 
-/// A worked run in which two routines share a stack location: it is left marked, and both return STATUS_PENDING.
+/// A worked run in which two routines share a stack location: it is left marked, and both return
+/// STATUS_PENDING.
 pub fn a_mark_is_shared()
     ensures { SharedByBoth }
 {}

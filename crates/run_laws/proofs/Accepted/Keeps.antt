@@ -35,7 +35,7 @@ pub record Keeps (set : Set) (states : States) (threads : ℕ) (w : World) (past
   pub told : Telling w past
   pub locks : LocksAgree states w past
   pub held : Held states w
-  pub sees : Sees set w
+  pub sees : Sees set states w
   pub room : Roomy set states w
   pub falls : AllFall set w
   pub «uses» : UsesTell w past
@@ -53,7 +53,7 @@ keeps_begun set states threads =
       told = telling_begun set threads;
       locks = locks_begun set states threads;
       held = held_begun set states threads;
-      sees = sees_begun set threads;
+      sees = sees_begun set states threads;
       room = roomy_begun set states threads;
       falls = falls_begun set threads;
       «uses» = uses_begun (begun set threads).world refl;
@@ -91,7 +91,7 @@ module _ (set : Set) (states : States) (threads : ℕ) (w : World) (past : List 
         happens = happens;
         root = root;
         quiet = no_fault past actor c.actions none;
-        within = within_bounds set states w actor.thread keeps.falls c good
+        within = within_bounds set states w actor.thread keeps.falls past c good keeps.stands keeps.held
             (falls_event set states w actor.thread keeps.falls past c good keeps.stands happens) happens;
       }
 
@@ -123,7 +123,7 @@ module _ (set : Set) (states : States) (threads : ℕ) (w : World) (past : List 
         locks = keeps.locks;
         held = record { rights = keeps.held.rights; walks = keeps.held.walks };
         sees = keeps.sees;
-        room = record { frames = keeps.room.frames };
+        room = record { frames = keeps.room.frames; queues = keeps.room.queues };
         falls = keeps.falls;
         «uses» = record { traced = keeps.«uses».traced; live = keeps.«uses».live };
         once = keeps.once;

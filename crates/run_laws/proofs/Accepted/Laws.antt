@@ -15,7 +15,7 @@ use Rattle.run_laws.specs.Holder.{HasOneHolder, PacketsHaveOneHolder}
 use Rattle.run_laws.specs.Lifetime.{KeepCertificates, ActivationsKeepTheirCertificate}
 use Rattle.run_laws.specs.LockOrder.{LocksAreOrderly}
 use Rattle.run_laws.specs.NeverStops.{LetsGoOn, NeverStops, AcceptedRunsNeverStop}
-use Rattle.run_laws.specs.NoQueues.{UsesNoQueues}
+use Rattle.run_laws.specs.StartsNoPackets.{StartsNoPackets}
 use Rattle.run_laws.specs.NothingSkipped.{SkipsNothing, NothingIsSkipped}
 use Rattle.run_laws.specs.NoWrong.{NeverGoesWrong, AcceptedRunsNeverGoWrong}
 use Rattle.run_laws.specs.PendingReturns.{AcceptedRunsAgreeOnPending}
@@ -43,14 +43,14 @@ lets_go reply right =
       wrong = λ place same. (let no : true ≡ false = sym (ap stops_run same) ∙ right in cc);
     }
 
-module _ (set : Set) (typable : IsTypable set) (sound : IsSound set) (queueless : UsesNoQueues set)
+module _ (set : Set) (typable : IsTypable set) (sound : IsSound set) (startless : StartsNoPackets set)
     (threads : ℕ)
     (events : List Event) where
   abbrev states : States
   states = (led set typable sound).0
 
   good : IsGood set states
-  good = record { sound = sound; queueless = queueless; led = (led set typable sound).1 }
+  good = record { sound = sound; startless = startless; led = (led set typable sound).1 }
 
   abbrev here : Run
   here = run set threads events
@@ -141,27 +141,27 @@ accepted_tops = at_most_once
 
 -- no bug check at all is about a lock: a law of its own, as its reader asks for it by itself
 pub accepted_locks : LocksAreOrderly
-accepted_locks set typable sound queueless threads events e bug reply =
-    absurd (((never_stops set typable sound queueless threads events).replies e).bug bug reply)
+accepted_locks set typable sound startless threads events e bug reply =
+    absurd (((never_stops set typable sound startless threads events).replies e).bug bug reply)
 
 pub accepted_agree : AcceptedRunsAgreeOnPending
-accepted_agree set typable sound queueless threads events =
-    pending_agree (states set typable sound queueless threads events) (run set threads events).world
+accepted_agree set typable sound startless threads events =
+    pending_agree (states set typable sound startless threads events) (run set threads events).world
     (run set threads events).past
-    (lasting set typable sound queueless threads events).attends.agree
+    (lasting set typable sound startless threads events).attends.agree
 
 pub accepted_skip_nothing : NothingIsSkipped
 accepted_skip_nothing = skips_nothing
 
 pub accepted_rules : AcceptedRunsKeepTheRules
-accepted_rules set typable sound queueless threads events =
+accepted_rules set typable sound startless threads events =
     record {
-      faultless = (lasting set typable sound queueless threads events).keeps.faultless;
-      right = never_wrong set typable sound queueless threads events;
-      lasting = never_stops set typable sound queueless threads events;
-      certificates = keep_certificates set typable sound queueless threads events;
-      pending = accepted_agree set typable sound queueless threads events;
-      complete = skips_nothing set typable sound queueless threads events;
-      holders = has_one_holder set typable sound queueless threads events;
-      topped = at_most_once set typable sound queueless threads events;
+      faultless = (lasting set typable sound startless threads events).keeps.faultless;
+      right = never_wrong set typable sound startless threads events;
+      lasting = never_stops set typable sound startless threads events;
+      certificates = keep_certificates set typable sound startless threads events;
+      pending = accepted_agree set typable sound startless threads events;
+      complete = skips_nothing set typable sound startless threads events;
+      holders = has_one_holder set typable sound startless threads events;
+      topped = at_most_once set typable sound startless threads events;
     }

@@ -25,7 +25,7 @@ use Rattle.run_laws.proofs.Runs.Kept.{with_queued}
 use Rattle.run_laws.proofs.Runs.Threads.{frames_there, frames_put}
 use Rattle.run_laws.proofs.States.Entering.{begins_request, begins_dpc}
 use Rattle.run_laws.proofs.States.Frames.{IsGood, due}
-use Rattle.run_laws.proofs.States.Queueless.{never_starts}
+use Rattle.run_laws.proofs.States.Queueing.{never_starts}
 use Rattle.run_laws.proofs.States.Rules.{States}
 use Rattle.run_laws.proofs.States.Standing.{Standing, on_top}
 use Rattle.run_laws.proofs.Steps.Below.{standing_is}

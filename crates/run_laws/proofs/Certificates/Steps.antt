@@ -1,6 +1,6 @@
 -- What a step executes is paid for by what its frame had left to execute, and a routine that begins
 -- has its certificate left.
-use Rattle.std.proofs.Common.{◌≡◌, ℕ, ◌+◌, ◌<◌, ◌≤◌, List, [], ◌∷◌, Option, None, Some, true, false, refl, ap, sym, subst, arith, drop, ◌-◌}
+use Rattle.std.proofs.Common.{inr, inl, ◌≡◌, ℕ, ◌+◌, ◌<◌, ◌≤◌, List, [], ◌∷◌, Option, None, Some, true, false, refl, ap, sym, subst, arith, drop, ◌-◌}
 use Rattle.std.specs.Prelude.{slice_set}
 use Rattle.model.specs.declared.event.Lock.{Lock}
 use Rattle.model.specs.declared.instr.Instr.{Instr}
@@ -27,12 +27,13 @@ use Rattle.run_laws.proofs.States.Lacking.{never_lacks}
 use Rattle.run_laws.proofs.States.LoopEnds.{moved_loop, moved_end}
 use Rattle.run_laws.proofs.States.Moves.{falls_plain, is_plain, onto, moved, plain_open, plain_left, some_due}
 use Rattle.run_laws.proofs.States.OnTop.{OnTop, runs}
-use Rattle.run_laws.proofs.States.Queueless.{never_queued}
 use Rattle.run_laws.proofs.States.Remaining.{rest, summed}
 use Rattle.run_laws.proofs.States.Rules.{States}
 use Rattle.run_laws.proofs.States.Told.{told_frame, told_last, told_is}
 use Rattle.run_laws.proofs.Steps.Comes.{Executing, Comes, errs, awaits_lock, computes, opens_loop, turns_loop, pages, touches_gone, looks_at, writes_info, marks_packet, takes_lock, retakes_lock, frees_lock, completes_packet, completes_gone, passes_down, calls_down, returns_status, lets_go, lets_walk, walks_gone, walks_to, walks_up, carries_up, tops_out, ends_dpc, works_on_queues, ends_startio}
 use Rattle.run_laws.proofs.Steps.Words.{lock_taken, lock_freed}
+use Rattle.run_laws.proofs.States.Queueing.{queue_moves, MovedOn}
+use Rattle.run_laws.proofs.Steps.Queues.{queued_touches}
 
 -- what a frame has left to execute
 abbrev pub frame_due : Set → Frame → ℕ
@@ -176,7 +177,12 @@ module _ (set : Set) (states : States) (s : Shared) where
   pays t under f o h (frees_lock a i lock owner at freed owned) =
       goes_next_on a i 1 refl h at (frees_plain a i lock freed)
   pays t under f o h (works_on_queues a i b queues starts actions full at queued) =
-      absurd (never_queued h.good at queued)
+      let on : MovedOn set states s a i b queues =
+      queue_moves set states s a i (runs set states s a i h at) queued in
+      elim (queued_touches queued) [
+        | inl none ↦ rw none (moves_on a b (onto (state_of states a) i on.jumped) 1 refl on.moved)
+        | inr one ↦ rw one.1 (moves_on a b (onto (state_of states a) i on.jumped) 1 refl on.moved)
+      ]
   pays t under f o h (completes_packet a r status n p at reads there) =
       let here : Pays (frame_due set) set (Routine a) 1 (Routine (next a) ∷ []) =
       goes_next_on a (Complete r status) 1 refl h at refl in

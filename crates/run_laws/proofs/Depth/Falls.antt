@@ -27,11 +27,11 @@ use Rattle.run_laws.proofs.States.Frames.{state_of}
 use Rattle.run_laws.proofs.States.Lacking.{down}
 use Rattle.run_laws.proofs.States.Obeyed.{completes_one}
 use Rattle.run_laws.proofs.States.OnTop.{OnTop, runs}
-use Rattle.run_laws.proofs.States.Queueless.{never_queued}
 use Rattle.run_laws.proofs.States.Rules.{States}
 use Rattle.run_laws.proofs.States.Stacks.{Stacked}
 use Rattle.run_laws.proofs.States.Told.{told_frame, told_last, told_is}
 use Rattle.run_laws.proofs.Steps.Comes.{GoesTo, onward, jumping, Comes, computes, turns_loop, pages, looks_at, completes_packet, passes_down, calls_down, returns_status, lets_go, lets_walk, ends_dpc, walks_gone, walks_to, walks_up, carries_up, tops_out, works_on_queues, ends_startio}
+use Rattle.run_laws.proofs.States.Queueing.{queue_moves}
 
 -- frames of a thread, the lowest first: routines for lower and lower devices, all under a first
 -- one; on an I/O manager's frame at most one stands
@@ -235,7 +235,7 @@ module _ (set : Set) (states : States) (s : Shared) where
       (down set states s a (Call r completion) r (runs set states s a (Call r completion) h at) refl
       refl).dispatch below
   short t under f o h (works_on_queues a i b queues starts actions full at queued) =
-      absurd (never_queued h.good at queued)
+      (queue_moves set states s a i (runs set states s a i h at) queued).moved.device
   short t under f o h (returns_status a form status at sort is) = tt
   short t under f o h (lets_go a at sort free) = tt
   short t under f o h (lets_walk a n at sort) = tt

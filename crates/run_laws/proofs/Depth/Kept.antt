@@ -19,11 +19,17 @@ use Rattle.run_laws.proofs.Runs.Events.{Happens, nothing, steps, issues, begins,
 use Rattle.run_laws.proofs.Runs.Threads.{frames_there, frames_put, each_frames, idle_frames}
 use Rattle.run_laws.proofs.States.Entering.{begins_dpc}
 use Rattle.run_laws.proofs.States.Frames.{IsGood, Serves}
-use Rattle.run_laws.proofs.States.Queueless.{never_queued, never_starts}
+use Rattle.run_laws.proofs.States.Queueing.{never_starts}
 use Rattle.run_laws.proofs.States.Rules.{States}
 use Rattle.run_laws.proofs.States.Standing.{Standing, stands_there, on_top}
 use Rattle.run_laws.proofs.Steps.Below.{standing_is}
-use Rattle.run_laws.proofs.Steps.Comes.{Comes, works_on_queues}
+use Rattle.run_laws.proofs.Steps.Comes.{walks_gone, Comes}
+use Rattle.model.specs.declared.world.Frame.TheVariants.{Routine, Walk}
+use Rattle.run_laws.proofs.Holders.Counts.{Holding}
+use Rattle.run_laws.proofs.Holders.Sums.{Held}
+use Rattle.run_laws.proofs.States.OnTop.{OnTop}
+use Rattle.run_laws.proofs.Holders.Runs.{top_holding}
+use Rattle.run_laws.proofs.Holders.Full.{never_full}
 
 -- the frames of every thread stand for lower and lower devices
 abbrev pub AllFall : Set → World → Type 0
@@ -42,6 +48,11 @@ few_frames set w t sound falls =
     let all : length (frames_on w t) ≤ length set.devices + 2 =
     falls_length (length set.devices) (frames_on w t) (falls t) in
     omega arith
+
+walk_full_of : (set : Set) (s : Shared) (t : ℕ) (under : Option Frame) (n : ℕ) (o : Outcome)
+    → Comes set s t under (Walk n) o → o.full ≡ false
+walk_full_of set s t under n o (walks_gone m gone) = refl
+walk_full_of set s t under n o _ = refl
 
 module _ (set : Set) (states : States) (w : World) (t : ℕ) (falls : AllFall set w) where
   falls_put : (s : Shared) (thread after : Thread) → slice_get w.threads t ≡ Some thread
@@ -84,25 +95,27 @@ module _ (set : Set) (states : States) (w : World) (t : ℕ) (falls : AllFall se
   falls_event past c good stands (begins_startio h) = absurd (never_starts good h)
 
   -- no list is full
-  not_full : IsGood set states → (s : Shared) (under : Option Frame) (f : Frame) (o : Outcome)
-      → Comes set s t under f o → o.full ≡ false
-  not_full good s under f o (works_on_queues a i b queues starts actions full at queued) =
-      absurd (never_queued good at queued)
-  not_full good s under f o _ = refl
+  not_full : (s : Shared) (past : List Entry) (under : Option Frame) (f : Frame) (o : Outcome)
+      → Holding states s past f → OnTop set states s f → Comes set s t under f o → o.full ≡ false
+  not_full s past under (Routine a) o holding top c =
+      never_full set states s past a holding t under o top c
+  not_full s past under (Walk n) o holding top c = walk_full_of set s t under n o c
 
   -- and passes no bound
-  pub within_bounds : (c : Change) → IsGood set states → AllFall set c.world → Happens set w t c
+  pub within_bounds : (past : List Entry) (c : Change) → IsGood set states → Standing set states w past
+      → Held states w → AllFall set c.world → Happens set w t c
       → c.over ≡ false
-  within_bounds c good later (nothing reply right) = refl
-  within_bounds c good later (issues h) = refl
-  within_bounds c good later (begins h) = refl
-  within_bounds c good later (begins_startio h) = refl
-  within_bounds c good later (steps h) =
+  within_bounds past c good stands held later (nothing reply right) = refl
+  within_bounds past c good stands held later (issues h) = refl
+  within_bounds past c good stands held later (begins h) = refl
+  within_bounds past c good stands held later (begins_startio h) = refl
+  within_bounds past c good stands held later (steps h) =
       let few : length (frames_on c.world t) ≤ 18 = few_frames set c.world t good.sound later in
       let same : frames_on c.world t ≡ standing set h.below h.outcome =
       frames_put w t h.outcome.shared (with_stack h.thread (standing set h.below h.outcome))
       h.thread h.found in
       let less : length (standing set h.below h.outcome) ≤ 18 =
       subst (λ (frames : List Frame). length frames ≤ 18) same few in
-      rw (not_full good w.shared (top_of h.below) h.frame h.outcome h.comes)
+      rw (not_full w.shared past (top_of h.below) h.frame h.outcome
+      (top_holding set states w past stands held t h) (on_top set states w past good stands t h) h.comes)
       (le-ltb MAX_FRAMES (length (standing set h.below h.outcome)) (omega arith))

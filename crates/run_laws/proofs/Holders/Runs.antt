@@ -1,5 +1,5 @@
 -- In every run of an accepted set each live packet has one holder, and no packet tops out twice.
-use Rattle.std.proofs.Common.{◌≡◌, ℕ, zero, suc, ◌+◌, ◌-◌, ◌≤◌, List, [], ◌∷◌, ◌++◌, Option, None, Some, Bool, true, false, refl, ap, ◌∙◌, arith}
+use Rattle.std.proofs.Common.{length, ◌≡◌, ℕ, zero, suc, ◌+◌, ◌-◌, ◌≤◌, List, [], ◌∷◌, ◌++◌, Option, None, Some, Bool, true, false, refl, ap, ◌∙◌, arith}
 use Rattle.std.specs.Prelude.{◌&&◌, not, is_none, nat_eq, nat_lt, replicate, slice_get, slice_set, if◌then◌else◌}
 use Rattle.std.proofs.lemmas.Bool.{ltb-false}
 use Rattle.model.specs.declared.set.Sort.TheVariants.{Dispatch}
@@ -16,7 +16,7 @@ use Rattle.model.specs.Run.{Run, begun}
 use Rattle.model.specs.Set.{Set, instruction_at}
 use Rattle.model.specs.Trace.{Entry, Actor}
 use Rattle.model.specs.World.{World, idle_thread, new_packet, packet_of}
-use Rattle.run_laws.specs.Holder.{frame_rights, frame_walks, stack_sum, thread_sum, holders, alive, is_live}
+use Rattle.run_laws.specs.Holder.{times_queued, frame_rights, frame_walks, stack_sum, thread_sum, holders, alive, is_live}
 use Rattle.run_laws.proofs.Holders.Counts.{Holding, new_unheld, new_held}
 use Rattle.run_laws.proofs.Holders.Rights.{begun_rights, rights_told, dpc_rights}
 use Rattle.run_laws.proofs.Holders.Steps.{HoldStep, hold, completion_faults}
@@ -28,12 +28,14 @@ use Rattle.run_laws.proofs.Runs.Kept.{GoesOnBy}
 use Rattle.run_laws.proofs.States.Entering.{begins_request, begins_dpc}
 use Rattle.run_laws.proofs.States.Fine.{StepLeaves, leaves_fine}
 use Rattle.run_laws.proofs.States.Frames.{IsGood, Ready, state_of}
-use Rattle.run_laws.proofs.States.Queueless.{never_starts}
+use Rattle.run_laws.proofs.States.Queueing.{never_starts}
 use Rattle.run_laws.proofs.States.Rules.{States}
 use Rattle.run_laws.proofs.States.Stacks.{Stands, Stacked, Replaces}
 use Rattle.run_laws.proofs.States.Standing.{Standing, stands_there, on_top}
 use Rattle.run_laws.proofs.States.Told.{told_frame, told_last, last_same, standing_last}
 use Rattle.run_laws.proofs.Steps.Faults.{is_completion, is_touch, fault_among, quiet_among}
+use Rattle.model.specs.declared.limits.TheConstants.{MAX_QUEUES}
+use Rattle.run_laws.proofs.Holders.Queued.{none_queued}
 
 -- a frame that is told a status has the same rights, and is the I/O manager's where it was
 module _ (set : Set) (states : States) (issued n : ℕ) where
@@ -110,6 +112,22 @@ top_replaced count threads t thread after below lower f frames before now found 
     ap (stack_sum count) new ∙ stack_append count lower frames in
     omega arith
 
+top_changed : (count : Frame → ℕ) (threads : List Thread) (t : ℕ) (thread after : Thread)
+    (below lower : List Frame) (f : Frame) (frames : List Frame)
+    → slice_get threads t ≡ Some thread → thread.frames.items ≡ below ++ f ∷ []
+    → after.frames.items ≡ lower ++ frames → stack_sum count lower ≡ stack_sum count below
+    → thread_sum count (slice_set threads t after) + count f
+    ≡ thread_sum count threads + stack_sum count frames
+top_changed count threads t thread after below lower f frames found items new same =
+    let set : thread_sum count (slice_set threads t after) + stack_sum count thread.frames.items
+    ≡ thread_sum count threads + stack_sum count after.frames.items =
+    thread_set count threads t thread after found in
+    let old : stack_sum count thread.frames.items ≡ stack_sum count below + stack_sum count (f ∷ []) =
+    ap (stack_sum count) items ∙ stack_append count below (f ∷ []) in
+    let later : stack_sum count after.frames.items ≡ stack_sum count lower + stack_sum count frames =
+    ap (stack_sum count) new ∙ stack_append count lower frames in
+    omega arith
+
 -- the rights of a frame that steps are to live packets
 pub top_holding : (set : Set) (states : States) (w : World) (past : List Entry)
     → Standing set states w past
@@ -120,7 +138,14 @@ top_holding set states w past stands kept t h =
       rights = λ n.
           let le : frame_rights states h.frame n ≤ thread_sum (λ f. frame_rights states f n) w.threads =
           top_le (λ f. frame_rights states f n) w.threads t h.thread h.below h.frame h.found h.frames in
-          let all : thread_sum (λ f. frame_rights states f n) w.threads
+          let all : thread_sum (λ f. frame_rights states f n) w.threads + times_queued w.shared.queues n
+          ≡ unheld (find w.shared.packets n) =
+          kept.rights n in
+          omega arith;
+      queued = λ n.
+          let le : frame_rights states h.frame n ≤ thread_sum (λ f. frame_rights states f n) w.threads =
+          top_le (λ f. frame_rights states f n) w.threads t h.thread h.below h.frame h.found h.frames in
+          let all : thread_sum (λ f. frame_rights states f n) w.threads + times_queued w.shared.queues n
           ≡ unheld (find w.shared.packets n) =
           kept.rights n in
           omega arith;
@@ -171,13 +196,22 @@ module _ (set : Set) (states : States) (w : World) (past : List Entry) (good : I
       let new : standing set h.below o ≡ lower ++ o.frames =
       standing_last set w.shared t under h.frame o h.below h.comes in
       record {
-        rights = λ n. top_replaced (λ f. frame_rights states f n) w.threads t h.thread after h.below
-            lower h.frame
-            o.frames (unheld (find w.shared.packets n)) (unheld (find o.shared.packets n)) h.found
-            h.frames
-            (kept.rights n) new
+        rights = λ n.
+            let before : thread_sum (λ f. frame_rights states f n) w.threads
+            + times_queued w.shared.queues n ≡ unheld (find w.shared.packets n) = kept.rights n in
+            let changed : thread_sum (λ f. frame_rights states f n)
+            (slice_set w.threads t after) + frame_rights states h.frame n
+            ≡ thread_sum (λ f. frame_rights states f n) w.threads
+            + stack_sum (λ f. frame_rights states f n) o.frames =
+            top_changed (λ f. frame_rights states f n) w.threads t h.thread after h.below lower h.frame
+            o.frames h.found h.frames new
             (last_after set states w.shared.issued n h.below h.frame o.told o.frames on_thread
-            leaves.stands) (step.rights n);
+            leaves.stands) in
+            let even : stack_sum (λ g. frame_rights states g n) o.frames
+            + times_queued o.shared.queues n + unheld (find w.shared.packets n)
+            ≡ frame_rights states h.frame n + times_queued w.shared.queues n
+            + unheld (find o.shared.packets n) = step.rights n in
+            omega arith;
         walks = λ n. top_replaced (λ f. frame_walks f n) w.threads t h.thread after h.below lower
             h.frame o.frames
             (held (find w.shared.packets n)) (held (find o.shared.packets n)) h.found h.frames
@@ -197,11 +231,13 @@ module _ (set : Set) (states : States) (w : World) (past : List Entry) (good : I
             let packets : unheld (find (w.shared.packets ++ p ∷ []) n)
             ≡ (if nat_eq m n then 1 else 0) + unheld (find w.shared.packets n) =
             new_unheld w.shared p stands.tells.rises refl refl n in
+            let before : thread_sum (λ f. frame_rights states f n) w.threads
+            + times_queued w.shared.queues n ≡ unheld (find w.shared.packets n) = kept.rights n in
+            let sum : thread_sum (λ f. frame_rights states f n) (slice_set w.threads actor.thread after)
+            ≡ frame_rights states (Routine a) n + thread_sum (λ f. frame_rights states f n) w.threads =
             begun_on (λ f. frame_rights states f n) actor.thread h.thread after (Routine a) h.found
-            h.idle refl
-            (unheld (find w.shared.packets n)) (unheld (find (w.shared.packets ++ p ∷ []) n))
-            (kept.rights n)
-            (omega arith);
+            h.idle refl _ _ refl refl in
+            omega arith;
         walks = λ n.
             let packets : held (find (w.shared.packets ++ p ∷ []) n) ≡ held (find w.shared.packets n) =
             new_held w.shared p stands.tells.rises refl refl n in
@@ -217,10 +253,13 @@ module _ (set : Set) (states : States) (w : World) (past : List Entry) (good : I
             let none : frame_rights states (Routine a) n ≡ 0 =
             dpc_rights set states w.shared.issued a n
             (begins_dpc set states good w.shared.issued h.d h.routine h.there) in
+            let before : thread_sum (λ f. frame_rights states f n) w.threads
+            + times_queued w.shared.queues n ≡ unheld (find w.shared.packets n) = kept.rights n in
+            let sum : thread_sum (λ f. frame_rights states f n) (slice_set w.threads actor.thread after)
+            ≡ frame_rights states (Routine a) n + thread_sum (λ f. frame_rights states f n) w.threads =
             begun_on (λ f. frame_rights states f n) actor.thread h.thread after (Routine a) h.found
-            h.idle refl
-            (unheld (find w.shared.packets n)) (unheld (find w.shared.packets n)) (kept.rights n)
-            (omega arith);
+            h.idle refl _ _ refl refl in
+            omega arith;
         walks = λ n. begun_on (λ f. frame_walks f n) actor.thread h.thread after (Routine a) h.found
             h.idle refl
             (held (find w.shared.packets n)) (held (find w.shared.packets n)) (kept.walks n)
@@ -252,7 +291,12 @@ idle_sum count (suc threads) =
 pub held_begun : (set : Set) (states : States) (threads : ℕ) → Held states (begun set threads).world
 held_begun set states threads =
     record {
-      rights = λ n. idle_sum (λ f. frame_rights states f n) threads;
+      rights = λ n.
+          let none : thread_sum (λ f. frame_rights states f n) (replicate threads idle_thread) ≡ 0 =
+          idle_sum (λ f. frame_rights states f n) threads in
+          let empty : times_queued (replicate (length set.devices) (replicate MAX_QUEUES [])) n ≡ 0 =
+          none_queued (length set.devices) n in
+          omega arith;
       walks = λ n. idle_sum (λ f. frame_walks f n) threads;
     }
 
@@ -303,13 +347,14 @@ module _ (r : Run) (tells : Tells r.world.shared r.past) (n : ℕ) where
       (ltb-false n r.world.shared.issued late))
 
   pub one_holder : (states : States) → Held states r.world
-      → holders states r.world.threads n ≡ (if is_live r n then 1 else 0)
+      → holders states r.world.threads n + times_queued r.world.shared.queues n ≡ (if is_live r n then 1 else 0)
   one_holder states kept =
       let both : holders states r.world.threads n
       ≡ thread_sum (λ f. frame_rights states f n) r.world.threads
       + thread_sum (λ f. frame_walks f n) r.world.threads =
       thread_both (λ f. frame_rights states f n) (λ f. frame_walks f n) r.world.threads in
       let rights_are : thread_sum (λ f. frame_rights states f n) r.world.threads
+      + times_queued r.world.shared.queues n
       ≡ unheld (find r.world.shared.packets n) = kept.rights n in
       let walks_are : thread_sum (λ f. frame_walks f n) r.world.threads
       ≡ held (find r.world.shared.packets n) =

@@ -6,7 +6,7 @@ use Rattle.model.specs.declared.world.Frame.{Frame}
 use Rattle.model.specs.declared.world.Packet.{Packet}
 use Rattle.model.specs.declared.world.Thread.{Thread}
 use Rattle.model.specs.World.{World}
-use Rattle.run_laws.specs.Holder.{frame_rights, frame_walks, stack_sum, thread_sum}
+use Rattle.run_laws.specs.Holder.{times_queued, frame_rights, frame_walks, stack_sum, thread_sum}
 use Rattle.run_laws.proofs.Past.LivePackets.{find}
 use Rattle.run_laws.proofs.States.Rules.{States}
 
@@ -19,9 +19,10 @@ abbrev pub held : Option Packet → ℕ
 held None = 0
 held (Some p) = if p.completing then 1 else 0
 
--- the packets that are held by no one but a register, and those that the I/O manager has
+-- the packets that are held by a register or stand in a queue, and those that the I/O manager has
 pub record Held (states : States) (w : World) : Type 0 where
-  pub rights : (n : ℕ) → thread_sum (λ f. frame_rights states f n) w.threads
+  pub rights : (n : ℕ)
+      → thread_sum (λ f. frame_rights states f n) w.threads + times_queued w.shared.queues n
       ≡ unheld (find w.shared.packets n)
   pub walks : (n : ℕ) → thread_sum (λ f. frame_walks f n) w.threads ≡ held (find w.shared.packets n)
 

@@ -9,7 +9,6 @@ use Rattle.model.specs.declared.world.Frame.TheVariants.{Routine, Walk}
 use Rattle.model.specs.declared.world.Irql.TheVariants.{Passive, Dispatch as DispatchLevel}
 use Rattle.model.specs.declared.world.Packet.{Packet}
 use Rattle.model.specs.declared.world.Thread.{Thread}
-use Rattle.model.specs.declared.world.Value.TheVariants.{Blank}
 use Rattle.model.specs.Effect.{Change, Outcome, rooted, serves_request, standing, told_to, top_of, with_stack, with_thread, dpc_activation}
 use Rattle.model.specs.Run.{begun, frames_on}
 use Rattle.model.specs.Set.{Set}
@@ -18,8 +17,8 @@ use Rattle.model.specs.World.{Shared, World}
 use Rattle.run_laws.specs.Holder.{frame_walks, stack_sum, thread_sum}
 use Rattle.run_laws.proofs.Holders.Counts.{Holding}
 use Rattle.run_laws.proofs.Holders.Sums.{Held, held, stack_append, stack_le, walked_if}
-use Rattle.run_laws.proofs.Lists.{last_split, each_same}
-use Rattle.run_laws.proofs.Live.Sees.{Seen, AllSeen, seen_append, seen_below, seen_top, told_seen, RefersTo}
+use Rattle.run_laws.proofs.Lists.{last_split}
+use Rattle.run_laws.proofs.Live.Sees.{Seen, AllSeen, seen_append, seen_below, seen_top, told_seen}
 use Rattle.run_laws.proofs.Live.Steps.{UnderLives, seen, touch_faults}
 use Rattle.run_laws.proofs.Past.LivePackets.{find}
 use Rattle.run_laws.proofs.Past.Packets.{found}
@@ -27,7 +26,7 @@ use Rattle.run_laws.proofs.Runs.Events.{StepsFrame, Happens, nothing, steps, iss
 use Rattle.run_laws.proofs.Runs.Threads.{frames_there, each_frames, idle_frames}
 use Rattle.run_laws.proofs.States.Entering.{begins_request, begins_dpc}
 use Rattle.run_laws.proofs.States.Frames.{IsGood}
-use Rattle.run_laws.proofs.States.Queueless.{never_starts}
+use Rattle.run_laws.proofs.States.Queueing.{never_starts}
 use Rattle.run_laws.proofs.States.Rules.{States}
 use Rattle.run_laws.proofs.States.Standing.{Standing, on_top}
 use Rattle.run_laws.proofs.States.Told.{last_under}
@@ -36,12 +35,12 @@ use Rattle.run_laws.proofs.Steps.Below.{standing_is}
 use Rattle.run_laws.proofs.Steps.Faults.{fault_among, is_touch}
 
 -- the frames of every thread see what they should
-abbrev pub Sees : Set → World → Type 0
-Sees set w = (t : ℕ) → AllSeen set None (frames_on w t)
+abbrev pub Sees : Set → States → World → Type 0
+Sees set states w = (t : ℕ) → AllSeen set states None (frames_on w t)
 
-pub sees_begun : (set : Set) (threads : ℕ) → Sees set (begun set threads).world
-sees_begun set threads =
-    λ t. subst (λ (frames : List Frame). AllSeen set None frames) (sym (idle_frames threads t)) tt
+pub sees_begun : (set : Set) (states : States) (threads : ℕ) → Sees set states (begun set threads).world
+sees_begun set states threads =
+    λ t. subst (λ (frames : List Frame). AllSeen set states None frames) (sym (idle_frames threads t)) tt
 
 -- the frame below is the last one of those below
 last_is : (f : Frame) (below : List Frame) → last_under (Some f) below ≡ top_of (f ∷ below)
@@ -95,42 +94,42 @@ told_or_on : (set : Set) (s : Shared) (t : ℕ) (under : Option Frame) (f : Fram
 told_or_on set s t under f o (returns_status a form status at sort is) = inr refl
 told_or_on set s t under f o _ = inl refl
 
-frames_seen : (set : Set) (below : List Frame) (told : Option Status) (frames : List Frame)
-    → (told ≡ None) ⊎ (frames ≡ []) → AllSeen set None below → AllSeen set (last_under None below) frames
-    → AllSeen set None (told_to set below told ++ frames)
-frames_seen set below told frames (inl none) h new = rw none (seen_append set None below frames h new)
-frames_seen set below told frames (inr none) h new =
-    rw none (seen_append set None (told_to set below told) [] (told_seen set None told below h) tt)
+frames_seen : (set : Set) (states : States) (below : List Frame) (told : Option Status) (frames : List Frame)
+    → (told ≡ None) ⊎ (frames ≡ []) → AllSeen set states None below → AllSeen set states (last_under None below) frames
+    → AllSeen set states None (told_to set below told ++ frames)
+frames_seen set states below told frames (inl none) h new = rw none (seen_append set states None below frames h new)
+frames_seen set states below told frames (inr none) h new =
+    rw none (seen_append set states None (told_to set below told) [] (told_seen set states None told below h) tt)
 
 module _ (set : Set) (states : States) (w : World) (past : List Entry) (good : IsGood set states)
-    (stands : Standing set states w past) (sees : Sees set w) where
+    (stands : Standing set states w past) (sees : Sees set states w) where
   -- the frame that steps sees what it stands on
-  top_seen : (t : ℕ) (h : StepsFrame set w t) → AllSeen set None (h.below ++ h.frame ∷ [])
+  top_seen : (t : ℕ) (h : StepsFrame set w t) → AllSeen set states None (h.below ++ h.frame ∷ [])
   top_seen t h =
-      subst (λ (frames : List Frame). AllSeen set None frames) (frames_there w t h.thread h.found
+      subst (λ (frames : List Frame). AllSeen set states None frames) (frames_there w t h.thread h.found
       ∙ h.frames) (sees t)
 
   sees_put : (t : ℕ) (s : Shared) (thread after : Thread) → slice_get w.threads t ≡ Some thread
-      → AllSeen set None after.frames.items → Sees set (with_thread w t s after)
+      → AllSeen set states None after.frames.items → Sees set states (with_thread w t s after)
   sees_put t s thread after there new =
-      each_frames w t s after (λ k frames. AllSeen set None frames) thread there new (λ k apart. sees k)
+      each_frames w t s after (λ k frames. AllSeen set states None frames) thread there new (λ k apart. sees k)
 
   -- an event keeps it
-  pub sees_event : (t : ℕ) (c : Change) → Happens set w t c → Sees set c.world
+  pub sees_event : (t : ℕ) (c : Change) → Happens set w t c → Sees set states c.world
   sees_event t c (nothing reply right) = sees
   sees_event t c (steps h) =
       let o : Outcome = h.outcome in
-      let here : AllSeen set None (h.below ++ h.frame ∷ []) = top_seen t h in
-      let new : AllSeen set (last_under None h.below) o.frames =
+      let here : AllSeen set states None (h.below ++ h.frame ∷ []) = top_seen t h in
+      let new : AllSeen set states (last_under None h.below) o.frames =
       seen set states w.shared t (last_under None h.below) (top_of h.below) h.frame o
-      (on_top set states w past good stands t h) (seen_top set None h.below (h.frame ∷ []) here).0
+      (on_top set states w past good stands t h) (seen_top set states None h.below (h.frame ∷ []) here).0
       h.comes in
       sees_put t o.shared h.thread (with_stack h.thread (standing set h.below o)) h.found
-      (subst (λ (frames : List Frame). AllSeen set None frames)
+      (subst (λ (frames : List Frame). AllSeen set states None frames)
       (sym (standing_is set w.shared t (top_of h.below) h.frame o h.below h.comes))
-      (frames_seen set h.below o.told o.frames
+      (frames_seen set states h.below o.told o.frames
       (told_or_on set w.shared t (top_of h.below) h.frame o h.comes)
-      (seen_below set None h.below (h.frame ∷ []) here) new))
+      (seen_below set states None h.below (h.frame ∷ []) here) new))
   sees_event t c (issues h) =
       sees_put t c.world.shared h.thread
       (rooted h.thread Passive (serves_request set h.d h.device h.major w.shared.issued))
@@ -143,10 +142,7 @@ module _ (set : Set) (states : States) (w : World) (past : List Entry) (good : I
   sees_event t c (begins h) =
       sees_put t c.world.shared h.thread
       (rooted h.thread DispatchLevel (dpc_activation set h.d h.routine)) h.found (
-        inr (record {
-          of_sort = (begins_dpc set states good w.shared.issued h.d h.routine h.there).of_sort;
-          refers = λ m. (tt, each_same (RefersTo m) 15 Blank tt);
-        }),
+        inr (begins_dpc set states good w.shared.issued h.d h.routine h.there).of_sort,
         tt,
       )
   sees_event t c (begins_startio h) = absurd (never_starts good h)
@@ -162,8 +158,8 @@ module _ (set : Set) (states : States) (w : World) (past : List Entry) (good : I
   touches_none actor c kept holding (steps h) =
       touch_faults set states w.shared past actor (top_of h.below) h.frame h.outcome stands.tells
       (on_top set states w past good stands actor.thread h) (holding h)
-      (subst (λ (under : Option Frame). Seen set under h.frame) (last_is_top h.below)
-      (seen_top set None h.below (h.frame ∷ []) (top_seen actor.thread h)).0)
+      (subst (λ (under : Option Frame). Seen set states under h.frame) (last_is_top h.below)
+      (seen_top set states None h.below (h.frame ∷ []) (top_seen actor.thread h)).0)
       (under_lives states w actor.thread h.thread h.below h.frame (top_of h.below) kept h.found
       h.frames refl)
       h.comes

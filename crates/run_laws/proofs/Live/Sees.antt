@@ -1,11 +1,10 @@
 -- Which packets the frames of a thread see: a completion routine's registers refer to the packet of
--- the I/O manager's frame below it, a DPC routine's to none, and every other routine is a dispatch
--- routine. No step makes a reference.
-use Rattle.std.proofs.Common.{◌≡◌, ◌⊎◌, ℕ, zero, suc, ◌-◌, Bool, List, [], ◌∷◌, ◌++◌, Option, None, Some, inl, inr, refl, sym, subst, ◌∙◌, arith}
-use Rattle.std.specs.Prelude.{⊤, nat_lt, replicate, slice_index_or}
+-- the I/O manager's frame below it, where they refer to one on its way up, and every other routine is a
+-- dispatch routine or a DPC routine.
+use Rattle.std.proofs.Common.{true, ◌≡◌, ◌⊎◌, ℕ, ◌-◌, List, [], ◌∷◌, ◌++◌, Option, None, Some, inl, inr, refl, sym, subst, ◌∙◌}
+use Rattle.std.specs.Prelude.{⊤, nat_lt, replicate}
 use Rattle.std.proofs.lemmas.Bool.{cases_Bool}
-use Rattle.model.specs.declared.instr.Instr.{Instr}
-use Rattle.model.specs.declared.set.Sort.TheVariants.{Dispatch, Dpc}
+use Rattle.model.specs.declared.set.Sort.TheVariants.{Propagate, Dispatch, Dpc}
 use Rattle.model.specs.declared.status.Status.{Status}
 use Rattle.model.specs.declared.world.Activation.{Activation}
 use Rattle.model.specs.declared.world.Frame.{Frame}
@@ -15,29 +14,22 @@ use Rattle.model.specs.declared.world.Value.TheVariants.{Blank, Num, Ref, Status
 use Rattle.model.specs.Effect.{operand_of, answered_in, told_to}
 use Rattle.model.specs.Set.{Set, instruction_at}
 use Rattle.model.specs.World.{Shared, packet_in, register}
-use Rattle.run_laws.proofs.Lists.{Each, each_set, each_same}
-use Rattle.run_laws.proofs.States.Entering.{IsOfSort}
+use Rattle.run_laws.proofs.States.Entering.{Begins, IsOfSort}
 use Rattle.run_laws.proofs.States.Stacks.{answered_in_sort}
 use Rattle.run_laws.proofs.States.Told.{last_under, told_frame, told_last, told_is}
-use Rattle.run_laws.proofs.Steps.Comes.{Written, keeps_all, makes_number, moves_over, makes_blank, GoesTo, Reads, onward, jumping}
+use Rattle.run_laws.proofs.Steps.Comes.{Reads}
+use Rattle.run_laws.proofs.States.Rules.{States}
+use Rattle.run_laws.proofs.States.HandedOver.{hold_get, hold_none, hold_told, HoldOf}
+use Rattle.model.specs.LocalRule.{kind_of, is_view}
+use Rattle.run_laws.proofs.States.Frames.{state_of}
+use Rattle.run_laws.proofs.States.NoViews.{handed_views}
+use Rattle.model.specs.declared.abs.Kind.TheVariants.{Blank as BlankKind}
 
 abbrev pub RefersTo : ℕ → Value → Type 0
 RefersTo m (Ref n) = n ≡ m
 RefersTo m _ = ⊤
 
-abbrev pub Refers : ℕ → Activation → Type 0
-Refers m a = Each (RefersTo m) a.registers
-
-pub refers_at : (m : ℕ) (values : List Value) (q : ℕ) → Each (RefersTo m) values
-    → RefersTo m (slice_index_or values q Blank)
-refers_at m [] q h = tt
-refers_at m (v ∷ values) zero h = h.0
-refers_at m (v ∷ values) (suc q) h = refers_at m values q h.1
-
-pub entered_refers : (m : ℕ) → Each (RefersTo m) (Ref m ∷ replicate 15 Blank)
-entered_refers m = (refl, each_same (RefersTo m) 15 Blank tt)
-
-reads_to : (m : ℕ) (s : Shared) (v : Value) (n : ℕ) → RefersTo m v → packet_in s v ≡ Some n → n ≡ m
+pub reads_to : (m : ℕ) (s : Shared) (v : Value) (n : ℕ) → RefersTo m v → packet_in s v ≡ Some n → n ≡ m
 reads_to m s Blank n refers h = cc
 reads_to m s (Num k) n refers h = cc
 reads_to m s (StatusValue status) n refers h = cc
@@ -47,42 +39,37 @@ reads_to m s (Ref k) n refers h =
       | inr l ↦ let no : None ≡ Some n = rw l at h in cc
     ]
 
--- so each packet that a register is read for is that one
-pub reads_own : (m : ℕ) (s : Shared) (a : Activation) → Refers m a → (r n : ℕ) → Reads s a r n → n ≡ m
-reads_own m s a refers r n reads = reads_to m s (register a r) n (refers_at m a.registers r refers) reads
+-- the packets on their way up in an activation's registers are one
+abbrev pub Views : States → ℕ → Activation → Type 0
+Views states m a = HoldOf is_view (RefersTo m) (state_of states a).kinds a.registers
 
-written_refers : (m : ℕ) (a : Activation) (i : Instr) (values : List Value) → Written a i values
-    → Refers m a
-    → Each (RefersTo m) values
-written_refers m a i values (keeps_all j keeps) h = h
-written_refers m a i values (makes_number j r n is) h = each_set (RefersTo m) a.registers r (Num n) h tt
-written_refers m a i values (moves_over r q) h =
-    each_set (RefersTo m) a.registers r (slice_index_or a.registers q Blank) h
-    (refers_at m a.registers q h)
-written_refers m a i values (makes_blank r) h = each_set (RefersTo m) a.registers r Blank h tt
+-- so each packet that such a register is read for is that one
+pub view_refers : (states : States) (m : ℕ) (a : Activation) → Views states m a → (r : ℕ)
+    → is_view (kind_of (state_of states a) r) ≡ true → RefersTo m (register a r)
+view_refers states m a views r is =
+    hold_get is_view handed_views (RefersTo m) (state_of states a).kinds a.registers r tt views is
 
-pub goes_refers : (m : ℕ) (a : Activation) (i : Instr) (b : Activation) (jumped : Bool)
-    → GoesTo a i b jumped
-    → Refers m a → Refers m b
-goes_refers m a i b jumped (onward values on written) h = written_refers m a i values written h
-goes_refers m a i b jumped (jumping label labelled) h = h
+pub reads_view : (states : States) (m : ℕ) (s : Shared) (a : Activation) → Views states m a → (r n : ℕ)
+    → is_view (kind_of (state_of states a) r) ≡ true → Reads s a r n → n ≡ m
+reads_view states m s a views r n is reads =
+    reads_to m s (register a r) n (view_refers states m a views r is) reads
 
--- a DPC routine's registers refer to no packet: each reference would be to any one
-pub record Bare (set : Set) (a : Activation) : Type 0 where
-  pub of_sort : IsOfSort set a Dpc
-  pub refers : (m : ℕ) → Refers m a
+-- a completion routine that begins sees the packet that it is handed
+pub begins_views : (set : Set) (states : States) (issued : ℕ) (a : Activation) (n : ℕ)
+    → Begins set states issued a Propagate n → Views states n a
+begins_views set states issued a n begins =
+    rw (begins.start, begins.registers) (
+      (λ is. refl),
+      hold_none is_view handed_views (RefersTo n) (replicate 15 BlankKind) (replicate 15 Blank) refl,
+    )
 
-pub bare_reads : (set : Set) (s : Shared) (a : Activation) (r n : ℕ) → Bare set a → Reads s a r n → ⊥
-bare_reads set s a r n bare reads =
-    let no : n ≡ suc n = reads_own (suc n) s a (bare.refers (suc n)) r n reads in absurd (omega arith)
-
-module _ (set : Set) where
+module _ (set : Set) (states : States) where
   abbrev pub Seen : Option Frame → Frame → Type 0
-  Seen None (Routine a) = IsOfSort set a Dispatch ⊎ Bare set a
+  Seen None (Routine a) = IsOfSort set a Dispatch ⊎ IsOfSort set a Dpc
   Seen None (Walk n) = ⊤
   Seen (Some (Routine b)) (Routine a) = IsOfSort set a Dispatch
   Seen (Some (Routine b)) (Walk n) = ⊤
-  Seen (Some (Walk m)) (Routine a) = Refers m a
+  Seen (Some (Walk m)) (Routine a) = Views states m a
   Seen (Some (Walk m)) (Walk n) = ⊤
 
   -- frames on another one, or on none, the lowest first
@@ -106,10 +93,12 @@ module _ (set : Set) where
   seen_top under (f ∷ below) frames h = seen_top (Some f) below frames h.1
 
   -- a frame that is told a status sees the same
-  answered_refers : (m : ℕ) (a : Activation) (status : Status) (r : Option ℕ) → Refers m a
-      → Refers m (answered_in a status r)
-  answered_refers m a status None h = h
-  answered_refers m a status (Some r) h = each_set (RefersTo m) a.registers r (StatusValue status) h tt
+  answered_views : (m : ℕ) (a : Activation) (status : Status) (r : Option ℕ) → Views states m a
+      → Views states m (answered_in a status r)
+  answered_views m a status None h = h
+  answered_views m a status (Some r) h =
+      hold_told is_view handed_views (RefersTo m) (state_of states a).kinds a.registers r
+      (StatusValue status) tt h
 
   frame_seen : (under : Option Frame) (told : Option Status) (f : Frame) → Seen under f
       → Seen under (told_frame set told f)
@@ -120,17 +109,13 @@ module _ (set : Set) where
       let r : Option ℕ = operand_of (instruction_at set a.driver a.routine (a.position - 1)) in
       elim h [
         | inl is ↦ inl (answered_in_sort set a status r Dispatch is)
-        | inr bare ↦
-            inr (record {
-              of_sort = answered_in_sort set a status r Dpc bare.of_sort;
-              refers = λ m. answered_refers m a status r (bare.refers m);
-            })
+        | inr is ↦ inr (answered_in_sort set a status r Dpc is)
       ]
   frame_seen (Some (Routine b)) (Some status) (Routine a) h =
       answered_in_sort set a status
       (operand_of (instruction_at set a.driver a.routine (a.position - 1))) Dispatch h
   frame_seen (Some (Walk m)) (Some status) (Routine a) h =
-      answered_refers m a status (operand_of (instruction_at set a.driver a.routine (a.position - 1))) h
+      answered_views m a status (operand_of (instruction_at set a.driver a.routine (a.position - 1))) h
 
   last_seen : (under : Option Frame) (told : Option Status) (below : List Frame) → AllSeen under below
       → AllSeen under (told_last set told below)

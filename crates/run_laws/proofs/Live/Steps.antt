@@ -1,13 +1,13 @@
 -- Each step keeps what frames see, and touches live packets alone: a register that has a packet has
 -- the right to it, or refers to the packet of the I/O manager's frame below, and that frame holds
 -- its packet.
-use Rattle.std.proofs.Common.{◌≡◌, ℕ, ◌-◌, ◌<◌, List, [], ◌∷◌, ◌++◌, Option, None, Some, Bool, true, false, refl, ap, sym, ◌∙◌, subst, inl, inr, suc, arith}
+use Rattle.std.proofs.Common.{◌+◌, ◌≤◌, ◌≡◌, ℕ, ◌-◌, ◌<◌, List, [], ◌∷◌, ◌++◌, Option, None, Some, Bool, true, false, refl, ap, sym, ◌∙◌, subst, inl, inr, arith}
 use Rattle.std.specs.Prelude.{⊤, nat_lt}
-use Rattle.std.proofs.lemmas.Bool.{cond_both}
+use Rattle.std.proofs.lemmas.Bool.{eq-eqb, cond_both}
 use Rattle.model.specs.declared.abs.Kind.{Kind}
 use Rattle.model.specs.declared.abs.Kind.TheVariants.{Blank as BlankKind, Num as NumKind, Lower as LowerKind, New, Own, View}
 use Rattle.model.specs.declared.instr.Instr.{Instr}
-use Rattle.model.specs.declared.set.Sort.TheVariants.{Dispatch}
+use Rattle.model.specs.declared.set.Sort.TheVariants.{Dpc, Dispatch}
 use Rattle.model.specs.declared.world.Activation.{Activation}
 use Rattle.model.specs.declared.world.Frame.{Frame}
 use Rattle.model.specs.declared.world.Frame.TheVariants.{Routine, Walk}
@@ -18,48 +18,53 @@ use Rattle.model.specs.declared.world.Value.TheVariants.{Ref}
 use Rattle.model.specs.declared.event.Bug.{Bug}
 use Rattle.model.specs.declared.event.BugCheck.TheVariants.{IrqlNotLessOrEqual}
 use Rattle.model.specs.declared.event.Subject.TheVariants.{Packet as PacketSubject}
-use Rattle.model.specs.Action.{Touches}
-use Rattle.model.specs.Effect.{Outcome, asks, turned}
+use Rattle.model.specs.Action.{Executes, Action, Touches}
+use Rattle.model.specs.Effect.{completes_with, Outcome, asks, turned}
 use Rattle.model.specs.Fault.{bug_if, fault_of, first_or}
 use Rattle.model.specs.LocalRule.{is_packet, is_right, is_view, kind_of}
-use Rattle.model.specs.Set.{Set, lower_of, member}
+use Rattle.model.specs.Set.{flow_of, Set, lower_of, member}
 use Rattle.model.specs.Trace.{Entry, Actor}
 use Rattle.model.specs.World.{Shared, asked_of, at_label, current_location, next, outer_loops, packet_of, packet_in, register, with_loops}
 use Rattle.run_laws.proofs.Holders.Counts.{Holding, right_lives, walk_lives}
-use Rattle.run_laws.proofs.Live.Sees.{Refers, RefersTo, refers_at, entered_refers, goes_refers, Seen, AllSeen, Bare}
-use Rattle.run_laws.proofs.States.NoViews.{HasNoView, no_view_at, dispatch_no_view}
+use Rattle.run_laws.proofs.Live.Sees.{begins_views, view_refers, Views, RefersTo, Seen, AllSeen}
+use Rattle.run_laws.proofs.States.NoViews.{dpc_no_view, handed_views, HasNoView, no_view_at, dispatch_no_view}
 use Rattle.run_laws.proofs.Past.Packets.{Tells, found, named, untopped}
-use Rattle.run_laws.proofs.States.Entering.{IsOfSort, begins_lower, sort_there}
+use Rattle.run_laws.proofs.States.Entering.{begins_back, IsOfSort, begins_lower, sort_there}
 use Rattle.run_laws.proofs.States.Frames.{Runs, state_of}
 use Rattle.run_laws.proofs.States.Kinds.{packet_ref, packet_wanted}
 use Rattle.run_laws.proofs.States.Lacking.{never_lacks}
 use Rattle.run_laws.proofs.States.OnTop.{OnTop, runs, value_suits}
-use Rattle.run_laws.proofs.States.Queueless.{never_queued}
 use Rattle.run_laws.proofs.States.Rules.{States}
-use Rattle.run_laws.proofs.Steps.Comes.{GoesTo, onward, jumping, Executing, Reads, Comes, errs, awaits_lock, computes, opens_loop, turns_loop, pages, touches_gone, looks_at, writes_info, marks_packet, takes_lock, retakes_lock, frees_lock, completes_packet, completes_gone, passes_down, calls_down, returns_status, lets_go, lets_walk, walks_gone, walks_to, walks_up, carries_up, tops_out, ends_dpc, works_on_queues, ends_startio}
+use Rattle.run_laws.proofs.Steps.Comes.{removes_none, removes, inserts, Queued, GoesTo, onward, jumping, Executing, Reads, Comes, errs, awaits_lock, computes, opens_loop, turns_loop, pages, touches_gone, looks_at, writes_info, marks_packet, takes_lock, retakes_lock, frees_lock, completes_packet, completes_gone, passes_down, calls_down, returns_status, lets_go, lets_walk, walks_gone, walks_to, walks_up, carries_up, tops_out, ends_dpc, works_on_queues, ends_startio}
 use Rattle.run_laws.proofs.Steps.Faults.{fault_among, is_touch}
 use Rattle.run_laws.proofs.Steps.Words.{packet_operand}
+use Rattle.run_laws.proofs.States.Moves.{falls_next, has_next}
+use Rattle.run_laws.proofs.States.HandedOver.{queued_hold, touching_copies, next_hold, keeps_copies, copies, goes_hold}
+use Rattle.run_laws.proofs.Steps.Locking.{freed_word, taken_word, LockWord}
+use Rattle.run_laws.proofs.States.LoopEnds.{moved_end, moved_loop}
+use Rattle.model.specs.declared.set.Sort.{Sort}
+use Rattle.model.specs.Queues.{StartState}
+use Rattle.model.specs.declared.instr.Instr.TheVariants.{Call, Pass, Complete, Mark, Insert, Put, End, Loop}
+use Rattle.run_laws.proofs.Holders.Sums.{own_if, unheld}
+use Rattle.run_laws.proofs.Past.LivePackets.{find}
+use Rattle.run_laws.specs.Holder.{frame_rights, times_queued, times_in}
+use Rattle.run_laws.proofs.States.Queueing.{never_starting, queue_moves, MovedOn}
+use Rattle.run_laws.proofs.Holders.Queued.{times_le}
 
 -- a routine that goes on sees what it saw
-goes_seen : (set : Set) (under : Option Frame) (a b : Activation) → b.driver ≡ a.driver
-    → b.routine ≡ a.routine
-    → ((m : ℕ) → Refers m a → Refers m b) → Seen set under (Routine a) → Seen set under (Routine b)
-goes_seen set None a b driver routine refers h =
-    elim h [
-      | inl is ↦ inl (rw (driver, routine) is)
-      | inr bare ↦
-          inr (record {
-            of_sort = rw (driver, routine) bare.of_sort;
-            refers = λ m. refers m (bare.refers m);
-          })
-    ]
-goes_seen set (Some (Routine c)) a b driver routine refers h = rw (driver, routine) h
-goes_seen set (Some (Walk m)) a b driver routine refers h = refers m h
+goes_seen : (set : Set) (states : States) (under : Option Frame) (a b : Activation)
+    → b.driver ≡ a.driver → b.routine ≡ a.routine
+    → ((m : ℕ) → Views states m a → Views states m b) → Seen set states under (Routine a)
+    → Seen set states under (Routine b)
+goes_seen set states None a b driver routine views h =
+    elim h [ inl is ↦ inl (rw (driver, routine) is) | inr is ↦ inr (rw (driver, routine) is) ]
+goes_seen set states (Some (Routine c)) a b driver routine views h = rw (driver, routine) h
+goes_seen set states (Some (Walk m)) a b driver routine views h = views m h
 
-walk_seen : (set : Set) (under : Option Frame) (n : ℕ) → Seen set under (Walk n)
-walk_seen set None n = tt
-walk_seen set (Some (Routine a)) n = tt
-walk_seen set (Some (Walk m)) n = tt
+walk_seen : (set : Set) (states : States) (under : Option Frame) (n : ℕ) → Seen set states under (Walk n)
+walk_seen set states None n = tt
+walk_seen set states (Some (Routine a)) n = tt
+walk_seen set states (Some (Walk m)) n = tt
 
 goes_same : (a : Activation) (i : Instr) (b : Activation) (jumped : Bool) → GoesTo a i b jumped
     → (b.driver ≡ a.driver) × (b.routine ≡ a.routine)
@@ -81,23 +86,43 @@ turned_same a l =
     (λ last. record { driver = refl; routine = refl; registers = refl })
 
 module _ (set : Set) (states : States) (s : Shared) where
-  next_seen : (under : Option Frame) (a : Activation) → Seen set under (Routine a)
-      → Seen set under (Routine (next a))
-  next_seen under a h = goes_seen set under a (next a) refl refl (λ m refers. refers) h
+  next_seen : (under : Option Frame) (a : Activation) (i : Instr) → Runs set states s a i
+      → has_next (flow_of i) ≡ true → copies i ≡ false → Seen set states under (Routine a)
+      → Seen set states under (Routine (next a))
+  next_seen under a i run leads plain h =
+      goes_seen set states under a (next a) refl refl
+      (λ m views. next_hold is_view handed_views (RefersTo m) set states s a tt i run leads plain views) h
 
   moves_seen : (under : Option Frame) (a : Activation) (i : Instr) (b : Activation) (jumped : Bool)
-      → GoesTo a i b jumped
-      → Seen set under (Routine a) → Seen set under (Routine b)
-  moves_seen under a i b jumped goes h =
+      → Runs set states s a i → GoesTo a i b jumped
+      → Seen set states under (Routine a) → Seen set states under (Routine b)
+  moves_seen under a i b jumped run goes h =
       let same : (b.driver ≡ a.driver) × (b.routine ≡ a.routine) = goes_same a i b jumped goes in
-      goes_seen set under a b same.0 same.1 (λ m refers. goes_refers m a i b jumped goes refers) h
+      goes_seen set states under a b same.0 same.1
+      (λ m views. goes_hold is_view handed_views (RefersTo m) set states s a tt i b jumped run goes views)
+      h
 
-  asks_seen : (under : Option Frame) (a : Activation) (lower n : ℕ) (p : Packet)
-      → OnTop set states s (Routine a)
-      → n < s.issued → lower_of set a.device ≡ Some lower → Seen set under (Routine a)
-      → AllSeen set under (asks set a lower p n)
-  asks_seen under a lower n p h low below seen = (
-    next_seen under a seen,
+  -- the same values in registers of the same kinds
+  same_seen : (under : Option Frame) (a b : Activation) → b.driver ≡ a.driver → b.routine ≡ a.routine
+      → state_of states b ≡ state_of states a → b.registers ≡ a.registers
+      → Seen set states under (Routine a) → Seen set states under (Routine b)
+  same_seen under a b driver routine state registers h =
+      goes_seen set states under a b driver routine (λ m views. rw (state, registers) views) h
+
+  lock_seen : (under : Option Frame) (a : Activation) (i : Instr) → OnTop set states s (Routine a)
+      → Executing set a i → LockWord i → Seen set states under (Routine a)
+      → Seen set states under (Routine (next a))
+  lock_seen under a i h at word sees =
+      next_seen under a i (runs set states s a i h at) (falls_next (flow_of i) word.on)
+      (keeps_copies i word.keeps) sees
+
+  asks_seen : (under : Option Frame) (a : Activation) (i : Instr) (lower n : ℕ) (p : Packet)
+      → OnTop set states s (Routine a) → Executing set a i → has_next (flow_of i) ≡ true
+      → copies i ≡ false
+      → n < s.issued → lower_of set a.device ≡ Some lower → Seen set states under (Routine a)
+      → AllSeen set states under (asks set a lower p n)
+  asks_seen under a i lower n p h at leads plain low below seen = (
+    next_seen under a i (runs set states s a i h at) leads plain seen,
     (
       (begins_lower set states h.good s.issued n low a.device lower (asked_of (current_location p))
           below).of_sort,
@@ -107,51 +132,78 @@ module _ (set : Set) (states : States) (s : Shared) where
 
   -- every shape
   pub seen : (t : ℕ) (under top : Option Frame) (f : Frame) (o : Outcome) → OnTop set states s f
-      → Seen set under f
-      → Comes set s t top f o → AllSeen set under o.frames
+      → Seen set states under f
+      → Comes set s t top f o → AllSeen set states under o.frames
   seen t under top f o h sees (errs a lacks) = absurd (never_lacks set states s a h lacks)
   seen t under top f o h sees (awaits_lock a i lock owner at taken owned apart) = (sees, tt)
   seen t under top f o h sees (computes a i b jumped cells at work goes long) =
-      (moves_seen under a i b jumped goes sees, tt)
-  seen t under top f o h sees (opens_loop a turns at few) =
-      (goes_seen set under a _ refl refl (λ m refers. refers) sees, tt)
+      (moves_seen under a i b jumped (runs set states s a i h at) goes sees, tt)
+  seen t under top f o h sees (opens_loop a turns at few) = (
+    same_seen under a _ refl refl
+        (moved_loop set states s a turns (runs set states s a (Loop turns) h at)).arrives refl sees,
+    tt,
+  )
   seen t under top f o h sees (turns_loop a l at inner) =
       let same : Turns a (turned a l) = turned_same a l in (
-        goes_seen set under a (turned a l) same.driver same.routine
-            (λ m refers. rw same.registers refers) sees,
+        same_seen under a (turned a l) same.driver same.routine
+            (moved_end set states s a (runs set states s a End h at) l inner).arrives same.registers sees,
         tt,
       )
   seen t under top f o h sees (pages a i b cell cells at work goes long) =
-      (moves_seen under a i b false goes sees, tt)
+      (moves_seen under a i b false (runs set states s a i h at) goes sees, tt)
   seen t under top f o h sees (looks_at a i b jumped r n p at work goes operand reads there jumps) =
-      (moves_seen under a i b jumped goes sees, tt)
-  seen t under top f o h sees (touches_gone a i r n at touching on operand reads gone) =
-      (next_seen under a sees, tt)
+      (moves_seen under a i b jumped (runs set states s a i h at) goes sees, tt)
+  seen t under top f o h sees (touches_gone a i r n at touching on operand reads gone) = (
+    next_seen under a i (runs set states s a i h at) (falls_next (flow_of i) on)
+        (touching_copies i touching) sees,
+    tt,
+  )
   seen t under top f o h sees (writes_info a q r n p info at reads there is) =
-      (next_seen under a sees, tt)
-  seen t under top f o h sees (marks_packet a r n p at reads there) = (next_seen under a sees, tt)
-  seen t under top f o h sees (takes_lock a i lock at taken free) = (next_seen under a sees, tt)
-  seen t under top f o h sees (retakes_lock a i lock at taken owned) = (next_seen under a sees, tt)
-  seen t under top f o h sees (frees_lock a i lock owner at freed owned) = (next_seen under a sees, tt)
+      (next_seen under a (Put q r) (runs set states s a (Put q r) h at) refl refl sees, tt)
+  seen t under top f o h sees (marks_packet a r n p at reads there) =
+      (next_seen under a (Mark r) (runs set states s a (Mark r) h at) refl refl sees, tt)
+  seen t under top f o h sees (takes_lock a i lock at taken free) =
+      (lock_seen under a i h at (taken_word a i lock taken) sees, tt)
+  seen t under top f o h sees (retakes_lock a i lock at taken owned) =
+      (lock_seen under a i h at (taken_word a i lock taken) sees, tt)
+  seen t under top f o h sees (frees_lock a i lock owner at freed owned) =
+      (lock_seen under a i h at (freed_word a i lock freed) sees, tt)
   seen t under top f o h sees (works_on_queues a i b queues starts actions full at queued) =
-      absurd (never_queued h.good at queued)
-  seen t under top f o h sees (completes_packet a r status n p at reads there) =
-      (next_seen under a sees, (tt, tt))
-  seen t under top f o h sees (completes_gone a r status n at reads gone) = (next_seen under a sees, tt)
+      let run : Runs set states s a i = runs set states s a i h at in
+      let on : MovedOn set states s a i b queues = queue_moves set states s a i run queued in (
+        goes_seen set states under a b on.moved.driver on.moved.routine
+            (λ m views. queued_hold is_view handed_views (RefersTo m) set states s a i tt run queued views)
+            sees,
+        tt,
+      )
+  seen t under top f o h sees (completes_packet a r status n p at reads there) = (
+    next_seen under a (Complete r status) (runs set states s a (Complete r status) h at) refl refl sees,
+    (tt, tt),
+  )
+  seen t under top f o h sees (completes_gone a r status n at reads gone) = (
+    next_seen under a (Complete r status) (runs set states s a (Complete r status) h at) refl refl sees,
+    tt,
+  )
   seen t under top f o h sees (passes_down a r n p lower at reads there below) =
-      asks_seen under a lower n p h (named s (register a r) n reads) below sees
+      asks_seen under a (Pass r) lower n p h at refl refl (named s (register a r) n reads) below sees
   seen t under top f o h sees (calls_down a r completion n p lower at reads there below) =
-      asks_seen under a lower n p h (named s (register a r) n reads) below sees
+      asks_seen under a (Call r completion) lower n p h at refl refl (named s (register a r) n reads) below sees
   seen t under top f o h sees (returns_status a form status at sort is) = tt
   seen t under top f o h sees (lets_go a at sort free) = tt
   seen t under top f o h sees (lets_walk a n at sort) = tt
   seen t under top f o h sees (ends_startio a at sort) = tt
   seen t under top f o h sees (ends_dpc a at sort) = tt
   seen t under top f o h sees (walks_gone n gone) = tt
-  seen t under top f o h sees (walks_to n p c there set_there) =
-      (walk_seen set under n, (entered_refers n, tt))
-  seen t under top f o h sees (walks_up n p there none more unmarked) = (walk_seen set under n, tt)
-  seen t under top f o h sees (carries_up n p there none more marked) = (walk_seen set under n, tt)
+  seen t under top f o h sees (walks_to n p c there set_there) = (
+    walk_seen set states under n,
+    (
+      begins_views set states s.issued (completes_with set c n) n
+          (begins_back set states s h.good h.fits n p c h.stands there set_there),
+      tt,
+    ),
+  )
+  seen t under top f o h sees (walks_up n p there none more unmarked) = (walk_seen set states under n, tt)
+  seen t under top f o h sees (carries_up n p there none more marked) = (walk_seen set states under n, tt)
   seen t under top f o h sees (tops_out n p there none last) = tt
 
 -- a packet in a register that has no right to it is on its way up
@@ -170,41 +222,48 @@ UnderLives s (Some (Routine b)) = ⊤
 UnderLives s (Some (Walk n)) = packet_of s n ≡ None → ⊥
 
 module _ (set : Set) (states : States) (s : Shared) (past : List Entry) where
+  none_views : (a : Activation) (i : Instr) (r : ℕ) → Runs set states s a i
+      → HasNoView (state_of states a) → is_view (kind_of (state_of states a) r) ≡ true → ⊥
+  none_views a i r h none view =
+      let no : true ≡ false = sym view ∙ no_view_at (state_of states a).kinds r none in cc
+
+  sort_is : (a : Activation) (i : Instr) (sort : Sort) → (h : Runs set states s a i) → IsOfSort set a sort
+      → h.routine.sort ≡ sort
+  sort_is a i sort h is = sym (sort_there set a.driver a.routine h.routine h.stays.is_of) ∙ is
+
   dispatch_views : (a : Activation) (i : Instr) (r : ℕ) → Runs set states s a i → IsOfSort set a Dispatch
       → is_view (kind_of (state_of states a) r) ≡ true → ⊥
   dispatch_views a i r h is view =
-      let none : HasNoView (state_of states a) =
-      dispatch_no_view (member set a.driver a.routine h.routine) a.position (state_of states a)
-      (sym (sort_there set a.driver a.routine h.routine h.stays.is_of) ∙ is)
-      (h.known.follows.arrives a.position h.stays.within)
-      in
-      let no : true ≡ false = sym view ∙ no_view_at (state_of states a).kinds r none in
-      cc
+      none_views a i r h
+      (dispatch_no_view (member set a.driver a.routine h.routine) a.position (state_of states a)
+      (sort_is a i Dispatch h is) (h.known.follows.arrives a.position h.stays.within)) view
+
+  dpc_views : (a : Activation) (i : Instr) (r : ℕ) → Runs set states s a i → IsOfSort set a Dpc
+      → is_view (kind_of (state_of states a) r) ≡ true → ⊥
+  dpc_views a i r h is view =
+      none_views a i r h
+      (dpc_no_view (member set a.driver a.routine h.routine) a.position (state_of states a)
+      (sort_is a i Dpc h is) (h.known.follows.arrives a.position h.stays.within)) view
 
   refers_same : (m n : ℕ) (v : Value) → v ≡ Ref n → RefersTo m v → n ≡ m
   refers_same m n v is refers = subst (λ (x : Value). RefersTo m x) is refers
 
-  bare_lives : (a : Activation) (r n : ℕ) → Bare set a → register a r ≡ Ref n → ⊥
-  bare_lives a r n bare refers =
-      let no : n ≡ suc n =
-      refers_same (suc n) n (register a r) refers
-      (refers_at (suc n) a.registers r (bare.refers (suc n))) in
-      absurd (omega arith)
-
   view_lives : (under : Option Frame) (a : Activation) (i : Instr) (r n : ℕ) → Runs set states s a i
-      → Seen set under (Routine a) → UnderLives s under → is_view (kind_of (state_of states a) r) ≡ true
+      → Seen set states under (Routine a) → UnderLives s under
+      → is_view (kind_of (state_of states a) r) ≡ true
       → register a r ≡ Ref n → packet_of s n ≡ None → ⊥
   view_lives None a i r n h seen live view refers gone =
-      elim seen [ inl is ↦ dispatch_views a i r h is view | inr bare ↦ bare_lives a r n bare refers ]
+      elim seen [ inl is ↦ dispatch_views a i r h is view | inr is ↦ dpc_views a i r h is view ]
   view_lives (Some (Routine b)) a i r n h seen live view refers gone = dispatch_views a i r h seen view
   view_lives (Some (Walk m)) a i r n h seen live view refers gone =
-      let same : n ≡ m = refers_same m n (register a r) refers (refers_at m a.registers r seen) in
+      let same : n ≡ m =
+      refers_same m n (register a r) refers (view_refers states m a seen r view) in
       live (ap (packet_of s) (sym same) ∙ gone)
 
   -- the packet that an instruction works on
   operand_lives : (under : Option Frame) (a : Activation) (i : Instr) (r n : ℕ) (b : Bool)
       → OnTop set states s (Routine a) → Holding states s past (Routine a) → Executing set a i
-      → Seen set under (Routine a) → UnderLives s under → packet_operand i ≡ Some r → Reads s a r n
+      → Seen set states under (Routine a) → UnderLives s under → packet_operand i ≡ Some r → Reads s a r n
       → is_right (kind_of (state_of states a) r) ≡ b → packet_of s n ≡ None → ⊥
   operand_lives under a i r n true h holding at seen live operand reads right gone =
       right_lives states s past a holding (runs set states s a i h at).stays.kinds r n right reads gone
@@ -235,9 +294,37 @@ module _ (set : Set) (states : States) (s : Shared) (past : List Entry) where
   first_only : (bug : Option Bug) → bug ≡ None → first_or bug None ≡ None
   first_only bug h = rw h refl
 
+  -- the packet that goes to a queue, or comes from one
+  queued_lives : (n : ℕ) → Tells s past → 1 ≤ unheld (find s.packets n) → (actor : Actor)
+      → fault_of past actor (Touches n) ≡ None
+  queued_lives n tells some actor =
+      let own : (p : Packet) × (find s.packets n ≡ Some p) × (p.completing ≡ false) =
+      own_if (find s.packets n) some in
+      ap (λ (gone : Bool). bug_if gone IrqlNotLessOrEqual (PacketSubject n))
+      (untopped s past n own.0 tells own.1)
+
+  queued_faults : (actor : Actor) (under : Option Frame) (a : Activation) (i : Instr)
+      → OnTop set states s (Routine a) → Holding states s past (Routine a)
+      → Seen set states under (Routine a) → UnderLives s under → Executing set a i
+      → {b : Activation} {queues : List (List (List ℕ))} {lists : List StartState}
+      {actions : List Action} {full : Bool} → Queued s a i b queues lists actions full
+      → fault_among is_touch past actor (Executes ∷ actions) ≡ None
+  queued_faults actor under a i h holding seen live at (inserts r q n entries reads there) =
+      first_only _ (under_one actor n (packet_of s n) holding.tells refl
+      (operand_lives under a (Insert r q) r n _ h holding at seen live refl reads refl))
+  queued_faults actor under a i h holding seen live at (removes r q label n entries there) =
+      let le : times_in (n ∷ entries) n ≤ times_queued s.queues n =
+      times_le s a.device q (n ∷ entries) n there in
+      let one : times_in (n ∷ entries) n ≡ 1 + times_in entries n = rw (eq-eqb n n refl) refl in
+      let all : frame_rights states (Routine a) n + times_queued s.queues n ≤ unheld (find s.packets n) =
+      holding.queued n in
+      first_only _ (queued_lives n holding.tells (omega arith) actor)
+  queued_faults actor under a i h holding seen live at (removes_none r q label there) = refl
+  queued_faults actor under a i h holding seen live at _ = absurd (never_starting h.good a at refl)
+
   -- so no step touches one that has
   pub touch_faults : (actor : Actor) (under : Option Frame) (f : Frame) (o : Outcome) → Tells s past
-      → OnTop set states s f → Holding states s past f → Seen set under f → UnderLives s under
+      → OnTop set states s f → Holding states s past f → Seen set states under f → UnderLives s under
       → Comes set s actor.thread under f o → fault_among is_touch past actor o.actions ≡ None
   touch_faults actor under f o tells h holding seen live
       (touches_gone a i r n at touching on operand reads gone) =
@@ -269,5 +356,5 @@ module _ (set : Set) (states : States) (s : Shared) (past : List Entry) where
       first_only _ (touched_one actor n p tells there)
   touch_faults actor under f o tells h holding seen live
       (works_on_queues a i b queues starts actions full at queued) =
-      absurd (never_queued h.good at queued)
+      queued_faults actor under a i h holding seen live at queued
   touch_faults actor under f o tells h holding seen live _ = refl

@@ -1,6 +1,6 @@
 -- A thread holds the locks that the state of its top frame says, and every step of that frame keeps
 -- that; so no step has a bug check about locks or paged cells.
-use Rattle.std.proofs.Common.{◌≡◌, ℕ, List, [], ◌∷◌, Option, None, Some, Bool, true, false, refl, ap, sym, ◌∙◌}
+use Rattle.std.proofs.Common.{inr, inl, ◌≡◌, ℕ, List, [], ◌∷◌, Option, None, Some, Bool, true, false, refl, ap, sym, ◌∙◌}
 use Rattle.std.specs.Prelude.{◌&&◌, not, nat_eq, slice_get, if◌then◌else◌}
 use Rattle.std.specs.List.{list_any}
 use Rattle.std.proofs.lemmas.Bool.{eq-eqb}
@@ -35,16 +35,19 @@ use Rattle.run_laws.proofs.Past.Packets.{named}
 use Rattle.run_laws.proofs.States.Entering.{first_state, Enters, begins_lower, begins_back}
 use Rattle.run_laws.proofs.States.Frames.{state_of, Moved, Runs}
 use Rattle.run_laws.proofs.States.LoopEnds.{moved_end}
-use Rattle.run_laws.proofs.States.Moves.{has_next, falls_next, arrives, arrives_next}
+use Rattle.run_laws.proofs.States.Moves.{onto, has_next, falls_next, arrives, arrives_next}
 use Rattle.run_laws.proofs.States.Obeyed.{sends_down, completes_one, returns_by}
 use Rattle.run_laws.proofs.States.OnTop.{OnTop, runs}
-use Rattle.run_laws.proofs.States.Queueless.{never_queued}
 use Rattle.run_laws.proofs.States.Roots.{Low}
 use Rattle.run_laws.proofs.States.Rules.{States, first_none, second_none, unbroken}
-use Rattle.run_laws.proofs.Steps.Comes.{Reads, GoesTo, onward, jumping, Comes, computes, opens_loop, turns_loop, pages, touches_gone, looks_at, writes_info, marks_packet, takes_lock, retakes_lock, frees_lock, completes_packet, completes_gone, passes_down, calls_down, returns_status, lets_go, lets_walk, ends_dpc, walks_to, works_on_queues, ends_startio}
+use Rattle.run_laws.proofs.Steps.Comes.{Queued, Reads, GoesTo, onward, jumping, Comes, computes, opens_loop, turns_loop, pages, touches_gone, looks_at, writes_info, marks_packet, takes_lock, retakes_lock, frees_lock, completes_packet, completes_gone, passes_down, calls_down, returns_status, lets_go, lets_walk, ends_dpc, walks_to, works_on_queues, ends_startio}
 use Rattle.run_laws.proofs.Steps.Faults.{is_of_locks, fault_among}
 use Rattle.run_laws.proofs.Steps.Locking.{taken_word, freed_word}
 use Rattle.run_laws.proofs.Steps.Words.{Work, Locking, Paging, Forwarding, work_of, is_touching, packet_operand, lock_taken, lock_freed}
+use Rattle.model.specs.Queues.{StartState}
+use Rattle.run_laws.proofs.States.Queueing.{queue_moves, MovedOn}
+use Rattle.run_laws.proofs.Steps.Queues.{queued_work, queued_touches}
+use Rattle.model.specs.Action.{Action}
 
 -- where an activation goes on after an instruction that is about no lock, the same locks are said
 module _ (set : Set) (states : States) (s : Shared) (a : Activation) (i : Instr)
@@ -67,6 +70,16 @@ module _ (set : Set) (states : States) (s : Shared) (a : Activation) (i : Instr)
   quiet_next quiet on l =
       ap (λ state. state_says state a.device l) (arrives_next set states s a i h on)
       ∙ handed_says (state_of states a) i a.device l quiet
+
+onto_says : (s : Abs) (i : Instr) (jumped : Bool) (d : ℕ) (l : Lock) → is_locking (work_of i) ≡ false
+    → state_says (onto s i jumped) d l ≡ state_says s d l
+onto_says s i false d l quiet = handed_says s i d l quiet
+onto_says s i true d l quiet = label_says s i d l
+
+queued_quiet : {s : Shared} {a b : Activation} {i : Instr} {queues : List (List (List ℕ))}
+    {lists : List StartState} {actions : List Action} {full : Bool}
+    → Queued s a i b queues lists actions full → is_locking (work_of i) ≡ false
+queued_quiet queued = ap is_locking (queued_work queued)
 
 -- a routine that begins says no lock
 module _ (set : Set) (states : States) where
@@ -211,7 +224,16 @@ module _ (set : Set) (states : States) (s : Shared) (past : List Entry) (actor :
       own_now a i h agrees lock true false (falls_next (flow_of i) (freed_word a i lock frees).on)
       (locks_freed a i h agrees lock frees).now l
   own under f o top agrees (works_on_queues a i b queues starts actions full at queued) l =
-      absurd (never_queued top.good at queued)
+      let on : MovedOn set states s a i b queues =
+      queue_moves set states s a i (runs set states s a i top at) queued in
+      let says : frame_says states (Routine b) l ≡ frame_says states (Routine a) l =
+      ap (λ d. state_says (state_of states b) d l) on.moved.device
+      ∙ ap (λ state. state_says state a.device l) on.moved.arrives
+      ∙ onto_says (state_of states a) i on.jumped a.device l (queued_quiet queued) in
+      elim (queued_touches queued) [
+        | inl none ↦ rw none (agrees l ∙ sym says)
+        | inr one ↦ rw one.1 (agrees l ∙ sym says)
+      ]
   own under f o top agrees (completes_packet a r status n p at reads there) l =
       let h : Runs set states s a (Complete r status) = runs set states s a (Complete r status) top at in
       agrees l ∙ free_says (state_of states a) a.device l
@@ -284,5 +306,5 @@ module _ (set : Set) (states : States) (s : Shared) (past : List Entry) (actor :
       (ap not (agrees lock ∙ (locks_freed a i h agrees lock frees).before))
   lock_faults under f o low top agrees
       (works_on_queues a i b queues starts actions full at queued) =
-      absurd (never_queued top.good at queued)
+      elim (queued_touches queued) [ inl none ↦ rw none refl | inr one ↦ rw one.1 refl ]
   lock_faults under f o low top agrees _ = refl

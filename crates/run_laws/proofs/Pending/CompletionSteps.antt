@@ -1,6 +1,6 @@
 -- What the steps of completion routines and of the I/O manager's frames tell: of the packet that is
 -- on its way up alone, and no status.
-use Rattle.std.proofs.Common.{◌≡◌, Bool, List, None, Option, [], false, refl, sym, true, ℕ, ◌∙◌, ◌∷◌, inl, inr, ◌⊎◌}
+use Rattle.std.proofs.Common.{ap, ◌≡◌, Bool, List, None, Option, [], false, refl, sym, true, ℕ, ◌∙◌, ◌∷◌, inl, inr}
 use Rattle.std.specs.Prelude.{⊤, nat_lt}
 use Rattle.std.specs.List.{list_any}
 use Rattle.std.proofs.lemmas.Bool.{cond_both}
@@ -9,7 +9,7 @@ use Rattle.model.specs.Effect.{turned}
 use Rattle.std.proofs.lemmas.Bool.{eq-eqb}
 use Rattle.model.specs.declared.abs.Abs.{Abs}
 use Rattle.model.specs.declared.instr.Instr.{Instr}
-use Rattle.model.specs.declared.instr.Instr.TheVariants.{Call, Complete, Pass}
+use Rattle.model.specs.declared.instr.Instr.TheVariants.{Mark, Call, Complete, Pass}
 use Rattle.model.specs.declared.set.Sort.{Sort}
 use Rattle.model.specs.declared.set.Sort.TheVariants.{Dispatch, Propagate, Dpc, StartIo}
 use Rattle.model.specs.declared.status.Status.{Status}
@@ -17,15 +17,20 @@ use Rattle.model.specs.declared.world.Activation.{Activation}
 use Rattle.model.specs.declared.world.Frame.{Frame}
 use Rattle.model.specs.declared.world.Frame.TheVariants.{Routine, Walk}
 use Rattle.model.specs.Effect.{Outcome}
-use Rattle.model.specs.LocalRule.{completion_fault, completion_sort_fault, forward_fault, refuses, forward_sort_fault}
+use Rattle.model.specs.LocalRule.{is_view, kind_of, completion_fault, completion_sort_fault, forward_fault, refuses, forward_sort_fault}
 use Rattle.model.specs.Set.{Set, sort_of}
 use Rattle.model.specs.World.{Shared}
-use Rattle.run_laws.proofs.Pending.Returned.{tells_beyond}
+use Rattle.run_laws.proofs.Pending.Returned.{is_telling, tells_beyond}
 use Rattle.run_laws.proofs.States.Entering.{IsOfSort}
-use Rattle.run_laws.proofs.States.Frames.{state_of, IsGood}
-use Rattle.run_laws.proofs.States.Queueless.{never_queued}
+use Rattle.run_laws.proofs.States.Frames.{state_of}
 use Rattle.run_laws.proofs.States.Rules.{States, first_none, second_none}
-use Rattle.run_laws.proofs.Steps.Comes.{Comes, Executing, GoesTo, Reads, calls_down, completes_packet, computes, jumping, lets_go, lets_walk, looks_at, marks_packet, onward, pages, passes_down, returns_status, turns_loop, walks_gone, ends_dpc, works_on_queues, ends_startio}
+use Rattle.run_laws.proofs.Steps.Comes.{Queued, Comes, Executing, GoesTo, Reads, calls_down, completes_packet, computes, jumping, lets_go, lets_walk, looks_at, marks_packet, onward, pages, passes_down, returns_status, turns_loop, walks_gone, ends_dpc, works_on_queues, ends_startio}
+use Rattle.run_laws.proofs.States.NoViews.{handed_news, none_at, is_new, HasNone}
+use Rattle.model.specs.Queues.{StartState}
+use Rattle.model.specs.Action.{Executes, Action}
+use Rattle.model.specs.declared.abs.Kind.TheVariants.{New}
+use Rattle.run_laws.proofs.Uses.RoutineSteps.{marked_kind}
+use Rattle.run_laws.proofs.Steps.Queues.{queued_same, queued_touches}
 
 -- how an activation goes on leaves its routine alone
 pub goes_same : (a : Activation) (i : Instr) (b : Activation) (jumped : Bool) → GoesTo a i b jumped
@@ -47,7 +52,7 @@ IsAlone a [] = ⊤
 IsAlone a (Routine b ∷ []) = (b.driver ≡ a.driver) × (b.routine ≡ a.routine)
 IsAlone a _ = ⊥
 
--- a completion routine or a DPC routine goes on, or is gone
+-- a completion routine goes on, or is gone
 pub record Looks (m : ℕ) (a : Activation) (o : Outcome) : Type 0 where
   pub told : o.told ≡ None
   pub alone : IsAlone a o.frames
@@ -81,77 +86,142 @@ KeepsRules set states a =
     (i : Instr) → Executing set a i → refuses (state_of states a) i (sort_of set a.driver a.routine)
     set a.driver ≡ None
 
--- what has no packet but one: a completion routine; or none at all: a DPC routine
-abbrev pub IsLooking : Set → Shared → Activation → Type 0
-IsLooking set s a =
-    IsOfSort set a Propagate ⊎ (IsOfSort set a Dpc × ((r n : ℕ) → Reads s a r n → ⊥))
+never_new : (s : Abs) (r : ℕ) → HasNone is_new s → kind_of s r ≡ New → ⊥
+never_new s r none new =
+    let no : true ≡ false = sym (ap is_new new) ∙ none_at is_new handed_news s.kinds r none in cc
 
--- every step of one
+queued_beyond : (m : ℕ) {s : Shared} {a b : Activation} {i : Instr} {queues : List (List (List ℕ))}
+    {lists : List StartState} {actions : List Action} {full : Bool}
+    → Queued s a i b queues lists actions full
+    → list_any (tells_beyond m) (Executes ∷ actions) ≡ false
+queued_beyond m queued =
+    elim (queued_touches queued) [ inl empty ↦ rw empty refl | inr one ↦ rw one.1 refl ]
+
+-- every step of a completion routine
 pub completion_looks : (m : ℕ) (set : Set) (states : States) (s : Shared) (t : ℕ) (below : Option Frame)
-    (a : Activation) (o : Outcome) → IsGood set states → KeepsRules set states a
-    → IsLooking set s a
-    → ((r n : ℕ) → Reads s a r n → n ≡ m) → Comes set s t below (Routine a) o → Looks m a o
-completion_looks m set states s t below a o good kept is own (marks_packet b r n p at reads there) =
-    record {
-      told = refl;
-      alone = (refl, refl);
-      silent = let same =
-          eq-eqb n m (own r n reads) in rw same refl;
-    }
-completion_looks m set states s t below a o good kept is own
+    (a : Activation) (o : Outcome) → KeepsRules set states a
+    → IsOfSort set a Propagate → HasNone is_new (state_of states a)
+    → ((r n : ℕ) → is_view (kind_of (state_of states a) r) ≡ true → Reads s a r n → n ≡ m)
+    → Comes set s t below (Routine a) o → Looks m a o
+completion_looks m set states s t below a o kept is none own (marks_packet b r n p at reads there) =
+    elim (marked_kind (state_of states a).settled (kind_of (state_of states a) r) (kept (Mark r) at)) [
+      | inl new ↦ absurd (never_new (state_of states a) r none new)
+      | inr view ↦
+          record {
+            told = refl;
+            alone = (refl, refl);
+            silent = let same =
+                eq-eqb n m (own r n (ap is_view view.0) reads) in rw same refl;
+          }
+    ]
+completion_looks m set states s t below a o kept is none own
     (completes_packet b r status n p at reads there) =
-    elim is [
-      | inl up ↦
-          absurd (completes_never (state_of states a) status (sort_of set a.driver a.routine) up
-          (second_none _ _ (kept (Complete r status) at)))
-      | inr bare ↦ absurd (bare.1 r n reads)
-    ]
-completion_looks m set states s t below a o good kept is own
+    absurd (completes_never (state_of states a) status (sort_of set a.driver a.routine) is
+    (second_none _ _ (kept (Complete r status) at)))
+completion_looks m set states s t below a o kept is none own
     (passes_down b r n p lower at reads there under) =
-    elim is [
-      | inl up ↦
-          absurd (forwards_never (state_of states a) (sort_of set a.driver a.routine) set a.driver 0 up
-          (second_none _ _ (kept (Pass r) at)))
-      | inr bare ↦ absurd (bare.1 r n reads)
-    ]
-completion_looks m set states s t below a o good kept is own
+    absurd (forwards_never (state_of states a) (sort_of set a.driver a.routine) set a.driver 0 is
+    (second_none _ _ (kept (Pass r) at)))
+completion_looks m set states s t below a o kept is none own
     (calls_down b r f n p lower at reads there under) =
-    elim is [
-      | inl up ↦
-          absurd (forwards_never (state_of states a) (sort_of set a.driver a.routine) set a.driver 1 up
-          (second_none _ _ (kept (Call r f) at)))
-      | inr bare ↦ absurd (bare.1 r n reads)
-    ]
-completion_looks m set states s t below a o good kept is own
+    absurd (forwards_never (state_of states a) (sort_of set a.driver a.routine) set a.driver 1 is
+    (second_none _ _ (kept (Call r f) at)))
+completion_looks m set states s t below a o kept is none own
     (returns_status b form status at sort there) =
-    elim is [
-      | inl up ↦ let no : Propagate ≡ Dispatch = sym up ∙ sort in cc
-      | inr bare ↦ let no : Dpc ≡ Dispatch = sym bare.0 ∙ sort in cc
-    ]
-completion_looks m set states s t below a o good kept is own
+    let no : Propagate ≡ Dispatch = sym is ∙ sort in cc
+completion_looks m set states s t below a o kept is none own
     (computes b i c jumped cells at work goes long) =
     record { told = refl; alone = goes_same a i c jumped goes; silent = refl }
-completion_looks m set states s t below a o good kept is own
+completion_looks m set states s t below a o kept is none own
     (pages b i c cell cells at work goes long) =
     record { told = refl; alone = goes_same a i c false goes; silent = refl }
-completion_looks m set states s t below a o good kept is own
+completion_looks m set states s t below a o kept is none own
     (looks_at b i c jumped r n p at work goes operand reads there jumps) =
     record { told = refl; alone = goes_same a i c jumped goes; silent = refl }
-completion_looks m set states s t below a o good kept is own (turns_loop b l at there) =
+completion_looks m set states s t below a o kept is none own (turns_loop b l at there) =
     record { told = refl; alone = ((turned_same a l).0, (turned_same a l).1); silent = refl }
-completion_looks m set states s t below a o good kept is own (lets_go b at sort bare) =
+completion_looks m set states s t below a o kept is none own (lets_go b at sort bare) =
     record { told = refl; alone = tt; silent = refl }
-completion_looks m set states s t below a o good kept is own (lets_walk b n at sort) =
+completion_looks m set states s t below a o kept is none own (lets_walk b n at sort) =
     record { told = refl; alone = tt; silent = refl }
-completion_looks m set states s t below a o good kept is own
+completion_looks m set states s t below a o kept is none own
     (works_on_queues b i c queues starts actions full at queued) =
-    absurd (never_queued good at queued)
-completion_looks m set states s t below a o good kept is own (ends_startio b at sort) =
+    record { told = refl; alone = queued_same queued; silent = queued_beyond m queued }
+completion_looks m set states s t below a o kept is none own (ends_startio b at sort) =
     record { told = refl; alone = tt; silent = refl }
-completion_looks m set states s t below a o good kept is own (ends_dpc b at sort) =
+completion_looks m set states s t below a o kept is none own (ends_dpc b at sort) =
     record { told = refl; alone = tt; silent = refl }
-completion_looks m set states s t below a o good kept is own _ =
+completion_looks m set states s t below a o kept is none own _ =
     record { told = refl; alone = (refl, refl); silent = refl }
+
+-- a DPC routine goes on, over what it completes or alone, or is gone
+abbrev pub IsOver : Activation → List Frame → Type 0
+IsOver a [] = ⊤
+IsOver a (Routine b ∷ []) = (b.driver ≡ a.driver) × (b.routine ≡ a.routine)
+IsOver a (Routine b ∷ Walk n ∷ []) = (b.driver ≡ a.driver) × (b.routine ≡ a.routine)
+IsOver a _ = ⊥
+
+pub record Works (a : Activation) (o : Outcome) : Type 0 where
+  pub told : o.told ≡ None
+  pub over : IsOver a o.frames
+  pub silent : list_any is_telling o.actions ≡ false
+
+dpc_never : (sort : Sort) → sort ≡ Dpc → forward_sort_fault sort ≡ None → ⊥
+dpc_never Propagate is rule = cc
+dpc_never StartIo is rule = cc
+dpc_never Dpc is rule = cc
+dpc_never Dispatch is rule = cc
+
+dpc_forwards : (s : Abs) (sort : Sort) (set : Set) (driver locations : ℕ) → sort ≡ Dpc
+    → forward_fault s sort set driver locations ≡ None → ⊥
+dpc_forwards s sort set driver locations is rule =
+    dpc_never sort is (first_none _ _ (second_none _ _ rule))
+
+-- every step of one, which has no packet that was handed over, and none on its way up
+pub dpc_works : (set : Set) (states : States) (s : Shared) (t : ℕ) (below : Option Frame)
+    (a : Activation) (o : Outcome) → KeepsRules set states a
+    → IsOfSort set a Dpc → HasNone is_new (state_of states a)
+    → ((r : ℕ) → is_view (kind_of (state_of states a) r) ≡ true → ⊥)
+    → Comes set s t below (Routine a) o → Works a o
+dpc_works set states s t below a o kept is none unseen (marks_packet b r n p at reads there) =
+    elim (marked_kind (state_of states a).settled (kind_of (state_of states a) r) (kept (Mark r) at)) [
+      | inl new ↦ absurd (never_new (state_of states a) r none new)
+      | inr view ↦ absurd (unseen r (ap is_view view.0))
+    ]
+dpc_works set states s t below a o kept is none unseen (passes_down b r n p lower at reads there under) =
+    absurd (dpc_forwards (state_of states a) (sort_of set a.driver a.routine) set a.driver 0 is
+    (second_none _ _ (kept (Pass r) at)))
+dpc_works set states s t below a o kept is none unseen (calls_down b r f n p lower at reads there under) =
+    absurd (dpc_forwards (state_of states a) (sort_of set a.driver a.routine) set a.driver 1 is
+    (second_none _ _ (kept (Call r f) at)))
+dpc_works set states s t below a o kept is none unseen (returns_status b form status at sort there) =
+    let no : Dpc ≡ Dispatch = sym is ∙ sort in cc
+dpc_works set states s t below a o kept is none unseen (computes b i c jumped cells at work goes long) =
+    record { told = refl; over = goes_same a i c jumped goes; silent = refl }
+dpc_works set states s t below a o kept is none unseen (pages b i c cell cells at work goes long) =
+    record { told = refl; over = goes_same a i c false goes; silent = refl }
+dpc_works set states s t below a o kept is none unseen
+    (looks_at b i c jumped r n p at work goes operand reads there jumps) =
+    record { told = refl; over = goes_same a i c jumped goes; silent = refl }
+dpc_works set states s t below a o kept is none unseen (turns_loop b l at there) =
+    record { told = refl; over = ((turned_same a l).0, (turned_same a l).1); silent = refl }
+dpc_works set states s t below a o kept is none unseen
+    (works_on_queues b i c queues starts actions full at queued) =
+    record {
+      told = refl;
+      over = queued_same queued;
+      silent = elim (queued_touches queued) [ inl empty ↦ rw empty refl | inr one ↦ rw one.1 refl ];
+    }
+dpc_works set states s t below a o kept is none unseen (lets_go b at sort bare) =
+    record { told = refl; over = tt; silent = refl }
+dpc_works set states s t below a o kept is none unseen (lets_walk b n at sort) =
+    record { told = refl; over = tt; silent = refl }
+dpc_works set states s t below a o kept is none unseen (ends_startio b at sort) =
+    record { told = refl; over = tt; silent = refl }
+dpc_works set states s t below a o kept is none unseen (ends_dpc b at sort) =
+    record { told = refl; over = tt; silent = refl }
+dpc_works set states s t below a o kept is none unseen _ =
+    record { told = refl; over = (refl, refl); silent = refl }
 
 -- frames that the I/O manager's frame leaves: none, or one of its own, with a completion routine on
 -- it or not

@@ -1,10 +1,9 @@
 -- What a step of a dispatch routine does with the packet that it serves: nothing, or it marks it,
 -- completes it, passes it on, sends it down in a location of its own, or returns a status. What it
 -- leaves serves on.
-use Rattle.std.proofs.Common.{◌≡◌, Bool, List, None, Option, Some, [], ap, arith, false, inl, inr, refl, subst, sym, true, ℕ, ◌+◌, ◌∙◌, ◌∷◌, ◌≤◌, ◌⊎◌}
-use Rattle.std.specs.Prelude.{if◌then◌else◌, nat_eq, ⊤}
+use Rattle.std.proofs.Common.{◌≡◌, Bool, List, None, Option, Some, [], ap, arith, false, inl, inr, refl, subst, sym, true, ℕ, ◌∙◌, ◌∷◌, ◌≤◌, ◌⊎◌}
+use Rattle.std.specs.Prelude.{nat_eq, ⊤}
 use Rattle.std.specs.List.{list_any}
-use Rattle.std.proofs.lemmas.Bool.{eq-eqb}
 use Rattle.std.proofs.lemmas.Bool.Decides.{eqb_tells}
 use Rattle.model.specs.declared.abs.Duty.{Duty}
 use Rattle.model.specs.declared.abs.Duty.TheVariants.{Finished, Fresh, GivenDown, NoDuty, Pending}
@@ -23,16 +22,19 @@ use Rattle.model.specs.Run.{new_tag, tags_after}
 use Rattle.model.specs.Set.{Set}
 use Rattle.model.specs.Trace.{Activated, Actor, Entry, Serving, Tag, recorded, uses_opened}
 use Rattle.model.specs.World.{Shared, World, next}
-use Rattle.run_laws.specs.Holder.{frame_rights, stack_sum}
+use Rattle.run_laws.specs.Holder.{frame_rights}
 use Rattle.run_laws.proofs.Past.LivePackets.{find}
 use Rattle.run_laws.proofs.Pending.LowerStatuses.{Lowers}
 use Rattle.run_laws.proofs.Pending.Returned.{AllAgree, agree_kept, agree_returned, is_telling, silent_about, silent_returns}
 use Rattle.run_laws.proofs.Pending.Serving.{AllServe, Current, FrameServes, Says, ServesUse, TagNames, UnderServes, first_served, served}
-use Rattle.run_laws.proofs.Pending.UsesServed.{BeginsServing, Called, Completed, GivesDown, Settles, begun_serves, called_current, called_says, done_serves, mark_serves, new_serving, passed_serves, plain_serves, refers_still}
+use Rattle.run_laws.proofs.Pending.UsesServed.{own_serves, IsHandedOver, owned_current, GivesOwn, called_serves, GoesOnAs, BeginsServing, Called, Completed, GivesDown, Settles, begun_serves, called_current, done_serves, mark_serves, new_serving, passed_serves, plain_serves}
 use Rattle.run_laws.proofs.States.Frames.{state_of}
 use Rattle.run_laws.proofs.States.Rules.{States}
 use Rattle.run_laws.proofs.Uses.Fates.{Agreed, late_marks}
 use Rattle.run_laws.proofs.Uses.Traced.{SameUses, is_about, same_recorded}
+use Rattle.run_laws.proofs.States.HandedOver.{HoldOf}
+use Rattle.run_laws.proofs.States.NoViews.{is_new}
+use Rattle.run_laws.proofs.Live.Sees.{RefersTo}
 
 -- it returns a status as its duty says
 abbrev pub AsDuty : Duty → Bool → List Kind → List Value → Type 0
@@ -42,38 +44,32 @@ AsDuty Finished b kinds values = b ≡ false
 AsDuty GivenDown b kinds values = (x : Bool) → Lowers x kinds values → b ≡ x
 AsDuty NoDuty b kinds values = ⊥
 
--- a routine goes on as another activation of itself
-pub record GoesOnAs (states : States) (a b : Activation) : Type 0 where
-  pub driver : b.driver ≡ a.driver
-  pub routine : b.routine ≡ a.routine
-  pub duty : (state_of states b).duty ≡ (state_of states a).duty
-  pub lowers : (x : Bool) → Lowers x (state_of states a).kinds a.registers
-      → Lowers x (state_of states b).kinds b.registers
-
 pub data Does (set : Set) (states : States) (a : Activation) : Outcome → Type 0 where
   -- one frame goes on, and nothing is told
-  stays_quiet : (after : Shared) (b : Activation) (actions : List Action) (reply : Reply)
+  stays_quiet : (after : Shared) (b : Activation) (actions : List Action) (reply : Reply) (full : Bool)
       → GoesOnAs states a b
       → list_any is_telling actions ≡ false
-      → Does set states a (record (leaves after (Routine b ∷ []) actions) { reply = reply })
+      → Does set states a
+      (record (leaves after (Routine b ∷ []) actions) { reply = reply; full = full })
   -- a packet that it was handed is marked
   marks_own : (after : Shared) (n : ℕ) (p : Packet) → find after.packets n ≡ Some p
-      → 1 ≤ frame_rights states (Routine a) n → (state_of states (next a)).duty ≡ Pending
+      → 1 ≤ frame_rights states (Routine a) n → IsHandedOver states a n
+      → (state_of states (next a)).duty ≡ Pending
       → Does set states a (goes_on after (next a) (Touches n ∷ Marks n ∷ []))
   -- a packet that it was handed or owns is completed
   completes_own : (after : Shared) (n : ℕ) (p : Packet) → find after.packets n ≡ Some p
       → p.completing ≡ true
       → 1 ≤ frame_rights states (Routine a) n
-      → Completed (state_of states a).duty (state_of states (next a)).duty
+      → Completed states a (next a) n
       → Does set states a (leaves after (Routine (next a) ∷ Walk n ∷ []) (Executes ∷ Completes n ∷ []))
   -- a packet that it was handed is passed on, or one that it has is sent down in a location of its
   -- own
   passes_own : (after : Shared) (n : ℕ) (c : Activation) → BeginsServing set states c n
-      → 1 ≤ frame_rights states (Routine a) n → GivesDown set states a (next a)
+      → 1 ≤ frame_rights states (Routine a) n → GivesDown set states a (next a) n
       → Does set states a (leaves after (Routine (next a) ∷ Routine c ∷ []) (Executes ∷ Touches n ∷ []))
   calls_own : (after : Shared) (n : ℕ) (p : Packet) (c : Activation) → find after.packets n ≡ Some p
       → BeginsServing set states c n → 1 ≤ frame_rights states (Routine a) n
-      → Called set states a (next a)
+      → Called set states a (next a) n
       → Does set states a
       (leaves after (Routine (next a) ∷ Routine c ∷ []) (Executes ∷ Touches n ∷ Calls n ∷ []))
   -- it returns a status
@@ -96,9 +92,9 @@ owned_apart states a m n owned none =
 pub does_spare : (set : Set) (states : States) (a : Activation) (o : Outcome) → Does set states a o
     → (n : ℕ)
     → frame_rights states (Routine a) n ≡ 0 → list_any (is_about n) o.actions ≡ false
-does_spare set states a o (stays_quiet after b actions reply same silent) n none =
+does_spare set states a o (stays_quiet after b actions reply full same silent) n none =
     silent_about n actions silent
-does_spare set states a o (marks_own after m p there owned duty) n none =
+does_spare set states a o (marks_own after m p there owned over duty) n none =
     let apart : nat_eq m n ≡ false = owned_apart states a m n owned none in rw apart refl
 does_spare set states a o (calls_own after m p c there begins owned gives) n none =
     let apart : nat_eq m n ≡ false = owned_apart states a m n owned none in rw apart refl
@@ -137,9 +133,9 @@ module _ (set : Set) (states : States) (w later_w : World) (past : List Entry) (
     pub serves_use : ServesUse set states w past v a None
     pub settles : Settles states w past later_w (recorded past actor o.actions)
     pub agree : AllAgree states w past
-    pub less : (n : ℕ) → stack_sum (λ g. frame_rights states g n) o.frames ≤ frame_rights states
-        (Routine a) n
-    pub one : (n : ℕ) → frame_rights states (Routine a) n ≤ 1
+    pub owns : (m : ℕ) → (state_of states a).duty ≡ Fresh
+        → HoldOf is_new (RefersTo m) (state_of states a).kinds a.registers
+        → 1 ≤ frame_rights states (Routine a) m
     pub late : (b : Activation) (n : ℕ) → o.frames ≡ Routine b ∷ Walk n ∷ [] → (returned : Bool)
         → late_marks states returned n later_w.threads ≡ 0
 
@@ -175,33 +171,6 @@ module _ (set : Set) (states : States) (w later_w : World) (past : List Entry) (
       under_put (Some (Routine c)) on = h
       under_put (Some (Walk m)) on = absurd on
 
-  -- the first of the frames that it leaves has no other right
-  first_less : (o : Outcome) (b : Activation) (rest : List Frame) → Stepping o
-      → o.frames ≡ Routine b ∷ rest → (n : ℕ)
-      → frame_rights states (Routine b) n ≤ frame_rights states (Routine a) n
-  first_less o b rest h is n =
-      let all : stack_sum (λ g. frame_rights states g n) o.frames
-      ≡ frame_rights states (Routine b) n + stack_sum (λ g. frame_rights states g n) rest =
-      ap (stack_sum (λ g. frame_rights states g n)) is in
-      let le : stack_sum (λ g. frame_rights states g n) o.frames ≤ frame_rights states (Routine a) n
-      = h.less n in
-      omega arith
-
-  -- after a call it has none
-  none_left : (o : Outcome) (n : ℕ) (b c : Activation) → BeginsServing set states c n → Stepping o
-      → o.frames ≡ Routine b ∷ Routine c ∷ [] → 1 ≤ frame_rights states (Routine b) n → ⊥
-  none_left o n b c begins h is some =
-      let all : stack_sum (λ g. frame_rights states g n) o.frames
-      ≡ frame_rights states (Routine b) n + (frame_rights states (Routine c) n + 0) =
-      ap (stack_sum (λ g. frame_rights states g n)) is in
-      let le : stack_sum (λ g. frame_rights states g n) o.frames ≤ frame_rights states (Routine a) n
-      = h.less n in
-      let one : frame_rights states (Routine a) n ≤ 1 = h.one n in
-      let own : frame_rights states (Routine c) n ≡ (if nat_eq n n then 1 else 0) = begins.rights n in
-      let same : nat_eq n n ≡ true = eq-eqb n n refl in
-      let new : frame_rights states (Routine c) n ≡ 1 = rw same at own in
-      omega arith
-
   silent_uses : (o : Outcome) → list_any is_telling o.actions ≡ false → (n : ℕ)
       → SameUses past (recorded past actor o.actions) n
   silent_uses o silent n = same_recorded past actor o.actions n (silent_about n o.actions silent)
@@ -224,32 +193,48 @@ module _ (set : Set) (states : States) (w later_w : World) (past : List Entry) (
 
   -- of the packet of its own use
   calls_serves : (after : Shared) (p : Packet) (c : Activation) → find after.packets v.packet ≡ Some p
-      → BeginsServing set states c v.packet → 1 ≤ frame_rights states (Routine a) v.packet
-      → Called set states a (next a)
+      → BeginsServing set states c v.packet
+      → GivesDown set states a (next a) v.packet
       → Stepping (leaves after (Routine (next a) ∷ Routine c ∷ [])
       (Executes ∷ Touches v.packet ∷ Calls v.packet ∷ []))
       → StepServes (leaves after (Routine (next a) ∷ Routine c ∷ [])
       (Executes ∷ Touches v.packet ∷ Calls v.packet ∷ []))
-  calls_serves after p c there begins owned gives h =
+  calls_serves after p c there begins gives h =
       let n : ℕ = v.packet in
       let o : Outcome =
       leaves after (Routine (next a) ∷ Routine c ∷ []) (Executes ∷ Touches n ∷ Calls n ∷ []) in
       let later : List Entry = recorded past actor o.actions in
       let lower : Serving = record { packet = n; «use» = uses_opened past } in
-      let less : (m : ℕ) → frame_rights states (Routine (next a)) m ≤ frame_rights states (Routine a) m =
-      first_less o (next a) (Routine c ∷ []) h refl in
       let current : Current later lower false = called_current states w later_w past actor n h.settles in
       record {
         serve = asked_serve later (next a) c lower (new_tag set later number (Routine c))
             (new_serving set states later number c n lower begins refl current.0) h.on (refl, refl)
             h.names h.tagged
-            (record {
-              refers = refers_still set states w later_w past later v a (next a) h.serves_use less;
-              current = λ some. absurd (none_left o n (next a) c begins h refl some);
-              says = called_says set states w later_w past actor v a (next a) h.serves_use less p
-                  h.settles
-                  (there_then o n p h there) (h.serves_use.current owned) gives;
-            })
+            (called_serves set states w later_w past actor v a (next a) h.serves_use h.owns p h.settles
+            (there_then o n p h there) gives)
+            (begun_serves set states later_w later lower c n begins refl current);
+        goes = inl (refl, h.tagged);
+        agree = agree_kept states w later_w past actor o.actions h.settles.keeps refl h.agree;
+      }
+
+  -- of a packet that it owns
+  calls_other : (after : Shared) (n : ℕ) (p : Packet) (c : Activation) → find after.packets n ≡ Some p
+      → BeginsServing set states c n → GivesOwn set states a (next a) n
+      → Stepping (leaves after (Routine (next a) ∷ Routine c ∷ []) (Executes ∷ Touches n ∷ Calls n ∷ []))
+      → StepServes (leaves after (Routine (next a) ∷ Routine c ∷ [])
+      (Executes ∷ Touches n ∷ Calls n ∷ []))
+  calls_other after n p c there begins gives h =
+      let o : Outcome =
+      leaves after (Routine (next a) ∷ Routine c ∷ []) (Executes ∷ Touches n ∷ Calls n ∷ []) in
+      let later : List Entry = recorded past actor o.actions in
+      let lower : Serving = record { packet = n; «use» = uses_opened past } in
+      let current : Current later lower false = called_current states w later_w past actor n h.settles in
+      record {
+        serve = asked_serve later (next a) c lower (new_tag set later number (Routine c))
+            (new_serving set states later number c n lower begins refl current.0) h.on (refl, refl)
+            h.names h.tagged
+            (own_serves set states w later_w past later v a (next a) h.serves_use h.owns lower n gives
+            h.settles.keeps (λ apart. same_recorded past actor o.actions v.packet (rw apart refl)))
             (begun_serves set states later_w later lower c n begins refl current);
         goes = inl (refl, h.tagged);
         agree = agree_kept states w later_w past actor o.actions h.settles.keeps refl h.agree;
@@ -257,42 +242,42 @@ module _ (set : Set) (states : States) (w later_w : World) (past : List Entry) (
 
   -- every step of a dispatch routine
   pub dispatch_serves : (o : Outcome) → Does set states a o → Stepping o → StepServes o
-  dispatch_serves o (stays_quiet after b actions reply same silent) h =
-      let o : Outcome = record (leaves after (Routine b ∷ []) actions) { reply = reply } in
+  dispatch_serves o (stays_quiet after b actions reply full same silent) h =
+      let o : Outcome =
+      record (leaves after (Routine b ∷ []) actions) { reply = reply; full = full } in
       let later : List Entry = recorded past actor actions in
       record {
         serve = (
           serve_put later None b h.on (same.driver, same.routine) h.names h.tagged
-              (plain_serves set states w later_w past later v a b h.serves_use (first_less o b [] h refl)
-              h.settles.keeps (silent_uses o silent v.packet) same.duty same.lowers),
+              (plain_serves set states w later_w past later v a b h.serves_use h.owns h.settles.keeps
+              (λ fresh refers. silent_uses o silent v.packet) same),
           tt,
         );
         goes = inl (refl, h.tagged);
         agree = agree_kept states w later_w past actor actions h.settles.keeps
             (silent_returns actions silent) h.agree;
       }
-  dispatch_serves o (marks_own after n p there owned duty) h =
+  dispatch_serves o (marks_own after n p there owned over duty) h =
       let o : Outcome = goes_on after (next a) (Touches n ∷ Marks n ∷ []) in
       record {
         serve = (
           serve_put (recorded past actor o.actions) None (next a) h.on (refl, refl) h.names h.tagged
-              (mark_serves set states w later_w past actor v a (next a) h.serves_use
-              (first_less o (next a) [] h refl)
-              n p h.settles (there_then o n p h there) owned duty),
+              (mark_serves set states w later_w past actor v a (next a) h.serves_use h.owns
+              n p h.settles (there_then o n p h there) over duty),
           tt,
         );
         goes = inl (refl, h.tagged);
         agree = agree_kept states w later_w past actor o.actions h.settles.keeps refl h.agree;
       }
-  dispatch_serves o (completes_own after n p there done owned duty) h =
+  dispatch_serves o (completes_own after n p there done owned completed) h =
       let o : Outcome = leaves after (Routine (next a) ∷ Walk n ∷ []) (Executes ∷ Completes n ∷ []) in
       let later : List Entry = recorded past actor o.actions in
       record {
         serve = (
           serve_put later None (next a) h.on (refl, refl) h.names h.tagged
-              (done_serves set states w later_w past later v a (next a) h.serves_use
-              (first_less o (next a) (Walk n ∷ []) h refl) n p h.settles (silent_uses o refl)
-              (there_then o n p h there) done (h.late (next a) n refl p.pending_returned) owned duty),
+              (done_serves set states w later_w past later v a (next a) h.serves_use h.owns n p
+              h.settles (silent_uses o refl)
+              (there_then o n p h there) done (h.late (next a) n refl p.pending_returned) completed),
           (refl, tt),
         );
         goes = inl (refl, h.tagged);
@@ -301,27 +286,31 @@ module _ (set : Set) (states : States) (w later_w : World) (past : List Entry) (
   dispatch_serves o (passes_own after n c begins owned gives) h =
       let o : Outcome = leaves after (Routine (next a) ∷ Routine c ∷ []) (Executes ∷ Touches n ∷ []) in
       let later : List Entry = recorded past actor o.actions in
-      let packet : n ≡ v.packet = h.serves_use.refers n owned in
-      let both : Current later v false × ServesUse set states later_w later v (next a) (Some v) =
-      passed_serves set states w later_w past later v a (next a) h.serves_use
-      (first_less o (next a) (Routine c ∷ []) h refl) n (silent_uses o refl v.packet) owned gives
+      let both : (n ≡ v.packet) × Current later v false
+      × ServesUse set states later_w later v (next a) (Some v) =
+      passed_serves set states w later_w past later v a (next a) h.serves_use h.owns n
+      (silent_uses o refl v.packet) gives
       in
       record {
         serve = asked_serve later (next a) c v (new_tag set later number (Routine c))
-            (new_serving set states later number c n v begins packet both.0.0) h.on (refl, refl)
-            h.names h.tagged both.1
-            (begun_serves set states later_w later v c n begins packet both.0);
+            (new_serving set states later number c n v begins both.0 both.1.0) h.on (refl, refl)
+            h.names h.tagged both.2
+            (begun_serves set states later_w later v c n begins both.0 both.1);
         goes = inl (refl, h.tagged);
         agree = agree_kept states w later_w past actor o.actions h.settles.keeps refl h.agree;
       }
-  dispatch_serves o (calls_own after n p c there begins owned gives) h =
+  dispatch_serves o (calls_own after n p c there begins owned (inl gives)) h =
+      let packet : n ≡ v.packet =
+      (owned_current set states w later_w past past v a (next a) h.serves_use h.owns n gives.before).0 in
       subst (λ (m : ℕ). find after.packets m ≡ Some p → BeginsServing set states c m
-      → 1 ≤ frame_rights states (Routine a) m
+      → GivesDown set states a (next a) m
       → Stepping (leaves after (Routine (next a) ∷ Routine c ∷ []) (Executes ∷ Touches m ∷ Calls m ∷ []))
       → StepServes (leaves after (Routine (next a) ∷ Routine c ∷ [])
       (Executes ∷ Touches m ∷ Calls m ∷ [])))
-      (sym (h.serves_use.refers n owned)) (λ t b own. calls_serves after p c t b own gives) there
-      begins owned h
+      (sym packet) (λ t b gives. calls_serves after p c t b gives) there
+      begins gives h
+  dispatch_serves o (calls_own after n p c there begins owned (inr gives)) h =
+      calls_other after n p c there begins gives h
   dispatch_serves o (returns_own after status duty) h =
       let o : Outcome = returned after status in
       let later : List Entry = recorded past actor o.actions in

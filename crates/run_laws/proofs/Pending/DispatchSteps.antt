@@ -1,6 +1,6 @@
 -- Every step of a dispatch routine, by what it does with the packet that it serves.
-use Rattle.std.proofs.Common.{◌≡◌, Bool, List, None, Option, Some, [], ap, arith, false, inl, inr, refl, subst, sym, true, ℕ, ◌+◌, ◌<◌, ◌∙◌, ◌∷◌, ◌++◌, ◌⊎◌}
-use Rattle.std.specs.Prelude.{slice_get, slice_index_or, slice_set}
+use Rattle.std.proofs.Common.{◌≤◌, ◌≡◌, Bool, List, None, Option, Some, [], ap, arith, false, inl, inr, refl, subst, sym, true, ℕ, ◌+◌, ◌<◌, ◌∙◌, ◌∷◌, ◌++◌, ◌⊎◌}
+use Rattle.std.specs.Prelude.{nat_eq, slice_get, slice_index_or, slice_set}
 use Rattle.std.specs.List.{list_any}
 use Rattle.model.specs.declared.abs.Abs.{Abs}
 use Rattle.model.specs.declared.abs.Duty.{Duty}
@@ -10,7 +10,7 @@ use Rattle.model.specs.declared.abs.Kind.TheVariants.{Blank as BlankKind, Num as
 use Rattle.model.specs.declared.abs.Settled.{Settled}
 use Rattle.model.specs.declared.event.Reply.TheVariants.{Stepped, Waited}
 use Rattle.model.specs.declared.instr.Instr.{Instr}
-use Rattle.model.specs.declared.instr.Instr.TheVariants.{Call, Complete, Loop, Mark, Pass, Put, Ret}
+use Rattle.model.specs.declared.instr.Instr.TheVariants.{Remove, Insert, Call, Complete, Loop, Mark, Pass, Put, Ret}
 use Rattle.model.specs.declared.instr.Return.{Return}
 use Rattle.model.specs.declared.instr.Return.TheVariants.{Continue, Lower as LowerStatus, WithStatus, Void}
 use Rattle.model.specs.declared.set.Sort.TheVariants.{Dispatch, Propagate, Dpc, StartIo}
@@ -21,34 +21,47 @@ use Rattle.model.specs.declared.world.Frame.TheVariants.{Routine}
 use Rattle.model.specs.declared.world.Packet.{Packet}
 use Rattle.model.specs.declared.world.Value.{Value}
 use Rattle.model.specs.declared.world.Value.TheVariants.{Blank, Num, Ref, Status as StatusValue}
-use Rattle.model.specs.Action.{Acquires, Executes, Releases, Touches, TouchesPaged}
+use Rattle.model.specs.Action.{Action, Acquires, Executes, Releases, Touches, TouchesPaged}
 use Rattle.model.specs.Effect.{Outcome, answered, dispatched, operand_of, set_by, turned}
 use Rattle.model.specs.Fault.{first_fault}
-use Rattle.model.specs.LocalRule.{complete_kind, demanded, duty_completed, given_down, handed, is_given_down, is_kept, is_lower, is_pending, is_right, is_view, kind_of, mark_fault, marked, one_handed_or_owned, status_fault, with_kind}
+use Rattle.model.specs.LocalRule.{handed_at_label, complete_kind, demanded, duty_completed, given_down, handed, is_given_down, is_kept, is_lower, is_pending, is_right, is_view, kind_of, mark_fault, marked, one_handed_or_owned, status_fault, with_kind}
 use Rattle.model.specs.Set.{Set, flow_of, lower_of, sort_of}
 use Rattle.model.specs.Trace.{Actor, Entry}
-use Rattle.model.specs.World.{Shared, asked_of, completed, current_location, mark_current, next, packet_of, register, sent_down, shared_with, status_in, with_info, with_locks, with_loops, with_owner, with_packet}
+use Rattle.model.specs.World.{at_label, with_register, Shared, asked_of, completed, current_location, mark_current, next, packet_of, register, sent_down, shared_with, status_in, with_info, with_locks, with_loops, with_owner, with_packet}
+use Rattle.model.specs.LocalRule.{handed_at_label}
+use Rattle.std.specs.Prelude.{if◌then◌else◌, nat_eq}
+use Rattle.run_laws.proofs.Holders.Steps.{named_right}
+use Rattle.run_laws.specs.Holder.{frame_rights, right, rights}
 use Rattle.run_laws.proofs.Past.LivePackets.{find}
 use Rattle.run_laws.proofs.Past.Packets.{found, named, numbered}
 use Rattle.run_laws.proofs.Pending.CompletionSteps.{goes_same, turned_same}
-use Rattle.run_laws.proofs.Pending.DispatchServes.{AsDuty, Does, GoesOnAs, calls_own, completes_own, marks_own, passes_own, returns_own, stays_quiet}
-use Rattle.run_laws.proofs.Pending.Duties.{Arrived, Dutied, Dutiful, counted, is_new, kinds_that, new_fresh, own_pending, passes_new}
-use Rattle.run_laws.proofs.Pending.LowerStatuses.{LowerIs, Lowers, lowers_get, lowers_move, lowers_none, lowers_set}
-use Rattle.run_laws.proofs.Pending.UsesServed.{BeginsServing, Called, Completed, GivesDown}
+use Rattle.run_laws.proofs.Pending.DispatchServes.{AsDuty, Does, calls_own, completes_own, marks_own, passes_own, returns_own, stays_quiet}
+use Rattle.run_laws.proofs.Pending.Duties.{owned_up, fresh_rights, Arrived, Dutied, Dutiful, counted, kinds_that, new_fresh, passes_new}
+use Rattle.run_laws.proofs.Pending.LowerStatuses.{lowers_turn, LowerIs, Lowers, lowers_get, lowers_move, lowers_none, lowers_set}
+use Rattle.run_laws.proofs.Pending.UsesServed.{IsHandedOver, GoesOnAs, BeginsServing, Called, Completed, GivesDown}
 use Rattle.run_laws.proofs.States.Fine.{completion_top, not_gone, touch_top}
-use Rattle.run_laws.proofs.States.Frames.{Runs, state_of, no_queue_word}
-use Rattle.run_laws.proofs.States.Kinds.{still_kinds, label_kinds, number_kinds}
+use Rattle.run_laws.proofs.States.Frames.{Runs, state_of}
+use Rattle.run_laws.proofs.States.Kinds.{kinds_turn, still_kinds, label_kinds, number_kinds}
 use Rattle.run_laws.proofs.States.Lacking.{down}
 use Rattle.run_laws.proofs.States.Moves.{arrives, arrives_next, falls_next, has_next, onto}
 use Rattle.run_laws.proofs.States.Obeyed.{ReturnsBy, completes_one, returns_by}
-use Rattle.run_laws.proofs.States.Queueless.{runs_no_queues}
 use Rattle.run_laws.proofs.Steps.Locking.{LockWord, freed_word, taken_word}
 use Rattle.run_laws.proofs.States.Rules.{States, first_none, second_none, unbroken}
-use Rattle.run_laws.proofs.Steps.Comes.{Comes, Executing, GoesTo, Lacks, Written, awaits_lock, calls_down, completes_gone, completes_packet, computes, errs, frees_lock, jumping, lets_go, lets_walk, looks_at, keeps_all, makes_blank, makes_number, marks_packet, moves_over, onward, opens_loop, pages, passes_down, retakes_lock, returns_status, takes_lock, touches_gone, turns_loop, writes_info, ends_dpc, works_on_queues, ends_startio}
+use Rattle.run_laws.proofs.Steps.Comes.{removes_none, removes, inserts, Queued, Reads, Comes, Executing, GoesTo, Lacks, Written, awaits_lock, calls_down, completes_gone, completes_packet, computes, errs, frees_lock, jumping, lets_go, lets_walk, looks_at, keeps_all, makes_blank, makes_number, marks_packet, moves_over, onward, opens_loop, pages, passes_down, retakes_lock, returns_status, takes_lock, touches_gone, turns_loop, writes_info, ends_dpc, works_on_queues, ends_startio}
 use Rattle.run_laws.proofs.Steps.Words.{is_giving, keeps_registers, status_returned, work_of}
 use Rattle.run_laws.proofs.Tests.{not_false, or_left, or_right}
 use Rattle.run_laws.proofs.Uses.Steps.{found_put}
 use Rattle.run_laws.proofs.Uses.RoutineSteps.{StepsRoutine}
+use Rattle.run_laws.proofs.States.NoViews.{handed_news, is_new}
+use Rattle.run_laws.proofs.States.HandedOver.{hold_turn, queued_hold, next_hold, hold_get, keeps_copies, handed_hold, copies, HoldOf, goes_hold}
+use Rattle.model.specs.Queues.{StartState}
+use Rattle.run_laws.proofs.Steps.Queues.{queued_touches}
+use Rattle.run_laws.proofs.Live.Sees.{reads_to, RefersTo}
+use Rattle.run_laws.proofs.States.Queueing.{runs_no_start}
+use Rattle.run_laws.proofs.Holders.Rights.{rights_turn}
+use Rattle.run_laws.proofs.Holders.Counts.{reads_ref}
+use Rattle.run_laws.proofs.Holders.Sums.{unheld_one, unheld}
+use Rattle.std.proofs.lemmas.Bool.Decides.{eqb_tells}
 
 -- what leaves the packets with who has them leaves the duty
 onto_duty : (s : Abs) (i : Instr) (jumped : Bool) → is_giving (work_of i) ≡ false
@@ -73,14 +86,13 @@ marked_pending : (s : Abs) (r : ℕ) (k : Kind) → k ≡ New → (marked s r k)
 marked_pending s r New is = refl
 marked_pending s r _ is = cc
 
-complete_duty : (s : Abs) (r : ℕ) (k : Kind) → Dutiful s → complete_kind k ≡ None → kind_of s r ≡ k
-    → Completed s.duty (duty_completed k s.duty)
-complete_duty s r New h rule is = inl (new_fresh s r h is, refl)
-complete_duty s r Own h rule is = inr (own_pending s r h is, own_pending s r h is)
-complete_duty s r View h rule is = cc
-complete_duty s r BlankKind h rule is = cc
-complete_duty s r NumKind h rule is = cc
-complete_duty s r LowerKind h rule is = cc
+completes_kind : (k : Kind) → complete_kind k ≡ None → (k ≡ New) ⊎ (k ≡ Own)
+completes_kind New rule = inl refl
+completes_kind Own rule = inr refl
+completes_kind View rule = cc
+completes_kind BlankKind rule = cc
+completes_kind NumKind rule = cc
+completes_kind LowerKind rule = cc
 
 call_owned : (k : Kind) → demanded one_handed_or_owned k ≡ None → (k ≡ New) ⊎ (k ≡ Own)
 call_owned New h = inl refl
@@ -103,7 +115,7 @@ given_own s r _ is = cc
 no_lowers : (s : Abs) (r : ℕ) → Dutiful s → kind_of s r ≡ New → kinds_that is_lower s.kinds ≡ 0
 no_lowers s r h is =
     let fresh : Dutied Fresh s.kinds = subst (λ (d : Duty). Dutied d s.kinds) (new_fresh s r h is) h in
-    fresh.2
+    fresh.1
 
 -- a status of its own is returned
 new_kept : (k : Kind) (b : Bool) → is_new k ≡ b → is_kept k ≡ false → counted is_new k ≡ 0
@@ -204,7 +216,7 @@ module _ (set : Set) (states : States) (s : Shared) (past : List Entry) (actor :
       lowers_on x i registers run duty written left
   lowers_to x i b jumped run duty (jumping label labelled) left =
       subst (λ (kinds : List Kind). Lowers x kinds a.registers)
-      (sym (label_kinds now i (no_queue_word set states s a i run))) left
+      (sym (label_kinds now i duty)) left
 
   goes_as : (i : Instr) (b : Activation) (jumped : Bool) → Executing set a i
       → is_giving (work_of i) ≡ false
@@ -218,6 +230,8 @@ module _ (set : Set) (states : States) (s : Shared) (past : List Entry) (actor :
         duty = ap (λ (state : Abs). state.duty) there ∙ onto_duty now i jumped duty;
         lowers = λ x left. subst (λ (state : Abs). Lowers x state.kinds b.registers) (sym there)
             (lowers_to x i b jumped run duty goes left);
+        news = λ m refers.
+            goes_hold is_new handed_news (RefersTo m) set states s a tt i b jumped run goes refers;
       }
 
   -- the next position, with the same registers
@@ -237,6 +251,12 @@ module _ (set : Set) (states : States) (s : Shared) (past : List Entry) (actor :
             (sym registers)
             (subst (λ (kinds : List Kind). Lowers x kinds a.registers)
             (sym (ap (λ (state : Abs). state.kinds) there ∙ still_kinds now i keeps duty)) left);
+        news = λ m refers.
+            subst (λ (values : List Value). HoldOf is_new (RefersTo m) (state_of states b).kinds values)
+            (sym registers)
+            (subst (λ (state : Abs). HoldOf is_new (RefersTo m) state.kinds a.registers) (sym there)
+            (handed_hold is_new handed_news (RefersTo m) now i a.registers (keeps_copies i keeps)
+            refers));
       }
 
   locks_as : (i : Instr) → Executing set a i → LockWord i → GoesOnAs states a (next a)
@@ -248,17 +268,84 @@ module _ (set : Set) (states : States) (s : Shared) (past : List Entry) (actor :
       → find (with_packet s n q).packets n ≡ Some q
   put_there n p q there same = found_put s n p q (found s n (Some p) there) (same ∙ numbered s n p there)
 
+  -- a packet that it was handed
+  handed_over : (r n : ℕ) → kind_of now r ≡ New → Reads s a r n → IsHandedOver states a n
+  handed_over r n is reads =
+      record {
+        fresh = new_fresh now r h.arrived.dutiful is;
+        is = λ m refers.
+            reads_to m s (register a r) n
+            (hold_get is_new handed_news (RefersTo m) now.kinds a.registers r tt refers (ap is_new is))
+            reads;
+      }
+
+  -- a packet that it owns is given up
+  gives_own : (i : Instr) (r : ℕ) → Executing set a i → has_next (flow_of i) ≡ true → copies i ≡ false
+      → (handed now i).kinds ≡ slice_set now.kinds r BlankKind → (handed now i).duty ≡ now.duty
+      → GoesOnAs states a (next a)
+  gives_own i r at leads plain kinds duty =
+      let run : Runs set states s a i = h.routine.runs i at in
+      let there : state_of states (next a) ≡ handed now i = arrives_next set states s a i run leads in
+      record {
+        driver = refl;
+        routine = refl;
+        duty = ap (λ (state : Abs). state.duty) there ∙ duty;
+        lowers = λ x left.
+            subst (λ (ks : List Kind). Lowers x ks a.registers)
+            (sym (ap (λ (state : Abs). state.kinds) there ∙ kinds))
+            (lowers_turn x now.kinds a.registers r BlankKind left tt);
+        news = λ m refers.
+            next_hold is_new handed_news (RefersTo m) set states s a tt i run leads plain refers;
+      }
+
+  queued_as : (i : Instr) (b : Activation) (queues : List (List (List ℕ)))
+      (lists : List StartState) (actions : List Action) (full : Bool) → Executing set a i
+      → Queued s a i b queues lists actions full → GoesOnAs states a b
+  queued_as i b queues lists actions full at (inserts r q n entries reads there) =
+      gives_own (Insert r q) r at refl refl refl refl
+  queued_as i b queues lists actions full at (removes r q label n entries there) =
+      let run : Runs set states s a (Remove r q label) = h.routine.runs (Remove r q label) at in
+      let on : state_of states (next (with_register a r (Ref n))) ≡ handed now (Remove r q label) =
+      arrives_next set states s a (Remove r q label) run refl in
+      record {
+        driver = refl;
+        routine = refl;
+        duty = ap (λ (state : Abs). state.duty) on;
+        lowers = λ x left.
+            subst (λ (state : Abs). Lowers x state.kinds (slice_set a.registers r (Ref n))) (sym on)
+            (lowers_set x now.kinds a.registers r Own (Ref n) left tt);
+        news = λ m refers.
+            queued_hold is_new handed_news (RefersTo m) set states s a (Remove r q label) tt run
+            (removes r q label n entries there) refers;
+      }
+  queued_as i b queues lists actions full at (removes_none r q label there) =
+      let run : Runs set states s a (Remove r q label) = h.routine.runs (Remove r q label) at in
+      let on : state_of states (at_label a label) ≡ handed_at_label now (Remove r q label) =
+      arrives set states s a (Remove r q label) run _ true (jumping label refl) in
+      record {
+        driver = refl;
+        routine = refl;
+        duty = ap (λ (state : Abs). state.duty) on;
+        lowers = λ x left.
+            subst (λ (state : Abs). Lowers x state.kinds a.registers) (sym on)
+            (lowers_turn x now.kinds a.registers r BlankKind left tt);
+        news = λ m refers.
+            queued_hold is_new handed_news (RefersTo m) set states s a (Remove r q label) tt run
+            (removes_none r q label there) refers;
+      }
+  queued_as i b queues lists actions full at _ = absurd (runs_no_start (h.routine.runs _ at) refl)
+
   -- a packet is given down
-  gives_down : (i : Instr) (r : ℕ) → Executing set a i → has_next (flow_of i) ≡ true
+  gives_down : (i : Instr) (r n : ℕ) → Executing set a i → Reads s a r n → has_next (flow_of i) ≡ true
       → operand_of (Some i) ≡ Some r
       → handed now i ≡ given_down now r (kind_of now r) → kind_of now r ≡ New
-      → GivesDown set states a (next a)
-  gives_down i r at leads operand given is =
+      → GivesDown set states a (next a) n
+  gives_down i r n at reads leads operand given is =
       let there : state_of states (next a) ≡ record (with_kind now r LowerKind) { duty = GivenDown } =
       arrives_next set states s a i (h.routine.runs i at) leads ∙ given
       ∙ given_new now r (kind_of now r) is in
       record {
-        before = new_fresh now r h.arrived.dutiful is;
+        before = handed_over r n is reads;
         after = ap (λ (state : Abs). state.duty) there;
         answer = λ status.
             subst (λ (values : List Value). Lowers (is_pending status)
@@ -271,17 +358,64 @@ module _ (set : Set) (states : States) (s : Shared) (past : List Entry) (actor :
             (no_lowers now r h.arrived.dutiful is)) refl));
       }
 
-  called_down : (r : ℕ) (f : Option ℕ) → Executing set a (Call r f)
-      → (kind_of now r ≡ New) ⊎ (kind_of now r ≡ Own) → Called set states a (next a)
-  called_down r f at (inl is) = inl (gives_down (Call r f) r at refl refl refl is)
-  called_down r f at (inr is) =
-      let before : now.duty ≡ Pending = own_pending now r h.arrived.dutiful is in
-      inr (
-        before,
+  -- the packet that it was handed is another one than one that it owns
+  other_handed : (r n : ℕ) (i : Instr) → Executing set a i → kind_of now r ≡ Own → Reads s a r n → (m : ℕ)
+      → now.duty ≡ Fresh → HoldOf is_new (RefersTo m) now.kinds a.registers → nat_eq n m ≡ false
+  other_handed r n i at is reads m fresh refers =
+      let run : Runs set states s a i = h.routine.runs i at in
+      let turn : rights (slice_set now.kinds r BlankKind) a.registers m
+      + right (kind_of now r) (register a r) m
+      ≡ rights now.kinds a.registers m + 0 =
+      rights_turn s.issued now.kinds a.registers r BlankKind m run.stays.kinds in
+      let gone : right (kind_of now r) (register a r) m ≡ (if nat_eq n m then 1 else 0) =
+      named_right (kind_of now r) (register a r) n m (ap is_right is)
+      (reads_ref s (register a r) n reads) in
+      let le : frame_rights states (Routine a) m ≤ unheld (find s.packets m) = h.routine.rights m in
+      let one : unheld (find s.packets m) ≤ 1 = unheld_one (find s.packets m) in
+      let left : 1 ≤ rights (slice_set now.kinds r BlankKind) a.registers m =
+      fresh_rights (with_kind now r BlankKind) a.registers s.issued m
+      (owned_up now r h.arrived.dutiful is) fresh
+      (kinds_turn s.issued now.kinds a.registers r BlankKind run.stays.kinds tt)
+      (hold_turn is_new handed_news (RefersTo m) now.kinds a.registers r BlankKind refl refers) in
+      elim (eqb_tells n m) [
+        | inl e ↦
+            let its : right (kind_of now r) (register a r) m ≡ 1 = rw e.0 at gone in
+            absurd (omega arith)
+        | inr e ↦ e.0
+      ]
+
+  called_down : (r : ℕ) (f : Option ℕ) (n : ℕ) → Executing set a (Call r f) → Reads s a r n
+      → (kind_of now r ≡ New) ⊎ (kind_of now r ≡ Own) → Called set states a (next a) n
+  called_down r f n at reads (inl is) = inl (gives_down (Call r f) r n at reads refl refl refl is)
+  called_down r f n at reads (inr is) =
+      let there : state_of states (next a) ≡ given_down now r (kind_of now r) =
+      arrives_next set states s a (Call r f) (h.routine.runs (Call r f) at) refl in
+      let kinds : (given_down now r (kind_of now r)).kinds ≡ slice_set now.kinds r BlankKind =
+      ap (λ (k : Kind). (given_down now r k).kinds) is in
+      inr (record {
+        on = gives_own (Call r f) r at refl refl kinds (given_own now r (kind_of now r) is);
+        answer = λ x status left.
+            subst (λ (values : List Value). Lowers x (state_of states (next a)).kinds values)
+            (sym (h.answers r (Call r f) status at refl))
+            (subst (λ (ks : List Kind). Lowers x ks (slice_set a.registers r (StatusValue status)))
+            (sym (ap (λ (state : Abs). state.kinds) there ∙ kinds))
+            (lowers_set x now.kinds a.registers r BlankKind (StatusValue status) left tt));
+        other = λ m fresh refers. other_handed r n (Call r f) at is reads m fresh refers;
+      })
+
+  completed_by : (r : ℕ) (status : Status) (n : ℕ) → Executing set a (Complete r status) → Reads s a r n
+      → (kind_of now r ≡ New) ⊎ (kind_of now r ≡ Own) → Completed states a (next a) n
+  completed_by r status n at reads (inl is) =
+      inl (
+        handed_over r n is reads,
         ap (λ (state : Abs). state.duty)
-            (arrives_next set states s a (Call r f) (h.routine.runs (Call r f) at) refl)
-            ∙ given_own now r (kind_of now r) is ∙ before,
+            (arrives_next set states s a (Complete r status)
+            (h.routine.runs (Complete r status) at) refl)
+            ∙ ap (λ (k : Kind). duty_completed k now.duty) is,
       )
+  completed_by r status n at reads (inr is) =
+      inr (gives_own (Complete r status) r at refl refl refl
+      (ap (λ (k : Kind). duty_completed k now.duty) is))
 
   -- a return
   returns_as : (form : Return) (status : Status)
@@ -308,16 +442,22 @@ module _ (set : Set) (states : States) (s : Shared) (past : List Entry) (actor :
       → first_fault past actor o.actions ≡ None → Does set states a o
   dispatch_does below o (errs b lacks) quiet = absurd (h.lacks lacks)
   dispatch_does below o (awaits_lock b i lock owner at taken owned other) quiet =
-      stays_quiet s a [] Waited
-      (record { driver = refl; routine = refl; duty = refl; lowers = λ x left. left }) refl
+      stays_quiet s a [] Waited false
+      (record {
+        driver = refl;
+        routine = refl;
+        duty = refl;
+        lowers = λ x left. left;
+        news = λ m refers. refers;
+      }) refl
   dispatch_does below o (computes b i c jumped cells at work goes long) quiet =
-      stays_quiet (record s { cells = cells }) c (Executes ∷ []) Stepped
+      stays_quiet (record s { cells = cells }) c (Executes ∷ []) Stepped false
       (goes_as i c jumped at (ap is_giving work) goes) refl
   dispatch_does below o (opens_loop b turns at room) quiet =
       stays_quiet s
       (next (with_loops a
       (a.loops.items ++ record { start = a.position + 1; turns = turns } ∷ [])))
-      (Executes ∷ []) Stepped
+      (Executes ∷ []) Stepped false
       (next_as (Loop turns)
       (next (with_loops a (a.loops.items ++ record { start = a.position + 1; turns = turns } ∷ []))) at
       refl refl refl refl refl refl refl) refl
@@ -325,46 +465,49 @@ module _ (set : Set) (states : States) (s : Shared) (past : List Entry) (actor :
       let same : ((turned a l).driver ≡ a.driver) × ((turned a l).routine ≡ a.routine)
       × ((turned a l).registers ≡ a.registers) = turned_same a l in
       let back : state_of states (turned a l) ≡ now = h.routine.ends l at there in
-      stays_quiet s (turned a l) (Executes ∷ []) Stepped
+      stays_quiet s (turned a l) (Executes ∷ []) Stepped false
       (record {
         driver = same.0;
         routine = same.1;
         duty = ap (λ (state : Abs). state.duty) back;
         lowers = λ x left. subst (λ (state : Abs). Lowers x state.kinds (turned a l).registers) (sym back)
             (subst (λ (values : List Value). Lowers x now.kinds values) (sym same.2) left);
+        news = λ m refers. rw (back, same.2) refers;
       }) refl
   dispatch_does below o (pages b i c cell cells at work goes long) quiet =
-      stays_quiet (record s { cells = cells }) c (Executes ∷ TouchesPaged cell ∷ []) Stepped
+      stays_quiet (record s { cells = cells }) c (Executes ∷ TouchesPaged cell ∷ []) Stepped false
       (goes_as i c false at (ap is_giving work) goes) refl
   dispatch_does below o (touches_gone b i r n at touching on operand reads gone) quiet =
       absurd (not_gone s past n h.routine.tells (touch_top past actor n quiet) (named s _ n reads) gone)
   dispatch_does below o (looks_at b i c jumped r n p at work goes operand reads there jumps) quiet =
-      stays_quiet s c (Executes ∷ Touches n ∷ []) Stepped
+      stays_quiet s c (Executes ∷ Touches n ∷ []) Stepped false
       (goes_as i c jumped at (ap is_giving work) goes) refl
   dispatch_does below o (writes_info b q r n p info at reads there number) quiet =
-      stays_quiet (with_packet s n (with_info p info)) (next a) (Executes ∷ Touches n ∷ []) Stepped
+      stays_quiet (with_packet s n (with_info p info)) (next a) (Executes ∷ Touches n ∷ []) Stepped false
       (next_as (Put q r) (next a) at refl refl refl refl refl refl refl) refl
   dispatch_does below o (marks_packet b r n p at reads there) quiet =
       let run : Runs set states s a (Mark r) = h.routine.runs (Mark r) at in
       let is : kind_of now r ≡ New = mark_new now.settled (kind_of now r) run.obeys (h.unseen r) in
       marks_own (with_packet s n (mark_current p)) n (mark_current p)
       (put_there n p (mark_current p) there refl)
-      (h.routine.owns r n (ap is_right is) reads)
+      (h.routine.owns r n (ap is_right is) reads) (handed_over r n is reads)
       (ap (λ (state : Abs). state.duty) (arrives_next set states s a (Mark r) run refl)
       ∙ marked_pending now r (kind_of now r) is)
   dispatch_does below o (takes_lock b i lock at taken free) quiet =
       stays_quiet (with_locks s (with_owner s.locks lock (Some t))) (next a)
-      (Executes ∷ Acquires lock ∷ []) Stepped
+      (Executes ∷ Acquires lock ∷ []) Stepped false
       (locks_as i at (taken_word a i lock taken)) refl
   dispatch_does below o (retakes_lock b i lock at taken own) quiet =
-      stays_quiet s (next a) (Executes ∷ Acquires lock ∷ []) Stepped
+      stays_quiet s (next a) (Executes ∷ Acquires lock ∷ []) Stepped false
       (locks_as i at (taken_word a i lock taken)) refl
   dispatch_does below o (frees_lock b i lock owner at freed owned) quiet =
       stays_quiet (with_locks s (with_owner s.locks lock None)) (next a)
-      (Executes ∷ Releases lock ∷ []) Stepped
+      (Executes ∷ Releases lock ∷ []) Stepped false
       (locks_as i at (freed_word a i lock freed)) refl
   dispatch_does below o (works_on_queues b i c queues starts actions full at queued) quiet =
-      absurd (runs_no_queues set states s a i (h.routine.runs i at) queued)
+      stays_quiet (record s { queues = queues; starts = starts }) c (Executes ∷ actions) Stepped full
+      (queued_as i c queues starts actions full at queued)
+      (elim (queued_touches queued) [ inl none ↦ rw none refl | inr one ↦ rw one.1 refl ])
   dispatch_does below o (completes_packet b r status n p at reads there) quiet =
       let run : Runs set states s a (Complete r status) = h.routine.runs (Complete r status) at in
       let rule : complete_kind (kind_of now r) ≡ None = first_none _ _ run.obeys in
@@ -373,9 +516,7 @@ module _ (set : Set) (states : States) (s : Shared) (past : List Entry) (actor :
       completes_own (with_packet s n (completed p status)) n (completed p status)
       (put_there n p (completed p status) there refl) refl
       (h.routine.owns r n right reads)
-      (subst (λ (state : Abs). Completed now.duty state.duty)
-      (sym (arrives_next set states s a (Complete r status) run refl))
-      (complete_duty now r (kind_of now r) h.arrived.dutiful rule refl))
+      (completed_by r status n at reads (completes_kind (kind_of now r) rule))
   dispatch_does below o (completes_gone b r status n at reads gone) quiet =
       absurd (not_gone s past n h.routine.tells (completion_top past actor n quiet)
       (named s _ n reads) gone)
@@ -385,7 +526,7 @@ module _ (set : Set) (states : States) (s : Shared) (past : List Entry) (actor :
       passes_own (with_packet s n (shared_with p lower)) n
       (dispatched set lower (slice_get set.devices lower) (asked_of (current_location p)) n)
       (h.begins lower n p under_it (named s _ n reads)) (h.routine.owns r n (ap is_right is) reads)
-      (gives_down (Pass r) r at refl refl refl is)
+      (gives_down (Pass r) r n at reads refl refl refl is)
   dispatch_does below o (calls_down b r f n p lower at reads there under_it) quiet =
       let is : (kind_of now r ≡ New) ⊎ (kind_of now r ≡ Own) =
       call_owned (kind_of now r) (first_none _ _ (h.routine.runs (Call r f) at).obeys) in
@@ -395,7 +536,7 @@ module _ (set : Set) (states : States) (s : Shared) (past : List Entry) (actor :
       (h.begins lower n p under_it (named s _ n reads))
       (h.routine.owns r n
       (down set states s a (Call r f) r (h.routine.runs (Call r f) at) refl refl).right reads)
-      (called_down r f at is)
+      (called_down r f n at reads is)
   dispatch_does below o (returns_status b form status at sort there) quiet =
       returns_own s status
       (returns_as form status

@@ -1,8 +1,9 @@
 -- What a dispatch routine's registers are by its duty, in every state that arrives at one of its
--- positions: a packet that it was handed goes with no duty done yet, one that it owns with
--- STATUS_PENDING owed, and a lower driver's status with a packet that was given down.
+-- positions: a packet that it was handed goes with no duty done yet, and a lower driver's status with a
+-- packet that was given down. A packet that it owns, which it marked or removed from a queue, goes with
+-- any duty.
 use Rattle.std.proofs.Common.{◌≡◌, ℕ, zero, suc, ◌+◌, ◌<◌, ◌≤◌, Bool, true, false, List, [], ◌∷◌, length, None, Some, refl, ap, sym, ◌∙◌, subst, arith}
-use Rattle.std.specs.Prelude.{slice_set, slice_index_or, if◌then◌else◌, All, slice_get}
+use Rattle.std.specs.Prelude.{slice_set, slice_index_or, if◌then◌else◌, All}
 use Rattle.model.specs.declared.abs.Abs.{Abs}
 use Rattle.model.specs.declared.abs.Duty.{Duty}
 use Rattle.model.specs.declared.abs.Duty.TheVariants.{Fresh, Pending, Finished, GivenDown, NoDuty}
@@ -13,24 +14,23 @@ use Rattle.model.specs.declared.instr.Instr.{Instr}
 use Rattle.model.specs.declared.instr.Instr.TheVariants.{Const, Move, Clear, Load, LoadPaged, Get, Mark, Pass, Call, Complete, IfPending, Insert, Remove, Start, Take, Begin}
 use Rattle.model.specs.declared.set.Sort.{Sort}
 use Rattle.model.specs.declared.set.Sort.TheVariants.{Dispatch}
-use Rattle.model.specs.LocalRule.{a_new_one, complete_kind, demanded, duty_completed, entered_with, entry_of_sort, given_down, handed, handed_at_label, is_lower, is_packet, kind_of, left_behind, mark_fault, marked, one_handed_or_owned, refuses}
+use Rattle.model.specs.LocalRule.{with_kind, a_new_one, complete_kind, demanded, duty_completed, entered_with, entry_of_sort, given_down, handed, handed_at_label, is_lower, is_packet, kind_of, left_behind, mark_fault, marked, one_handed_or_owned, refuses}
 use Rattle.model.specs.Paths.{Arrives}
 use Rattle.model.specs.Set.{Set, Member}
 use Rattle.model.specs.Sound.{OperandFits}
-use Rattle.run_laws.specs.NoQueues.{is_of_queues}
+use Rattle.run_laws.specs.Holder.{right, rights}
 use Rattle.run_laws.proofs.Lists.{all_at, copied}
+use Rattle.run_laws.proofs.Live.Sees.{RefersTo}
+use Rattle.run_laws.proofs.States.HandedOver.{HoldOf}
+use Rattle.run_laws.proofs.States.Kinds.{HasKinds, Suits}
+use Rattle.run_laws.proofs.States.Obeyed.{inserts_right}
 use Rattle.run_laws.proofs.States.Along.{arrives_keep}
 use Rattle.run_laws.proofs.States.Kinds.{handed_long}
+use Rattle.run_laws.proofs.States.NoViews.{is_new}
 use Rattle.run_laws.proofs.States.Rules.{first_none, second_none, unbroken}
-
--- a packet that a routine was handed and has done nothing about, and one that it marked
-abbrev pub is_new : Kind → Bool
-is_new New = true
-is_new _ = false
-
-abbrev pub is_own : Kind → Bool
-is_own Own = true
-is_own _ = false
+use Rattle.model.specs.declared.world.Value.{Value}
+use Rattle.std.proofs.lemmas.List.{length-set}
+use Rattle.std.proofs.lemmas.Bool.{eq-eqb}
 
 -- how many registers are so
 abbrev pub counted : (Kind → Bool) → Kind → ℕ
@@ -42,11 +42,10 @@ kinds_that f (k ∷ kinds) = counted f k + kinds_that f kinds
 
 -- what registers there may be by the duty
 abbrev pub Dutied : Duty → List Kind → Type 0
-Dutied Fresh kinds = (kinds_that is_new kinds ≡ 1) × (kinds_that is_own kinds ≡ 0)
-    × (kinds_that is_lower kinds ≡ 0)
+Dutied Fresh kinds = (kinds_that is_new kinds ≡ 1) × (kinds_that is_lower kinds ≡ 0)
 Dutied Pending kinds = kinds_that is_new kinds ≡ 0
-Dutied Finished kinds = (kinds_that is_new kinds ≡ 0) × (kinds_that is_own kinds ≡ 0)
-Dutied GivenDown kinds = (kinds_that is_new kinds ≡ 0) × (kinds_that is_own kinds ≡ 0)
+Dutied Finished kinds = kinds_that is_new kinds ≡ 0
+Dutied GivenDown kinds = kinds_that is_new kinds ≡ 0
 Dutied NoDuty kinds = ⊥
 
 abbrev pub Dutiful : Abs → Type 0
@@ -117,18 +116,14 @@ count_move f kinds r q blank number within =
 
 -- the same packets, and no more statuses of lower drivers
 dutied_less : (d : Duty) (kinds now : List Kind) → kinds_that is_new now ≡ kinds_that is_new kinds
-    → kinds_that is_own now ≡ kinds_that is_own kinds
     → kinds_that is_lower now ≤ kinds_that is_lower kinds
     → Dutied d kinds → Dutied d now
-dutied_less Fresh kinds now news owns lowers h = (
-  news ∙ h.0,
-  owns ∙ h.1,
-  let none : kinds_that is_lower kinds ≡ 0 = h.2 in omega arith,
-)
-dutied_less Pending kinds now news owns lowers h = news ∙ h
-dutied_less Finished kinds now news owns lowers h = (news ∙ h.0, owns ∙ h.1)
-dutied_less GivenDown kinds now news owns lowers h = (news ∙ h.0, owns ∙ h.1)
-dutied_less NoDuty kinds now news owns lowers h = absurd h
+dutied_less Fresh kinds now news lowers h =
+    (news ∙ h.0, let none : kinds_that is_lower kinds ≡ 0 = h.1 in omega arith)
+dutied_less Pending kinds now news lowers h = news ∙ h
+dutied_less Finished kinds now news lowers h = news ∙ h
+dutied_less GivenDown kinds now news lowers h = news ∙ h
+dutied_less NoDuty kinds now news lowers h = absurd h
 
 uncounted : (f : Kind → Bool) (k : Kind) → f k ≡ false → counted f k ≡ 0
 uncounted f k h = rw h refl
@@ -141,30 +136,19 @@ not_new View h = refl
 not_new New h = cc
 not_new Own h = cc
 
-not_own : (k : Kind) → is_packet k ≡ false → is_own k ≡ false
-not_own Blank h = refl
-not_own Num h = refl
-not_own Lower h = refl
-not_own View h = refl
-not_own New h = cc
-not_own Own h = cc
-
+-- a register with no packet that was handed over gets another kind
 dutied_written : (d : Duty) (kinds : List Kind) (r : ℕ) (k : Kind)
-    → is_packet (slice_index_or kinds r Blank) ≡ false
-    → is_packet k ≡ false → is_lower k ≡ false → Dutied d kinds → Dutied d (slice_set kinds r k)
+    → is_new (slice_index_or kinds r Blank) ≡ false
+    → is_new k ≡ false → is_lower k ≡ false → Dutied d kinds → Dutied d (slice_set kinds r k)
 dutied_written d kinds r k free plain low h =
     let news : kinds_that is_new (slice_set kinds r k) + counted is_new (slice_index_or kinds r Blank)
-    ≡ kinds_that is_new kinds = count_gone is_new kinds r k refl (not_new k plain) in
-    let owns : kinds_that is_own (slice_set kinds r k) + counted is_own (slice_index_or kinds r Blank)
-    ≡ kinds_that is_own kinds = count_gone is_own kinds r k refl (not_own k plain) in
+    ≡ kinds_that is_new kinds = count_gone is_new kinds r k refl plain in
     let lowers : kinds_that is_lower (slice_set kinds r k) + counted is_lower
     (slice_index_or kinds r Blank)
     ≡ kinds_that is_lower kinds = count_gone is_lower kinds r k refl low in
     let new : counted is_new (slice_index_or kinds r Blank) ≡ 0 =
-    uncounted is_new (slice_index_or kinds r Blank) (not_new (slice_index_or kinds r Blank) free) in
-    let own : counted is_own (slice_index_or kinds r Blank) ≡ 0 =
-    uncounted is_own (slice_index_or kinds r Blank) (not_own (slice_index_or kinds r Blank) free) in
-    dutied_less d kinds (slice_set kinds r k) (omega arith) (omega arith) (omega arith) h
+    uncounted is_new (slice_index_or kinds r Blank) free in
+    dutied_less d kinds (slice_set kinds r k) (omega arith) (omega arith) h
 
 dutied_moved : (d : Duty) (kinds : List Kind) (r q : ℕ) → is_packet (slice_index_or kinds r Blank) ≡ false
     → r < length kinds → Dutied d kinds
@@ -176,32 +160,19 @@ dutied_moved d kinds r q free within h =
     let news : kinds_that is_new now + counted is_new (slice_index_or kinds r Blank)
     ≡ kinds_that is_new kinds =
     count_move is_new kinds r q refl refl within in
-    let owns : kinds_that is_own now + counted is_own (slice_index_or kinds r Blank)
-    ≡ kinds_that is_own kinds =
-    count_move is_own kinds r q refl refl within in
     let lowers : kinds_that is_lower now + counted is_lower (slice_index_or kinds r Blank)
     ≡ kinds_that is_lower kinds = count_move is_lower kinds r q refl refl within in
     let new : counted is_new (slice_index_or kinds r Blank) ≡ 0 =
     uncounted is_new (slice_index_or kinds r Blank) (not_new (slice_index_or kinds r Blank) free) in
-    let own : counted is_own (slice_index_or kinds r Blank) ≡ 0 =
-    uncounted is_own (slice_index_or kinds r Blank) (not_own (slice_index_or kinds r Blank) free) in
-    dutied_less d kinds now (omega arith) (omega arith) (omega arith) h
+    dutied_less d kinds now (omega arith) (omega arith) h
 
--- a packet that was handed over: nothing was done about it; one that was marked: STATUS_PENDING is
--- owed
+-- a packet that was handed over: nothing was done about it
 fresh_if : (d : Duty) (kinds : List Kind) → Dutied d kinds → 1 ≤ kinds_that is_new kinds → d ≡ Fresh
 fresh_if Fresh kinds h some = refl
 fresh_if Pending kinds h some = let none : kinds_that is_new kinds ≡ 0 = h in absurd (omega arith)
-fresh_if Finished kinds h some = let none : kinds_that is_new kinds ≡ 0 = h.0 in absurd (omega arith)
-fresh_if GivenDown kinds h some = let none : kinds_that is_new kinds ≡ 0 = h.0 in absurd (omega arith)
+fresh_if Finished kinds h some = let none : kinds_that is_new kinds ≡ 0 = h in absurd (omega arith)
+fresh_if GivenDown kinds h some = let none : kinds_that is_new kinds ≡ 0 = h in absurd (omega arith)
 fresh_if NoDuty kinds h some = absurd h
-
-pending_if : (d : Duty) (kinds : List Kind) → Dutied d kinds → 1 ≤ kinds_that is_own kinds → d ≡ Pending
-pending_if Fresh kinds h some = let none : kinds_that is_own kinds ≡ 0 = h.1 in absurd (omega arith)
-pending_if Pending kinds h some = refl
-pending_if Finished kinds h some = let none : kinds_that is_own kinds ≡ 0 = h.1 in absurd (omega arith)
-pending_if GivenDown kinds h some = let none : kinds_that is_own kinds ≡ 0 = h.1 in absurd (omega arith)
-pending_if NoDuty kinds h some = absurd h
 
 pub new_fresh : (s : Abs) (r : ℕ) → Dutiful s → kind_of s r ≡ New → s.duty ≡ Fresh
 new_fresh s r h is =
@@ -209,55 +180,26 @@ new_fresh s r h is =
     let le : counted is_new (kind_of s r) ≤ kinds_that is_new s.kinds = count_one is_new s.kinds r refl in
     fresh_if s.duty s.kinds h (omega arith)
 
-pub own_pending : (s : Abs) (r : ℕ) → Dutiful s → kind_of s r ≡ Own → s.duty ≡ Pending
-own_pending s r h is =
-    let one : counted is_own (kind_of s r) ≡ 1 = ap (counted is_own) is in
-    let le : counted is_own (kind_of s r) ≤ kinds_that is_own s.kinds = count_one is_own s.kinds r refl in
-    pending_if s.duty s.kinds h (omega arith)
-
--- the packet that was handed over is given up: no other one is left, nor a mark
+-- the packet that was handed over is given up: no other one is left
 handed_up : (s : Abs) (r : ℕ) (k : Kind) → Dutiful s → kind_of s r ≡ New → is_new k ≡ false
-    → is_own k ≡ false →
-    (kinds_that is_new (slice_set s.kinds r k) ≡ 0) × (kinds_that is_own (slice_set s.kinds r k) ≡ 0)
-handed_up s r k h is new own =
+    → kinds_that is_new (slice_set s.kinds r k) ≡ 0
+handed_up s r k h is new =
     let fresh : Dutied Fresh s.kinds = subst (λ (d : Duty). Dutied d s.kinds) (new_fresh s r h is) h in
     let one : counted is_new (kind_of s r) ≡ 1 = ap (counted is_new) is in
     let news : kinds_that is_new (slice_set s.kinds r k) + counted is_new (kind_of s r)
     ≡ kinds_that is_new s.kinds =
     count_gone is_new s.kinds r k refl new in
-    let owns : kinds_that is_own (slice_set s.kinds r k) + counted is_own (kind_of s r)
-    ≡ kinds_that is_own s.kinds =
-    count_gone is_own s.kinds r k refl own in
-    let all : kinds_that is_new s.kinds ≡ 1 = fresh.0 in
-    let none : kinds_that is_own s.kinds ≡ 0 = fresh.1 in
-    (omega arith, omega arith)
-
--- it is marked
-marked_new : (s : Abs) (r : ℕ) → Dutiful s → kind_of s r ≡ New
-    → kinds_that is_new (slice_set s.kinds r Own) ≡ 0
-marked_new s r h is =
-    let fresh : Dutied Fresh s.kinds = subst (λ (d : Duty). Dutied d s.kinds) (new_fresh s r h is) h in
-    let one : counted is_new (kind_of s r) ≡ 1 = ap (counted is_new) is in
-    let news : kinds_that is_new (slice_set s.kinds r Own) + counted is_new (kind_of s r)
-    ≡ kinds_that is_new s.kinds = count_gone is_new s.kinds r Own refl refl in
     let all : kinds_that is_new s.kinds ≡ 1 = fresh.0 in
     omega arith
 
--- a packet that was marked is given up: STATUS_PENDING stays owed
-owned_up : (s : Abs) (r : ℕ) → Dutiful s → kind_of s r ≡ Own → Dutied s.duty (slice_set s.kinds r Blank)
-owned_up s r h is =
-    let same : s.duty ≡ Pending = own_pending s r h is in
-    let pending : Dutied Pending s.kinds = subst (λ (d : Duty). Dutied d s.kinds) same h in
-    let news : kinds_that is_new (slice_set s.kinds r Blank) + counted is_new (kind_of s r)
-    ≡ kinds_that is_new s.kinds = count_gone is_new s.kinds r Blank refl refl in
-    let all : kinds_that is_new s.kinds ≡ 0 = pending in
-    let none : kinds_that is_new (slice_set s.kinds r Blank) ≡ 0 = omega arith in
-    subst (λ (d : Duty). Dutied d (slice_set s.kinds r Blank)) (sym same) none
+-- a packet that is owned is given up, or one becomes so: the duty stays as it was
+pub owned_up : (s : Abs) (r : ℕ) → Dutiful s → kind_of s r ≡ Own → Dutied s.duty (slice_set s.kinds r Blank)
+owned_up s r h is = dutied_written s.duty s.kinds r Blank (rw is refl) refl refl h
 
 marked_dutiful : (s : Abs) (r : ℕ) (k : Kind) → mark_fault s.settled k ≡ None → kind_of s r ≡ k
     → Dutiful s
     → Dutiful (marked s r k)
-marked_dutiful s r New rule is h = marked_new s r h is
+marked_dutiful s r New rule is h = handed_up s r Own h is refl
 marked_dutiful s r View rule is h = h
 marked_dutiful s r Own rule is h = cc
 marked_dutiful s r Blank rule is h = cc
@@ -267,7 +209,7 @@ marked_dutiful s r Lower rule is h = cc
 given_dutiful : (s : Abs) (r : ℕ) (k : Kind) → demanded one_handed_or_owned k ≡ None
     → kind_of s r ≡ k → Dutiful s
     → Dutiful (given_down s r k)
-given_dutiful s r New rule is h = handed_up s r Lower h is refl refl
+given_dutiful s r New rule is h = handed_up s r Lower h is refl
 given_dutiful s r Own rule is h = owned_up s r h is
 given_dutiful s r View rule is h = cc
 given_dutiful s r Blank rule is h = cc
@@ -276,7 +218,7 @@ given_dutiful s r Lower rule is h = cc
 
 completed_dutiful : (s : Abs) (r : ℕ) (k : Kind) → complete_kind k ≡ None → kind_of s r ≡ k
     → Dutiful s → Dutied (duty_completed k s.duty) (slice_set s.kinds r Blank)
-completed_dutiful s r New rule is h = handed_up s r Blank h is refl refl
+completed_dutiful s r New rule is h = handed_up s r Blank h is refl
 completed_dutiful s r Own rule is h = owned_up s r h is
 completed_dutiful s r View rule is h = cc
 completed_dutiful s r Blank rule is h = cc
@@ -292,66 +234,115 @@ passes_new Blank h = cc
 passes_new Num h = cc
 passes_new Lower h = cc
 
--- every instruction that breaks no rule, but for those about queues
-handed_dutiful : (s : Abs) (i : Instr) (set : Set) (driver : ℕ) → is_of_queues i ≡ false
+-- every instruction that breaks no rule
+handed_dutiful : (s : Abs) (i : Instr) (set : Set) (driver : ℕ)
     → refuses s i Dispatch set driver ≡ None → OperandFits i
     → length s.kinds ≡ 16 → Dutiful s → Dutiful (handed s i)
-handed_dutiful s (Const r n) set driver plain rule fits long h =
-    dutied_written s.duty s.kinds r Num (unbroken _ _ rule) refl refl h
-handed_dutiful s (Move r q) set driver plain rule fits long h =
+handed_dutiful s (Const r n) set driver rule fits long h =
+    dutied_written s.duty s.kinds r Num (not_new _ (unbroken _ _ rule)) refl refl h
+handed_dutiful s (Move r q) set driver rule fits long h =
     let small : r < 16 = fits.0 in
     dutied_moved s.duty s.kinds r q (unbroken _ _ rule) (omega arith) h
-handed_dutiful s (Clear r) set driver plain rule fits long h =
-    dutied_written s.duty s.kinds r Blank (unbroken _ _ rule) refl refl h
-handed_dutiful s (Load r c) set driver plain rule fits long h =
-    dutied_written s.duty s.kinds r Num (unbroken _ _ rule) refl refl h
-handed_dutiful s (LoadPaged r c) set driver plain rule fits long h =
-    dutied_written s.duty s.kinds r Num (unbroken _ _ (second_none _ _ rule)) refl refl h
-handed_dutiful s (Get r q field) set driver plain rule fits long h =
-    dutied_written s.duty s.kinds r Num (unbroken _ _ (second_none _ _ rule)) refl refl h
-handed_dutiful s (Mark r) set driver plain rule fits long h = marked_dutiful s r (kind_of s r) rule refl h
-handed_dutiful s (Insert r q) set driver plain rule fits long h = cc
-handed_dutiful s (Remove r q label) set driver plain rule fits long h = cc
-handed_dutiful s (Start r) set driver plain rule fits long h = cc
-handed_dutiful s (Take r label) set driver plain rule fits long h = cc
-handed_dutiful s (Begin r) set driver plain rule fits long h = cc
-handed_dutiful s (Pass r) set driver plain rule fits long h =
+handed_dutiful s (Clear r) set driver rule fits long h =
+    dutied_written s.duty s.kinds r Blank (not_new _ (unbroken _ _ rule)) refl refl h
+handed_dutiful s (Load r c) set driver rule fits long h =
+    dutied_written s.duty s.kinds r Num (not_new _ (unbroken _ _ rule)) refl refl h
+handed_dutiful s (LoadPaged r c) set driver rule fits long h =
+    dutied_written s.duty s.kinds r Num (not_new _ (unbroken _ _ (second_none _ _ rule))) refl refl h
+handed_dutiful s (Get r q field) set driver rule fits long h =
+    dutied_written s.duty s.kinds r Num (not_new _ (unbroken _ _ (second_none _ _ rule))) refl refl h
+handed_dutiful s (Mark r) set driver rule fits long h = marked_dutiful s r (kind_of s r) rule refl h
+handed_dutiful s (Insert r q) set driver rule fits long h =
+    owned_up s r h (inserts_right (kind_of s r) (first_none _ _ rule))
+handed_dutiful s (Remove r q label) set driver rule fits long h =
+    dutied_written s.duty s.kinds r Own (not_new _ (unbroken _ _ (second_none _ _ rule))) refl refl h
+handed_dutiful s (Start r) set driver rule fits long h =
+    owned_up s r h (inserts_right (kind_of s r) (first_none _ _ rule))
+handed_dutiful s (Take r label) set driver rule fits long h =
+    dutied_written s.duty s.kinds r Own (not_new _ (unbroken _ _ (second_none _ _ rule))) refl refl h
+handed_dutiful s (Begin r) set driver rule fits long h =
+    owned_up s r h (inserts_right (kind_of s r) (first_none _ _ rule))
+handed_dutiful s (Pass r) set driver rule fits long h =
     given_dutiful s r (kind_of s r)
     (ap (demanded one_handed_or_owned) (passes_new (kind_of s r) (first_none _ _ rule))) refl h
-handed_dutiful s (Call r f) set driver plain rule fits long h =
+handed_dutiful s (Call r f) set driver rule fits long h =
     given_dutiful s r (kind_of s r) (first_none _ _ rule) refl h
-handed_dutiful s (Complete r status) set driver plain rule fits long h =
+handed_dutiful s (Complete r status) set driver rule fits long h =
     completed_dutiful s r (kind_of s r) (first_none _ _ rule) refl h
-handed_dutiful s _ set driver plain rule fits long h = h
+handed_dutiful s _ set driver rule fits long h = h
 
 -- what arrives in a dispatch routine
 pub record Arrived (s : Abs) : Type 0 where
   pub long : length s.kinds ≡ 16
   pub dutiful : Dutiful s
 
-label_arrived : (s : Abs) (i : Instr) → is_of_queues i ≡ false → Arrived s
-    → Arrived (handed_at_label s i)
-label_arrived s (Remove r q label) plain h = cc
-label_arrived s (Take r label) plain h = cc
-label_arrived s (IfPending r label) plain h = record { long = h.long; dutiful = h.dutiful }
-label_arrived s _ plain h = h
+-- a jump where there was no packet to take
+emptied : (s : Abs) (r : ℕ) → is_packet (kind_of s r) ≡ false → Arrived s
+    → Arrived (with_kind s r Blank)
+emptied s r free h =
+    record {
+      long = length-set s.kinds r Blank ∙ h.long;
+      dutiful = dutied_written s.duty s.kinds r Blank (not_new _ free) refl refl h.dutiful;
+    }
+
+label_arrived : (s : Abs) (i : Instr) (set : Set) (driver : ℕ) → refuses s i Dispatch set driver ≡ None
+    → Arrived s → Arrived (handed_at_label s i)
+label_arrived s (Remove r q label) set driver rule h =
+    emptied s r (unbroken _ _ (second_none _ _ rule)) h
+label_arrived s (Take r label) set driver rule h = emptied s r (unbroken _ _ (second_none _ _ rule)) h
+label_arrived s (IfPending r label) set driver rule h = record { long = h.long; dutiful = h.dutiful }
+label_arrived s _ set driver rule h = h
 
 pub dispatch_arrived : (m : Member) (p : ℕ) (s : Abs) → m.routine.sort ≡ Dispatch
-    → All OperandFits m.routine.code
-    → ((q : ℕ) (i : Instr) → slice_get m.routine.code q ≡ Some i → is_of_queues i ≡ false)
-    → Arrives m p s → Arrived s
-dispatch_arrived m p s is fit plain arrives =
+    → All OperandFits m.routine.code → Arrives m p s → Arrived s
+dispatch_arrived m p s is fit arrives =
     arrives_keep Arrived m
     (λ first there.
     let start : Some (entered_with New Fresh SettledMark false) ≡ Some first = sym (ap entry_of_sort is)
     ∙ there in
     let same : entered_with New Fresh SettledMark false ≡ first = cc in
-    subst Arrived same (record { long = refl; dutiful = (refl, refl, refl) }))
+    subst Arrived same (record { long = refl; dutiful = (refl, refl) }))
     (λ before i q at rule h.
     record {
       long = handed_long before i ∙ h.long;
-      dutiful = handed_dutiful before i m.set m.driver (plain q i at)
+      dutiful = handed_dutiful before i m.set m.driver
           (ap (λ (sort : Sort). refuses before i sort m.set m.driver) (sym is) ∙ rule)
           (all_at OperandFits m.routine.code q i fit at) h.long h.dutiful;
     })
-    (λ before i q at h. label_arrived before i (plain q i at) h) p s arrives
+    (λ before i q at rule h. label_arrived before i m.set m.driver
+    (ap (λ (sort : Sort). refuses before i sort m.set m.driver) (sym is) ∙ rule) h) p s arrives
+
+-- where a packet was handed over and nothing was done about it, there is a right to it
+handed_right : (k : Kind) (v : Value) (issued m : ℕ) (b : Bool) → is_new k ≡ b → Suits issued k v
+    → (is_new k ≡ true → RefersTo m v)
+    → counted is_new k ≤ right k v m
+handed_right k v issued m false is suits refers = rw is (omega arith)
+handed_right New v issued m true is suits refers =
+    let same : suits.0 ≡ m = subst (λ (x : Value). RefersTo m x) suits.1 (refers refl) in
+    rw (suits.1, eq-eqb suits.0 m same) (omega arith)
+handed_right Own v issued m true is suits refers = cc
+handed_right Blank v issued m true is suits refers = cc
+handed_right Num v issued m true is suits refers = cc
+handed_right Lower v issued m true is suits refers = cc
+handed_right View v issued m true is suits refers = cc
+
+handed_rights : (kinds : List Kind) (values : List Value) (issued m : ℕ) → HasKinds issued kinds values
+    → HoldOf is_new (RefersTo m) kinds values → kinds_that is_new kinds ≤ rights kinds values m
+handed_rights [] values issued m h refers = omega arith
+handed_rights (k ∷ kinds) [] issued m h refers = absurd h
+handed_rights (k ∷ kinds) (v ∷ values) issued m h refers =
+    let one : counted is_new k ≤ right k v m =
+    handed_right k v issued m (is_new k) refl h.0 refers.0 in
+    let others : kinds_that is_new kinds ≤ rights kinds values m =
+    handed_rights kinds values issued m h.1 refers.1 in
+    omega arith
+
+pub fresh_rights : (s : Abs) (values : List Value) (issued m : ℕ) → Dutiful s → s.duty ≡ Fresh
+    → HasKinds issued s.kinds values → HoldOf is_new (RefersTo m) s.kinds values
+    → 1 ≤ rights s.kinds values m
+fresh_rights s values issued m h fresh kinds refers =
+    let new : Dutied Fresh s.kinds = subst (λ (d : Duty). Dutied d s.kinds) fresh h in
+    let one : kinds_that is_new s.kinds ≡ 1 = new.0 in
+    let le : kinds_that is_new s.kinds ≤ rights s.kinds values m =
+    handed_rights s.kinds values issued m kinds refers in
+    omega arith

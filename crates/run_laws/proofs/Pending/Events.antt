@@ -27,7 +27,6 @@ use Rattle.run_laws.proofs.Certificates.Tally.{no_row, no_tags}
 use Rattle.run_laws.proofs.Holders.Apart.{IsApart, apart_below, apart_other, not_yet}
 use Rattle.run_laws.proofs.Holders.Counts.{Holding, walk_held}
 use Rattle.run_laws.proofs.Holders.Runs.{frame_told_rights, top_holding}
-use Rattle.run_laws.proofs.Holders.Steps.{hold, rights_less}
 use Rattle.run_laws.proofs.Holders.Sums.{Held, held}
 use Rattle.run_laws.proofs.Live.Kept.{last_is_top, walk_counts}
 use Rattle.run_laws.proofs.Past.LivePackets.{find}
@@ -42,13 +41,12 @@ use Rattle.run_laws.proofs.Runs.Kept.{with_queued}
 use Rattle.run_laws.proofs.Runs.Threads.{frames_put, frames_there, idle_frames, others_put, thread_put}
 use Rattle.run_laws.proofs.States.Entering.{begins_request, begins_dpc}
 use Rattle.run_laws.proofs.States.Fine.{StepLeaves, leaves_fine}
-use Rattle.run_laws.proofs.States.Queueless.{never_starts}
+use Rattle.run_laws.proofs.States.Queueing.{never_starts}
 use Rattle.run_laws.proofs.States.Rules.{States}
 use Rattle.run_laws.proofs.States.Stacks.{Replaces, Stacked, Stands}
 use Rattle.run_laws.proofs.States.Standing.{on_top, stands_there}
 use Rattle.run_laws.proofs.States.Told.{last_same, last_under, standing_last, told_last}
 use Rattle.run_laws.proofs.Steps.Below.{standing_is}
-use Rattle.run_laws.proofs.Steps.Faults.{is_touch, quiet_among}
 use Rattle.run_laws.proofs.Uses.CurrentUses.{Others, agreed_finished, agreed_marked, current_others, linked_agrees, linked_waits}
 use Rattle.run_laws.proofs.Uses.Events.{KnownWorld, agreed_by, event_turns, known_top, linked_by}
 use Rattle.run_laws.proofs.Uses.Fates.{MarksTell, PacketUses, UsesTell}
@@ -207,12 +205,6 @@ module _ (set : Set) (states : States) (w : World) (past : List Entry) (tags : L
           (record {
             known = known_top set states w past known actor.thread h;
             quiet = quiet;
-            less = λ n.
-                rights_less states w.shared h.frame o
-                (hold set states w.shared past actor (top_of h.below) h.frame o
-                (on_top set states w past known.good known.stands actor.thread h)
-                (top_holding set states w past known.stands known.kept actor.thread h) h.comes
-                (quiet_among is_touch past actor o.actions quiet)) n;
             walked = λ m is.
                 let some : 1 ≤ thread_sum (λ g. frame_walks g m) w.threads =
                 walk_counts w.threads actor.thread h.thread h.below h.frame m h.found h.frames

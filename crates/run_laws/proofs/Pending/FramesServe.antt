@@ -1,7 +1,6 @@
 -- The step of a thread's top frame, whatever it is: what it leaves serves on, and what it tells is
 -- of a packet that no other frame has.
-use Rattle.std.proofs.Common.{◌≡◌, Bool, List, None, Option, Some, [], ap, arith, false, inl, inr, refl, subst, sym, true, ℕ, ◌∷◌, ◌≤◌, ◌⊎◌, ◌∙◌, suc}
-use Rattle.std.proofs.lemmas.Bool.{ne_eqb}
+use Rattle.std.proofs.Common.{◌≡◌, Bool, List, None, Option, Some, [], ap, arith, false, inl, inr, refl, subst, sym, true, ℕ, ◌∷◌, ◌≤◌, ◌⊎◌, ◌∙◌}
 use Rattle.std.specs.List.{list_any}
 use Rattle.std.proofs.lemmas.Bool.Decides.{eqb_tells}
 use Rattle.model.specs.declared.set.Sort.TheVariants.{Dispatch, Dpc}
@@ -15,13 +14,13 @@ use Rattle.model.specs.Run.{tags_after}
 use Rattle.model.specs.Set.{Set}
 use Rattle.model.specs.Trace.{Actor, Entry, Managing, Serving, Tag, recorded}
 use Rattle.model.specs.World.{World}
-use Rattle.run_laws.specs.Holder.{frame_rights, stack_sum}
-use Rattle.run_laws.proofs.Holders.Sums.{held, held_apart, unheld, unheld_one}
+use Rattle.run_laws.specs.Holder.{frame_rights}
+use Rattle.run_laws.proofs.Holders.Sums.{held, held_apart, unheld}
 use Rattle.run_laws.proofs.Past.LivePackets.{find}
-use Rattle.run_laws.proofs.Pending.CompletionSteps.{Looks, Manages, completion_looks, IsAlone, is_managing, walk_manages}
+use Rattle.run_laws.proofs.Pending.CompletionSteps.{dpc_works, Works, IsOver, Looks, Manages, completion_looks, IsAlone, is_managing, walk_manages}
 use Rattle.run_laws.proofs.Pending.DispatchSteps.{dispatch_does}
 use Rattle.run_laws.proofs.Pending.DispatchServes.{Does, OnRoutine, ReturnsFrom, StepServes, does_spare, dispatch_serves}
-use Rattle.run_laws.proofs.Pending.Returned.{AllAgree, agree_kept, beyond_returns, beyond_uses, tells_beyond}
+use Rattle.run_laws.proofs.Pending.Returned.{silent_about, silent_returns, AllAgree, agree_kept, beyond_returns, beyond_uses, tells_beyond}
 use Rattle.run_laws.proofs.Pending.Serving.{Agreeing, AllServe, FrameServes, MustServe, TagNames, UnderServes, first_served, served}
 use Rattle.run_laws.proofs.Pending.Threads.{SameOver}
 use Rattle.run_laws.proofs.Pending.TopDispatch.{steps_dispatch}
@@ -29,12 +28,14 @@ use Rattle.run_laws.proofs.Pending.UsesServed.{Settles}
 use Rattle.run_laws.proofs.States.OnTop.{runs}
 use Rattle.run_laws.proofs.States.Rules.{States}
 use Rattle.run_laws.proofs.Steps.Comes.{Comes}
-use Rattle.run_laws.proofs.Live.Sees.{Seen, reads_own, bare_reads}
+use Rattle.run_laws.proofs.Live.Sees.{reads_view, Seen}
 use Rattle.run_laws.proofs.States.Entering.{IsOfSort}
 use Rattle.run_laws.proofs.Uses.Fates.{late_marks}
 use Rattle.run_laws.proofs.Uses.RoutineSteps.{OnWalk}
-use Rattle.run_laws.proofs.Uses.TopFrames.{KnownTop}
+use Rattle.run_laws.proofs.Uses.TopFrames.{propagate_news, stays, dpc_views, dpc_news, KnownTop}
 use Rattle.run_laws.proofs.Uses.Traced.{SameUses, same_recorded}
+use Rattle.run_laws.proofs.Pending.Duties.{fresh_rights, Dutiful}
+use Rattle.run_laws.proofs.States.Frames.{state_of}
 
 same_over : (under : Option Frame) (x y : Option Serving) → x ≡ y → SameOver under x y
 same_over None x y h = tt
@@ -64,7 +65,6 @@ module _ (set : Set) (states : States) (w later_w : World) (past : List Entry) (
   pub record Turning (f : Frame) : Type 0 where
     pub known : KnownTop set states w.shared past under f
     pub quiet : first_fault past actor o.actions ≡ None
-    pub less : (n : ℕ) → stack_sum (λ g. frame_rights states g n) o.frames ≤ frame_rights states f n
     pub walked : (m : ℕ) → under ≡ Some (Walk m) → 1 ≤ held (find w.shared.packets m)
     pub own : (m : ℕ) → f ≡ Walk m → 1 ≤ held (find w.shared.packets m)
     pub shared : later_w.shared ≡ o.shared
@@ -148,33 +148,36 @@ module _ (set : Set) (states : States) (w later_w : World) (past : List Entry) (
       }
 
   -- a DPC routine, which nothing stands under
-  dpc_serves : (a : Activation) (frames : List Frame) → IsAlone a frames
+  dpc_serves : (a : Activation) (frames : List Frame) → IsOver a frames
       → TagNames a.driver a.routine actor.tag → IsOfSort set a Dpc
       → AllServe set states later_w later None frames
       (tags_after set later number (Routine a ∷ []) (actor.tag ∷ []) frames)
   dpc_serves a [] same names is = tt
   dpc_serves a (Routine b ∷ []) same names is =
       ((rw (same.0, same.1) names, inr (rw (same.0, same.1) is)), tt)
-  dpc_serves a (Routine b ∷ f ∷ frames) same names is = absurd same
+  dpc_serves a (Routine b ∷ Walk n ∷ []) same names is =
+      ((rw (same.0, same.1) names, inr (rw (same.0, same.1) is)), (refl, tt))
+  dpc_serves a (Routine b ∷ Walk n ∷ f ∷ frames) same names is = absurd same
+  dpc_serves a (Routine b ∷ Routine c ∷ frames) same names is = absurd same
   dpc_serves a (Walk n ∷ frames) same names is = absurd same
 
   dpc_turned : (a : Activation) → under ≡ None → TagNames a.driver a.routine actor.tag
-      → IsOfSort set a Dpc → ((m : ℕ) → Looks m a o) → Turning (Routine a) → Turned (Routine a)
-  dpc_turned a on names is looks h =
+      → IsOfSort set a Dpc → Works a o → Turning (Routine a) → Turned (Routine a)
+  dpc_turned a on names is works h =
       record {
         serve = subst
             (λ (u : Option Frame). AllServe set states later_w later u o.frames
             (new_tags (Routine a))) (sym on)
-            (dpc_serves a o.frames (looks 0).alone names is);
+            (dpc_serves a o.frames works.over names is);
         goes = inl (
-          (looks 0).told,
+          works.told,
           subst (λ (u : Option Frame). SameOver u (served actor.tag)
               (first_served (new_tags (Routine a)))) (sym on) tt,
         );
         agree = agree_kept states w later_w past actor o.actions h.settles.keeps
-            (beyond_returns 0 o.actions (looks 0).silent) h.agree;
-        spares = λ n some none. beyond_uses past actor o.actions (suc n) n (looks (suc n)).silent
-            (ne_eqb (suc n) n (λ same. absurd (omega arith)));
+            (silent_returns o.actions works.silent) h.agree;
+        spares = λ n some none. same_recorded past actor o.actions n
+            (silent_about n o.actions works.silent);
       }
 
   -- a dispatch routine: what it leaves, by its tag
@@ -205,9 +208,9 @@ module _ (set : Set) (states : States) (w later_w : World) (past : List Entry) (
 
   dispatch_turned : (a : Activation) (x : Option Serving) → served actor.tag ≡ x → OnRoutine under
       → TagNames a.driver a.routine actor.tag → MustServe set states w past a None x → Does set states a o
-      → Turning (Routine a) → Turned (Routine a)
-  dispatch_turned a None tagged on names serves does h = absurd serves
-  dispatch_turned a (Some v) tagged on names serves does h =
+      → Dutiful (state_of states a) → Turning (Routine a) → Turned (Routine a)
+  dispatch_turned a None tagged on names serves does dutiful h = absurd serves
+  dispatch_turned a (Some v) tagged on names serves does dutiful h =
       let step : StepServes set states w later_w past actor number under v a o =
       dispatch_serves set states w later_w past actor number under v a o does
       (record {
@@ -218,12 +221,9 @@ module _ (set : Set) (states : States) (w later_w : World) (past : List Entry) (
         serves_use = serves;
         settles = h.settles;
         agree = h.agree;
-        less = h.less;
-        one = λ n.
-            let le : frame_rights states (Routine a) n ≤ unheld (find w.shared.packets n) =
-            h.known.holding.rights n in
-            let one : unheld (find w.shared.packets n) ≤ 1 = unheld_one (find w.shared.packets n) in
-            omega arith;
+        owns = λ m fresh refers.
+            fresh_rights (state_of states a) a.registers w.shared.issued m dutiful fresh
+            (stays set states w.shared past under a h.known).kinds refers;
         late = h.late;
       })
       in
@@ -236,7 +236,7 @@ module _ (set : Set) (states : States) (w later_w : World) (past : List Entry) (
       }
 
   -- by what a routine stands on
-  routine_turned : (u below : Option Frame) (a : Activation) → under ≡ u → Seen set u (Routine a)
+  routine_turned : (u below : Option Frame) (a : Activation) → under ≡ u → Seen set states u (Routine a)
       → OnWalk set u a
       → UnderServes set states w past u a None (served actor.tag) → TagNames a.driver a.routine actor.tag
       → Comes set w.shared actor.thread below (Routine a) o → Turning (Routine a) → Turned (Routine a)
@@ -248,25 +248,28 @@ module _ (set : Set) (states : States) (w later_w : World) (past : List Entry) (
                   dispatch_turned a (served actor.tag) refl (rw is tt) names must
                   (dispatch_does set states w.shared past actor actor.thread under a
                   (steps_dispatch set states w.shared past under a h.known sort) below o comes
-                  h.quiet) h
+                  h.quiet)
+                  (steps_dispatch set states w.shared past under a h.known sort).arrived.dutiful h
               | inr dpc ↦ let no : Dpc ≡ Dispatch = sym dpc ∙ sort in cc
             ]
-        | inr bare ↦
-            dpc_turned a is names bare.of_sort
-            (λ m. completion_looks m set states w.shared actor.thread below a o
-            h.known.top.good (λ i at. (runs set states w.shared a i h.known.top at).obeys)
-            (inr (bare.of_sort, λ r n reads. bare_reads set w.shared a r n bare reads))
-            (reads_own m w.shared a (bare.refers m)) comes) h
+        | inr dpc ↦
+            dpc_turned a is names dpc
+            (dpc_works set states w.shared actor.thread below a o
+            (λ i at. (runs set states w.shared a i h.known.top at).obeys) dpc
+            (dpc_news set states w.shared past under a h.known dpc)
+            (dpc_views set states w.shared past under a h.known dpc) comes) h
       ]
   routine_turned (Some (Routine b)) below a is seen on serves names comes h =
       dispatch_turned a (served actor.tag) refl (rw is tt) names serves
       (dispatch_does set states w.shared past actor actor.thread under a
-      (steps_dispatch set states w.shared past under a h.known seen) below o comes h.quiet) h
+      (steps_dispatch set states w.shared past under a h.known seen) below o comes h.quiet)
+      (steps_dispatch set states w.shared past under a h.known seen).arrived.dutiful h
   routine_turned (Some (Walk m)) below a is seen on serves names comes h =
       completion_turned m a is names
       (completion_looks m set states w.shared actor.thread below a o
-      h.known.top.good (λ i at. (runs set states w.shared a i h.known.top at).obeys) (inl on)
-      (reads_own m w.shared a seen)
+      (λ i at. (runs set states w.shared a i h.known.top at).obeys) on
+      (propagate_news set states w.shared past under a h.known on)
+      (reads_view states m w.shared a seen)
       comes) h
 
   -- every frame

@@ -25,11 +25,10 @@ use Rattle.run_laws.proofs.States.Stacks.{answered_in_sort}
 use Rattle.run_laws.proofs.States.Told.{told_frame}
 use Rattle.run_laws.proofs.Uses.Fates.{Agreed, Linked}
 use Rattle.run_laws.proofs.Uses.Traced.{SameUses}
-
--- STATUS_PENDING is owed
-abbrev pub owes_pending : Duty → Bool
-owes_pending Pending = true
-owes_pending _ = false
+use Rattle.run_laws.proofs.States.HandedOver.{hold_told, HoldOf}
+use Rattle.run_laws.proofs.States.NoViews.{handed_news, is_new}
+use Rattle.run_laws.proofs.Live.Sees.{RefersTo}
+use Rattle.model.specs.declared.world.Value.TheVariants.{Status as StatusValue}
 
 -- a use is its packet's current one, and was marked or not
 abbrev pub Current : List Entry → Serving → Bool → Type 0
@@ -57,6 +56,13 @@ module _ (set : Set) (states : States) where
       pub lowers : Lowers pending (state_of states a).kinds a.registers
       pub agreed : Agreed states w past v pending
 
+    -- one has returned, and another one, which was given a packet that the routine owns, is still to
+    pub record Knows (v : Serving) (a : Activation) : Type 0 where
+      pub pending : Bool
+      pub answer : (status : Status) → Lowers pending (state_of states a).kinds
+          (answered set a status).registers
+      pub agreed : Agreed states w past v pending
+
     -- it is still to return: what is agreed on for its use is so for the one above
     pub record Awaits (v lower : Serving) (a : Activation) : Type 0 where
       pub linked : Linked states w past v lower
@@ -65,20 +71,22 @@ module _ (set : Set) (states : States) where
 
     abbrev pub GivenSays : Serving → Activation → Option Serving → Type 0
     GivenSays v a None = Learned v a
-    GivenSays v a (Some lower) = Awaits v lower a
+    GivenSays v a (Some lower) = Awaits v lower a ⊎ Knows v a
+
+    -- nothing was done about the packet that it was handed, which is its use's
+    pub record Handed (v : Serving) (a : Activation) : Type 0 where
+      pub refers : HoldOf is_new (RefersTo v.packet) (state_of states a).kinds a.registers
+      pub current : 1 ≤ frame_rights states (Routine a) v.packet → Current past v false
 
     -- what a routine will return, by its duty; the routine on it may serve a lower use
     abbrev pub Says : Serving → Activation → Option Serving → Duty → Type 0
-    Says v a over Fresh = ⊤
+    Says v a over Fresh = Handed v a
     Says v a over Pending = Agreed states w past v true
     Says v a over Finished = Agreed states w past v false
     Says v a over GivenDown = GivenSays v a over
     Says v a over NoDuty = ⊤
 
     pub record ServesUse (v : Serving) (a : Activation) (over : Option Serving) : Type 0 where
-      pub refers : (n : ℕ) → 1 ≤ frame_rights states (Routine a) n → n ≡ v.packet
-      pub current : 1 ≤ frame_rights states (Routine a) v.packet → Current past v
-          (owes_pending (state_of states a).duty)
       pub says : Says v a over (state_of states a).duty
 
     abbrev pub MustServe : Activation → Option Serving → Option Serving → Type 0
@@ -127,28 +135,30 @@ module _ (set : Set) (states : States) (w later_w : World) (past later : List En
       → GivenSays set states later_w later v a over
   given_kept v a None h =
       record { pending = h.pending; lowers = h.lowers; agreed = keeps.agreed v h.pending h.agreed }
-  given_kept v a (Some lower) h = record { linked = keeps.linked v lower h.linked; answer = h.answer }
+  given_kept v a (Some lower) (inl h) =
+      inl (record { linked = keeps.linked v lower h.linked; answer = h.answer })
+  given_kept v a (Some lower) (inr h) =
+      inr (record { pending = h.pending; answer = h.answer; agreed = keeps.agreed v h.pending h.agreed })
 
   pub says_kept : (v : Serving) (a : Activation) (over : Option Serving) (d : Duty)
+      → (1 ≤ frame_rights states (Routine a) v.packet → SameUses past later v.packet)
       → Says set states w past v a over d → Says set states later_w later v a over d
-  says_kept v a over Fresh h = tt
-  says_kept v a over Pending h = keeps.agreed v true h
-  says_kept v a over Finished h = keeps.agreed v false h
-  says_kept v a over GivenDown h = given_kept v a over h
-  says_kept v a over NoDuty h = tt
+  says_kept v a over Fresh same h =
+      record {
+        refers = h.refers;
+        current = λ some. current_same past later v false (same some) (h.current some);
+      }
+  says_kept v a over Pending same h = keeps.agreed v true h
+  says_kept v a over Finished same h = keeps.agreed v false h
+  says_kept v a over GivenDown same h = given_kept v a over h
+  says_kept v a over NoDuty same h = tt
 
   must_kept : (a : Activation) (over v : Option Serving)
       → ((n : ℕ) → 1 ≤ frame_rights states (Routine a) n → SameUses past later n)
       → MustServe set states w past a over v → MustServe set states later_w later a over v
   must_kept a over None same h = absurd h
   must_kept a over (Some v) same h =
-      record {
-        refers = h.refers;
-        current = λ some. current_same past later v (owes_pending (state_of states a).duty)
-            (same v.packet some)
-            (h.current some);
-        says = says_kept v a over (state_of states a).duty h.says;
-      }
+      record { says = says_kept v a over (state_of states a).duty (same v.packet) h.says }
 
   under_kept : (under : Option Frame) (a : Activation) (over v : Option Serving)
       → ((n : ℕ) → 1 ≤ frame_rights states (Routine a) n → SameUses past later n)
@@ -201,6 +211,15 @@ Agreeing states w past (Some (Routine b)) None status = ⊥
 Agreeing states w past (Some (Walk m)) over status = ⊤
 Agreeing states w past None over status = ⊤
 
+answered_hold : (states : States) (m : ℕ) (a : Activation) (status : Status) (r : Option ℕ)
+    → HoldOf is_new (RefersTo m) (state_of states a).kinds a.registers
+    → HoldOf is_new (RefersTo m) (state_of states (answered_in a status r)).kinds
+    (answered_in a status r).registers
+answered_hold states m a status None h = h
+answered_hold states m a status (Some r) h =
+    hold_told is_new handed_news (RefersTo m) (state_of states a).kinds a.registers r
+    (StatusValue status) tt h
+
 -- a frame that is told a status
 module _ (set : Set) (states : States) (w : World) (past : List Entry)
     (follows : IsFollowed states w past)
@@ -208,11 +227,28 @@ module _ (set : Set) (states : States) (w : World) (past : List Entry)
   says_told : (v lower : Serving) (a : Activation) (d : Duty) → Says set states w past v a (Some lower) d
       → Agreed states w past lower (is_pending status)
       → state_of states (answered set a status) ≡ state_of states a
+      → ((n : ℕ) → frame_rights states (Routine (answered set a status)) n ≡ frame_rights states
+      (Routine a) n)
       → Says set states w past v (answered set a status) None d
-  says_told v lower a Fresh h agreed same = tt
-  says_told v lower a Pending h agreed same = h
-  says_told v lower a Finished h agreed same = h
-  says_told v lower a GivenDown h agreed same =
+  says_told v lower a Fresh h agreed same rights =
+      record {
+        refers = answered_hold states v.packet a status
+            (operand_of (instruction_at set a.driver a.routine (a.position - 1))) h.refers;
+        current = λ some.
+            let alike : frame_rights states (Routine (answered set a status)) v.packet
+            ≡ frame_rights states (Routine a) v.packet = rights v.packet in
+            h.current (omega arith);
+      }
+  says_told v lower a Pending h agreed same rights = h
+  says_told v lower a Finished h agreed same rights = h
+  says_told v lower a GivenDown (inr h) agreed same rights =
+      record {
+        pending = h.pending;
+        lowers = subst (λ (s : Abs). Lowers h.pending s.kinds (answered set a status).registers)
+            (sym same) (h.answer status);
+        agreed = h.agreed;
+      }
+  says_told v lower a GivenDown (inl h) agreed same rights =
       record {
         pending = is_pending status;
         lowers = subst
@@ -221,7 +257,7 @@ module _ (set : Set) (states : States) (w : World) (past : List Entry)
             (h.answer status);
         agreed = follows v lower (is_pending status) h.linked agreed;
       }
-  says_told v lower a NoDuty h agreed same = tt
+  says_told v lower a NoDuty h agreed same rights = tt
 
   must_told : (a : Activation) (lower : Serving) (v : Option Serving)
       → ((n : ℕ) → frame_rights states (Routine (answered set a status)) n ≡ frame_rights states
@@ -233,19 +269,9 @@ module _ (set : Set) (states : States) (w : World) (past : List Entry)
       let same : state_of states (answered set a status) ≡ state_of states a =
       answered_at states a status (operand_of (instruction_at set a.driver a.routine (a.position - 1))) in
       record {
-        refers = λ n some.
-            let alike : frame_rights states (Routine (answered set a status)) n
-            ≡ frame_rights states (Routine a) n =
-            rights n in
-            h.refers n (omega arith);
-        current = λ some.
-            let alike : frame_rights states (Routine (answered set a status)) v.packet
-            ≡ frame_rights states (Routine a) v.packet = rights v.packet in
-            subst (λ (s : Abs). Current past v (owes_pending s.duty)) (sym same)
-            (h.current (omega arith));
         says = subst (λ (s : Abs). Says set states w past v (answered set a status) None s.duty)
             (sym same)
-            (says_told v lower a (state_of states a).duty h.says agreed same);
+            (says_told v lower a (state_of states a).duty h.says agreed same rights);
       }
 
   under_told : (under : Option Frame) (a : Activation) (lower : Serving) (v : Option Serving)

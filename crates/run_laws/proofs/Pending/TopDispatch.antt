@@ -1,6 +1,6 @@
 -- What is known of a dispatch routine's frame on top of its thread.
 use Rattle.std.proofs.Common.{◌≡◌, ℕ, List, Option, Some, refl, ap}
-use Rattle.std.specs.Prelude.{slice_get, slice_index_or}
+use Rattle.std.specs.Prelude.{replicate, slice_get, slice_index_or}
 use Rattle.model.specs.declared.abs.Abs.{Abs}
 use Rattle.model.specs.declared.instr.Instr.{Instr}
 use Rattle.model.specs.declared.instr.Instr.TheVariants.{Call, Pass}
@@ -20,13 +20,17 @@ use Rattle.run_laws.proofs.Pending.Duties.{dispatch_arrived}
 use Rattle.run_laws.proofs.Pending.UsesServed.{BeginsServing}
 use Rattle.run_laws.proofs.States.Entering.{Begins, IsOfSort, begins_lower}
 use Rattle.run_laws.proofs.States.Fine.{answered_is}
-use Rattle.run_laws.proofs.States.Frames.{state_of, no_queues_in}
+use Rattle.run_laws.proofs.States.Frames.{state_of}
 use Rattle.run_laws.proofs.States.Lacking.{never_lacks}
 use Rattle.run_laws.proofs.States.OnTop.{runs}
 use Rattle.run_laws.proofs.States.Rules.{States}
 use Rattle.run_laws.proofs.Steps.Words.{Forwarding, packet_operand, work_of}
 use Rattle.run_laws.proofs.Pending.DispatchSteps.{StepsDispatch}
 use Rattle.run_laws.proofs.Uses.TopFrames.{KnownTop, known, sort_is, stays, steps_routine, unseen}
+use Rattle.run_laws.proofs.States.HandedOver.{hold_none}
+use Rattle.run_laws.proofs.States.NoViews.{handed_news, is_new}
+use Rattle.run_laws.proofs.Live.Sees.{RefersTo}
+use Rattle.model.specs.declared.abs.Kind.TheVariants.{Blank as BlankKind}
 
 -- a routine that begins serves what it is handed
 pub begins_serving : (set : Set) (states : States) (issued : ℕ) (c : Activation) (n : ℕ)
@@ -37,6 +41,10 @@ begins_serving set states issued c n begins =
       fresh = ap (λ (s : Abs). s.duty) begins.start;
       first = ap (λ (values : List Value). slice_index_or values 0 Blank) begins.registers;
       rights = λ m. begun_rights set states issued c Dispatch n m begins;
+      refers = rw (begins.start, begins.registers) (
+        (λ is. refl),
+        hold_none is_new handed_news (RefersTo n) (replicate 15 BlankKind) (replicate 15 Blank) refl,
+      );
     }
 
 -- an instruction that waits for a status sends a packet down
@@ -61,8 +69,6 @@ steps_dispatch set states s past under a h is =
       arrived = dispatch_arrived (member set a.driver a.routine h.top.stands.0) a.position
           (state_of states a)
           (sort_is set states s past under a h Dispatch is) (known set states s past under a h).operands
-          (no_queues_in set states a.driver a.routine h.top.stands.0 h.top.good
-          (stays set states s past under a h).is_of)
           ((known set states s past under a h).follows.arrives a.position
           (stays set states s past under a h).within);
       unseen = unseen set states s past under a h is;

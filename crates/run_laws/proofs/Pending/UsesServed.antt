@@ -25,11 +25,14 @@ use Rattle.model.specs.World.{World, register}
 use Rattle.run_laws.specs.Holder.{frame_rights}
 use Rattle.run_laws.proofs.Past.LivePackets.{find}
 use Rattle.run_laws.proofs.Pending.LowerStatuses.{Lowers}
-use Rattle.run_laws.proofs.Pending.Serving.{Current, IsFollowed, KeepsAgreed, Says, ServesUse, current_same, owes_pending, says_kept}
+use Rattle.run_laws.proofs.Pending.Serving.{Handed, Current, IsFollowed, KeepsAgreed, Says, ServesUse, current_same}
 use Rattle.run_laws.proofs.States.Frames.{state_of}
 use Rattle.run_laws.proofs.States.Rules.{States}
 use Rattle.run_laws.proofs.Uses.Fates.{Agreed, Linked, late_marks}
 use Rattle.run_laws.proofs.Uses.Traced.{SameUses}
+use Rattle.run_laws.proofs.States.HandedOver.{HoldOf}
+use Rattle.run_laws.proofs.States.NoViews.{is_new}
+use Rattle.run_laws.proofs.Live.Sees.{RefersTo}
 
 -- what an event does to uses: what was agreed on stays, the marks of current locations say what
 -- will be left, and a use that is opened under another one is followed by it
@@ -50,23 +53,44 @@ pub record Settles (states : States) (w : World) (past : List Entry) (later_w : 
   pub follows : IsFollowed states later_w later
   pub unmarked : (v : Serving) → uses_opened past < v.«use» + 1 → was_marked past v ≡ false
 
--- the duty to a packet that is completed, before and after
-abbrev pub Completed : Duty → Duty → Type 0
-Completed before after = ((before ≡ Fresh) × (after ≡ Finished))
-    ⊎ ((before ≡ Pending) × (after ≡ Pending))
+-- a routine goes on as another activation of itself
+pub record GoesOnAs (states : States) (a b : Activation) : Type 0 where
+  pub driver : b.driver ≡ a.driver
+  pub routine : b.routine ≡ a.routine
+  pub duty : (state_of states b).duty ≡ (state_of states a).duty
+  pub lowers : (x : Bool) → Lowers x (state_of states a).kinds a.registers
+      → Lowers x (state_of states b).kinds b.registers
+  pub news : (m : ℕ) → HoldOf is_new (RefersTo m) (state_of states a).kinds a.registers
+      → HoldOf is_new (RefersTo m) (state_of states b).kinds b.registers
+
+-- a packet is the one that the routine was handed, and nothing was done about it
+pub record IsHandedOver (states : States) (a : Activation) (n : ℕ) : Type 0 where
+  pub fresh : (state_of states a).duty ≡ Fresh
+  pub is : (m : ℕ) → HoldOf is_new (RefersTo m) (state_of states a).kinds a.registers → n ≡ m
+
+-- it is completed, or another one, that the routine owns
+abbrev pub Completed : States → Activation → Activation → ℕ → Type 0
+Completed states a b n =
+    (IsHandedOver states a n × ((state_of states b).duty ≡ Finished)) ⊎ GoesOnAs states a b
 
 -- a packet that a routine was handed is given down: what the lower driver returns will be the one
 -- status of its kind
-pub record GivesDown (set : Set) (states : States) (a b : Activation) : Type 0 where
-  pub before : (state_of states a).duty ≡ Fresh
+pub record GivesDown (set : Set) (states : States) (a b : Activation) (n : ℕ) : Type 0 where
+  pub before : IsHandedOver states a n
   pub after : (state_of states b).duty ≡ GivenDown
   pub answer : (status : Status) → Lowers (is_pending status) (state_of states b).kinds
       (answered set b status).registers
 
-abbrev pub Called : Set → States → Activation → Activation → Type 0
-Called set states a b =
-    GivesDown set states a b
-    ⊎ (((state_of states a).duty ≡ Pending) × ((state_of states b).duty ≡ Pending))
+-- or another one is, that the routine owns
+pub record GivesOwn (set : Set) (states : States) (a b : Activation) (n : ℕ) : Type 0 where
+  pub on : GoesOnAs states a b
+  pub answer : (x : Bool) (status : Status) → Lowers x (state_of states a).kinds a.registers
+      → Lowers x (state_of states b).kinds (answered set b status).registers
+  pub other : (m : ℕ) → (state_of states a).duty ≡ Fresh
+      → HoldOf is_new (RefersTo m) (state_of states a).kinds a.registers → nat_eq n m ≡ false
+
+abbrev pub Called : Set → States → Activation → Activation → ℕ → Type 0
+Called set states a b n = GivesDown set states a b n ⊎ GivesOwn set states a b n
 
 -- a dispatch routine that begins with a packet
 pub record BeginsServing (set : Set) (states : States) (c : Activation) (n : ℕ) : Type 0 where
@@ -74,6 +98,7 @@ pub record BeginsServing (set : Set) (states : States) (c : Activation) (n : ℕ
   pub fresh : (state_of states c).duty ≡ Fresh
   pub first : register c 0 ≡ Ref n
   pub rights : (m : ℕ) → frame_rights states (Routine c) m ≡ (if nat_eq n m then 1 else 0)
+  pub refers : HoldOf is_new (RefersTo n) (state_of states c).kinds c.registers
 
 -- a use that is named is the current one
 was_use : (v : Serving) (n : ℕ) (o : Option ℕ) → n ≡ v.packet → o ≡ Some v.«use» → is_use n o v ≡ true
@@ -116,195 +141,187 @@ module _ (set : Set) (states : States) where
       → ServesUse set states w past v c None
   begun_serves w past v c n begins packet current =
       record {
-        refers = λ m some.
-            let rights : frame_rights states (Routine c) m ≡ (if nat_eq n m then 1 else 0) =
-            begins.rights m in
-            entered_rights n m (omega arith) ∙ packet;
-        current = λ some. subst (λ (d : Duty). Current past v (owes_pending d)) (sym begins.fresh)
-            current;
-        says = subst (λ (d : Duty). Says set states w past v c None d) (sym begins.fresh) tt;
+        says = subst (λ (d : Duty). Says set states w past v c None d) (sym begins.fresh)
+            (record {
+              refers = subst
+                  (λ (m : ℕ). HoldOf is_new (RefersTo m) (state_of states c).kinds c.registers) packet
+                  begins.refers;
+              current = λ some. current;
+            });
       }
 
-  -- a routine that serves a use goes on with no other right
+  -- a routine that serves a use goes on; where nothing was done about the packet that it was handed, it
+  -- has the right to it
   module _ (w later_w : World) (past later : List Entry) (v : Serving) (a b : Activation)
       (serves_use : ServesUse set states w past v a None)
-      (less : (n : ℕ) → frame_rights states (Routine b) n ≤ frame_rights states (Routine a) n) where
-    pub refers_still : (n : ℕ) → 1 ≤ frame_rights states (Routine b) n → n ≡ v.packet
-    refers_still n some =
-        let le : frame_rights states (Routine b) n ≤ frame_rights states (Routine a) n = less n in
-        serves_use.refers n (omega arith)
+      (owns : (m : ℕ) → (state_of states a).duty ≡ Fresh
+      → HoldOf is_new (RefersTo m) (state_of states a).kinds a.registers
+      → 1 ≤ frame_rights states (Routine a) m) where
+    handed : (state_of states a).duty ≡ Fresh → Handed set states w past v a
+    handed fresh = subst (λ (d : Duty). Says set states w past v a None d) fresh serves_use.says
 
-    pub owned_current : (n : ℕ) → 1 ≤ frame_rights states (Routine a) n
-        → (n ≡ v.packet) × Current past v (owes_pending (state_of states a).duty)
-    owned_current n owned =
-        let packet : n ≡ v.packet = serves_use.refers n owned in (
-          packet,
-          serves_use.current
-              (subst (λ (m : ℕ). 1 ≤ frame_rights states (Routine a) m) packet owned),
-        )
+    pub owned_current : (n : ℕ) → IsHandedOver states a n → (n ≡ v.packet) × Current past v false
+    owned_current n over =
+        let known : Handed set states w past v a = handed over.fresh in
+        (over.is v.packet known.refers, known.current (owns v.packet over.fresh known.refers))
 
-    -- nothing is told
-    plain_says : (d : Duty)
-        → ((x : Bool) → Lowers x (state_of states a).kinds a.registers
-        → Lowers x (state_of states b).kinds b.registers)
-        → Says set states later_w later v a None d → Says set states later_w later v b None d
-    plain_says Fresh lowers h = tt
-    plain_says Pending lowers h = h
-    plain_says Finished lowers h = h
-    plain_says GivenDown lowers h =
-        record { pending = h.pending; lowers = lowers h.pending h.lowers; agreed = h.agreed }
-    plain_says NoDuty lowers h = tt
-
-    pub plain_serves : KeepsAgreed states w past later_w later → SameUses past later v.packet
-        → (state_of states b).duty ≡ (state_of states a).duty
-        → ((x : Bool) → Lowers x (state_of states a).kinds a.registers
-        → Lowers x (state_of states b).kinds b.registers)
-        → ServesUse set states later_w later v b None
-    plain_serves keeps same duty lowers =
+    -- nothing is told of its packet, as long as nothing was done about it
+    on_says : (d : Duty) → (state_of states a).duty ≡ d → GoesOnAs states a b
+        → KeepsAgreed states w past later_w later
+        → ((state_of states a).duty ≡ Fresh
+        → HoldOf is_new (RefersTo v.packet) (state_of states a).kinds a.registers
+        → SameUses past later v.packet)
+        → Says set states w past v a None d → Says set states later_w later v b None d
+    on_says Fresh is on keeps same h =
         record {
-          refers = refers_still;
-          current = λ some.
-              let le : frame_rights states (Routine b) v.packet ≤ frame_rights states (Routine a)
-              v.packet =
-              less v.packet in
-              subst (λ (d : Duty). Current later v (owes_pending d)) (sym duty)
-              (current_same past later v (owes_pending (state_of states a).duty) same
-              (serves_use.current (omega arith)));
-          says = subst (λ (d : Duty). Says set states later_w later v b None d) (sym duty)
-              (plain_says (state_of states a).duty lowers
-              (says_kept set states w later_w past later keeps v a None (state_of states a).duty
-              serves_use.says));
+          refers = on.news v.packet h.refers;
+          current = λ some. current_same past later v false (same is h.refers)
+              (h.current (owns v.packet is h.refers));
+        }
+    on_says Pending is on keeps same h = keeps.agreed v true h
+    on_says Finished is on keeps same h = keeps.agreed v false h
+    on_says GivenDown is on keeps same h =
+        record {
+          pending = h.pending;
+          lowers = on.lowers h.pending h.lowers;
+          agreed = keeps.agreed v h.pending h.agreed;
+        }
+    on_says NoDuty is on keeps same h = tt
+
+    pub plain_serves : KeepsAgreed states w past later_w later
+        → ((state_of states a).duty ≡ Fresh
+        → HoldOf is_new (RefersTo v.packet) (state_of states a).kinds a.registers
+        → SameUses past later v.packet)
+        → GoesOnAs states a b
+        → ServesUse set states later_w later v b None
+    plain_serves keeps same on =
+        record {
+          says = subst (λ (d : Duty). Says set states later_w later v b None d) (sym on.duty)
+              (on_says (state_of states a).duty refl on keeps same serves_use.says);
         }
 
     -- a completion
-    done_says : (p : Packet) → Settles states w past later_w later → SameUses past later v.packet
-        → find later_w.shared.packets v.packet ≡ Some p → p.completing ≡ true
-        → late_marks states p.pending_returned v.packet later_w.threads ≡ 0
-        → Current past v (owes_pending (state_of states a).duty)
-        → Completed (state_of states a).duty (state_of states b).duty
-        → Current later v (owes_pending (state_of states b).duty)
-        × Says set states later_w later v b None (state_of states b).duty
-    done_says p settles same there done late current (inl fresh) =
-        let free : Current later v false =
-        current_same past later v false same
-        (subst (λ (d : Duty). Current past v (owes_pending d)) fresh.0 current)
-        in (
-          subst (λ (d : Duty). Current later v (owes_pending d)) (sym fresh.1) free,
-          subst (λ (d : Duty). Says set states later_w later v b None d) (sym fresh.1)
-              (settles.finished v p there free.0 free.1 done late),
-        )
-    done_says p settles same there done late current (inr pending) =
-        let owed : Current later v true =
-        current_same past later v true same
-        (subst (λ (d : Duty). Current past v (owes_pending d)) pending.0 current)
-        in
-        let agreed : Says set states w past v a None Pending =
-        subst (λ (d : Duty). Says set states w past v a None d) pending.0 serves_use.says in (
-          subst (λ (d : Duty). Current later v (owes_pending d)) (sym pending.1) owed,
-          subst (λ (d : Duty). Says set states later_w later v b None d) (sym pending.1)
-              (settles.keeps.agreed v true agreed),
-        )
-
     pub done_serves : (n : ℕ) (p : Packet) → Settles states w past later_w later
         → ((m : ℕ) → SameUses past later m)
         → find later_w.shared.packets n ≡ Some p → p.completing ≡ true
         → late_marks states p.pending_returned n later_w.threads ≡ 0
-        → 1 ≤ frame_rights states (Routine a) n
-        → Completed (state_of states a).duty (state_of states b).duty
+        → Completed states a b n
         → ServesUse set states later_w later v b None
-    done_serves n p settles same there done late owned duty =
-        let own : (n ≡ v.packet) × Current past v (owes_pending (state_of states a).duty) =
-        owned_current n owned in
-        let both : Current later v (owes_pending (state_of states b).duty)
-        × Says set states later_w later v b None (state_of states b).duty =
-        done_says p settles (same v.packet)
-        (subst (λ (m : ℕ). find later_w.shared.packets m ≡ Some p) own.0 there) done
-        (subst (λ (m : ℕ). late_marks states p.pending_returned m later_w.threads ≡ 0) own.0 late)
-        own.1 duty
-        in
-        record { refers = refers_still; current = λ some. both.0; says = both.1 }
+    done_serves n p settles same there done late (inl fresh) =
+        let own : (n ≡ v.packet) × Current past v false = owned_current n fresh.0 in
+        let free : Current later v false = current_same past later v false (same v.packet) own.1 in
+        record {
+          says = subst (λ (d : Duty). Says set states later_w later v b None d) (sym fresh.1)
+              (settles.finished v p
+              (subst (λ (m : ℕ). find later_w.shared.packets m ≡ Some p) own.0 there) free.0 free.1 done
+              (subst (λ (m : ℕ). late_marks states p.pending_returned m later_w.threads ≡ 0) own.0 late));
+        }
+    done_serves n p settles same there done late (inr on) =
+        plain_serves settles.keeps (λ fresh refers. same v.packet) on
 
     -- a packet is passed on: the lower routine serves the same use
-    pub passed_serves : (n : ℕ) → SameUses past later v.packet → 1 ≤ frame_rights states (Routine a) n
-        → GivesDown set states a b → Current later v false
+    pub passed_serves : (n : ℕ) → SameUses past later v.packet
+        → GivesDown set states a b n → (n ≡ v.packet) × Current later v false
         × ServesUse set states later_w later v b (Some v)
-    passed_serves n same owned gives =
-        let free : Current later v false =
-        current_same past later v false same
-        (subst (λ (d : Duty). Current past v (owes_pending d)) gives.before (owned_current n owned).1)
-        in (
+    passed_serves n same gives =
+        let own : (n ≡ v.packet) × Current past v false = owned_current n gives.before in
+        let free : Current later v false = current_same past later v false same own.1 in (
+          own.0,
           free,
           record {
-            refers = refers_still;
-            current = λ some. subst (λ (d : Duty). Current later v (owes_pending d))
-                (sym gives.after) free;
             says = subst (λ (d : Duty). Says set states later_w later v b (Some v) d) (sym gives.after)
-                (record { linked = inl refl; answer = gives.answer });
+                (inl (record { linked = inl refl; answer = gives.answer }));
           },
         )
+
+    -- a packet that it owns is sent down: the lower routine serves a use of that one
+    own_says : (lower : Serving) (n : ℕ) (d : Duty) → (state_of states a).duty ≡ d
+        → GivesOwn set states a b n
+        → KeepsAgreed states w past later_w later
+        → (nat_eq n v.packet ≡ false → SameUses past later v.packet)
+        → Says set states w past v a None d → Says set states later_w later v b (Some lower) d
+    own_says lower n Fresh is gives keeps same h =
+        record {
+          refers = gives.on.news v.packet h.refers;
+          current = λ some. current_same past later v false (same (gives.other v.packet is h.refers))
+              (h.current (owns v.packet is h.refers));
+        }
+    own_says lower n Pending is gives keeps same h = keeps.agreed v true h
+    own_says lower n Finished is gives keeps same h = keeps.agreed v false h
+    own_says lower n GivenDown is gives keeps same h =
+        inr (record {
+          pending = h.pending;
+          answer = λ status. gives.answer h.pending status h.lowers;
+          agreed = keeps.agreed v h.pending h.agreed;
+        })
+    own_says lower n NoDuty is gives keeps same h = tt
+
+    pub own_serves : (lower : Serving) (n : ℕ) → GivesOwn set states a b n
+        → KeepsAgreed states w past later_w later
+        → (nat_eq n v.packet ≡ false → SameUses past later v.packet)
+        → ServesUse set states later_w later v b (Some lower)
+    own_serves lower n gives keeps same =
+        record {
+          says = subst (λ (d : Duty). Says set states later_w later v b (Some lower) d)
+              (sym gives.on.duty)
+              (own_says lower n (state_of states a).duty refl gives keeps same serves_use.says);
+        }
 
   -- a mark
   module _ (w later_w : World) (past : List Entry) (actor : Actor) (v : Serving) (a b : Activation)
       (serves_use : ServesUse set states w past v a None)
-      (less : (n : ℕ) → frame_rights states (Routine b) n ≤ frame_rights states (Routine a) n) where
+      (owns : (m : ℕ) → (state_of states a).duty ≡ Fresh
+      → HoldOf is_new (RefersTo m) (state_of states a).kinds a.registers
+      → 1 ≤ frame_rights states (Routine a) m) where
     pub mark_serves : (n : ℕ) (p : Packet)
         → Settles states w past later_w (recorded past actor (Executes ∷ Touches n ∷ Marks n ∷ []))
-        → find later_w.shared.packets n ≡ Some p → 1 ≤ frame_rights states (Routine a) n
+        → find later_w.shared.packets n ≡ Some p → IsHandedOver states a n
         → (state_of states b).duty ≡ Pending
         → ServesUse set states later_w (recorded past actor (Executes ∷ Touches n ∷ Marks n ∷ [])) v
         b None
-    mark_serves n p settles there owned duty =
+    mark_serves n p settles there over duty =
         let later : List Entry = recorded past actor (Executes ∷ Touches n ∷ Marks n ∷ []) in
-        let own : (n ≡ v.packet) × Current past v (owes_pending (state_of states a).duty) =
-        owned_current w later_w past later v a b serves_use less n owned in
+        let own : (n ≡ v.packet) × Current past v false =
+        owned_current w later_w past later v a b serves_use owns n over in
         let now : current_use past v.packet ≡ Some v.«use» = own.1.0 in
         let same : is_use n (current_use past n) v ≡ true =
         was_use v n (current_use past n) own.0 (ap (λ (m : ℕ). current_use past m) own.0 ∙ now) in
         let marked : was_marked later v ≡ true = ap (λ (b : Bool). b || was_marked past v) same in
         record {
-          refers = refers_still w later_w past later v a b serves_use less;
-          current = λ some. subst (λ (d : Duty). Current later v (owes_pending d)) (sym duty)
-              (now, marked);
           says = subst (λ (d : Duty). Says set states later_w later v b None d) (sym duty)
               (settles.marked v p
               (subst (λ (m : ℕ). find later_w.shared.packets m ≡ Some p) own.0 there) now
               marked);
         }
 
-    -- a packet is sent down in a location of its own: the lower routine serves a new use
-    pub called_says : (p : Packet)
+    -- the packet that it was handed is sent down in a location of its own: the lower routine serves a
+    -- new use
+    pub called_serves : (p : Packet)
         → Settles states w past later_w
         (recorded past actor (Executes ∷ Touches v.packet ∷ Calls v.packet ∷ []))
         → find later_w.shared.packets v.packet ≡ Some p
-        → Current past v (owes_pending (state_of states a).duty)
-        → Called set states a b
-        → Says set states later_w
+        → GivesDown set states a b v.packet
+        → ServesUse set states later_w
         (recorded past actor (Executes ∷ Touches v.packet ∷ Calls v.packet ∷ [])) v b
-        (Some (record { packet = v.packet; «use» = uses_opened past })) (state_of states b).duty
-    called_says p settles there current (inl gives) =
+        (Some (record { packet = v.packet; «use» = uses_opened past }))
+    called_serves p settles there gives =
         let later : List Entry =
         recorded past actor (Executes ∷ Touches v.packet ∷ Calls v.packet ∷ []) in
         let lower : Serving = record { packet = v.packet; «use» = uses_opened past } in
         let free : Current past v false =
-        subst (λ (d : Duty). Current past v (owes_pending d)) gives.before current in
+        (owned_current w later_w past later v a b serves_use owns v.packet gives.before).1 in
         let used : uses later v.packet ≡ uses_opened past ∷ v.«use» ∷ drop 1 (uses past v.packet) =
         called_uses past actor v.packet
         ∙ ap (λ (xs : List ℕ). uses_opened past ∷ xs) (first_of_used (uses past v.packet) v.«use» free.0)
         in
-        subst (λ (d : Duty). Says set states later_w later v b (Some lower) d) (sym gives.after)
-        (record {
-          linked = settles.called v.packet v.«use» (uses_opened past) (drop 1 (uses past v.packet))
-              p there used free.1;
-          answer = gives.answer;
-        })
-    called_says p settles there current (inr pending) =
-        let later : List Entry =
-        recorded past actor (Executes ∷ Touches v.packet ∷ Calls v.packet ∷ []) in
-        let lower : Serving = record { packet = v.packet; «use» = uses_opened past } in
-        let agreed : Says set states w past v a None Pending =
-        subst (λ (d : Duty). Says set states w past v a None d) pending.0 serves_use.says in
-        subst (λ (d : Duty). Says set states later_w later v b (Some lower) d) (sym pending.1)
-        (settles.keeps.agreed v true agreed)
+        record {
+          says = subst (λ (d : Duty). Says set states later_w later v b (Some lower) d) (sym gives.after)
+              (inl (record {
+                linked = settles.called v.packet v.«use» (uses_opened past) (drop 1 (uses past v.packet))
+                    p there used free.1;
+                answer = gives.answer;
+              }));
+        }
 
 pub called_current : (states : States) (w later_w : World) (past : List Entry) (actor : Actor) (n : ℕ)
     → Settles states w past later_w (recorded past actor (Executes ∷ Touches n ∷ Calls n ∷ []))

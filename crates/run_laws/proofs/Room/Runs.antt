@@ -1,7 +1,7 @@
 -- In every run of an accepted set who has the right to a packet has room for its device, and no
 -- packet is sent down past its last location.
 use Rattle.std.proofs.Common.{◌≡◌, ◌≢◌, ℕ, ◌+◌, ◌-◌, ◌≤◌, append-nil, inl, inr, List, [], ◌∷◌, ◌++◌, length, Option, None, Some, false, refl, ap, sym, ◌∙◌, subst, arith}
-use Rattle.std.specs.Prelude.{nat_eq, slice_get, replicate, if◌then◌else◌}
+use Rattle.std.specs.Prelude.{option_and_then, nat_eq, slice_get, replicate, if◌then◌else◌}
 use Rattle.std.proofs.lemmas.Bool.Decides.{eqb_tells}
 use Rattle.std.proofs.lemmas.List.{length-replicate}
 use Rattle.model.specs.declared.set.Device.{Device}
@@ -19,9 +19,9 @@ use Rattle.model.specs.Fault.{first_fault}
 use Rattle.model.specs.Run.{begun, frames_on}
 use Rattle.model.specs.Set.{Set, instruction_at}
 use Rattle.model.specs.Trace.{Entry, Actor}
-use Rattle.model.specs.World.{Shared, World, new_packet, unused_location, with_dpc}
-use Rattle.run_laws.specs.Holder.{frame_rights, stack_sum}
-use Rattle.run_laws.proofs.Holders.Apart.{IsApart, apart_below, apart_other, not_yet}
+use Rattle.model.specs.World.{queue_of, Shared, World, new_packet, unused_location, with_dpc}
+use Rattle.run_laws.specs.Holder.{times_in, times_queued, frame_rights, stack_sum}
+use Rattle.run_laws.proofs.Holders.Apart.{queued_not_yet, apart_queued, IsApart, apart_below, apart_other, not_yet}
 use Rattle.run_laws.proofs.Holders.Rights.{handed_over, begun_rights, dpc_rights}
 use Rattle.run_laws.proofs.Holders.Runs.{frame_told_rights, top_holding}
 use Rattle.run_laws.proofs.Holders.Steps.{hold}
@@ -29,24 +29,27 @@ use Rattle.run_laws.proofs.Holders.Sums.{Held}
 use Rattle.run_laws.proofs.Lists.{Each, each_append, each_before, each_after}
 use Rattle.run_laws.proofs.Past.LivePackets.{find, find_push}
 use Rattle.run_laws.proofs.Room.Extents.{Extent, extent_of, extent, stack_of, stack_at, some_stack}
-use Rattle.run_laws.proofs.Room.Steps.{HasRoom, LeavesRoom, Even, call_faults, room_step}
+use Rattle.run_laws.proofs.Room.Steps.{EvenStep, QueuesRoom, HasRoom, LeavesRoom, call_faults, room_step}
 use Rattle.run_laws.proofs.Runs.Events.{StepsFrame, Happens, nothing, steps, issues, begins, begins_startio}
 use Rattle.run_laws.proofs.Runs.Kept.{GoesOnBy}
 use Rattle.run_laws.proofs.Runs.Threads.{frames_there, each_frames, idle_frames}
 use Rattle.run_laws.proofs.States.Entering.{Begins, begins_request, begins_dpc}
 use Rattle.run_laws.proofs.States.Fine.{StepLeaves, leaves_fine}
 use Rattle.run_laws.proofs.States.Frames.{IsGood}
-use Rattle.run_laws.proofs.States.Queueless.{never_starts}
+use Rattle.run_laws.proofs.States.Queueing.{never_starts}
 use Rattle.run_laws.proofs.States.Rules.{States}
 use Rattle.run_laws.proofs.States.Stacks.{Stands, Stacked, Replaces}
 use Rattle.run_laws.proofs.States.Standing.{Standing, stands_there, on_top}
 use Rattle.run_laws.proofs.States.Told.{told_frame, told_last, told_is}
 use Rattle.run_laws.proofs.Steps.Below.{standing_is}
 use Rattle.run_laws.proofs.Steps.Faults.{is_call, is_touch, fault_among, quiet_among}
+use Rattle.model.specs.declared.limits.TheConstants.{MAX_QUEUES}
+use Rattle.run_laws.proofs.Holders.Queued.{none_queued, times_le}
 
 -- every frame that has the right to a live packet has room for its device
 pub record Roomy (set : Set) (states : States) (w : World) : Type 0 where
   pub frames : (t : ℕ) → Each (HasRoom set states w.shared) (frames_on w t)
+  pub queues : QueuesRoom set w.shared
 
 pub roomy_begun : (set : Set) (states : States) (threads : ℕ) → Roomy set states (begun set threads).world
 roomy_begun set states threads =
@@ -55,6 +58,13 @@ roomy_begun set states threads =
           subst (λ (frames : List Frame). Each (HasRoom set states (begun set threads).world.shared)
           frames)
           (sym (idle_frames threads t)) tt;
+      queues = λ d q n entries there some.
+          let none : times_queued (replicate (length set.devices) (replicate MAX_QUEUES [])) n ≡ 0 =
+          none_queued (length set.devices) n in
+          let le : times_in entries n
+          ≤ times_queued (replicate (length set.devices) (replicate MAX_QUEUES [])) n =
+          times_le (begun set threads).world.shared d q entries n there in
+          absurd (omega arith);
     }
 
 -- a frame that is told a status is for the same device
@@ -139,7 +149,7 @@ module _ (set : Set) (states : States) (w : World) (past : List Entry) (good : I
   top_room t h = (each_after (HasRoom set states w.shared) h.below (h.frame ∷ []) (room_there t h)).0
 
   even : (actor : Actor) (h : StepsFrame set w actor.thread)
-      → fault_among is_touch past actor h.outcome.actions ≡ None → Even states w.shared h.frame h.outcome
+      → fault_among is_touch past actor h.outcome.actions ≡ None → EvenStep states w.shared h.frame h.outcome
   even actor h touches =
       (hold set states w.shared past actor (top_of h.below) h.frame h.outcome
       (on_top set states w past good stands actor.thread h)
@@ -164,13 +174,14 @@ module _ (set : Set) (states : States) (w : World) (past : List Entry) (good : I
       → Each (HasRoom set states s) after.frames.items
       → ((k : ℕ) → t ≢ k → (n : ℕ) → 1 ≤ stack_sum (λ g. frame_rights states g n) (frames_on w k)
       → extent (find s.packets n) ≡ extent (find w.shared.packets n))
-      → Roomy set states (with_thread w t s after)
-  threads_room t s thread after found here others =
+      → QueuesRoom set s → Roomy set states (with_thread w t s after)
+  threads_room t s thread after found here others queues =
       record {
         frames = each_frames w t s after (λ k frames. Each (HasRoom set states s) frames) thread
             found here
             (λ k apart. others_room set states w.shared s (frames_on w k) (others k apart)
             (roomy.frames k));
+        queues = queues;
       }
 
   module _ (h : Device) (d : ℕ) (major : Major) (argument : ℕ)
@@ -239,7 +250,7 @@ module _ (set : Set) (states : States) (w : World) (past : List Entry) (good : I
       let room : LeavesRoom set states w.shared h.frame o =
       room_step set states w.shared past actor (top_of h.below) h.frame o
       (on_top set states w past good stands t h)
-      (top_holding set states w past stands holds t h) (top_room t h)
+      (top_holding set states w past stands holds t h) (top_room t h) roomy.queues
       (even actor h (quiet_among is_touch past actor o.actions quiet)) h.comes in
       let below : Each (HasRoom set states o.shared) h.below =
       others_room set states w.shared o.shared h.below
@@ -251,6 +262,20 @@ module _ (set : Set) (states : States) (w : World) (past : List Entry) (good : I
       (stands_there set states w past good stands t h) leaves.stands below room.frames))
       (λ k apart n some. others_kept h.frame o n room
       (apart_other set states w past stands holds t h n k apart some))
+      (elim room.queues [
+        | inl same ↦
+            (λ d q n entries there some x is.
+            let before : queue_of w.shared d q ≡ Some entries =
+            ap (λ (queues : List (List (List ℕ))). option_and_then (λ lists. slice_get lists q)
+            (slice_get queues d)) (sym same) ∙ there in
+            let le : times_in entries n ≤ times_queued w.shared.queues n =
+            times_le w.shared d q entries n before in
+            let kept : extent (find o.shared.packets n) ≡ extent (find w.shared.packets n) =
+            others_kept h.frame o n room
+            (apart_queued set states w past stands holds t h n (omega arith)) in
+            roomy.queues d q n entries before some x (sym kept ∙ is))
+        | inr after ↦ after
+      ])
 
   pub roomy_kept : (actor : Actor) (c : Change) → GoesOnBy set w past actor c → Roomy set states c.world
   roomy_kept actor c on = kept c on.happens on.quiet
@@ -265,6 +290,14 @@ module _ (set : Set) (states : States) (w : World) (past : List Entry) (good : I
           (request_room h.device h.d h.major h.argument h.there, tt)
           (λ k apart n some. old_extent h.device h.d h.major h.argument h.there n
           (not_yet set states w past stands holds k n some))
+          (λ d q n entries there some x is.
+          let le : times_in entries n ≤ times_queued w.shared.queues n =
+          times_le w.shared d q entries n there in
+          let kept : extent (find (w.shared.packets ++ packet h.device h.d h.major h.argument h.there ∷ [])
+          n) ≡ extent (find w.shared.packets n) =
+          old_extent h.device h.d h.major h.argument h.there n
+          (queued_not_yet set states w past stands holds n (omega arith)) in
+          roomy.queues d q n entries there some x (sym kept ∙ is))
       kept c (begins_startio h) quiet = absurd (never_starts good h)
       kept c (begins h) quiet =
           let a : Activation = dpc_activation set h.d h.routine in
@@ -277,4 +310,4 @@ module _ (set : Set) (states : States) (w : World) (past : List Entry) (good : I
                 absurd (omega arith)),
             tt,
           )
-          (λ k apart n some. refl)
+          (λ k apart n some. refl) roomy.queues

@@ -23,7 +23,7 @@ use Rattle.model.specs.World.{World, is_queued, start_of}
 use Rattle.run_laws.proofs.Lists.{last_split}
 use Rattle.run_laws.proofs.Steps.Comes.{Comes}
 use Rattle.run_laws.proofs.Steps.Walk.{comes}
-use Rattle.run_laws.proofs.Tests.{and_left}
+use Rattle.run_laws.proofs.Tests.{and_left, and_right}
 
 -- a reply with which a run stops
 abbrev pub stops_run : Reply → Bool
@@ -51,6 +51,7 @@ pub record IssuesPacket (set : Set) (w : World) (t : ℕ) : Type 0 where
   pub found : slice_get w.threads t ≡ Some thread
   pub idle : thread.frames.items ≡ []
   pub there : slice_get set.devices d ≡ Some device
+  pub room : can_issue w.shared ≡ true
 
 -- the DPC of a device begins on an idle thread
 pub record BeginsDpc (set : Set) (w : World) (t : ℕ) : Type 0 where
@@ -139,6 +140,7 @@ module _ (set : Set) (w : World) (t : ℕ) where
         found = found;
         idle = none_of_length thread.frames.items (and_left _ _ may);
         there = there;
+        room = and_right _ _ may;
       })
 
   happens_issue : (d : ℕ) (major : Major) (argument : ℕ) (o : Option Thread) (device : Option Device)

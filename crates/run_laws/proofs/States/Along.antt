@@ -12,8 +12,8 @@ use Rattle.model.specs.Set.{Branches, Closes, Flow, Jumps, Leaves, Member, Onwar
 module _ (P : Abs → Type 0) (m : Member) (begins : (s : Abs) → entry_state m ≡ Some s → P s)
     (next : (s : Abs) (i : Instr) (q : ℕ) → slice_get m.routine.code q ≡ Some i
     → refuses s i m.routine.sort m.set m.driver ≡ None → P s → P (handed s i))
-    (label : (s : Abs) (i : Instr) (q : ℕ) → slice_get m.routine.code q ≡ Some i → P s
-    → P (handed_at_label s i)) where
+    (label : (s : Abs) (i : Instr) (q : ℕ) → slice_get m.routine.code q ≡ Some i
+    → refuses s i m.routine.sort m.set m.driver ≡ None → P s → P (handed_at_label s i)) where
   outs_keep : (flow : Flow) (s after here : Abs) → P after → P here
       → ((outs_by flow after here).next ≡ Some s) ⊎ ((outs_by flow after here).jump ≡ Some s) → P s
   outs_keep Onward s after here h other (inl out) = let same : after ≡ s = cc in subst P same h
@@ -36,7 +36,7 @@ module _ (P : Abs → Type 0) (m : Member) (begins : (s : Abs) → entry_state m
   hands_keep (Some rule) i q p before s at is hands h = absurd hands
   hands_keep None i q p before s at is hands h =
       outs_keep (flow_of i) s (handed before i) (handed_at_label before i) (next before i q at is h)
-      (label before i q at h)
+      (label before i q at is h)
       (elim hands [ inl onwards ↦ inl onwards.1 | inr jump ↦ inr jump.1 ])
 
   leads_keep : (i : Option Instr) (q p : ℕ) (before s : Abs) → slice_get m.routine.code q ≡ i

@@ -1,7 +1,7 @@
 -- A step of a frame that stands as it should, and touches no packet that has topped out: it isn't
 -- wrong, and what it leaves stands as it should.
-use Rattle.std.proofs.Common.{◌≡◌, ℕ, ◌+◌, ◌-◌, ◌<◌, Bool, true, false, List, [], ◌∷◌, Option, None, Some, refl, arith, sym, subst, ◌∙◌, ap}
-use Rattle.std.specs.Prelude.{slice_get, slice_set, nat_lt, ◌||◌}
+use Rattle.std.proofs.Common.{inr, inl, ◌≤◌, length, ◌≡◌, ℕ, ◌+◌, ◌-◌, ◌<◌, Bool, true, false, List, [], ◌∷◌, Option, None, Some, refl, arith, sym, subst, ◌∙◌, ap}
+use Rattle.std.specs.Prelude.{remove, slice_get, slice_set, nat_lt, ◌||◌}
 use Rattle.std.specs.List.{list_any}
 use Rattle.model.specs.declared.abs.Abs.{Abs}
 use Rattle.model.specs.declared.abs.Kind.{Kind}
@@ -27,12 +27,12 @@ use Rattle.model.specs.LocalRule.{holds_lock, kind_of, given_down, handed}
 use Rattle.model.specs.Set.{Set, instruction_at, sort_of, lower_of, flow_of}
 use Rattle.model.specs.Trace.{Entry, Actor}
 use Rattle.model.specs.World.{Shared, with_info, mark_current, current_location, sent_down, shared_with, left_location, moved_up, asked_of, with_locks, with_owner, completed, place_of, packet_of, with_packet, register, next}
-use Rattle.run_laws.proofs.Lists.{all_at, each_remove}
+use Rattle.run_laws.proofs.Lists.{length_removed, all_at, each_remove}
 use Rattle.run_laws.proofs.Past.LivePackets.{find}
 use Rattle.run_laws.proofs.Past.Packets.{Tells, found, named, lt_true}
 use Rattle.run_laws.proofs.Runs.Events.{stops_run}
 use Rattle.run_laws.proofs.States.Entering.{IsOfSort, Begins, begins_lower, begins_back}
-use Rattle.run_laws.proofs.States.Fits.{CompletionLeads, PacketLeads, Fits, mark_leads, shared_leads, sent_leads, packet_leads, with_packet_fits, with_cells_fits, with_owner_fits}
+use Rattle.run_laws.proofs.States.Fits.{with_queues_fits, CompletionLeads, PacketLeads, Fits, mark_leads, shared_leads, sent_leads, packet_leads, with_packet_fits, with_cells_fits, with_owner_fits}
 use Rattle.run_laws.proofs.States.Frames.{state_of, Serves, Ready, Moved, Runs}
 use Rattle.run_laws.proofs.States.Kinds.{given_kinds}
 use Rattle.run_laws.proofs.States.Known.{Continues, SetBy, CallLeads}
@@ -41,7 +41,6 @@ use Rattle.run_laws.proofs.States.LoopEnds.{moved_loop, moved_end}
 use Rattle.run_laws.proofs.States.Moves.{falls_next, moved, moved_next, arrives_next}
 use Rattle.run_laws.proofs.States.Obeyed.{SendsDown, CompletesOne, completes_one}
 use Rattle.run_laws.proofs.States.OnTop.{OnTop, at_routine, runs}
-use Rattle.run_laws.proofs.States.Queueless.{never_queued}
 use Rattle.run_laws.proofs.States.Rules.{States}
 use Rattle.run_laws.proofs.States.Stacks.{Stands, Replaces}
 use Rattle.run_laws.proofs.States.Told.{told_frame}
@@ -50,6 +49,9 @@ use Rattle.run_laws.proofs.Steps.Locking.{freed_word, taken_word}
 use Rattle.run_laws.proofs.Steps.Faults.{none_first}
 use Rattle.run_laws.proofs.Steps.Words.{Forwarding, is_forwarding, work_of, goes_next, keeps_registers, packet_operand}
 use Rattle.run_laws.proofs.Tests.{or_left}
+use Rattle.model.specs.declared.limits.TheConstants.{MAX_LIVE_PACKETS}
+use Rattle.run_laws.proofs.Steps.Queues.{queued_touches}
+use Rattle.run_laws.proofs.States.Queueing.{queue_moves, MovedOn}
 
 abbrev pub is_wrong : Action → Bool
 is_wrong GoesWrong = true
@@ -65,7 +67,10 @@ pub is_right_step : (set : Set) (states : States) (s : Shared) (t : ℕ) (under 
     → OnTop set states s f → Comes set s t under f o → IsRight o
 is_right_step set states s t under f o h (errs a lacks) = absurd (never_lacks set states s a h lacks)
 is_right_step set states s t under f o h (works_on_queues a i b queues starts actions full at queued) =
-    absurd (never_queued h.good at queued)
+    elim (queued_touches queued) [
+      | inl none ↦ rw none (record { silent = refl; right = refl })
+      | inr one ↦ rw one.1 (record { silent = refl; right = refl })
+    ]
 is_right_step set states s t under f o h _ = record { silent = refl; right = refl }
 
 -- a packet that was issued and hasn't topped out is live
@@ -303,7 +308,17 @@ module _ (set : Set) (states : States) (s : Shared) (past : List Entry) (actor :
       (ap is_forwarding (freed_word a i lock frees).work))
       (with_owner_fits set s h.fits lock None (freed_there set states s a i lock run frees)) refl
   leaves_fine under f o h quiet (works_on_queues a i b queues starts actions full at queued) =
-      absurd (never_queued h.good at queued)
+      let on : MovedOn set states s a i b queues =
+      queue_moves set states s a i (runs set states s a i h at) queued in
+      record {
+        fits = with_queues_fits set s h.fits queues starts on.fits;
+        issued = refl;
+        stands = (
+          refl,
+          on.moved.ready,
+          λ g below. same_above set states s.issued a b g on.moved.driver on.moved.routine below,
+        );
+      }
   leaves_fine under f o h quiet (completes_packet a r status n p at reads there) =
       let run : Runs set states s a (Complete r status) = runs set states s a (Complete r status) h at in
       let m : Moved set states s.issued a (next a) (handed (state_of states a) (Complete r status)) =
@@ -387,6 +402,11 @@ module _ (set : Set) (states : States) (s : Shared) (past : List Entry) (actor :
           spin = h.fits.spin;
           rows = h.fits.rows;
           completions = each_remove (PacketLeads set) s.packets (place_of s.packets n) h.fits.completions;
+          queued = h.fits.queued;
+          few = (let less : length (remove s.packets (place_of s.packets n)) ≤ length s.packets =
+              length_removed s.packets (place_of s.packets n) in
+              let few : length s.packets ≤ MAX_LIVE_PACKETS = h.fits.few in
+              omega arith);
         };
         issued = refl;
         stands = below_walk set states s.issued n;

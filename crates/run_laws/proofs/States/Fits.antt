@@ -1,13 +1,13 @@
 -- What the threads share fits its set: it has cells and locks for each device, and each completion
 -- routine that is set in a location of a packet is one of its device's driver.
-use Rattle.std.proofs.Common.{◌≡◌, ℕ, zero, suc, ◌-◌, ◌<◌, ◌⊎◌, inl, inr, true, List, [], length, Option, None, Some, refl, arith, sym, subst, ◌∙◌, ap}
-use Rattle.std.specs.Prelude.{⊤, slice_get, slice_set, slice_index_or, replicate}
+use Rattle.std.proofs.Common.{◌≤◌, ◌≡◌, ℕ, zero, suc, ◌-◌, ◌<◌, ◌⊎◌, inl, inr, true, List, [], length, Option, None, Some, refl, arith, sym, subst, ◌∙◌, ap}
+use Rattle.std.specs.Prelude.{option_and_then, ⊤, slice_get, slice_set, slice_index_or, replicate}
 use Rattle.std.proofs.lemmas.Bool.{cases_eq}
 use Rattle.std.proofs.lemmas.List.{length-set, length-replicate}
-use Rattle.std.proofs.lemmas.Option.{slice_get-get_or}
+use Rattle.std.proofs.lemmas.Option.{get_or_from_slice_get, slice_get-get_or}
 use Rattle.model.specs.declared.event.Lock.{Lock}
 use Rattle.model.specs.declared.event.Lock.TheVariants.{SystemCancel, Spin}
-use Rattle.model.specs.declared.limits.TheConstants.{SPIN_LOCKS}
+use Rattle.model.specs.declared.limits.TheConstants.{MAX_LIVE_PACKETS, MAX_QUEUES, SPIN_LOCKS}
 use Rattle.model.specs.declared.set.Device.{Device}
 use Rattle.model.specs.declared.status.Major.{Major}
 use Rattle.model.specs.declared.world.Cells.{Cells}
@@ -15,9 +15,10 @@ use Rattle.model.specs.declared.world.Completion.{Completion}
 use Rattle.model.specs.declared.world.Location.{Location}
 use Rattle.model.specs.declared.world.Packet.{Packet}
 use Rattle.model.specs.Set.{Set}
-use Rattle.model.specs.World.{Shared, blank_cells, unused, owner_of, with_owner, with_locks, place_of, packet_of, with_packet, current_location, marked_location, mark_current, copied_location, sent_down, shared_location, shared_with, completion_of, new_packet, unused_location}
-use Rattle.run_laws.proofs.Lists.{Each, each_at, each_set, each_same, set_same, set_other}
+use Rattle.model.specs.World.{with_queue, queue_of, Shared, blank_cells, unused, owner_of, with_owner, with_locks, place_of, packet_of, with_packet, current_location, marked_location, mark_current, copied_location, sent_down, shared_location, shared_with, completion_of, new_packet, unused_location}
+use Rattle.run_laws.proofs.Lists.{each_map, Each, each_at, each_set, each_same, set_same, set_other}
 use Rattle.run_laws.proofs.States.Known.{Continues}
+use Rattle.model.specs.Queues.{StartState}
 
 -- a completion routine of the driver of a device
 abbrev pub CompletionLeads : Set → Option Completion → Type 0
@@ -31,13 +32,39 @@ LocationLeads set l = CompletionLeads set l.completion
 abbrev pub PacketLeads : Set → Packet → Type 0
 PacketLeads set p = Each (LocationLeads set) p.locations.items
 
--- each device has its cells and its eight spin locks
+-- the queues of a device are four, and the packets in them were issued
+abbrev pub WereIssued : ℕ → List ℕ → Type 0
+WereIssued issued entries = Each (λ (n : ℕ). n < issued) entries
+
+abbrev pub QueuesFit : ℕ → List (List ℕ) → Type 0
+QueuesFit issued lists = (length lists ≡ MAX_QUEUES) × Each (WereIssued issued) lists
+
+pub record AllQueuesFit (set : Set) (queues : List (List (List ℕ))) (issued : ℕ) : Type 0 where
+  pub long : length queues ≡ length set.devices
+  pub each : Each (QueuesFit issued) queues
+
+-- each device has its cells, its eight spin locks and its queues, and no more packets live than may
 pub record Fits (set : Set) (s : Shared) : Type 0 where
   pub cells : length s.cells ≡ length set.devices
   pub spin : length s.locks.spin ≡ length set.devices
   pub rows : (d : ℕ) (owners : List (Option ℕ)) → slice_get s.locks.spin d ≡ Some owners
       → length owners ≡ SPIN_LOCKS
   pub completions : Each (PacketLeads set) s.packets
+  pub queued : AllQueuesFit set s.queues s.issued
+  pub few : length s.packets ≤ MAX_LIVE_PACKETS
+
+-- one queue
+row_there : (queues : List (List (List ℕ))) (d q : ℕ) (o : Option (List (List ℕ))) (entries : List ℕ)
+    → slice_get queues d ≡ o
+    → option_and_then (λ lists. slice_get lists q) o ≡ Some entries
+    → (lists : List (List ℕ)) × (slice_get queues d ≡ Some lists) × (slice_get lists q ≡ Some entries)
+row_there queues d q None entries found there = cc
+row_there queues d q (Some lists) entries found there = (lists, found, there)
+
+pub queue_row : (s : Shared) (d q : ℕ) (entries : List ℕ) → queue_of s d q ≡ Some entries
+    → (lists : List (List ℕ)) × (slice_get s.queues d ≡ Some lists)
+    × (slice_get lists q ≡ Some entries)
+queue_row s d q entries there = row_there s.queues d q (slice_get s.queues d) entries refl there
 
 module _ (set : Set) where
   -- what is set in the current location
@@ -110,7 +137,52 @@ module _ (set : Set) where
         spin = length-replicate (length set.devices) (replicate SPIN_LOCKS None);
         rows = free_row (length set.devices);
         completions = tt;
+        queued = record {
+          long = length-replicate (length set.devices) (replicate MAX_QUEUES []);
+          each = each_same (QueuesFit 0) (length set.devices) (replicate MAX_QUEUES [])
+              (refl, each_same (WereIssued 0) MAX_QUEUES [] tt);
+        };
+        few = omega arith;
       }
+
+  -- more packets were issued
+  pub queues_later : (queues : List (List (List ℕ))) (issued more : ℕ) → issued ≤ more
+      → AllQueuesFit set queues issued → AllQueuesFit set queues more
+  queues_later queues issued more le h =
+      record {
+        long = h.long;
+        each = each_map (QueuesFit issued) (QueuesFit more) queues
+            (λ lists fits. (
+              fits.0,
+              each_map (WereIssued issued) (WereIssued more) lists
+                  (λ entries named.
+                  each_map (λ (n : ℕ). n < issued) (λ (n : ℕ). n < more) entries
+                  (λ n low. omega arith) named) fits.1,
+            )) h.each;
+      }
+
+  pub queue_put_fits : (s : Shared) (d q : ℕ) (entries after : List ℕ)
+      → queue_of s d q ≡ Some entries → WereIssued s.issued after → AllQueuesFit set s.queues s.issued
+      → AllQueuesFit set (with_queue s d q after).queues s.issued
+  queue_put_fits s d q entries after there named h =
+      let row : (lists : List (List ℕ)) × (slice_get s.queues d ≡ Some lists)
+      × (slice_get lists q ≡ Some entries) = queue_row s d q entries there in
+      let same : slice_index_or s.queues d [] ≡ row.0 =
+      get_or_from_slice_get s.queues d row.0 [] row.1 in
+      let fits : QueuesFit s.issued row.0 = each_at (QueuesFit s.issued) s.queues d row.0 h.each row.1 in
+      rw same (record {
+        long = length-set s.queues d (slice_set row.0 q after) ∙ h.long;
+        each = each_set (QueuesFit s.issued) s.queues d (slice_set row.0 q after) h.each
+            (length-set row.0 q after ∙ fits.0, each_set (WereIssued s.issued) row.0 q after fits.1 named);
+      })
+
+  pub queue_issued : (s : Shared) (d q : ℕ) (entries : List ℕ) → queue_of s d q ≡ Some entries
+      → AllQueuesFit set s.queues s.issued → WereIssued s.issued entries
+  queue_issued s d q entries there h =
+      let row : (lists : List (List ℕ)) × (slice_get s.queues d ≡ Some lists)
+      × (slice_get lists q ≡ Some entries) = queue_row s d q entries there in
+      each_at (WereIssued s.issued) row.0 q entries
+      (each_at (QueuesFit s.issued) s.queues d row.0 h.each row.1).1 row.2
 
   -- a lock of the system or of a device
   abbrev pub IsThere : Lock → Type 0
@@ -130,6 +202,11 @@ module _ (set : Set) where
           rows = fits.rows;
           completions =
               each_set (PacketLeads set) s.packets (place_of s.packets n) p fits.completions leads;
+          queued = fits.queued;
+          few = (let long : length (with_packet s n p).packets ≡ length s.packets =
+              length-set s.packets (place_of s.packets n) p in
+              let few : length s.packets ≤ MAX_LIVE_PACKETS = fits.few in
+              omega arith);
         }
 
     pub with_cells_fits : (cells : List Cells) → length cells ≡ length s.cells
@@ -140,6 +217,8 @@ module _ (set : Set) where
           spin = fits.spin;
           rows = fits.rows;
           completions = fits.completions;
+          queued = fits.queued;
+          few = fits.few;
         }
 
     row : (d : ℕ) → d < length set.devices
@@ -186,7 +265,14 @@ module _ (set : Set) where
     pub with_owner_fits : (lock : Lock) (owner : Option ℕ) → IsThere lock
         → Fits set (with_locks s (with_owner s.locks lock owner))
     with_owner_fits SystemCancel owner there =
-        record { cells = fits.cells; spin = fits.spin; rows = fits.rows; completions = fits.completions }
+        record {
+          cells = fits.cells;
+          spin = fits.spin;
+          rows = fits.rows;
+          completions = fits.completions;
+          queued = fits.queued;
+          few = fits.few;
+        }
     with_owner_fits (Spin l) owner there =
         record {
           cells = fits.cells;
@@ -196,4 +282,32 @@ module _ (set : Set) where
           rows = λ e owners h. rows_after l.device l.number owner e owners there.0
               (cases_eq l.device e) h;
           completions = fits.completions;
+          queued = fits.queued;
+          few = fits.few;
+        }
+
+    -- a queue of a device is there, and its entries are put in place of others
+    pub queue_there : (d q : ℕ) → d < length set.devices → q < MAX_QUEUES → queue_of s d q ≡ None → ⊥
+    queue_there d q within small none =
+        let long : length s.queues ≡ length set.devices = fits.queued.long in
+        let lists : List (List ℕ) = slice_index_or s.queues d [] in
+        let there : slice_get s.queues d ≡ Some lists = slice_get-get_or s.queues d [] (omega arith) in
+        let four : length lists ≡ MAX_QUEUES =
+        (each_at (QueuesFit s.issued) s.queues d lists fits.queued.each there).0 in
+        let found : slice_get lists q ≡ Some (slice_index_or lists q []) =
+        slice_get-get_or lists q [] (omega arith) in
+        let nothing : slice_get lists q ≡ None = rw there at none in
+        let no : None ≡ Some (slice_index_or lists q []) = sym nothing ∙ found in
+        cc
+
+    pub with_queues_fits : (queues : List (List (List ℕ))) (starts : List StartState)
+        → AllQueuesFit set queues s.issued → Fits set (record s { queues = queues; starts = starts })
+    with_queues_fits queues starts queued =
+        record {
+          cells = fits.cells;
+          spin = fits.spin;
+          rows = fits.rows;
+          completions = fits.completions;
+          queued = queued;
+          few = fits.few;
         }

@@ -15,7 +15,7 @@ use Rattle.model.specs.Loops.{open_at}
 use Rattle.model.specs.Set.{Set, member, routine_of, sort_of}
 use Rattle.model.specs.Sound.{IsSound}
 use Rattle.model.specs.World.{Shared}
-use Rattle.run_laws.specs.NoQueues.{UsesNoQueues, is_of_queues}
+use Rattle.run_laws.specs.StartsNoPackets.{StartsNoPackets, starts_packets}
 use Rattle.run_laws.proofs.States.Fits.{Fits}
 use Rattle.run_laws.proofs.States.Kinds.{HasKinds}
 use Rattle.run_laws.proofs.States.Known.{IsKnown, IsLed}
@@ -100,10 +100,10 @@ pub record Moved (set : Set) (states : States) (issued : ℕ) (a b : Activation)
   pub arrives : state_of states b ≡ to
   pub less : 1 + due set b ≤ due set a
 
--- an accepted set without queues, with its states
+-- an accepted set that starts no packets, with its states
 pub record IsGood (set : Set) (states : States) : Type 0 where
   pub sound : IsSound set
-  pub queueless : UsesNoQueues set
+  pub startless : StartsNoPackets set
   pub led : IsLed set states
 
 -- a routine's frame of an accepted set is about to execute an instruction
@@ -117,15 +117,10 @@ pub record Runs (set : Set) (states : States) (s : Shared) (a : Activation) (i :
   pub fits : Fits set s
   pub good : IsGood set states
 
--- none of its instructions is about queues
-pub no_queues_in : (set : Set) (states : States) (driver number : ℕ) (routine : Routine)
-    → IsGood set states → routine_of set driver number ≡ Some routine → (p : ℕ) (i : Instr)
-    → slice_get routine.code p ≡ Some i → is_of_queues i ≡ false
-no_queues_in set states driver number routine good there p i at =
-    good.queueless.routines driver number p i
-    (ap (λ (o : Option Routine). option_and_then (λ r. slice_get r.code p) o) there ∙ at)
-
-pub no_queue_word : (set : Set) (states : States) (s : Shared) (a : Activation) (i : Instr)
-    → Runs set states s a i → is_of_queues i ≡ false
-no_queue_word set states s a i h =
-    no_queues_in set states a.driver a.routine h.routine h.good h.stays.is_of a.position i h.here
+-- none of its instructions starts packets
+pub starts_none : (set : Set) (states : States) (s : Shared) (a : Activation) (i : Instr)
+    → Runs set states s a i → starts_packets i ≡ false
+starts_none set states s a i h =
+    h.good.startless.routines a.driver a.routine a.position i
+    (ap (λ (o : Option Routine). option_and_then (λ r. slice_get r.code a.position) o) h.stays.is_of
+    ∙ h.here)

@@ -18,7 +18,6 @@ use Rattle.model.specs.declared.world.Value.TheVariants.{Blank, Num, Ref, Status
 use Rattle.model.specs.LocalRule.{kind_of, is_packet, is_right, is_lower, Wanted, demanded, any_packet, a_new_one, one_handed_or_owned, one_to_mark, one_to_look_at, number_kind, complete_kind, mark_fault, refuses, left_behind, marked, given_down, handed, handed_at_label, an_owned_one}
 use Rattle.model.specs.Set.{Set}
 use Rattle.model.specs.World.{Shared, number_in, packet_in, status_in}
-use Rattle.run_laws.specs.NoQueues.{is_of_queues}
 use Rattle.run_laws.proofs.Lists.{copied}
 use Rattle.run_laws.proofs.States.Rules.{first_none, second_none}
 use Rattle.run_laws.proofs.Steps.Comes.{Written, keeps_all, makes_number, moves_over, makes_blank}
@@ -346,18 +345,27 @@ handed_locks s (Acquire lock) = length-set s.locks lock true
 handed_locks s (Release lock) = length-set s.locks lock false
 handed_locks s _ = refl
 
--- nor does a jump, and it changes the kinds where there was no packet to take alone, and no locks
+-- nor does a jump: it changes the kinds where there was no packet to take alone, and no locks
 pub label_long : (s : Abs) (i : Instr) → length (handed_at_label s i).kinds ≡ length s.kinds
 label_long s (Remove r q label) = length-set s.kinds r BlankKind
 label_long s (Take r label) = length-set s.kinds r BlankKind
 label_long s (IfPending r label) = refl
 label_long s _ = refl
 
-pub label_kinds : (s : Abs) (i : Instr) → is_of_queues i ≡ false → (handed_at_label s i).kinds ≡ s.kinds
-label_kinds s (Remove r q label) plain = cc
-label_kinds s (Take r label) plain = cc
-label_kinds s (IfPending r label) plain = refl
-label_kinds s _ plain = refl
+pub label_kinds : (s : Abs) (i : Instr) → is_giving (work_of i) ≡ false
+    → (handed_at_label s i).kinds ≡ s.kinds
+label_kinds s (Remove r q label) quiet = cc
+label_kinds s (Take r label) quiet = cc
+label_kinds s (IfPending r label) quiet = refl
+label_kinds s _ quiet = refl
+
+pub label_suits : (issued : ℕ) (s : Abs) (i : Instr) (values : List Value)
+    → HasKinds issued s.kinds values
+    → HasKinds issued (handed_at_label s i).kinds values
+label_suits issued s (Remove r q label) values h = kinds_turn issued s.kinds values r BlankKind h tt
+label_suits issued s (Take r label) values h = kinds_turn issued s.kinds values r BlankKind h tt
+label_suits issued s (IfPending r label) values h = h
+label_suits issued s _ values h = h
 
 pub label_locks : (s : Abs) (i : Instr) → (handed_at_label s i).locks ≡ s.locks
 label_locks s (IfPending r label) = refl

@@ -8,7 +8,7 @@ use Rattle.model.specs.declared.abs.Duty.TheVariants.{NoDuty}
 use Rattle.model.specs.declared.abs.Kind.TheVariants.{Blank}
 use Rattle.model.specs.declared.abs.Settled.TheVariants.{Open}
 use Rattle.model.specs.declared.instr.Instr.{Instr}
-use Rattle.model.specs.declared.limits.TheConstants.{MAX_ROUTINES}
+use Rattle.model.specs.declared.limits.TheConstants.{MAX_QUEUES, MAX_ROUTINES}
 use Rattle.model.specs.declared.set.Driver.{Driver}
 use Rattle.model.specs.declared.set.Routine.{Routine}
 use Rattle.model.specs.declared.set.Sort.{Sort}
@@ -16,7 +16,7 @@ use Rattle.model.specs.declared.set.Sort.TheVariants.{Dispatch, Dpc, Propagate, 
 use Rattle.model.specs.LocalRule.{entered_with}
 use Rattle.model.specs.Loops.{open_at}
 use Rattle.model.specs.Set.{Set, Member, member, routine_of, default_routine, default_number, default_code}
-use Rattle.model.specs.Sound.{IsSound, DriverFits, RoutineFits, OperandFits, HasSort, IsCompletion, CallsFit, completion_named}
+use Rattle.model.specs.Sound.{IsSound, DriverFits, RoutineFits, OperandFits, HasSort, IsCompletion, CallsFit, completion_named, QueueFits, QueuesFit, queue_named}
 use Rattle.model.specs.Typable.{IsTypableRoutine, IsTypableDriver, IsTypable}
 use Rattle.run_laws.proofs.Lists.{all_at}
 use Rattle.run_laws.proofs.States.Follows.{Follows, Typed, LoopsBefore, typed, default_typed}
@@ -56,6 +56,7 @@ pub record IsKnown (m : Member) (state : ℕ → Abs) : Type 0 where
   pub follows : Follows m state
   pub operands : RoutineOperandsFit m.routine
   pub calls : All (CallLeads m.set m.driver) m.routine.code
+  pub queues : QueuesFit MAX_QUEUES m.routine
 
 abbrev Knows : Member → Type 0
 Knows m = (state : ℕ → Abs) × IsKnown m state
@@ -105,6 +106,22 @@ default_calls set driver zero d h = tt
 default_calls set driver (suc zero) d h = tt
 default_calls set driver (suc (suc p)) d h = absurd (omega arith)
 
+default_queues : (p : ℕ) (d : Instr) → p < 2 → QueueFits MAX_QUEUES (slice_index_or default_code p d)
+default_queues zero d h = tt
+default_queues (suc zero) d h = tt
+default_queues (suc (suc p)) d h = absurd (omega arith)
+
+-- a driver has few queues, so those that its instructions name are among the first
+few_queues : (queues : ℕ) (named : Option ℕ) → queues ≤ MAX_QUEUES → IfSome named (λ q. q < queues)
+    → IfSome named (λ q. q < MAX_QUEUES)
+few_queues queues None few h = tt
+few_queues queues (Some q) few h = let below : q < queues = h in omega arith
+
+queues_fit : (queues : ℕ) (routine : Routine) → queues ≤ MAX_QUEUES → QueuesFit queues routine
+    → QueuesFit MAX_QUEUES routine
+queues_fit queues routine few h =
+    λ p i within. few_queues queues (queue_named (slice_index_or routine.code p i)) few (h p i within)
+
 knows_default : (set : Set) (driver : ℕ) → Knows (member set driver default_number default_routine)
 knows_default set driver = (
   (default_typed set driver).0,
@@ -112,15 +129,16 @@ knows_default set driver = (
     follows = (default_typed set driver).1;
     operands = default_operands;
     calls = default_calls set driver;
+    queues = default_queues;
   },
 )
 
 knows : (m : Member) → IsTypableRoutine m → RoutineOperandsFit m.routine
-    → All (CallLeads m.set m.driver) m.routine.code
+    → All (CallLeads m.set m.driver) m.routine.code → QueuesFit MAX_QUEUES m.routine
     → Knows m
-knows m typable operands calls =
+knows m typable operands calls queues =
     let all : Typed m = typed m typable (loops_before m) in
-    (all.0, record { follows = all.1; operands = operands; calls = calls })
+    (all.0, record { follows = all.1; operands = operands; calls = calls; queues = queues })
 
 -- every routine of an accepted set
 module _ (set : Set) (typable : IsTypable set) (sound : IsSound set) (driver number : ℕ) where
@@ -137,6 +155,8 @@ module _ (set : Set) (typable : IsTypable set) (sound : IsSound set) (driver num
       (all_at RoutineFits d.routines number routine fits.routines h).operands
       (calls_lead set driver d there fits.few routine
       (all_at (CallsFit d.routines) d.routines number routine fits.calls h))
+      (queues_fit (length d.queues) routine fits.few_queues
+      (all_at (QueuesFit (length d.queues)) d.routines number routine fits.queues h))
 
   knows_routine : (routine : Routine) → routine_of set driver number ≡ Some routine
       → Knows (member set driver number routine)

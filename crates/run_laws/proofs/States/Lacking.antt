@@ -1,6 +1,6 @@
 -- No step of an accepted set is wrong: the frame on top lacks nothing that its instruction wants.
-use Rattle.std.proofs.Common.{◌≡◌, ℕ, ◌<◌, Bool, true, false, length, None, Some, refl, arith, sym, ◌∙◌}
-use Rattle.std.specs.Prelude.{slice_get, slice_index_or, nat_lt, not}
+use Rattle.std.proofs.Common.{Option, subst, ◌≡◌, ℕ, ◌<◌, Bool, true, false, length, None, Some, refl, arith, sym, ◌∙◌}
+use Rattle.std.specs.Prelude.{IfSome, slice_get, slice_index_or, nat_lt, not}
 use Rattle.std.proofs.lemmas.Option.{slice_get-get_or, slice_get_within}
 use Rattle.model.specs.declared.abs.Rule.{Rule}
 use Rattle.model.specs.declared.event.Lock.{Lock}
@@ -9,7 +9,7 @@ use Rattle.model.specs.declared.instr.Instr.{Instr}
 use Rattle.model.specs.declared.instr.Instr.TheVariants.{Acquire, Release, AcquireCancel, ReleaseCancel, Pass, Call, End, Ret}
 use Rattle.model.specs.declared.instr.Return.{Return}
 use Rattle.model.specs.declared.instr.Return.TheVariants.{WithStatus, Lower, Continue, Void}
-use Rattle.model.specs.declared.limits.TheConstants.{MAX_LOOPS}
+use Rattle.model.specs.declared.limits.TheConstants.{MAX_QUEUES, MAX_LOOPS}
 use Rattle.model.specs.declared.set.Sort.{Sort}
 use Rattle.model.specs.declared.set.Sort.TheVariants.{Dispatch, Dpc, Propagate, StartIo}
 use Rattle.model.specs.declared.status.Status.{Status}
@@ -18,20 +18,20 @@ use Rattle.model.specs.declared.world.Frame.TheVariants.{Routine}
 use Rattle.model.specs.Effect.{spin_lock}
 use Rattle.model.specs.LocalRule.{broken_if, kind_of, duty_fault, form_fault}
 use Rattle.model.specs.Set.{Set, sort_of}
-use Rattle.model.specs.Sound.{OperandFits}
+use Rattle.model.specs.Sound.{QueueFits, queue_named, OperandFits}
 use Rattle.model.specs.World.{Shared, blank_cells, status_in, register}
 use Rattle.run_laws.proofs.Lists.{all_at}
 use Rattle.run_laws.proofs.States.Entering.{LowerThere, lower_there}
-use Rattle.run_laws.proofs.States.Fits.{IsThere, owner_there}
+use Rattle.run_laws.proofs.States.Fits.{queue_there, IsThere, owner_there}
 use Rattle.run_laws.proofs.States.Frames.{state_of, Stays, Runs}
 use Rattle.run_laws.proofs.States.Kinds.{status_there}
 use Rattle.run_laws.proofs.States.LoopEnds.{room_for_loop, some_loop}
 use Rattle.run_laws.proofs.States.Obeyed.{SendsDown, sends_down, returns_by}
 use Rattle.run_laws.proofs.States.OnTop.{OnTop, at_routine, runs, value_suits, packet_there, number_found}
-use Rattle.run_laws.proofs.States.Queueless.{never_of_queues}
 use Rattle.run_laws.proofs.States.Rules.{States, first_none}
 use Rattle.run_laws.proofs.Steps.Comes.{Lacks, no_instruction, no_number, no_packet, no_room, no_loop, no_cells, none_taken, none_freed, no_queue, no_start, no_lower, no_status, no_form}
 use Rattle.run_laws.proofs.Steps.Words.{Forwarding, work_of, packet_operand, lock_taken, lock_freed, status_returned, is_form_of}
+use Rattle.run_laws.proofs.States.Queueing.{never_starting}
 
 broken_not : (b : Bool) (rule : Rule) → broken_if (not b) rule ≡ None → b ≡ true
 broken_not true rule h = refl
@@ -92,6 +92,12 @@ module _ (set : Set) (states : States) (s : Shared) (a : Activation) where
       lower_there set a.device a.driver h.good.sound h.stays.serves
       (down i operand.0 h is operand.1).lower
 
+  -- a queue that an instruction names is one of four
+  queue_within : (i : Instr) (q : ℕ) → Runs set states s a i → queue_named i ≡ Some q → q < MAX_QUEUES
+  queue_within i q h is =
+      subst (λ (o : Option ℕ). IfSome o (λ (k : ℕ). k < MAX_QUEUES)) is
+      (all_at (QueueFits MAX_QUEUES) h.routine.code a.position i h.known.queues h.here)
+
   some_status : (form : Return) → Runs set states s a (Ret form) → is_form_of Dispatch form ≡ true
       → status_returned a form ≡ None → ⊥
   some_status (WithStatus status) h of_form none = cc
@@ -137,8 +143,10 @@ module _ (set : Set) (states : States) (s : Shared) (a : Activation) where
       owner_there set s h.fits lock (taken_there i lock (runs set states s a i h at) is) none
   never_lacks h (none_freed i lock at is none) =
       owner_there set s h.fits lock (freed_there i lock (runs set states s a i h at) is) none
-  never_lacks h (no_queue i q at is queue none) = absurd (never_of_queues h.good a i at is)
-  never_lacks h (no_start i at is none) = absurd (never_of_queues h.good a i at is)
+  never_lacks h (no_queue i q at is none) =
+      let run : Runs set states s a i = runs set states s a i h at in
+      queue_there set s h.fits a.device q (device_within i run) (queue_within i q run is) none
+  never_lacks h (no_start i at is none) = absurd (never_starting h.good a at is)
   never_lacks h (no_lower i at is none) =
       let lower : LowerThere set a.device = lower_device i (runs set states s a i h at) is in
       let no : None ≡ Some lower.0 = sym none ∙ lower.1 in

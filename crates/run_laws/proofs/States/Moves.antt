@@ -19,8 +19,8 @@ use Rattle.model.specs.Sound.{OperandFits}
 use Rattle.model.specs.World.{Shared, at_label, next}
 use Rattle.run_laws.proofs.Lists.{from_here, all_at}
 use Rattle.run_laws.proofs.States.Follows.{next_state, jump_state, label_at, goes_to_label}
-use Rattle.run_laws.proofs.States.Frames.{Nested, extra, due_in, due, due_is, state_of, Moved, Runs, no_queue_word}
-use Rattle.run_laws.proofs.States.Kinds.{HasKinds, written_kinds, handed_long, handed_locks, label_kinds, label_locks}
+use Rattle.run_laws.proofs.States.Frames.{Nested, extra, due_in, due, due_is, state_of, Moved, Runs}
+use Rattle.run_laws.proofs.States.Kinds.{HasKinds, written_kinds, handed_long, handed_locks, label_suits, label_long, label_locks}
 use Rattle.run_laws.proofs.States.Known.{RoutineOperandsFit}
 use Rattle.run_laws.proofs.States.Remaining.{rest, rest_by, IsFormed, HasTurns, round_open, summed, summed_same, forward_le}
 use Rattle.run_laws.proofs.States.Rules.{States}
@@ -294,12 +294,11 @@ module _ (set : Set) (states : States) (s : Shared) (a : Activation) (i : Instr)
       let there : (label < length h.routine.code)
       × (states a.driver a.routine label ≡ handed_at_label (state_of states a) i) =
       jump_at label labelled in
-      let kinds : (handed_at_label (state_of states a) i).kinds ≡ (state_of states a).kinds =
-      label_kinds (state_of states a) i (no_queue_word set states s a i h) in
       plain_goes (label_plain (flow_of i) label labelled) label a.registers
       (handed_at_label (state_of states a) i)
       there.1 there.0 (label_open label labelled there.0) (label_left label labelled there.0)
-      (rw kinds h.stays.kinds) (ap length (label_locks (state_of states a) i)) (ap length kinds)
+      (label_suits s.issued (state_of states a) i a.registers h.stays.kinds)
+      (ap length (label_locks (state_of states a) i)) (label_long (state_of states a) i)
 
   -- whichever way it goes on, but for what sends a packet down: its register waits for a status
   pub moved : (b : Activation) (jumped : Bool) → is_forwarding (work_of i) ≡ false → GoesTo a i b jumped

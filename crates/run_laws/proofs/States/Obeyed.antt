@@ -14,7 +14,7 @@ use Rattle.model.specs.declared.set.Sort.{Sort}
 use Rattle.model.specs.declared.set.Sort.TheVariants.{Dispatch, Dpc, Propagate, StartIo}
 use Rattle.model.specs.declared.status.Status.{Status}
 use Rattle.model.specs.Forwarding.{lacks_lower, is_too_small}
-use Rattle.model.specs.LocalRule.{kind_of, is_kept, is_right, is_pending, is_completion, holds_lock, holds_spin_lock, a_new_one, one_handed_or_owned, demanded, complete_kind, broken_if, least_of, completion_sort_fault, forward_sort_fault, kept_fault, given_down, handed, refuses, forward_fault, duty_fault, form_fault, settled_fault}
+use Rattle.model.specs.LocalRule.{an_owned_one, kind_of, is_kept, is_right, is_pending, is_completion, holds_lock, holds_spin_lock, a_new_one, one_handed_or_owned, demanded, complete_kind, broken_if, least_of, completion_sort_fault, forward_sort_fault, kept_fault, given_down, handed, refuses, forward_fault, duty_fault, form_fault, settled_fault}
 use Rattle.model.specs.Set.{Set}
 use Rattle.run_laws.proofs.States.Rules.{first_none, second_none, unbroken}
 use Rattle.run_laws.proofs.Steps.Words.{Forwarding, work_of, packet_operand}
@@ -24,7 +24,7 @@ abbrev pub locations_wanted : Instr → ℕ
 locations_wanted (Call r f) = 1
 locations_wanted _ = 0
 
-forwards_of : (sort : Sort) → forward_sort_fault sort ≡ None → sort ≡ Dispatch
+pub forwards_of : (sort : Sort) → forward_sort_fault sort ≡ None → sort ≡ Dispatch
 forwards_of Dispatch h = refl
 forwards_of StartIo h = cc
 forwards_of Dpc h = cc
@@ -38,6 +38,10 @@ owned_right : (k : Kind) → demanded one_handed_or_owned k ≡ None → is_righ
 owned_right New h = refl
 owned_right Own h = refl
 owned_right _ h = cc
+
+pub inserts_right : (k : Kind) → demanded an_owned_one k ≡ None → k ≡ Own
+inserts_right Own h = refl
+inserts_right _ h = cc
 
 complete_right : (k : Kind) → complete_kind k ≡ None → is_right k ≡ true
 complete_right New h = refl

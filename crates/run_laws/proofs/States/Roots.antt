@@ -20,7 +20,7 @@ use Rattle.run_laws.proofs.Lists.{Each}
 use Rattle.run_laws.proofs.States.Entering.{IsOfSort, Begins, begins_back}
 use Rattle.run_laws.proofs.States.Lacking.{down}
 use Rattle.run_laws.proofs.States.OnTop.{OnTop, runs}
-use Rattle.run_laws.proofs.States.Queueless.{never_queued}
+use Rattle.run_laws.proofs.States.Queueing.{MovedOn, queue_moves}
 use Rattle.run_laws.proofs.States.Rules.{States}
 use Rattle.run_laws.proofs.States.Told.{told_frame, told_last}
 use Rattle.run_laws.proofs.Steps.Comes.{GoesTo, onward, jumping, Comes, computes, turns_loop, pages, looks_at, completes_packet, passes_down, calls_down, returns_status, lets_go, lets_walk, ends_dpc, walks_gone, walks_to, walks_up, carries_up, tops_out, works_on_queues, ends_startio}
@@ -93,7 +93,9 @@ module _ (set : Set) (root : Irql) where
     step_low under f o h low (lets_go a at sort free) = tt
     step_low under f o h low (lets_walk a n at sort) = tt
     step_low under f o h low (works_on_queues a i b queues starts actions full at queued) =
-        absurd (never_queued h.good at queued)
+        let on : MovedOn set states s a i b queues =
+        queue_moves set states s a i (runs set states s a i h at) queued in
+        (rw (on.moved.driver, on.moved.routine) low, tt)
     step_low under f o h low (ends_startio a at sort) = tt
     step_low under f o h low (ends_dpc a at sort) = tt
     step_low under f o h low (walks_gone n gone) = tt

@@ -1,6 +1,6 @@
 -- Every run of an accepted set stands as it should: what is shared fits the set, the past tells of
 -- it, and each thread has frames that stand on one another, dispatch routines at PASSIVE_LEVEL.
-use Rattle.std.proofs.Common.{◌≡◌, ℕ, ◌+◌, ◌≤◌, List, [], ◌∷◌, ◌++◌, length, Option, None, Some, Bool, false, refl, sym, ◌∙◌, subst, arith}
+use Rattle.std.proofs.Common.{◌<◌, ◌≡◌, ℕ, ◌+◌, ◌≤◌, List, [], ◌∷◌, ◌++◌, length, Option, None, Some, Bool, false, refl, sym, ◌∙◌, subst, arith}
 use Rattle.std.specs.Prelude.{slice_get}
 use Rattle.std.specs.List.{list_any}
 use Rattle.model.specs.declared.event.Reply.{Reply}
@@ -27,15 +27,19 @@ use Rattle.run_laws.proofs.Runs.Kept.{GoesOnBy, with_queued}
 use Rattle.run_laws.proofs.Runs.Threads.{frames_there, each_thread, each_frames, idle_frames}
 use Rattle.run_laws.proofs.States.Entering.{Enters, begins_request, begins_dpc}
 use Rattle.run_laws.proofs.States.Fine.{is_wrong, IsRight, is_right_step, StepLeaves, leaves_fine}
-use Rattle.run_laws.proofs.States.Fits.{PacketLeads, Fits, new_leads, unused_fits}
+use Rattle.run_laws.proofs.States.Fits.{queues_later, PacketLeads, Fits, new_leads, unused_fits}
 use Rattle.run_laws.proofs.States.Frames.{IsGood}
 use Rattle.run_laws.proofs.States.OnTop.{OnTop}
-use Rattle.run_laws.proofs.States.Queueless.{never_starts}
+use Rattle.run_laws.proofs.States.Queueing.{never_starts}
 use Rattle.run_laws.proofs.States.Roots.{Low, last_low, step_low, low_over}
 use Rattle.run_laws.proofs.States.Rules.{States}
 use Rattle.run_laws.proofs.States.Stacks.{Stacked, top_stands, replaced, stacked_later}
 use Rattle.run_laws.proofs.States.Told.{told_last, standing_last}
 use Rattle.run_laws.proofs.Steps.Below.{standing_is}
+use Rattle.model.specs.declared.limits.TheConstants.{MAX_LIVE_PACKETS}
+use Rattle.std.proofs.lemmas.Bool.{ltb-true}
+use Rattle.run_laws.proofs.Tests.{and_left}
+use Rattle.std.proofs.lemmas.List.{length-append}
 
 -- what a run keeps
 pub record Standing (set : Set) (states : States) (w : World) (past : List Entry) : Type 0 where
@@ -136,6 +140,8 @@ module _ (set : Set) (states : States) (w : World) (past : List Entry) (good : I
           spin = stands.fits.spin;
           rows = stands.fits.rows;
           completions = stands.fits.completions;
+          queued = stands.fits.queued;
+          few = stands.fits.few;
         };
         tells = stands.tells;
         roots = stands.roots;
@@ -182,6 +188,15 @@ module _ (set : Set) (states : States) (w : World) (past : List Entry) (good : I
               completions = each_push (PacketLeads set) w.shared.packets
                   (new_packet n h.d h.major h.argument h.device.stack) stands.fits.completions
                   (new_leads set n h.d h.major h.argument h.device.stack);
+              queued = queues_later set w.shared.queues n (n + 1) (omega arith) stands.fits.queued;
+              few = (let room : length w.shared.packets < MAX_LIVE_PACKETS =
+                  ltb-true (length w.shared.packets) MAX_LIVE_PACKETS (and_left _ _ h.room) in
+                  let one : length (new_packet n h.d h.major h.argument h.device.stack ∷ []) ≡ 1 = refl in
+                  let long : length s.packets ≡ length w.shared.packets + length
+                  (new_packet n h.d h.major h.argument h.device.stack ∷ []) =
+                  length-append w.shared.packets
+                  (new_packet n h.d h.major h.argument h.device.stack ∷ []) in
+                  omega arith);
             };
             tells = tells_issue w.shared past stands.tells h.d h.major h.argument h.device.stack fits.low;
             roots = roots_after actor.thread s h.thread

@@ -27,7 +27,7 @@ use Rattle.model.specs.Queues.{StartState, has_room_for_next, has_room_to_start,
 use Rattle.model.specs.Set.{Set, instruction_at, sort_of, lower_of, label_of}
 use Rattle.model.specs.Sound.{queue_named}
 use Rattle.model.specs.World.{Shared, queue_of, with_queue, start_of, with_start, with_register, owner_of, with_owner, with_locks, packet_of, with_packet, without_packet, packet_in, number_in, register, next, at_label, innermost, with_loops, with_info, mark_current, current_location, sent_down, shared_with, left_location, moved_up, is_marked, completion_of, completed}
-use Rattle.run_laws.specs.NoQueues.{is_of_queues}
+use Rattle.run_laws.specs.StartsNoPackets.{starts_packets}
 use Rattle.run_laws.proofs.Steps.Words.{Computing, Paging, Looking, Forwarding, work_of, is_touching, goes_next, packet_operand, number_operand, second_operand, keeps_registers, numbered_by, is_of_cells, lock_taken, lock_freed, jumps_on, status_returned, is_form_of}
 
 -- the instruction at an activation's position
@@ -56,10 +56,9 @@ pub data Lacks (set : Set) (s : Shared) (a : Activation) : Type 0 where
       → owner_of s.locks lock ≡ None → Lacks set s a
   none_freed : (i : Instr) (lock : Lock) → Executing set a i → lock_freed a i ≡ Some lock
       → owner_of s.locks lock ≡ None → Lacks set s a
-  no_queue : (i : Instr) (q : ℕ) → Executing set a i → is_of_queues i ≡ true
-      → queue_named i ≡ Some q
+  no_queue : (i : Instr) (q : ℕ) → Executing set a i → queue_named i ≡ Some q
       → queue_of s a.device q ≡ None → Lacks set s a
-  no_start : (i : Instr) → Executing set a i → is_of_queues i ≡ true → start_of s a.device ≡ None
+  no_start : (i : Instr) → Executing set a i → starts_packets i ≡ true → start_of s a.device ≡ None
       → Lacks set s a
   no_lower : (i : Instr) → Executing set a i → work_of i ≡ Forwarding → lower_of set a.device ≡ None
       → Lacks set s a

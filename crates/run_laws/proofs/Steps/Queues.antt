@@ -1,24 +1,37 @@
--- What the instructions about queues have in common: they touch one packet or none.
-use Rattle.std.proofs.Common.{◌≡◌, ◌⊎◌, ℕ, Bool, true, List, [], ◌∷◌, refl, inl, inr}
+-- What the instructions about queues have in common: they touch one packet or none, and the routine goes
+-- on.
+use Rattle.std.proofs.Common.{◌≡◌, ◌⊎◌, ℕ, Bool, List, [], ◌∷◌, refl, inl, inr}
 use Rattle.model.specs.declared.instr.Instr.{Instr}
 use Rattle.model.specs.declared.world.Activation.{Activation}
 use Rattle.model.specs.Action.{Action, Touches}
 use Rattle.model.specs.Queues.{StartState}
 use Rattle.model.specs.World.{Shared}
-use Rattle.run_laws.specs.NoQueues.{is_of_queues}
 use Rattle.run_laws.proofs.Steps.Comes.{Queued, inserts, removes, removes_none, starts_packet, takes_out, takes_none, puts_in, starts_next}
+use Rattle.run_laws.proofs.Steps.Words.{Queueing, work_of}
 
-pub queued_is : {s : Shared} {a b : Activation} {i : Instr} {queues : List (List (List ℕ))}
+pub queued_work : {s : Shared} {a b : Activation} {i : Instr} {queues : List (List (List ℕ))}
     {lists : List StartState} {actions : List Action} {full : Bool}
-    → Queued s a i b queues lists actions full → is_of_queues i ≡ true
-queued_is (inserts r q n entries reads there) = refl
-queued_is (removes r q label n entries there) = refl
-queued_is (removes_none r q label there) = refl
-queued_is (starts_packet r n start reads there) = refl
-queued_is (takes_out r label n start there slot) = refl
-queued_is (takes_none r label start there slot) = refl
-queued_is (puts_in r n start reads there) = refl
-queued_is (starts_next start there) = refl
+    → Queued s a i b queues lists actions full → work_of i ≡ Queueing
+queued_work (inserts r q n entries reads there) = refl
+queued_work (removes r q label n entries there) = refl
+queued_work (removes_none r q label there) = refl
+queued_work (starts_packet r n start reads there) = refl
+queued_work (takes_out r label n start there slot) = refl
+queued_work (takes_none r label start there slot) = refl
+queued_work (puts_in r n start reads there) = refl
+queued_work (starts_next start there) = refl
+
+pub queued_same : {s : Shared} {a b : Activation} {i : Instr} {queues : List (List (List ℕ))}
+    {lists : List StartState} {actions : List Action} {full : Bool}
+    → Queued s a i b queues lists actions full → (b.driver ≡ a.driver) × (b.routine ≡ a.routine)
+queued_same (inserts r q n entries reads there) = (refl, refl)
+queued_same (removes r q label n entries there) = (refl, refl)
+queued_same (removes_none r q label there) = (refl, refl)
+queued_same (starts_packet r n start reads there) = (refl, refl)
+queued_same (takes_out r label n start there slot) = (refl, refl)
+queued_same (takes_none r label start there slot) = (refl, refl)
+queued_same (puts_in r n start reads there) = (refl, refl)
+queued_same (starts_next start there) = (refl, refl)
 
 pub queued_touches : {s : Shared} {a b : Activation} {i : Instr} {queues : List (List (List ℕ))}
     {lists : List StartState} {actions : List Action} {full : Bool}

@@ -185,7 +185,7 @@ module _ (set : Set) (s : Shared) (t : ℕ) (under : Option Frame) (a : Activati
       → packet_in s (register a r) ≡ o → queue_of s a.device q ≡ entries
       → ComesTo (insert_effect s a q o entries)
   inserted_in r q None entries at reads there = errs a (no_packet (Insert r q) r at refl reads)
-  inserted_in r q (Some n) None at reads there = errs a (no_queue (Insert r q) q at refl refl there)
+  inserted_in r q (Some n) None at reads there = errs a (no_queue (Insert r q) q at refl there)
   inserted_in r q (Some n) (Some entries) at reads there =
       works_on_queues a (Insert r q) _ _ _ _ _ at (inserts r q n entries reads there)
 
@@ -197,7 +197,7 @@ module _ (set : Set) (s : Shared) (t : ℕ) (under : Option Frame) (a : Activati
 
   removed_in : (r q label : ℕ) (entries : Option (List ℕ)) → Executing set a (Remove r q label)
       → queue_of s a.device q ≡ entries → ComesTo (remove_effect s a r q label entries)
-  removed_in r q label None at there = errs a (no_queue (Remove r q label) q at refl refl there)
+  removed_in r q label None at there = errs a (no_queue (Remove r q label) q at refl there)
   removed_in r q label (Some entries) at there = removed_from r q label entries at there
 
   started_in : (r : ℕ) (o : Option ℕ) (start : Option StartState) → Executing set a (Start r)

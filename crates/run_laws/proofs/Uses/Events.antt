@@ -23,7 +23,7 @@ use Rattle.run_laws.proofs.Past.LivePackets.{find, find_above, find_push}
 use Rattle.run_laws.proofs.Runs.Events.{Happens, IssuesPacket, StepsFrame, issues, nothing, steps, begins, begins_startio}
 use Rattle.run_laws.proofs.Runs.Threads.{frames_there}
 use Rattle.run_laws.proofs.States.Frames.{IsGood}
-use Rattle.run_laws.proofs.States.Queueless.{never_starts}
+use Rattle.run_laws.proofs.States.Queueing.{never_starts}
 use Rattle.run_laws.proofs.States.Rules.{States}
 use Rattle.run_laws.proofs.States.Stacks.{Stacked}
 use Rattle.run_laws.proofs.States.Standing.{Standing, on_top, stands_there}
@@ -73,7 +73,7 @@ pub record KnownWorld (set : Set) (states : States) (w : World) (past : List Ent
   pub good : IsGood set states
   pub stands : Standing set states w past
   pub kept : Held states w
-  pub sees : (t : ℕ) → AllSeen set None (frames_on w t)
+  pub sees : (t : ℕ) → AllSeen set states None (frames_on w t)
 
 module _ (set : Set) (states : States) (w : World) (past : List Entry)
     (known : KnownWorld set states w past) where
@@ -83,8 +83,8 @@ module _ (set : Set) (states : States) (w : World) (past : List Entry)
       record {
         top = on_top set states w past known.good known.stands t h;
         holding = top_holding set states w past known.stands known.kept t h;
-        seen = (seen_top set None h.below (h.frame ∷ [])
-            (subst (λ (frames : List Frame). AllSeen set None frames)
+        seen = (seen_top set states None h.below (h.frame ∷ [])
+            (subst (λ (frames : List Frame). AllSeen set states None frames)
             (frames_there w t h.thread h.found ∙ h.frames) (known.sees t))).0;
         on = frame_on set states w.shared.issued h.below h.frame
             (stands_there set states w past known.good known.stands t h);

@@ -41,10 +41,9 @@ use Rattle.run_laws.proofs.States.Frames.{Runs, state_of}
 use Rattle.run_laws.proofs.States.Moves.{arrives, arrives_next, falls_next, has_next, onto}
 use Rattle.run_laws.proofs.States.Lacking.{down}
 use Rattle.run_laws.proofs.States.Obeyed.{returns_by}
-use Rattle.run_laws.proofs.States.Queueless.{runs_no_queues}
 use Rattle.run_laws.proofs.Steps.Locking.{LockWord, freed_word, taken_word}
 use Rattle.run_laws.proofs.States.Rules.{States}
-use Rattle.run_laws.proofs.Steps.Comes.{Comes, Executing, GoesTo, Reads, awaits_lock, calls_down, completes_gone, completes_packet, computes, errs, frees_lock, lets_go, lets_walk, looks_at, marks_packet, opens_loop, pages, passes_down, retakes_lock, returns_status, takes_lock, touches_gone, turns_loop, writes_info, ends_dpc, works_on_queues, ends_startio}
+use Rattle.run_laws.proofs.Steps.Comes.{Queued, Comes, Executing, GoesTo, Reads, awaits_lock, calls_down, completes_gone, completes_packet, computes, errs, frees_lock, lets_go, lets_walk, looks_at, marks_packet, opens_loop, pages, passes_down, retakes_lock, returns_status, takes_lock, touches_gone, turns_loop, writes_info, ends_dpc, works_on_queues, ends_startio}
 use Rattle.run_laws.proofs.Steps.Faults.{none_first, none_later}
 use Rattle.run_laws.proofs.Steps.Words.{Looking, Marking, Work, jumps_on, packet_operand, work_of}
 use Rattle.run_laws.proofs.Uses.Becomes.{gets_marked, goes_down}
@@ -53,6 +52,9 @@ use Rattle.run_laws.proofs.Past.Stacks.{shared_length}
 use Rattle.run_laws.proofs.Uses.Fates.{late_in, late_mark, late_on}
 use Rattle.run_laws.proofs.Uses.Traced.{is_about}
 use Rattle.run_laws.proofs.Uses.Steps.{UseStep, apart_at, becomes_at, found_other, found_put, kept_at, late_of, split_step}
+use Rattle.model.specs.Queues.{StartState}
+use Rattle.run_laws.proofs.Steps.Queues.{queued_work, queued_touches}
+use Rattle.run_laws.proofs.States.Queueing.{queue_moves, MovedOn}
 
 -- a routine that goes on has as much to carry up as before, and what stands on one carries nothing
 pub late_still : (states : States) (returned : Bool) (n : ℕ) (under : Option Frame) (a b : Activation)
@@ -155,7 +157,7 @@ looks_so s (IfPending q label) sort set driver r p jumped rule work operand jump
 looks_so s _ sort set driver r p jumped rule work operand jumps = cc
 
 -- a mark: of a packet that the routine was handed, or where one has to be carried up
-marked_kind : (carried : Settled) (k : Kind) → mark_fault carried k ≡ None
+pub marked_kind : (carried : Settled) (k : Kind) → mark_fault carried k ≡ None
     → (k ≡ New) ⊎ ((k ≡ View) × (carried ≡ NeedMark))
 marked_kind carried New h = inl refl
 marked_kind NeedMark View h = inr (refl, refl)
@@ -245,6 +247,16 @@ module _ (set : Set) (states : States) (s : Shared) (past : List Entry) (actor :
   settled_next i at leads quiet =
       ap (λ (state : Abs). state.settled) (arrives_next set states s a i (h.runs i at) leads)
       ∙ onto_settled (state_of states a) i false quiet
+
+  queued_settled : (i : Instr) (b : Activation) (queues : List (List (List ℕ)))
+      (lists : List StartState) (actions : List Action) (full : Bool) → Executing set a i
+      → Queued s a i b queues lists actions full
+      → (state_of states b).settled ≡ (state_of states a).settled
+  queued_settled i b queues lists actions full at queued =
+      let on : MovedOn set states s a i b queues = queue_moves set states s a i (h.runs i at) queued in
+      ap (λ (state : Abs). state.settled) on.moved.arrives
+      ∙ onto_settled (state_of states a) i on.jumped
+      (quiet_work i (ap keeps_settled (queued_work queued)))
 
   settled_word : (i : Instr) → Executing set a i → LockWord i
       → (states a.driver a.routine (a.position + 1)).settled ≡ (state_of states a).settled
@@ -532,7 +544,14 @@ module _ (set : Set) (states : States) (s : Shared) (past : List Entry) (actor :
       Stepped
       (settled_word i at (freed_word a i lock freed)) refl (λ n. refl)
   routine_used below o (works_on_queues b i c queues starts actions full at queued) quiet =
-      absurd (runs_no_queues set states s a i (h.runs i at) queued)
+      let settled : (state_of states c).settled ≡ (state_of states a).settled =
+      queued_settled i c queues starts actions full at queued in
+      let after : Shared = record s { queues = queues; starts = starts } in
+      elim (queued_touches queued) [
+        | inl none ↦ rw none (on_used after c (Executes ∷ []) Stepped settled refl (λ n. refl))
+        | inr one ↦
+            rw one.1 (on_used after c (Executes ∷ Touches one.0 ∷ []) Stepped settled refl (λ n. refl))
+      ]
   routine_used below o (completes_packet b r status n p at reads there) quiet =
       written_used n p (completed p status) (Routine (next a) ∷ Walk n ∷ [])
       (Executes ∷ Completes n ∷ []) there refl

@@ -5,7 +5,7 @@ use Rattle.std.specs.Prelude.{⊤}
 use Rattle.model.specs.declared.abs.Abs.{Abs}
 use Rattle.model.specs.declared.instr.Instr.TheVariants.{End}
 use Rattle.model.specs.declared.set.Sort.{Sort}
-use Rattle.model.specs.declared.set.Sort.TheVariants.{Dispatch}
+use Rattle.model.specs.declared.set.Sort.TheVariants.{Propagate, Dpc, Dispatch}
 use Rattle.model.specs.declared.world.Activation.{Activation}
 use Rattle.model.specs.declared.world.Frame.{Frame}
 use Rattle.model.specs.declared.world.Frame.TheVariants.{Routine, Walk}
@@ -21,11 +21,11 @@ use Rattle.run_laws.proofs.States.Entering.{IsOfSort, sort_there, begins_back}
 use Rattle.run_laws.proofs.States.Frames.{Stays, state_of}
 use Rattle.run_laws.proofs.States.Known.{IsKnown}
 use Rattle.run_laws.proofs.States.LoopEnds.{moved_end}
-use Rattle.run_laws.proofs.States.NoViews.{dispatch_no_view, no_view_at}
+use Rattle.run_laws.proofs.States.NoViews.{propagate_no_new, dpc_no_new, is_new, HasNone, dpc_no_view, dispatch_no_view, no_view_at}
 use Rattle.run_laws.proofs.States.OnTop.{OnTop, runs}
 use Rattle.run_laws.proofs.States.Rules.{States}
 use Rattle.run_laws.proofs.Steps.Comes.{Reads}
-use Rattle.run_laws.proofs.Live.Sees.{Seen, reads_own, bare_reads}
+use Rattle.run_laws.proofs.Live.Sees.{reads_view, Seen}
 use Rattle.run_laws.proofs.Uses.RoutineSteps.{OnWalk, StepsRoutine}
 use Rattle.run_laws.proofs.Uses.WalkSteps.{StepsWalk}
 
@@ -39,7 +39,7 @@ pub record KnownTop (set : Set) (states : States) (s : Shared) (past : List Entr
     : Type 0 where
   pub top : OnTop set states s f
   pub holding : Holding states s past f
-  pub seen : Seen set under f
+  pub seen : Seen set states under f
   pub on : FrameOn set under f
 
 module _ (set : Set) (states : States) (s : Shared) (past : List Entry) (under : Option Frame)
@@ -63,16 +63,35 @@ module _ (set : Set) (states : States) (s : Shared) (past : List Entry) (under :
   never_views : IsOfSort set a Dispatch → (r : ℕ) → is_view (kind_of (state_of states a) r) ≡ true → ⊥
   never_views is r views = let no : false ≡ true = sym (unseen is r) ∙ views in cc
 
-  views_under : (u : Option Frame) → Seen set u (Routine a) → (r n : ℕ)
+  pub dpc_views : IsOfSort set a Dpc → (r : ℕ) → is_view (kind_of (state_of states a) r) ≡ true → ⊥
+  dpc_views is r views =
+      let none : is_view (kind_of (state_of states a) r) ≡ false =
+      no_view_at (state_of states a).kinds r
+      (dpc_no_view (member set a.driver a.routine h.top.stands.0) a.position (state_of states a)
+      (sort_is Dpc is) (known.follows.arrives a.position stays.within)) in
+      let no : false ≡ true = sym none ∙ views in cc
+
+  -- a DPC routine and a completion routine have no packet that was handed over
+  pub dpc_news : IsOfSort set a Dpc → HasNone is_new (state_of states a)
+  dpc_news is =
+      dpc_no_new (member set a.driver a.routine h.top.stands.0) a.position (state_of states a)
+      (sort_is Dpc is) (known.follows.arrives a.position stays.within)
+
+  pub propagate_news : IsOfSort set a Propagate → HasNone is_new (state_of states a)
+  propagate_news is =
+      propagate_no_new (member set a.driver a.routine h.top.stands.0) a.position (state_of states a)
+      (sort_is Propagate is) (known.follows.arrives a.position stays.within)
+
+  views_under : (u : Option Frame) → Seen set states u (Routine a) → (r n : ℕ)
       → is_view (kind_of (state_of states a) r) ≡ true → Reads s a r n → u ≡ Some (Walk n)
   views_under None seen r n views reads =
       elim seen [
         | inl is ↦ absurd (never_views is r views)
-        | inr bare ↦ absurd (bare_reads set s a r n bare reads)
+        | inr is ↦ absurd (dpc_views is r views)
       ]
   views_under (Some (Routine b)) seen r n views reads = absurd (never_views seen r views)
   views_under (Some (Walk m)) seen r n views reads =
-      ap (λ (k : ℕ). Some (Walk k)) (sym (reads_own m s a seen r n reads))
+      ap (λ (k : ℕ). Some (Walk k)) (sym (reads_view states m s a seen r n views reads))
 
   pub steps_routine : StepsRoutine set states s past under a
   steps_routine =

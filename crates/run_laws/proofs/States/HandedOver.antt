@@ -1,0 +1,196 @@
+-- What holds of the values in registers of kinds that no instruction makes: packets that a routine was
+-- handed, and packets on their way up.
+use Rattle.std.proofs.Common.{◌≡◌, ℕ, zero, suc, Bool, true, false, List, [], ◌∷◌, sym, subst, ◌∙◌, refl}
+use Rattle.std.specs.Prelude.{⊤, slice_index_or, slice_set}
+use Rattle.std.specs.List.{list_any}
+use Rattle.model.specs.declared.abs.Abs.{Abs}
+use Rattle.model.specs.declared.abs.Kind.{Kind}
+use Rattle.model.specs.declared.abs.Kind.TheVariants.{Blank as BlankKind, Num as NumKind, Lower, New, Own}
+use Rattle.model.specs.declared.instr.Instr.{Instr}
+use Rattle.model.specs.declared.instr.Instr.TheVariants.{Const, Move, Clear, Load, LoadPaged, Get, Mark, Insert, Remove, Start, Take, Begin, Pass, Call, Complete, IfPending}
+use Rattle.model.specs.declared.world.Activation.{Activation}
+use Rattle.model.specs.declared.world.Value.{Value}
+use Rattle.model.specs.declared.world.Value.TheVariants.{Blank, Num, Ref}
+use Rattle.model.specs.Action.{Action}
+use Rattle.model.specs.LocalRule.{given_down, handed, handed_at_label, kind_of, left_behind, marked}
+use Rattle.model.specs.Queues.{StartState}
+use Rattle.model.specs.Set.{Set, flow_of, sort_of}
+use Rattle.model.specs.World.{Shared, next}
+use Rattle.run_laws.proofs.States.Frames.{Runs, state_of}
+use Rattle.run_laws.proofs.States.Kinds.{number_kinds}
+use Rattle.run_laws.proofs.States.Moves.{arrives, arrives_next, has_next}
+use Rattle.run_laws.proofs.States.NoViews.{IsHanded, left_none}
+use Rattle.run_laws.proofs.States.Queueing.{runs_no_start}
+use Rattle.run_laws.proofs.States.Rules.{States}
+use Rattle.run_laws.proofs.Steps.Comes.{GoesTo, Queued, Written, inserts, jumping, keeps_all, makes_blank, makes_number, moves_over, onward, removes, removes_none}
+use Rattle.run_laws.proofs.Steps.Words.{is_touching, keeps_registers, work_of}
+use Rattle.run_laws.proofs.Tests.{or_left, or_right}
+
+abbrev pub HoldOf : (Kind → Bool) → (Value → Type 0) → List Kind → List Value → Type 0
+HoldOf f P [] values = ⊤
+HoldOf f P (k ∷ kinds) [] = ⊤
+HoldOf f P (k ∷ kinds) (v ∷ values) = (f k ≡ true → P v) × HoldOf f P kinds values
+
+-- what copies a value from one register to another
+abbrev pub copies : Instr → Bool
+copies (Move r q) = true
+copies _ = false
+
+pub keeps_copies : (i : Instr) → keeps_registers i ≡ true → copies i ≡ false
+keeps_copies (Move r q) h = cc
+keeps_copies _ h = refl
+
+pub touching_copies : (i : Instr) → is_touching (work_of i) ≡ true → copies i ≡ false
+touching_copies (Move r q) h = cc
+touching_copies _ h = refl
+
+module _ (f : Kind → Bool) (given : IsHanded f) (P : Value → Type 0) where
+  is_not : (k : Kind) → f k ≡ false → f k ≡ true → ⊥
+  is_not k none is = let no : true ≡ false = sym is ∙ none in cc
+
+  pub hold_get : (kinds : List Kind) (values : List Value) (r : ℕ) → P Blank → HoldOf f P kinds values
+      → f (slice_index_or kinds r BlankKind) ≡ true → P (slice_index_or values r Blank)
+  hold_get [] values r empty h is = absurd (is_not BlankKind given.blank is)
+  hold_get (k ∷ kinds) [] r empty h is = empty
+  hold_get (k ∷ kinds) (v ∷ values) zero empty h is = h.0 is
+  hold_get (k ∷ kinds) (v ∷ values) (suc r) empty h is = hold_get kinds values r empty h.1 is
+
+  pub hold_set : (kinds : List Kind) (values : List Value) (r : ℕ) (k : Kind) (v : Value)
+      → HoldOf f P kinds values → (f k ≡ true → P v)
+      → HoldOf f P (slice_set kinds r k) (slice_set values r v)
+  hold_set [] values r k v h new = tt
+  hold_set (j ∷ kinds) [] zero k v h new = tt
+  hold_set (j ∷ kinds) [] (suc r) k v h new = tt
+  hold_set (j ∷ kinds) (w ∷ values) zero k v h new = (new, h.1)
+  hold_set (j ∷ kinds) (w ∷ values) (suc r) k v h new = (h.0, hold_set kinds values r k v h.1 new)
+
+  pub hold_turn : (kinds : List Kind) (values : List Value) (r : ℕ) (k : Kind) → f k ≡ false
+      → HoldOf f P kinds values → HoldOf f P (slice_set kinds r k) values
+  hold_turn [] values r k none h = tt
+  hold_turn (j ∷ kinds) [] zero k none h = tt
+  hold_turn (j ∷ kinds) [] (suc r) k none h = tt
+  hold_turn (j ∷ kinds) (w ∷ values) zero k none h = ((λ is. absurd (is_not k none is)), h.1)
+  hold_turn (j ∷ kinds) (w ∷ values) (suc r) k none h = (h.0, hold_turn kinds values r k none h.1)
+
+  -- a register that is told something else
+  pub hold_told : (kinds : List Kind) (values : List Value) (r : ℕ) (v : Value) → P v
+      → HoldOf f P kinds values → HoldOf f P kinds (slice_set values r v)
+  hold_told [] values r v new h = tt
+  hold_told (j ∷ kinds) [] r v new h = tt
+  hold_told (j ∷ kinds) (w ∷ values) zero v new h = ((λ is. new), h.1)
+  hold_told (j ∷ kinds) (w ∷ values) (suc r) v new h = (h.0, hold_told kinds values r v new h.1)
+
+  pub hold_none : (kinds : List Kind) (values : List Value) → list_any f kinds ≡ false
+      → HoldOf f P kinds values
+  hold_none [] values none = tt
+  hold_none (j ∷ kinds) [] none = tt
+  hold_none (j ∷ kinds) (w ∷ values) none = (
+    (λ is. absurd (is_not j (or_left (f j) (list_any f kinds) none) is)),
+    hold_none kinds values (or_right (f j) (list_any f kinds) none),
+  )
+
+  hold_move : (kinds : List Kind) (values : List Value) (r q : ℕ) → P Blank → HoldOf f P kinds values
+      → HoldOf f P
+      (slice_set (slice_set kinds r (slice_index_or kinds q BlankKind)) q
+      (left_behind (slice_index_or kinds q BlankKind)))
+      (slice_set values r (slice_index_or values q Blank))
+  hold_move kinds values r q empty h =
+      let k : Kind = slice_index_or kinds q BlankKind in
+      let v : Value = slice_index_or values q Blank in
+      hold_turn (slice_set kinds r k) (slice_set values r v) q (left_behind k) (left_none f given k)
+      (hold_set kinds values r k v h (λ is. hold_get kinds values q empty h is))
+
+  marked_hold : (s : Abs) (values : List Value) (r : ℕ) (k : Kind) → HoldOf f P s.kinds values
+      → HoldOf f P (marked s r k).kinds values
+  marked_hold s values r New h = hold_turn s.kinds values r Own given.own h
+  marked_hold s values r _ h = h
+
+  given_hold : (s : Abs) (values : List Value) (r : ℕ) (k : Kind) → HoldOf f P s.kinds values
+      → HoldOf f P (given_down s r k).kinds values
+  given_hold s values r New h = hold_turn s.kinds values r Lower given.lower h
+  given_hold s values r Own h = hold_turn s.kinds values r BlankKind given.blank h
+  given_hold s values r _ h = h
+
+  -- an instruction after which the values are as they were
+  pub handed_hold : (s : Abs) (i : Instr) (values : List Value) → copies i ≡ false
+      → HoldOf f P s.kinds values → HoldOf f P (handed s i).kinds values
+  handed_hold s (Const r n) values plain h = hold_turn s.kinds values r NumKind given.number h
+  handed_hold s (Move r q) values plain h = cc
+  handed_hold s (Clear r) values plain h = hold_turn s.kinds values r BlankKind given.blank h
+  handed_hold s (Load r c) values plain h = hold_turn s.kinds values r NumKind given.number h
+  handed_hold s (LoadPaged r c) values plain h = hold_turn s.kinds values r NumKind given.number h
+  handed_hold s (Get r q field) values plain h = hold_turn s.kinds values r NumKind given.number h
+  handed_hold s (Mark r) values plain h = marked_hold s values r (kind_of s r) h
+  handed_hold s (Insert r q) values plain h = hold_turn s.kinds values r BlankKind given.blank h
+  handed_hold s (Remove r q label) values plain h = hold_turn s.kinds values r Own given.own h
+  handed_hold s (Start r) values plain h = hold_turn s.kinds values r BlankKind given.blank h
+  handed_hold s (Take r label) values plain h = hold_turn s.kinds values r Own given.own h
+  handed_hold s (Begin r) values plain h = hold_turn s.kinds values r BlankKind given.blank h
+  handed_hold s (Pass r) values plain h = given_hold s values r (kind_of s r) h
+  handed_hold s (Call r g) values plain h = given_hold s values r (kind_of s r) h
+  handed_hold s (Complete r status) values plain h = hold_turn s.kinds values r BlankKind given.blank h
+  handed_hold s _ values plain h = h
+
+  pub label_hold : (s : Abs) (i : Instr) (values : List Value) → HoldOf f P s.kinds values
+      → HoldOf f P (handed_at_label s i).kinds values
+  label_hold s (Remove r q label) values h = hold_turn s.kinds values r BlankKind given.blank h
+  label_hold s (Take r label) values h = hold_turn s.kinds values r BlankKind given.blank h
+  label_hold s (IfPending r label) values h = h
+  label_hold s _ values h = h
+
+  -- how a routine goes on
+  module _ (set : Set) (states : States) (s : Shared) (a : Activation) (empty : P Blank) where
+    abbrev Held : Activation → Type 0
+    Held b = HoldOf f P (state_of states b).kinds b.registers
+
+    written_hold : (i : Instr) (registers : List Value) → Runs set states s a i → Written a i registers
+        → Held a
+        → HoldOf f P (handed (state_of states a) i).kinds registers
+    written_hold i registers h (keeps_all _ same) held =
+        handed_hold (state_of states a) i a.registers (keeps_copies i same) held
+    written_hold i registers h (makes_number _ r n is) held =
+        subst (λ (kinds : List Kind). HoldOf f P kinds (slice_set a.registers r (Num n)))
+        (sym (number_kinds (state_of states a) (sort_of set a.driver a.routine) set a.driver i r
+        h.obeys is))
+        (hold_set (state_of states a).kinds a.registers r NumKind (Num n) held
+        (λ is_one. absurd (is_not NumKind given.number is_one)))
+    written_hold i registers h (moves_over r q) held =
+        hold_move (state_of states a).kinds a.registers r q empty held
+    written_hold i registers h (makes_blank r) held =
+        hold_set (state_of states a).kinds a.registers r BlankKind Blank held (λ is. empty)
+
+    pub goes_hold : (i : Instr) (b : Activation) (jumped : Bool) → Runs set states s a i
+        → GoesTo a i b jumped → Held a → Held b
+    goes_hold i b jumped h (onward registers on written) held =
+        subst (λ (state : Abs). HoldOf f P state.kinds registers)
+        (sym (arrives set states s a i h _ false (onward registers on written)))
+        (written_hold i registers h written held)
+    goes_hold i b jumped h (jumping label labelled) held =
+        subst (λ (state : Abs). HoldOf f P state.kinds a.registers)
+        (sym (arrives set states s a i h _ true (jumping label labelled)))
+        (label_hold (state_of states a) i a.registers held)
+
+    pub next_hold : (i : Instr) → Runs set states s a i → has_next (flow_of i) ≡ true
+        → copies i ≡ false → Held a → Held (next a)
+    next_hold i h leads plain held =
+        subst (λ (state : Abs). HoldOf f P state.kinds a.registers)
+        (sym (arrives_next set states s a i h leads))
+        (handed_hold (state_of states a) i a.registers plain held)
+
+  -- by an instruction about queues
+  pub queued_hold : (set : Set) (states : States) (s : Shared) (a : Activation) (i : Instr) → P Blank
+      → Runs set states s a i
+      → {b : Activation} {queues : List (List (List ℕ))} {lists : List StartState}
+      {actions : List Action} {full : Bool} → Queued s a i b queues lists actions full
+      → HoldOf f P (state_of states a).kinds a.registers
+      → HoldOf f P (state_of states b).kinds b.registers
+  queued_hold set states s a i empty h (inserts r q n entries reads there) held =
+      next_hold set states s a empty (Insert r q) h refl refl held
+  queued_hold set states s a i empty h (removes r q label n entries there) held =
+      subst (λ (state : Abs). HoldOf f P state.kinds (slice_set a.registers r (Ref n)))
+      (sym (arrives_next set states s a (Remove r q label) h refl))
+      (hold_set (state_of states a).kinds a.registers r Own (Ref n) held
+      (λ is. absurd (is_not Own given.own is)))
+  queued_hold set states s a i empty h (removes_none r q label there) held =
+      goes_hold set states s a empty (Remove r q label) _ true h (jumping label refl) held
+  queued_hold set states s a i empty h _ held = absurd (runs_no_start h refl)
