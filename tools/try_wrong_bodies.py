@@ -65,7 +65,7 @@ def answers(folder, crates):
         said = re.match(r'rt: must-fail (\S+)\.edit: (.*)', line)
         if said:
             yield said.groups()
-        elif 'error' in line or line.startswith('rt: '):
+        elif re.search(r'\berror\b', line) or line.startswith('rt: '):
             yield None, line.rstrip('\n')
     rt.wait()
 
