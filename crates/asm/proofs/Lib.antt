@@ -1,3 +1,6 @@
+pub mod Fitting
+pub mod Added
+pub mod Tidy
 pub mod Orderly
 pub mod Turns
 pub mod Least

@@ -10,7 +10,7 @@ use Rattle.asm.specs.Outline.{Outline, nothing_read}
 use Rattle.asm.specs.Reading.{named, reading, resolved}
 use Rattle.asm.specs.Laws.{nothing_named, shows, unknown_from, FaultIsFirst, IsEndFault, IsFaultless, IsFirst, IsLineFault, IsRead, NamedIsFaultless}
 use Rattle.asm.proofs.First.{reading_closed, reading_ends, reading_fault}
-use Rattle.asm.proofs.Unknown.{unknown_is}
+use Rattle.asm.proofs.Unknown.Lines.{unknown_is}
 
 -- a text that is read to its end
 all_read : (text : List ℕ) (end : Outline) → reading nothing_read 1 (lines_of text) ≡ Ok end

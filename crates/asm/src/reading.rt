@@ -46,7 +46,7 @@ fn set_in(alloc: Global, text: &[u8]) -> Result<Result<DriverSet, AsmFault>, All
 
 impl<'a> Draft<'a> {
     /// Reads lines to the end of the text, the first of which is line 1.
-    #[tactic(auto, using(crate::proofs::Turns::line_read, crate::proofs::Turns::line_refused, crate::proofs::Turns::all_read))]
+    #[tactic(auto, using(crate::proofs::Turns::all_read))]
     fn read_all(
         &mut self,
         alloc: Global,
@@ -59,6 +59,7 @@ impl<'a> Draft<'a> {
         ensures closed { IfOk result (λ answer. OnOk answer (self.new.place ≡ Place.Outside)) }
         ensures orderly { IfOk result (λ answer. OnOk answer (IsOrderly self.new)) }
     {
+        #[tactic(auto, using(crate::proofs::Turns::line_read, crate::proofs::Turns::line_refused))]
         for (i, raw) in raws.iter().enumerate() {
             let line = i as u64 + 1;
             if let Err(kind) = self.read_on(alloc, line, raw.bytes())? {
@@ -99,7 +100,7 @@ impl<'a> Draft<'a> {
     }
 
     /// The set that was read, unless a line uses an unknown name.
-    #[tactic(auto, using(crate::proofs::Orderly::sound))]
+    #[tactic(auto, using(crate::proofs::Orderly::Lines::sound))]
     fn resolved(self) -> Result<DriverSet, AsmFault>
         requires orderly { IsOrderly self }
         requires closed { self.place ≡ Place.Outside }

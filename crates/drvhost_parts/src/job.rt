@@ -72,9 +72,13 @@ impl<'a> Job<'a> {
     pub fn of(alloc: Global, words: &'a [&'a str]) -> Result<Job<'a>, JobFault>
         ensures task { IfOk result
             (Names (subcommand_of program (map (λ word. word.now) words.entry.now))) }
-        ensures taken { OnOk result (fault_of program (map (λ word. word.now) words.entry.now) ≡ []) }
-        ensures refused { IfErr result (λ fault. takes program (map (λ word. word.now) words.entry.now) ≡ true
-            → (job : Job) → Names (subcommand_of program (map (λ word. word.now) words.entry.now)) job → fault ≡ JobFault.Memory) }
+        ensures taken { OnOk result
+            (fault_of program (map (λ word. word.now) words.entry.now) ≡ []) }
+        ensures refused { IfErr result (λ fault.
+            takes program (map (λ word. word.now) words.entry.now) ≡ true
+            → (job : Job)
+            → Names (subcommand_of program (map (λ word. word.now) words.entry.now)) job
+            → fault ≡ JobFault.Memory) }
     {
         let mut program = program(alloc)?;
         match program.try_get_matches_from_mut(words) {

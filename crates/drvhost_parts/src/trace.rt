@@ -40,7 +40,8 @@ pub fn trace<S: Source, P: Source, O: Sink, E: Sink>(
     requires out { CanCount (O.failures out.old) }
     requires err { CanCount (E.failures err.old) }
     ensures { Answers (IsTraceOf verification (S.remaining set.old) (P.remaining schedule.old))
-        (S.failures set.old + P.failures schedule.old) (S.failures set.new + P.failures schedule.new)
+        (S.failures set.old + P.failures schedule.old)
+        (S.failures set.new + P.failures schedule.new)
         (O.failures out.old) (O.failures out.new) (O.contents out.old) (O.contents out.new)
         (Says (E.failures err.old) (E.failures err.new) (E.contents err.old) (E.contents err.new))
         result }

@@ -46,8 +46,10 @@ fn zeros(alloc: Global, count: usize) -> Result<Vec<u8>, AllocError>
 pub(crate) fn make_room<K: Sink>(lines: &mut Lines, sink: &mut K) -> Result<(), Fault>
     requires { CanCount (K.failures sink.old) }
     ensures room { OnOk result (HasRoom lines.new) }
-    ensures written { OnOk result (Adds (K.contents sink.old) (K.contents sink.new) lines.old lines.new []) }
-    ensures broken { OnErr result (TakesBeginning (K.contents sink.old) (K.contents sink.new) lines.old) }
+    ensures written { OnOk result
+        (Adds (K.contents sink.old) (K.contents sink.new) lines.old lines.new []) }
+    ensures broken { OnErr result
+        (TakesBeginning (K.contents sink.old) (K.contents sink.new) lines.old) }
     ensures fault { IfErr result (λ fault. fault ≡ Fault.Write) }
     ensures writes { K.failures sink.new ≡ K.failures sink.old + writes_failed result }
 {

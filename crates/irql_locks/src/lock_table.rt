@@ -112,7 +112,8 @@ impl LockTable {
         requires there { IsSome (owner_of self.old lock) }
         requires once { owner_of self.old lock ≢ Some (Some thread) }
         ensures free { IsTrue result ↔ (owner_of self.old lock ≡ Some None) }
-        ensures owners { self.new ≡ (if result then with_owner self.old lock (Some thread) else self.old) }
+        ensures owners { self.new
+            ≡ (if result then with_owner self.old lock (Some thread) else self.old) }
     {
         if self.owner(lock) != Some(None) {
             return false;

@@ -100,8 +100,8 @@ pub enum Rule {
     Dropped = 13,
     /// V14: the token of a busy device is lost, doubled, or used without being there.
     Token = 14,
-    /// V15: an instruction or a form of return that isn't for the sort of its routine, or not for its
-    /// driver.
+    /// V15: an instruction or a form of return that isn't for the sort of its routine, or not for
+    /// its driver.
     Sort = 15,
     /// V16: a completion routine completes, forwards, or returns without carrying the mark up.
     Completion = 16,

@@ -21,8 +21,8 @@ pub enum Event {
         thread: u8,
         device: u8,
     },
-    /// The StartIo routine of the device begins on an idle thread, for the first packet of the start
-    /// list.
+    /// The StartIo routine of the device begins on an idle thread, for the first packet of the
+    /// start list.
     StartIo {
         thread: u8,
         device: u8,

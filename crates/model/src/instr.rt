@@ -79,8 +79,8 @@ pub enum Instr {
     ReleaseCancel,
     /// `insert r q`: the packet goes to the back of the device's queue of this number.
     Insert(Register, u8),
-    /// `remove r q L`: the register becomes the first packet of the queue, which is taken off; where
-    /// the queue is empty, it jumps to the label.
+    /// `remove r q L`: the register becomes the first packet of the queue, which is taken off;
+    /// where the queue is empty, it jumps to the label.
     Remove(Register, u8, u16),
     /// `start r`: IoStartPacket.
     Start(Register),

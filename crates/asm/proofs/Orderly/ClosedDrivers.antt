@@ -1,0 +1,205 @@
+-- A driver fits when it is closed, and then its routines and queues are known.
+use Rattle.std.proofs.Common.{◌≡◌, ℕ, ◌<◌, List, length, Option, Some, None, IfSome, get_or, refl, sym, ◌∙◌, ap, subst, arith}
+use Rattle.std.specs.Prelude.{map, slice_get, option_map, option_and_then}
+use Rattle.std.proofs.lemmas.List.Elements.{All-map}
+use Rattle.std.proofs.lemmas.List.{length-map}
+use Rattle.std.proofs.lemmas.Option.{slice_get-map}
+use Rattle.model.specs.declared.set.Routine.{Routine}
+use Rattle.model.specs.Sound.{DriverFits, RoutineFits, LabelFits, OperandFits, CallFits, CallsFit, QueueFits, QueuesFit, queue_named, HasSort, IsDispatch, IsCompletion, IsStartIo, IsDpc}
+use Rattle.model.specs.declared.set.Sort.{Sort}
+use Rattle.model.specs.declared.set.Sort.TheVariants.{Dispatch, StartIo, Dpc, Propagate}
+use Rattle.model.specs.declared.instr.Instr.{Instr}
+use Rattle.model.specs.declared.instr.Instr.TheVariants.{Insert, Remove, Call}
+use Rattle.asm.specs.declared.draft.ClosedRoutine.{ClosedRoutine}
+use Rattle.asm.specs.declared.draft.Use.{Use}
+use Rattle.asm.specs.declared.routines.Role.{Role}
+use Rattle.asm.specs.declared.routines.Role.TheVariants.{Handler, Completion, StartIo as StartIoRole, Dpc as DpcRole}
+use Rattle.asm.specs.Outline.{Outline, with_queue, with_routine, number_of, number_for, routine_called, entry_in, called, finished, finished_driver, missed_queue, queue_at, ClosedFits, IsOrderly, IsUse}
+use Rattle.asm.proofs.Orderly.Names.{use_known, number_within}
+
+-- the sort of a closed routine
+abbrev pub sort_at : ClosedRoutine → Sort
+sort_at routine = routine.sort
+
+-- a label is one still when the routine of a call is known
+labelled_still : (count : ℕ) (i : Instr) (f : Option ℕ) → LabelFits count i
+    → LabelFits count (with_routine i f)
+labelled_still count (Call r old) f h = tt
+labelled_still count _ f h = h
+
+-- and when its queue is known
+label_queued : (count : ℕ) (i : Instr) (q : ℕ) → LabelFits count i
+    → LabelFits count (with_queue i q)
+label_queued count (Insert r old) q h = h
+label_queued count (Remove r old label) q h = h
+label_queued count _ q h = h
+
+-- the operands of an instruction fit still when the routine of a call is known
+operands_still : (i : Instr) (f : Option ℕ) → OperandFits i → OperandFits (with_routine i f)
+operands_still (Call r old) f h = h
+operands_still _ f h = h
+
+operands_queued : (i : Instr) (q : ℕ) → OperandFits i → OperandFits (with_queue i q)
+operands_queued (Insert r old) q h = h
+operands_queued (Remove r old label) q h = h
+operands_queued _ q h = h
+
+-- so a closed routine fits when its driver is finished
+finished_fits : (o : Outline) (uses : ℕ) (routine : ClosedRoutine) → ClosedFits uses routine
+    → RoutineFits (finished o routine)
+finished_fits o uses routine h =
+    let same = length-map routine.code (called o) in
+    let count = length (map (called o) routine.code) in
+    record {
+      few = omega (arith, same, h.few);
+      labels = All-map (LabelFits count) (called o) routine.code (λ i d inside.
+          let step = get_or routine.code i d in
+          let numbered = with_routine step.instr (routine_called o step.call) in
+          label_queued count numbered (queue_at o step.queue)
+          (labelled_still count step.instr (routine_called o step.call)
+          (subst (λ (k : ℕ). LabelFits k step.instr) (sym same) (h.labels i d inside))));
+      operands = All-map OperandFits (called o) routine.code (λ i d inside.
+          let step = get_or routine.code i d in
+          operands_queued (with_routine step.instr (routine_called o step.call))
+          (queue_at o step.queue)
+          (operands_still step.instr (routine_called o step.call) (h.operands i d inside)));
+    }
+
+-- a routine's sort stays when its driver is finished
+sort_stays : (P : Sort → Type 0) (o : Outline) (sort : Sort) (routine : Option ClosedRoutine)
+    → option_map sort_at routine ≡ Some sort → P sort → HasSort P (option_map (finished o) routine)
+sort_stays P o sort None is h = cc
+sort_stays P o sort (Some routine) is h = let same : sort ≡ routine.sort = cc in subst P same h
+
+sort_kept : (P : Sort → Type 0) (o : Outline) (number : ℕ) (sort : Sort)
+    → map sort_at o.routines ≡ o.sorts → slice_get o.sorts number ≡ Some sort → P sort
+    → HasSort P (slice_get (map (finished o) o.routines) number)
+sort_kept P o number sort sorts is h =
+    let here : option_map sort_at (slice_get o.routines number) ≡ Some sort =
+    sym (slice_get-map sort_at o.routines number)
+    ∙ ap (λ (all : List Sort). slice_get all number) sorts ∙ is in
+    subst (HasSort P) (sym (slice_get-map (finished o) o.routines number))
+    (sort_stays P o sort (slice_get o.routines number) here h)
+
+-- a number that is given for a role is that of a routine of a sort for it
+abbrev SortFor : Role → Sort → Type 0
+SortFor Handler sort = IsDispatch sort
+SortFor Completion sort = IsCompletion sort
+SortFor StartIoRole sort = IsStartIo sort
+SortFor DpcRole sort = IsDpc sort
+
+number_has_sort : (o : Outline) (role : Role) (number : ℕ) (sort : Option Sort)
+    → map sort_at o.routines ≡ o.sorts → slice_get o.sorts number ≡ sort
+    → IfSome (number_for role number sort)
+    (λ n. HasSort (SortFor role) (slice_get (map (finished o) o.routines) n))
+number_has_sort o role number None sorts is = tt
+number_has_sort o Handler number (Some Dispatch) sorts is =
+    sort_kept IsDispatch o number Dispatch sorts is tt
+number_has_sort o Handler number (Some _) sorts is = tt
+number_has_sort o Completion number (Some Propagate) sorts is =
+    sort_kept IsCompletion o number Propagate sorts is tt
+number_has_sort o Completion number (Some _) sorts is = tt
+number_has_sort o StartIoRole number (Some StartIo) sorts is =
+    sort_kept IsStartIo o number StartIo sorts is tt
+number_has_sort o StartIoRole number (Some _) sorts is = tt
+number_has_sort o DpcRole number (Some Dpc) sorts is =
+    sort_kept IsDpc o number Dpc sorts is tt
+number_has_sort o DpcRole number (Some _) sorts is = tt
+
+named_has_sort : (o : Outline) (role : Role) (number : Option ℕ) → map sort_at o.routines ≡ o.sorts
+    → IfSome (option_and_then (λ n. number_for role n (slice_get o.sorts n)) number)
+    (λ n. HasSort (SortFor role) (slice_get (map (finished o) o.routines) n))
+named_has_sort o role None sorts = tt
+named_has_sort o role (Some n) sorts = number_has_sort o role n (slice_get o.sorts n) sorts refl
+
+-- so a table entry, or the routine of a call, is of a sort for its role
+entry_fits : (o : Outline) (role : Role) (u : Option Use) → map sort_at o.routines ≡ o.sorts
+    → IfSome (entry_in o.routine_names o.sorts role u)
+    (λ n. HasSort (SortFor role) (slice_get (map (finished o) o.routines) n))
+entry_fits o role None sorts = tt
+entry_fits o role (Some u) sorts = named_has_sort o role (number_of o.routine_names u.name) sorts
+
+call_fits : (o : Outline) (i : Instr) (f : Option ℕ)
+    → IfSome f (λ n. HasSort IsCompletion (slice_get (map (finished o) o.routines) n))
+    → CallFits (map (finished o) o.routines) (with_routine i f)
+call_fits o (Call r old) f h = h
+call_fits o _ f h = tt
+
+call_queued : (routines : List Routine) (i : Instr) (q : ℕ) → CallFits routines i
+    → CallFits routines (with_queue i q)
+call_queued routines (Insert r old) q h = h
+call_queued routines (Remove r old label) q h = h
+call_queued routines _ q h = h
+
+calls_fit : (o : Outline) (routine : ClosedRoutine) → map sort_at o.routines ≡ o.sorts
+    → CallsFit (map (finished o) o.routines) (finished o routine)
+calls_fit o routine sorts = All-map (CallFits (map (finished o) o.routines)) (called o) routine.code
+    (λ i d inside.
+    let step = get_or routine.code i d in
+    call_queued (map (finished o) o.routines) (with_routine step.instr (routine_called o step.call))
+    (queue_at o step.queue)
+    (call_fits o step.instr (routine_called o step.call)
+    (entry_fits o Completion (option_and_then (λ place. slice_get o.calls place) step.call) sorts)))
+
+place_within : (o : Outline) (place : ℕ) → missed_queue o ≡ None → place < length o.queue_uses
+    → queue_at o (Some place) < length o.queue_names
+place_within o place known inside =
+    let used = use_known o.queue_names None o.queue_uses place known inside in
+    rw used.1 (number_within o.queue_names used.0.name used.2)
+
+-- the number of a queue that an instruction names is below the count of queues
+queue_below : (o : Outline) (named place : Option ℕ) → length o.queues ≡ length o.queue_names
+    → missed_queue o ≡ None → IsUse (length o.queue_uses) named place
+    → IfSome named (λ old. queue_at o place < length o.queues)
+queue_below o None place count known used = tt
+queue_below o (Some old) None count known used = absurd used
+queue_below o (Some old) (Some place) count known used =
+    let within = place_within o place known used in omega (arith, within, count)
+
+queue_fits : (count : ℕ) (i : Instr) (q : ℕ) → IfSome (queue_named i) (λ old. q < count)
+    → QueueFits count (with_queue i q)
+queue_fits count (Insert r old) q h = h
+queue_fits count (Remove r old label) q h = h
+queue_fits count _ q h = tt
+
+-- an instruction names the same queue when the routine of a call is known
+queue_still : (i : Instr) (f : Option ℕ) → queue_named (with_routine i f) ≡ queue_named i
+queue_still (Call r old) f = refl
+queue_still _ f = refl
+
+queues_fit : (o : Outline) (routine : ClosedRoutine) → length o.queues ≡ length o.queue_names
+    → missed_queue o ≡ None → ClosedFits (length o.queue_uses) routine
+    → QueuesFit (length o.queues) (finished o routine)
+queues_fit o routine count known h =
+    All-map (QueueFits (length o.queues)) (called o) routine.code (λ i d inside.
+    let step = get_or routine.code i d in
+    let numbered = with_routine step.instr (routine_called o step.call) in
+    let below = queue_below o (queue_named step.instr) step.queue count known
+    (h.queues i d inside) in
+    queue_fits (length o.queues) numbered (queue_at o step.queue)
+    (subst (λ (named : Option ℕ). IfSome named (λ old. queue_at o step.queue < length o.queues))
+    (sym (queue_still step.instr (routine_called o step.call))) below))
+
+pub finished_driver_fits : (o : Outline) → length o.routine_names ≡ length o.routines
+    → map sort_at o.routines ≡ o.sorts → missed_queue o ≡ None → IsOrderly o
+    → DriverFits (finished_driver o)
+finished_driver_fits o same sorts known h =
+    let count = length-map o.routines (finished o) in
+    record {
+      few = omega (arith, same, count, h.few_routines);
+      routines = All-map RoutineFits (finished o) o.routines
+          (λ i d inside. finished_fits o (length o.queue_uses) (get_or o.routines i d)
+          (h.routines_fit i d inside));
+      read = entry_fits o Handler o.read sorts;
+      write = entry_fits o Handler o.write sorts;
+      control = entry_fits o Handler o.control sorts;
+      startio = entry_fits o StartIoRole o.startio sorts;
+      dpc = entry_fits o DpcRole o.dpc sorts;
+      calls = All-map (CallsFit (map (finished o) o.routines)) (finished o) o.routines
+          (λ i d inside. calls_fit o (get_or o.routines i d) sorts);
+      few_queues = omega (arith, h.few_queues, h.queue_count);
+      guards = h.guards_fit;
+      queues = All-map (QueuesFit (length o.queues)) (finished o) o.routines
+          (λ i d inside. queues_fit o (get_or o.routines i d) h.queue_count known
+          (h.routines_fit i d inside));
+    }
