@@ -17,6 +17,12 @@ pub(crate) struct Case {
     pub(crate) err: &'static str,
 }
 
+/// A text, or the lines of a routine's code, and the fault that is told of it.
+pub(crate) struct Faulty {
+    pub(crate) text: &'static str,
+    pub(crate) told: &'static str,
+}
+
 /// Whether the library does in the case what it should.
 pub(crate) fn is_met(alloc: Global, case: &Case) -> bool {
     match case.trace {
@@ -45,6 +51,11 @@ pub(crate) fn is_judged_so(alloc: Global, set: &str, status: u8, out: &str, err:
         && errors.failures() == 0
         && output.into_inner().as_slice() == out.as_bytes()
         && errors.into_inner().as_slice() == err.as_bytes()
+}
+
+/// Whether a text has a fault, and is told so.
+pub(crate) fn is_faulty(alloc: Global, text: &str, told: &str) -> bool {
+    is_judged_so(alloc, text, 2, "", told)
 }
 
 /// Whether the trace of a schedule ends and writes so.

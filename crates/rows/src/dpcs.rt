@@ -5,18 +5,24 @@ use drvhost_parts::job::Verification;
 
 /// A driver whose DPC routine reads and writes cells under a lock.
 const COUNTS: &str =
-    "driver d\ndispatch READ f\ndpc g\nroutine f dispatch\ncomplete r0 SUCCESS\nret SUCCESS\nendr\nroutine g dpc\nacquire l0\nload r1 c0\nstore c1 r1\nrelease l0\nret void\nendr\nendd\ndevice v d 1\n";
+    "driver d\ndispatch READ f\ndpc g\nroutine f dispatch\ncomplete r0 SUCCESS\nret SUCCESS\nendr\n\
+     routine g dpc\nacquire l0\nload r1 c0\nstore c1 r1\nrelease l0\nret void\nendr\nendd\n\
+     device v d 1\n";
 
 /// A routine of sort `dpc` that no `dpc` line names.
 const UNNAMED: &str = "driver d\nroutine g dpc\nret void\nendr\nendd\ndevice v d 1\n";
 
-/// A dispatch routine and a DPC routine that share a lock. The lines that name them come after them.
+/// A dispatch routine and a DPC routine that share a lock. The lines that name them come after
+/// them.
 const SHARES: &str =
-    "driver d\nroutine g dpc\nacquire l0\nload r1 c0\nstore c1 r1\nrelease l0\nret void\nendr\ndpc g\nroutine f dispatch\nacquire l0\nload r1 c1\nstore c0 r1\nrelease l0\nput r0 r1\ncomplete r0 SUCCESS\nret SUCCESS\nendr\ndispatch READ f\nendd\ndevice v d 1\n";
+    "driver d\nroutine g dpc\nacquire l0\nload r1 c0\nstore c1 r1\nrelease l0\nret void\nendr\n\
+     dpc g\nroutine f dispatch\nacquire l0\nload r1 c1\nstore c0 r1\nrelease l0\nput r0 r1\n\
+     complete r0 SUCCESS\nret SUCCESS\nendr\ndispatch READ f\nendd\ndevice v d 1\n";
 
 /// Two devices of a driver with a DPC routine.
 const TWO_DEVICES: &str =
-    "driver d\ndpc g\nroutine g dpc\nacquire l0\nload r1 c0\nstore c1 r1\nrelease l0\nret void\nendr\nendd\ndevice v d 1\ndevice w d 1\n";
+    "driver d\ndpc g\nroutine g dpc\nacquire l0\nload r1 c0\nstore c1 r1\nrelease l0\nret void\n\
+     endr\nendd\ndevice v d 1\ndevice w d 1\n";
 
 const PAGED: &str =
     "driver d\ndpc g\nroutine g dpc\nloadp r1 p0\nret void\nendr\nendd\ndevice v d 1\n";
@@ -34,7 +40,8 @@ static CASES: [Case; 11] = [
         set: COUNTS,
         trace: None,
         status: 0,
-        out: "accepted\ndriver 0 routine 0 dispatch certificate 2\ndriver 0 routine 1 dpc certificate 5\n",
+        out: "accepted\ndriver 0 routine 0 dispatch certificate 2\n\
+            driver 0 routine 1 dpc certificate 5\n",
         err: "",
     },
     Case {
@@ -49,44 +56,54 @@ static CASES: [Case; 11] = [
         name: "an interrupt, its DPC, and one that waits",
         set: COUNTS,
         trace: Some((
-            "threads 2\ninterrupt 0\ninterrupt 0\ndpc 1 0\ndpc 0 0\nstep 1 5\ninterrupt 1\ndpc 9 0\n",
+            "threads 2\ninterrupt 0\ninterrupt 0\ndpc 1 0\ndpc 0 0\nstep 1 5\ninterrupt 1\n\
+             dpc 9 0\n",
             Verification::Required,
         )),
         status: 0,
-        out: "0 stepped\n1 idle\n2 stepped\n3 idle\n4 stepped\n5 stepped\n6 stepped\n7 stepped\n8 finished\n9 refused\n10 refused\n",
+        out: "0 stepped\n1 idle\n2 stepped\n3 idle\n4 stepped\n5 stepped\n6 stepped\n7 stepped\n\
+            8 finished\n9 refused\n10 refused\n",
         err: "",
     },
     Case {
         name: "interrupts while DPC routines run",
         set: COUNTS,
         trace: Some((
-            "threads 2\ninterrupt 0\ndpc 0 0\ninterrupt 0\ndpc 0 0\ndpc 1 0\nstep 0\nstep 1\ndpc 1 0\nissue 1 0 READ 0\ninterrupt 0\ninterrupt 0\nstep 0 4\nstep 1\ndpc 0 0\n",
+            "threads 2\ninterrupt 0\ndpc 0 0\ninterrupt 0\ndpc 0 0\ndpc 1 0\nstep 0\nstep 1\n\
+             dpc 1 0\nissue 1 0 READ 0\ninterrupt 0\ninterrupt 0\nstep 0 4\nstep 1\ndpc 0 0\n",
             Verification::Required,
         )),
         status: 0,
-        out: "0 stepped\n1 stepped\n2 stepped\n3 refused\n4 stepped\n5 stepped\n6 waited\n7 refused\n8 refused\n9 stepped\n10 idle\n11 stepped\n12 stepped\n13 stepped\n14 finished\n15 stepped\n16 stepped\n",
+        out: "0 stepped\n1 stepped\n2 stepped\n3 refused\n4 stepped\n5 stepped\n6 waited\n\
+            7 refused\n8 refused\n9 stepped\n10 idle\n11 stepped\n12 stepped\n13 stepped\n\
+            14 finished\n15 stepped\n16 stepped\n",
         err: "",
     },
     Case {
         name: "a DPC routine that waits for a dispatch routine's lock",
         set: SHARES,
         trace: Some((
-            "threads 2\nissue 0 0 READ 7\nstep 0\ninterrupt 0\ndpc 1 0\nstep 1\nstep 0 3\nstep 1 5\nstep 0 4\n",
+            "threads 2\nissue 0 0 READ 7\nstep 0\ninterrupt 0\ndpc 1 0\nstep 1\nstep 0 3\n\
+             step 1 5\nstep 0 4\n",
             Verification::Required,
         )),
         status: 0,
-        out: "0 started 0\n1 stepped\n2 stepped\n3 stepped\n4 waited\n5 stepped\n6 stepped\n7 stepped\n8 stepped\n9 stepped\n10 stepped\n11 stepped\n12 finished\n13 stepped\n14 stepped\n15 topped 0 0x00000000 0\n16 finished\n",
+        out: "0 started 0\n1 stepped\n2 stepped\n3 stepped\n4 waited\n5 stepped\n6 stepped\n\
+            7 stepped\n8 stepped\n9 stepped\n10 stepped\n11 stepped\n12 finished\n13 stepped\n\
+            14 stepped\n15 topped 0 0x00000000 0\n16 finished\n",
         err: "",
     },
     Case {
         name: "each device has its own DPC",
         set: TWO_DEVICES,
         trace: Some((
-            "threads 2\ninterrupt 1\ndpc 0 0\ndpc 0 1\ninterrupt 0\ninterrupt 1\ndpc 1 0\nstep 0\nstep 1\ninterrupt 2\ndpc 2 1\ndpc 0 2\n",
+            "threads 2\ninterrupt 1\ndpc 0 0\ndpc 0 1\ninterrupt 0\ninterrupt 1\ndpc 1 0\nstep 0\n\
+             step 1\ninterrupt 2\ndpc 2 1\ndpc 0 2\n",
             Verification::Required,
         )),
         status: 0,
-        out: "0 stepped\n1 idle\n2 stepped\n3 stepped\n4 stepped\n5 stepped\n6 stepped\n7 stepped\n8 refused\n9 refused\n10 refused\n",
+        out: "0 stepped\n1 idle\n2 stepped\n3 stepped\n4 stepped\n5 stepped\n6 stepped\n7 stepped\n\
+            8 refused\n9 refused\n10 refused\n",
         err: "",
     },
     Case {

@@ -10,7 +10,8 @@ use drvhost_parts::trace::trace;
 use std::alloc::Global;
 
 const SET: &str =
-    "driver d\ndispatch READ f\nroutine f dispatch\ncomplete r0 SUCCESS\nret SUCCESS\nendr\nendd\ndevice v d 1\n";
+    "driver d\ndispatch READ f\nroutine f dispatch\ncomplete r0 SUCCESS\nret SUCCESS\nendr\nendd\n\
+     device v d 1\n";
 
 const SCHEDULE: &str = "threads 1\nissue 0 0 READ 7\nstep 0 4\n";
 

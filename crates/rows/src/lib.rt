@@ -13,6 +13,12 @@ mod dpcs;
 #[cfg(test)]
 mod failures;
 #[cfg(test)]
+mod faulty_code;
+#[cfg(test)]
+mod faulty_drivers;
+#[cfg(test)]
+mod faulty_queues;
+#[cfg(test)]
 mod limits;
 #[cfg(test)]
 mod queues;

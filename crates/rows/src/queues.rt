@@ -10,32 +10,54 @@ use std::alloc::{AllocError, Global};
 use std::test::Fail;
 
 /// A driver with a queue and a StartIo routine, whose DPC routine takes from both.
-const STARTS: &str =
-    "driver d\nqueue q l0\ndispatch READ f\ndispatch WRITE w\nstartio s\ndpc g\nroutine f dispatch\nmark r0\nstart r0\nret PENDING\nendr\nroutine w dispatch\nmark r0\nacquire l0\ninsert r0 q\nrelease l0\nret PENDING\nendr\nroutine s startio\nbegin r0\nret void\nendr\nroutine g dpc\ntake r0 none\nnext\ncomplete r0 SUCCESS\nret void\nnone: acquire l0\nremove r1 q empty\nrelease l0\ncomplete r1 BUSY\nret void\nempty: release l0\nret void\nendr\nendd\ndevice v d 1\n";
+const STARTS: &str = "driver d\nqueue q l0\ndispatch READ f\ndispatch WRITE w\nstartio s\ndpc g\n\
+     routine f dispatch\nmark r0\nstart r0\nret PENDING\nendr\nroutine w dispatch\nmark r0\n\
+     acquire l0\ninsert r0 q\nrelease l0\nret PENDING\nendr\nroutine s startio\nbegin r0\n\
+     ret void\nendr\nroutine g dpc\ntake r0 none\nnext\ncomplete r0 SUCCESS\nret void\n\
+     none: acquire l0\nremove r1 q empty\nrelease l0\ncomplete r1 BUSY\nret void\n\
+     empty: release l0\nret void\nendr\nendd\ndevice v d 1\n";
 
 /// Two devices of a driver with a StartIo routine, and one of a driver without routines.
 const SHARES: &str =
-    "driver d\nstartio s\ndpc g\ndispatch READ f\nroutine f dispatch\nmark r0\nstart r0\nret PENDING\nendr\nroutine s startio\nbegin r0\nret void\nendr\nroutine g dpc\ntake r0 none\nnext\ncomplete r0 SUCCESS\nret void\nnone: ret void\nendr\nendd\ndriver e\nendd\ndevice v d 1\ndevice u e 1\ndevice w d 1\n";
+    "driver d\nstartio s\ndpc g\ndispatch READ f\nroutine f dispatch\nmark r0\nstart r0\n\
+     ret PENDING\nendr\nroutine s startio\nbegin r0\nret void\nendr\nroutine g dpc\ntake r0 none\n\
+     next\ncomplete r0 SUCCESS\nret void\nnone: ret void\nendr\nendd\ndriver e\nendd\n\
+     device v d 1\ndevice u e 1\ndevice w d 1\n";
 
 /// A driver whose StartIo routine completes its packet. The lines that name it come after it.
 const COMPLETES: &str =
-    "driver d\nroutine s startio\nmov r2 r0\ncomplete r2 UNSUCCESSFUL\nnext\nret void\nendr\ndispatch CONTROL f\nstartio s\nroutine f dispatch\nmark r0\nstart r0\nret PENDING\nendr\nendd\ndevice v d 1\n";
+    "driver d\nroutine s startio\nmov r2 r0\ncomplete r2 UNSUCCESSFUL\nnext\nret void\nendr\n\
+     dispatch CONTROL f\nstartio s\nroutine f dispatch\nmark r0\nstart r0\nret PENDING\nendr\n\
+     endd\ndevice v d 1\n";
 
 /// A driver whose routines put packets into a queue and take them off, on two devices.
 const REMOVES: &str =
-    "driver d\ndispatch READ f\ndispatch WRITE w\nqueue q l3\ndpc g\nroutine f dispatch\nmark r0\nacquire l3\ninsert r0 q\nrelease l3\nret PENDING\nendr\nroutine w dispatch\nacquire l3\nremove r1 q none\nrelease l3\ncomplete r1 CANCELLED\ncomplete r0 SUCCESS\nret SUCCESS\nnone: release l3\ncomplete r0 BUSY\nret BUSY\nendr\nroutine g dpc\nacquire l3\nremove r0 q none\nrelease l3\ncomplete r0 SUCCESS\nret void\nnone: release l3\nret void\nendr\nendd\ndevice v d 1\ndevice w d 1\n";
+    "driver d\ndispatch READ f\ndispatch WRITE w\nqueue q l3\ndpc g\nroutine f dispatch\nmark r0\n\
+     acquire l3\ninsert r0 q\nrelease l3\nret PENDING\nendr\nroutine w dispatch\nacquire l3\n\
+     remove r1 q none\nrelease l3\ncomplete r1 CANCELLED\ncomplete r0 SUCCESS\nret SUCCESS\n\
+     none: release l3\ncomplete r0 BUSY\nret BUSY\nendr\nroutine g dpc\nacquire l3\n\
+     remove r0 q none\nrelease l3\ncomplete r0 SUCCESS\nret void\nnone: release l3\nret void\n\
+     endr\nendd\ndevice v d 1\ndevice w d 1\n";
 
 /// A driver that queues requests for its DPC routine, on two devices.
 const TWO_DEVICES: &str =
-    "driver d\ndispatch READ f\nqueue q l0\ndpc g\nroutine f dispatch\nmark r0\nacquire l0\ninsert r0 q\nrelease l0\nret PENDING\nendr\nroutine g dpc\nacquire l0\nremove r0 q none\nrelease l0\ncomplete r0 SUCCESS\nret void\nnone: release l0\nret void\nendr\nendd\ndevice v d 1\ndevice w d 1\n";
+    "driver d\ndispatch READ f\nqueue q l0\ndpc g\nroutine f dispatch\nmark r0\nacquire l0\n\
+     insert r0 q\nrelease l0\nret PENDING\nendr\nroutine g dpc\nacquire l0\nremove r0 q none\n\
+     release l0\ncomplete r0 SUCCESS\nret void\nnone: release l0\nret void\nendr\nendd\n\
+     device v d 1\ndevice w d 1\n";
 
 /// A driver whose lines for queues come after the routines that name them.
 const ORDER: &str =
-    "driver d\nroutine g dpc\nacquire l3\nremove r0 q none\nrelease l3\ncomplete r0 SUCCESS\nret void\nnone: release l3\nret void\nendr\ndpc g\ndispatch READ f\nroutine f dispatch\nmark r0\nacquire l3\ninsert r0 q\nrelease l3\nret PENDING\nendr\nqueue p l3\nqueue q l3\nendd\ndevice v d 1\n";
+    "driver d\nroutine g dpc\nacquire l3\nremove r0 q none\nrelease l3\ncomplete r0 SUCCESS\n\
+     ret void\nnone: release l3\nret void\nendr\ndpc g\ndispatch READ f\nroutine f dispatch\n\
+     mark r0\nacquire l3\ninsert r0 q\nrelease l3\nret PENDING\nendr\nqueue p l3\nqueue q l3\n\
+     endd\ndevice v d 1\n";
 
 /// A queue called like a driver, a routine, a label and a device.
 const APART: &str =
-    "driver q\nqueue q l7\nqueue f l7\nqueue d l7\nqueue none l7\nroutine q dispatch\nmark r0\nacquire l7\ninsert r0 none\nremove r1 none none\ninsert r1 q\nnone: release l7\nret PENDING\nendr\ndispatch READ q\nendd\ndevice q q 1\n";
+    "driver q\nqueue q l7\nqueue f l7\nqueue d l7\nqueue none l7\nroutine q dispatch\nmark r0\n\
+     acquire l7\ninsert r0 none\nremove r1 none none\ninsert r1 q\nnone: release l7\nret PENDING\n\
+     endr\ndispatch READ q\nendd\ndevice q q 1\n";
 
 static CASES: [Case; 22] = [
     Case {
@@ -43,73 +65,118 @@ static CASES: [Case; 22] = [
         set: STARTS,
         trace: None,
         status: 0,
-        out: "accepted\ndriver 0 routine 0 dispatch certificate 3\ndriver 0 routine 1 dispatch certificate 5\ndriver 0 routine 2 startio certificate 2\ndriver 0 routine 3 dpc certificate 11\n",
+        out: "accepted\ndriver 0 routine 0 dispatch certificate 3\n\
+            driver 0 routine 1 dispatch certificate 5\ndriver 0 routine 2 startio certificate 2\n\
+            driver 0 routine 3 dpc certificate 11\n",
         err: "",
     },
     Case {
         name: "StartIo begins packet after packet, traced",
         set: STARTS,
         trace: Some((
-            "threads 3\nstartio 0 0\nissue 0 0 READ 1\nstep 0 3\nissue 0 0 READ 2\nstep 0 3\nstartio 1 0\nstep 1 1\nstartio 1 0\nstartio 2 0\ninterrupt 0\nstep 1 1\ndpc 2 0\nstep 2 2\nstartio 0 0\nstep 2 4\nstartio 9 0\nstartio 0 9\n",
+            "threads 3\nstartio 0 0\nissue 0 0 READ 1\nstep 0 3\nissue 0 0 READ 2\nstep 0 3\n\
+             startio 1 0\nstep 1 1\nstartio 1 0\nstartio 2 0\ninterrupt 0\nstep 1 1\ndpc 2 0\n\
+             step 2 2\nstartio 0 0\nstep 2 4\nstartio 9 0\nstartio 0 9\n",
             Verification::Required,
         )),
         status: 0,
-        out: "0 idle\n1 started 0\n2 stepped\n3 stepped\n4 finished\n5 started 1\n6 stepped\n7 stepped\n8 finished\n9 started 0\n10 stepped\n11 refused\n12 idle\n13 stepped\n14 finished\n15 stepped\n16 stepped\n17 stepped\n18 started 1\n19 stepped\n20 topped 0 0x00000000 0\n21 finished\n22 idle\n23 refused\n24 refused\n",
+        out: "0 idle\n1 started 0\n2 stepped\n3 stepped\n4 finished\n5 started 1\n6 stepped\n\
+            7 stepped\n8 finished\n9 started 0\n10 stepped\n11 refused\n12 idle\n13 stepped\n\
+            14 finished\n15 stepped\n16 stepped\n17 stepped\n18 started 1\n19 stepped\n\
+            20 topped 0 0x00000000 0\n21 finished\n22 idle\n23 refused\n24 refused\n",
         err: "",
     },
     Case {
         name: "a device is busy until its DPC routine starts the next packet",
         set: SHARES,
         trace: Some((
-            "threads 3\nissue 0 0 READ 0\nstep 0 3\nissue 0 0 READ 0\nstep 0 3\nissue 0 0 READ 0\nstep 0 3\nstartio 0 0\nstep 0 2\ninterrupt 0\ndpc 1 0\nstep 1 2\nstartio 0 0\nstep 0 1\nstep 1 3\ninterrupt 0\ndpc 2 0\nstep 2 2\nstep 0\ninterrupt 0\ndpc 2 0\nstep 2 5\nstartio 0 0\nstep 0 2\ninterrupt 0\ndpc 0 0\nstep 0 5\nstartio 0 0\n",
+            "threads 3\nissue 0 0 READ 0\nstep 0 3\nissue 0 0 READ 0\nstep 0 3\nissue 0 0 READ 0\n\
+             step 0 3\nstartio 0 0\nstep 0 2\ninterrupt 0\ndpc 1 0\nstep 1 2\nstartio 0 0\n\
+             step 0 1\nstep 1 3\ninterrupt 0\ndpc 2 0\nstep 2 2\nstep 0\ninterrupt 0\ndpc 2 0\n\
+             step 2 5\nstartio 0 0\nstep 0 2\ninterrupt 0\ndpc 0 0\nstep 0 5\nstartio 0 0\n",
             Verification::Required,
         )),
         status: 0,
-        out: "0 started 0\n1 stepped\n2 stepped\n3 finished\n4 started 1\n5 stepped\n6 stepped\n7 finished\n8 started 2\n9 stepped\n10 stepped\n11 finished\n12 started 0\n13 stepped\n14 finished\n15 stepped\n16 stepped\n17 stepped\n18 stepped\n19 started 1\n20 stepped\n21 stepped\n22 topped 0 0x00000000 0\n23 finished\n24 stepped\n25 stepped\n26 stepped\n27 stepped\n28 finished\n29 stepped\n30 refused\n31 stepped\n32 topped 1 0x00000000 0\n33 finished\n34 idle\n35 idle\n36 started 2\n37 stepped\n38 finished\n39 idle\n40 stepped\n41 stepped\n42 stepped\n43 stepped\n44 topped 2 0x00000000 0\n45 finished\n46 idle\n",
+        out: "0 started 0\n1 stepped\n2 stepped\n3 finished\n4 started 1\n5 stepped\n6 stepped\n\
+            7 finished\n8 started 2\n9 stepped\n10 stepped\n11 finished\n12 started 0\n13 stepped\n\
+            14 finished\n15 stepped\n16 stepped\n17 stepped\n18 stepped\n19 started 1\n20 stepped\n\
+            21 stepped\n22 topped 0 0x00000000 0\n23 finished\n24 stepped\n25 stepped\n26 stepped\n\
+            27 stepped\n28 finished\n29 stepped\n30 refused\n31 stepped\n32 topped 1 0x00000000 0\n\
+            33 finished\n34 idle\n35 idle\n36 started 2\n37 stepped\n38 finished\n39 idle\n\
+            40 stepped\n41 stepped\n42 stepped\n43 stepped\n44 topped 2 0x00000000 0\n45 finished\n\
+            46 idle\n",
         err: "",
     },
     Case {
         name: "each device has its own start list",
         set: SHARES,
         trace: Some((
-            "threads 2\nissue 0 0 READ 0\nissue 1 2 READ 0\nstep 0 3\nstep 1 3\nstartio 0 1\nstartio 0 3\nstartio 2 0\nstartio 0 2\nstartio 0 0\nstartio 1 0\nstartio 0 2\nstep 1 2\nstartio 1 0\n",
+            "threads 2\nissue 0 0 READ 0\nissue 1 2 READ 0\nstep 0 3\nstep 1 3\nstartio 0 1\n\
+             startio 0 3\nstartio 2 0\nstartio 0 2\nstartio 0 0\nstartio 1 0\nstartio 0 2\n\
+             step 1 2\nstartio 1 0\n",
             Verification::Required,
         )),
         status: 0,
-        out: "0 started 0\n1 started 1\n2 stepped\n3 stepped\n4 finished\n5 stepped\n6 stepped\n7 finished\n8 refused\n9 refused\n10 refused\n11 started 1\n12 refused\n13 started 0\n14 refused\n15 stepped\n16 finished\n17 idle\n",
+        out: "0 started 0\n1 started 1\n2 stepped\n3 stepped\n4 finished\n5 stepped\n6 stepped\n\
+            7 finished\n8 refused\n9 refused\n10 refused\n11 started 1\n12 refused\n13 started 0\n\
+            14 refused\n15 stepped\n16 finished\n17 idle\n",
         err: "",
     },
     Case {
         name: "a StartIo routine that completes and starts the next packet",
         set: COMPLETES,
         trace: Some((
-            "threads 2\nissue 0 0 CONTROL 5\nstep 0 3\nissue 0 0 CONTROL 6\nstep 0 3\nstartio 0 0\nstep 0 3\nstartio 1 0\nstep 0 2\nstartio 1 0\nstep 1 5\nstartio 0 0\n",
+            "threads 2\nissue 0 0 CONTROL 5\nstep 0 3\nissue 0 0 CONTROL 6\nstep 0 3\nstartio 0 0\n\
+             step 0 3\nstartio 1 0\nstep 0 2\nstartio 1 0\nstep 1 5\nstartio 0 0\n",
             Verification::Required,
         )),
         status: 0,
-        out: "0 started 0\n1 stepped\n2 stepped\n3 finished\n4 started 1\n5 stepped\n6 stepped\n7 finished\n8 started 0\n9 stepped\n10 stepped\n11 topped 0 0xC0000001 0\n12 idle\n13 stepped\n14 finished\n15 started 1\n16 stepped\n17 stepped\n18 topped 1 0xC0000001 0\n19 stepped\n20 finished\n21 idle\n",
+        out: "0 started 0\n1 stepped\n2 stepped\n3 finished\n4 started 1\n5 stepped\n6 stepped\n\
+            7 finished\n8 started 0\n9 stepped\n10 stepped\n11 topped 0 0xC0000001 0\n12 idle\n\
+            13 stepped\n14 finished\n15 started 1\n16 stepped\n17 stepped\n\
+            18 topped 1 0xC0000001 0\n19 stepped\n20 finished\n21 idle\n",
         err: "",
     },
     Case {
         name: "the first packet of a queue comes first",
         set: REMOVES,
         trace: Some((
-            "threads 2\nissue 0 0 READ 0\nstep 0 5\nissue 0 0 READ 0\nstep 0 3\nissue 1 0 READ 0\nstep 1 2\nstep 0 2\nstep 1 5\nissue 0 1 WRITE 0\nstep 0 7\nissue 0 0 WRITE 0\nstep 0 9\ninterrupt 0\ndpc 1 0\nstep 1 4\nstep 1 4\ninterrupt 0\ndpc 1 0\nstep 1 9\ninterrupt 0\ndpc 1 0\nstep 1 4\n",
+            "threads 2\nissue 0 0 READ 0\nstep 0 5\nissue 0 0 READ 0\nstep 0 3\nissue 1 0 READ 0\n\
+             step 1 2\nstep 0 2\nstep 1 5\nissue 0 1 WRITE 0\nstep 0 7\nissue 0 0 WRITE 0\n\
+             step 0 9\ninterrupt 0\ndpc 1 0\nstep 1 4\nstep 1 4\ninterrupt 0\ndpc 1 0\nstep 1 9\n\
+             interrupt 0\ndpc 1 0\nstep 1 4\n",
             Verification::Required,
         )),
         status: 0,
-        out: "0 started 0\n1 stepped\n2 stepped\n3 stepped\n4 stepped\n5 finished\n6 started 1\n7 stepped\n8 stepped\n9 stepped\n10 started 2\n11 stepped\n12 waited\n13 stepped\n14 finished\n15 stepped\n16 stepped\n17 stepped\n18 finished\n19 idle\n20 started 3\n21 stepped\n22 stepped\n23 stepped\n24 stepped\n25 topped 3 0x80000011 0\n26 finished\n27 idle\n28 started 4\n29 stepped\n30 stepped\n31 stepped\n32 stepped\n33 topped 0 0xC0000120 0\n34 stepped\n35 topped 4 0x00000000 0\n36 finished\n37 idle\n38 stepped\n39 stepped\n40 stepped\n41 stepped\n42 stepped\n43 stepped\n44 topped 1 0x00000000 0\n45 finished\n46 idle\n47 idle\n48 stepped\n49 stepped\n50 stepped\n51 stepped\n52 stepped\n53 stepped\n54 topped 2 0x00000000 0\n55 finished\n56 idle\n57 idle\n58 idle\n59 stepped\n60 stepped\n61 stepped\n62 stepped\n63 stepped\n64 finished\n",
+        out: "0 started 0\n1 stepped\n2 stepped\n3 stepped\n4 stepped\n5 finished\n6 started 1\n\
+            7 stepped\n8 stepped\n9 stepped\n10 started 2\n11 stepped\n12 waited\n13 stepped\n\
+            14 finished\n15 stepped\n16 stepped\n17 stepped\n18 finished\n19 idle\n20 started 3\n\
+            21 stepped\n22 stepped\n23 stepped\n24 stepped\n25 topped 3 0x80000011 0\n26 finished\n\
+            27 idle\n28 started 4\n29 stepped\n30 stepped\n31 stepped\n32 stepped\n\
+            33 topped 0 0xC0000120 0\n34 stepped\n35 topped 4 0x00000000 0\n36 finished\n37 idle\n\
+            38 stepped\n39 stepped\n40 stepped\n41 stepped\n42 stepped\n43 stepped\n\
+            44 topped 1 0x00000000 0\n45 finished\n46 idle\n47 idle\n48 stepped\n49 stepped\n\
+            50 stepped\n51 stepped\n52 stepped\n53 stepped\n54 topped 2 0x00000000 0\n55 finished\n\
+            56 idle\n57 idle\n58 idle\n59 stepped\n60 stepped\n61 stepped\n62 stepped\n63 stepped\n\
+            64 finished\n",
         err: "",
     },
     Case {
         name: "each device has its own queues",
         set: TWO_DEVICES,
         trace: Some((
-            "threads 2\nissue 0 0 READ 0\nissue 1 1 READ 0\nstep 0 3\nstep 1 3\nstep 0 2\nstep 1 2\ninterrupt 1\ndpc 1 1\nstep 1 9\ninterrupt 1\ndpc 1 1\nstep 1 4\ninterrupt 0\ndpc 0 0\nstep 0 9\n",
+            "threads 2\nissue 0 0 READ 0\nissue 1 1 READ 0\nstep 0 3\nstep 1 3\nstep 0 2\n\
+             step 1 2\ninterrupt 1\ndpc 1 1\nstep 1 9\ninterrupt 1\ndpc 1 1\nstep 1 4\n\
+             interrupt 0\ndpc 0 0\nstep 0 9\n",
             Verification::Required,
         )),
         status: 0,
-        out: "0 started 0\n1 started 1\n2 stepped\n3 stepped\n4 stepped\n5 stepped\n6 stepped\n7 stepped\n8 stepped\n9 finished\n10 stepped\n11 finished\n12 stepped\n13 stepped\n14 stepped\n15 stepped\n16 stepped\n17 stepped\n18 topped 1 0x00000000 0\n19 finished\n20 idle\n21 idle\n22 idle\n23 stepped\n24 stepped\n25 stepped\n26 stepped\n27 stepped\n28 finished\n29 stepped\n30 stepped\n31 stepped\n32 stepped\n33 stepped\n34 stepped\n35 topped 0 0x00000000 0\n36 finished\n37 idle\n38 idle\n39 idle\n",
+        out: "0 started 0\n1 started 1\n2 stepped\n3 stepped\n4 stepped\n5 stepped\n6 stepped\n\
+            7 stepped\n8 stepped\n9 finished\n10 stepped\n11 finished\n12 stepped\n13 stepped\n\
+            14 stepped\n15 stepped\n16 stepped\n17 stepped\n18 topped 1 0x00000000 0\n19 finished\n\
+            20 idle\n21 idle\n22 idle\n23 stepped\n24 stepped\n25 stepped\n26 stepped\n27 stepped\n\
+            28 finished\n29 stepped\n30 stepped\n31 stepped\n32 stepped\n33 stepped\n34 stepped\n\
+            35 topped 0 0x00000000 0\n36 finished\n37 idle\n38 idle\n39 idle\n",
         err: "",
     },
     Case {
@@ -120,7 +187,9 @@ static CASES: [Case; 22] = [
             Verification::Required,
         )),
         status: 0,
-        out: "0 started 0\n1 stepped\n2 stepped\n3 stepped\n4 stepped\n5 finished\n6 stepped\n7 stepped\n8 stepped\n9 stepped\n10 stepped\n11 stepped\n12 topped 0 0x00000000 0\n13 finished\n",
+        out: "0 started 0\n1 stepped\n2 stepped\n3 stepped\n4 stepped\n5 finished\n6 stepped\n\
+            7 stepped\n8 stepped\n9 stepped\n10 stepped\n11 stepped\n12 topped 0 0x00000000 0\n\
+            13 finished\n",
         err: "",
     },
     Case {
@@ -141,7 +210,9 @@ static CASES: [Case; 22] = [
     },
     Case {
         name: "a packet that topped out is inserted, unchecked",
-        set: "driver d\nqueue q l0\ndispatch READ f\nstartio s\nroutine f dispatch\ncomplete r0 SUCCESS\ninsert r0 q\nret SUCCESS\nendr\nroutine s startio\nbegin r0\nret void\nendr\nendd\ndevice v d 1\n",
+        set: "driver d\nqueue q l0\ndispatch READ f\nstartio s\nroutine f dispatch\n\
+            complete r0 SUCCESS\ninsert r0 q\nret SUCCESS\nendr\nroutine s startio\nbegin r0\n\
+            ret void\nendr\nendd\ndevice v d 1\n",
         trace: Some((
             "threads 1\nissue 0 0 READ 0\nstep 0 3\nstep 0\n",
             Verification::Skipped,
@@ -152,7 +223,9 @@ static CASES: [Case; 22] = [
     },
     Case {
         name: "a packet that topped out is removed, unchecked",
-        set: "driver d\nqueue q l0\ndispatch READ f\nstartio s\nroutine f dispatch\ninsert r0 q\ncomplete r0 SUCCESS\nremove r1 q x\nx: ret SUCCESS\nendr\nroutine s startio\nbegin r0\nret void\nendr\nendd\ndevice v d 1\n",
+        set: "driver d\nqueue q l0\ndispatch READ f\nstartio s\nroutine f dispatch\ninsert r0 q\n\
+            complete r0 SUCCESS\nremove r1 q x\nx: ret SUCCESS\nendr\nroutine s startio\nbegin r0\n\
+            ret void\nendr\nendd\ndevice v d 1\n",
         trace: Some((
             "threads 1\nissue 0 0 READ 0\nstep 0 9\n",
             Verification::Skipped,
@@ -163,7 +236,9 @@ static CASES: [Case; 22] = [
     },
     Case {
         name: "a packet that topped out is started, unchecked",
-        set: "driver d\nqueue q l0\ndispatch READ f\nstartio s\nroutine f dispatch\ncomplete r0 SUCCESS\nstart r0\nret SUCCESS\nendr\nroutine s startio\nbegin r0\nret void\nendr\nendd\ndevice v d 1\n",
+        set: "driver d\nqueue q l0\ndispatch READ f\nstartio s\nroutine f dispatch\n\
+            complete r0 SUCCESS\nstart r0\nret SUCCESS\nendr\nroutine s startio\nbegin r0\n\
+            ret void\nendr\nendd\ndevice v d 1\n",
         trace: Some((
             "threads 1\nissue 0 0 READ 0\nstep 0 3\n",
             Verification::Skipped,
@@ -174,51 +249,67 @@ static CASES: [Case; 22] = [
     },
     Case {
         name: "a packet that topped out begins, unchecked",
-        set: "driver d\nqueue q l0\ndispatch READ f\nstartio s\nroutine f dispatch\nstart r0\ncomplete r0 SUCCESS\nret SUCCESS\nendr\nroutine s startio\nbegin r0\nret void\nendr\nendd\ndevice v d 1\n",
+        set: "driver d\nqueue q l0\ndispatch READ f\nstartio s\nroutine f dispatch\nstart r0\n\
+            complete r0 SUCCESS\nret SUCCESS\nendr\nroutine s startio\nbegin r0\nret void\nendr\n\
+            endd\ndevice v d 1\n",
         trace: Some((
             "threads 1\nissue 0 0 READ 0\nstep 0 4\nstartio 0 0\nstep 0\n",
             Verification::Skipped,
         )),
         status: 1,
-        out: "0 started 0\n1 stepped\n2 stepped\n3 topped 0 0x00000000 0\n4 finished\n5 started 0\n6 bug 0x0A packet 0\n",
+        out: "0 started 0\n1 stepped\n2 stepped\n3 topped 0 0x00000000 0\n4 finished\n5 started 0\n\
+            6 bug 0x0A packet 0\n",
         err: "",
     },
     Case {
         name: "a packet that topped out is taken and completed, unchecked",
-        set: "driver d\nqueue q l0\ndispatch READ f\nstartio s\nroutine f dispatch\nbegin r0\ncomplete r0 SUCCESS\ntake r1 x\ncomplete r1 SUCCESS\nx: ret SUCCESS\nendr\nroutine s startio\nbegin r0\nret void\nendr\nendd\ndevice v d 1\n",
+        set: "driver d\nqueue q l0\ndispatch READ f\nstartio s\nroutine f dispatch\nbegin r0\n\
+            complete r0 SUCCESS\ntake r1 x\ncomplete r1 SUCCESS\nx: ret SUCCESS\nendr\n\
+            routine s startio\nbegin r0\nret void\nendr\nendd\ndevice v d 1\n",
         trace: Some((
             "threads 1\nissue 0 0 READ 0\nstep 0 9\n",
             Verification::Skipped,
         )),
         status: 1,
-        out: "0 started 0\n1 stepped\n2 stepped\n3 topped 0 0x00000000 0\n4 stepped\n5 bug 0x44 packet 0\n",
+        out: "0 started 0\n1 stepped\n2 stepped\n3 topped 0 0x00000000 0\n4 stepped\n\
+            5 bug 0x44 packet 0\n",
         err: "",
     },
     Case {
         name: "a packet twice in a queue, unchecked",
-        set: "driver d\nqueue q l0\ndispatch READ f\nstartio s\nroutine f dispatch\ninsert r0 q\ninsert r0 q\nremove r1 q x\nremove r2 q x\nremove r3 q x\nx: ret SUCCESS\nendr\nroutine s startio\nbegin r0\nret void\nendr\nendd\ndevice v d 1\n",
+        set: "driver d\nqueue q l0\ndispatch READ f\nstartio s\nroutine f dispatch\ninsert r0 q\n\
+            insert r0 q\nremove r1 q x\nremove r2 q x\nremove r3 q x\nx: ret SUCCESS\nendr\n\
+            routine s startio\nbegin r0\nret void\nendr\nendd\ndevice v d 1\n",
         trace: Some((
             "threads 1\nissue 0 0 READ 0\nstep 0 7\n",
             Verification::Skipped,
         )),
         status: 0,
-        out: "0 started 0\n1 stepped\n2 stepped\n3 stepped\n4 stepped\n5 stepped\n6 finished\n7 idle\n",
+        out: "0 started 0\n1 stepped\n2 stepped\n3 stepped\n4 stepped\n5 stepped\n6 finished\n\
+            7 idle\n",
         err: "",
     },
     Case {
         name: "next on an idle device, unchecked",
-        set: "driver d\nqueue q l0\ndispatch READ f\nstartio s\nroutine f dispatch\nnext\nstart r0\nnext\nstart r0\nstart r0\nnext\nnext\nret SUCCESS\nendr\nroutine s startio\nbegin r0\nret void\nendr\nendd\ndevice v d 1\n",
+        set: "driver d\nqueue q l0\ndispatch READ f\nstartio s\nroutine f dispatch\nnext\n\
+            start r0\nnext\nstart r0\nstart r0\nnext\nnext\nret SUCCESS\nendr\nroutine s startio\n\
+            begin r0\nret void\nendr\nendd\ndevice v d 1\n",
         trace: Some((
-            "threads 2\nissue 0 0 READ 0\nstep 0 3\nstartio 1 0\nstep 1 2\nstep 0 5\nstartio 1 0\nstep 1 2\nstartio 1 0\nstep 1 2\nstartio 1 0\n",
+            "threads 2\nissue 0 0 READ 0\nstep 0 3\nstartio 1 0\nstep 1 2\nstep 0 5\nstartio 1 0\n\
+             step 1 2\nstartio 1 0\nstep 1 2\nstartio 1 0\n",
             Verification::Skipped,
         )),
         status: 0,
-        out: "0 started 0\n1 stepped\n2 stepped\n3 stepped\n4 started 0\n5 stepped\n6 finished\n7 stepped\n8 stepped\n9 stepped\n10 stepped\n11 finished\n12 started 0\n13 stepped\n14 finished\n15 started 0\n16 stepped\n17 finished\n18 idle\n",
+        out: "0 started 0\n1 stepped\n2 stepped\n3 stepped\n4 started 0\n5 stepped\n6 finished\n\
+            7 stepped\n8 stepped\n9 stepped\n10 stepped\n11 finished\n12 started 0\n13 stepped\n\
+            14 finished\n15 started 0\n16 stepped\n17 finished\n18 idle\n",
         err: "",
     },
     Case {
         name: "a number is inserted, unchecked",
-        set: "driver d\nqueue q l0\ndispatch READ f\nstartio s\nroutine f dispatch\nconst r1 1\ninsert r1 q\nret SUCCESS\nendr\nroutine s startio\nbegin r0\nret void\nendr\nendd\ndevice v d 1\n",
+        set: "driver d\nqueue q l0\ndispatch READ f\nstartio s\nroutine f dispatch\nconst r1 1\n\
+            insert r1 q\nret SUCCESS\nendr\nroutine s startio\nbegin r0\nret void\nendr\nendd\n\
+            device v d 1\n",
         trace: Some((
             "threads 1\nissue 0 0 READ 0\nstep 0 3\n",
             Verification::Skipped,
@@ -229,7 +320,8 @@ static CASES: [Case; 22] = [
     },
     Case {
         name: "nothing is started, unchecked",
-        set: "driver d\nqueue q l0\ndispatch READ f\nstartio s\nroutine f dispatch\nstart r1\nret SUCCESS\nendr\nroutine s startio\nbegin r0\nret void\nendr\nendd\ndevice v d 1\n",
+        set: "driver d\nqueue q l0\ndispatch READ f\nstartio s\nroutine f dispatch\nstart r1\n\
+            ret SUCCESS\nendr\nroutine s startio\nbegin r0\nret void\nendr\nendd\ndevice v d 1\n",
         trace: Some((
             "threads 1\nissue 0 0 READ 0\nstep 0 3\n",
             Verification::Skipped,
@@ -240,7 +332,8 @@ static CASES: [Case; 22] = [
     },
     Case {
         name: "nothing begins, unchecked",
-        set: "driver d\nqueue q l0\ndispatch READ f\nstartio s\nroutine f dispatch\nbegin r1\nret SUCCESS\nendr\nroutine s startio\nbegin r0\nret void\nendr\nendd\ndevice v d 1\n",
+        set: "driver d\nqueue q l0\ndispatch READ f\nstartio s\nroutine f dispatch\nbegin r1\n\
+            ret SUCCESS\nendr\nroutine s startio\nbegin r0\nret void\nendr\nendd\ndevice v d 1\n",
         trace: Some((
             "threads 1\nissue 0 0 READ 0\nstep 0 3\n",
             Verification::Skipped,
@@ -251,7 +344,8 @@ static CASES: [Case; 22] = [
     },
     Case {
         name: "a status from a StartIo routine, unchecked",
-        set: "driver d\nstartio s\ndispatch READ f\nroutine f dispatch\nstart r0\nret SUCCESS\nendr\nroutine s startio\nret SUCCESS\nendr\nendd\ndevice v d 1\n",
+        set: "driver d\nstartio s\ndispatch READ f\nroutine f dispatch\nstart r0\nret SUCCESS\n\
+            endr\nroutine s startio\nret SUCCESS\nendr\nendd\ndevice v d 1\n",
         trace: Some((
             "threads 1\nissue 0 0 READ 0\nstep 0 2\nstartio 0 0\nstep 0\n",
             Verification::Skipped,
@@ -262,7 +356,8 @@ static CASES: [Case; 22] = [
     },
     Case {
         name: "a paged cell in a StartIo routine, unchecked",
-        set: "driver d\nstartio s\ndispatch READ f\nroutine f dispatch\nstart r0\nret SUCCESS\nendr\nroutine s startio\nloadp r1 p3\nret SUCCESS\nendr\nendd\ndevice v d 1\n",
+        set: "driver d\nstartio s\ndispatch READ f\nroutine f dispatch\nstart r0\nret SUCCESS\n\
+            endr\nroutine s startio\nloadp r1 p3\nret SUCCESS\nendr\nendd\ndevice v d 1\n",
         trace: Some((
             "threads 1\nissue 0 0 READ 0\nstep 0 2\nstartio 0 0\nstep 0\n",
             Verification::Skipped,
@@ -334,7 +429,8 @@ static FULL: [Full; 4] = [
 fn fills(alloc: Global, full: &Full) -> Result<bool, AllocError> {
     let (code, steps) = (full.code, full.steps);
     let set = format!(in alloc;
-        "driver d\nqueue q l0\ndispatch READ f\nroutine f dispatch\n{code}endr\nendd\ndevice v d 1\n"
+        "driver d\nqueue q l0\ndispatch READ f\nroutine f dispatch\n{code}endr\nendd\n\
+         device v d 1\n"
     )?;
     let schedule = format!(in alloc; "threads 1\nissue 0 0 READ 0\nstep 0 {steps}\n")?;
     let mut out = Writer::new(Vec::<u8>::new(alloc));

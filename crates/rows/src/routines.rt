@@ -28,7 +28,8 @@ static COMPUTING: [Worked; 8] = [
         schedule: "threads 1\nissue 0 0 READ 0\nstep 0 8\n",
         trace: (
             0,
-            "0 started 0\n1 stepped\n2 stepped\n3 stepped\n4 stepped\n5 stepped\n6 stepped\n7 topped 0 0x00000000 0\n8 finished\n",
+            "0 started 0\n1 stepped\n2 stepped\n3 stepped\n4 stepped\n5 stepped\n6 stepped\n\
+             7 topped 0 0x00000000 0\n8 finished\n",
         ),
     },
     Worked {
@@ -45,27 +46,36 @@ static COMPUTING: [Worked; 8] = [
         schedule: "threads 1\nissue 0 0 READ 0\nstep 0 7\n",
         trace: (
             0,
-            "0 started 0\n1 stepped\n2 stepped\n3 stepped\n4 stepped\n5 stepped\n6 topped 0 0x00000000 18446744073709551615\n7 finished\n",
+            "0 started 0\n1 stepped\n2 stepped\n3 stepped\n4 stepped\n5 stepped\n\
+             6 topped 0 0x00000000 18446744073709551615\n7 finished\n",
         ),
     },
     Worked {
         name: "fields of a packet, summed",
-        code: "get r1 r0 MAJOR\nget r2 r0 ARG\nadd r1 r2\nput r0 r1\ncomplete r0 SUCCESS\nret SUCCESS\n",
+        code: "get r1 r0 MAJOR\nget r2 r0 ARG\nadd r1 r2\nput r0 r1\ncomplete r0 SUCCESS\n\
+            ret SUCCESS\n",
         verdict: (0, "accepted\ndriver 0 routine 0 dispatch certificate 6\n"),
         schedule: "threads 1\nissue 0 0 READ 9\nstep 0 7\n",
         trace: (
             0,
-            "0 started 0\n1 stepped\n2 stepped\n3 stepped\n4 stepped\n5 stepped\n6 topped 0 0x00000000 12\n7 finished\n",
+            "0 started 0\n1 stepped\n2 stepped\n3 stepped\n4 stepped\n5 stepped\n\
+             6 topped 0 0x00000000 12\n7 finished\n",
         ),
     },
     Worked {
         name: "cells, a moved number, both sorts of lock, a jump that is taken",
-        code: "const r1 7\nmov r2 r1\nclear r1\nstore c15 r2\nload r1 c15\nstorep p0 r1\nloadp r3 p0\nadd r3 r1\nget r4 r0 ARG\njlt r4 r3 abcdefghijklmnopqrstuvwxyz_12345\nabcdefghijklmnopqrstuvwxyz_12345: put r0 r3\nacqc\nrelc\nacquire l7\nrelease l7\nget r5 r0 INFO\nput r0 r5\ncomplete r0 CANCELLED\nret CANCELLED\n",
+        code: "const r1 7\nmov r2 r1\nclear r1\nstore c15 r2\nload r1 c15\nstorep p0 r1\n\
+            loadp r3 p0\nadd r3 r1\nget r4 r0 ARG\njlt r4 r3 abcdefghijklmnopqrstuvwxyz_12345\n\
+            abcdefghijklmnopqrstuvwxyz_12345: put r0 r3\nacqc\nrelc\nacquire l7\nrelease l7\n\
+            get r5 r0 INFO\nput r0 r5\ncomplete r0 CANCELLED\nret CANCELLED\n",
         verdict: (0, "accepted\ndriver 0 routine 0 dispatch certificate 19\n"),
         schedule: "threads 1\nissue 0 0 READ 3\nstep 0 20\n",
         trace: (
             0,
-            "0 started 0\n1 stepped\n2 stepped\n3 stepped\n4 stepped\n5 stepped\n6 stepped\n7 stepped\n8 stepped\n9 stepped\n10 stepped\n11 stepped\n12 stepped\n13 stepped\n14 stepped\n15 stepped\n16 stepped\n17 stepped\n18 stepped\n19 topped 0 0xC0000120 14\n20 finished\n",
+            "0 started 0\n1 stepped\n2 stepped\n3 stepped\n4 stepped\n5 stepped\n6 stepped\n\
+             7 stepped\n8 stepped\n9 stepped\n10 stepped\n11 stepped\n12 stepped\n13 stepped\n\
+             14 stepped\n15 stepped\n16 stepped\n17 stepped\n18 stepped\n\
+             19 topped 0 0xC0000120 14\n20 finished\n",
         ),
     },
     Worked {
@@ -75,7 +85,8 @@ static COMPUTING: [Worked; 8] = [
         schedule: "threads 1\nissue 0 0 READ 0xFfffffffffffffff\nstep 0 5\n",
         trace: (
             0,
-            "0 started 0\n1 stepped\n2 stepped\n3 stepped\n4 topped 0 0x00000000 18446744073709551615\n5 finished\n",
+            "0 started 0\n1 stepped\n2 stepped\n3 stepped\n\
+             4 topped 0 0x00000000 18446744073709551615\n5 finished\n",
         ),
     },
     Worked {
@@ -134,7 +145,8 @@ static LOCKING: [Worked; 6] = [
         name: "a thread that waits for another one's lock",
         code: "acquire l0\nconst r1 1\nrelease l0\ncomplete r0 SUCCESS\nret SUCCESS\n",
         verdict: (0, "accepted\ndriver 0 routine 0 dispatch certificate 5\n"),
-        schedule: "threads 2\nissue 0 0 READ 0\nissue 1 0 READ 0\nstep 0\nstep 1\nstep 0 2\nstep 1\n",
+        schedule: "threads 2\nissue 0 0 READ 0\nissue 1 0 READ 0\nstep 0\nstep 1\nstep 0 2\n\
+            step 1\n",
         trace: (
             0,
             "0 started 0\n1 started 1\n2 stepped\n3 waited\n4 stepped\n5 stepped\n6 stepped\n",

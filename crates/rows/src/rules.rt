@@ -44,7 +44,8 @@ static DISPATCH: [Broken; 29] = [
         refused: "refused V1 Malformed driver 0 routine 0 at 1\n",
     },
     Broken {
-        code: "loop 2\nloop 2\nloop 2\nloop 2\nloop 2\nend\nend\nend\nend\nend\ncomplete r0 SUCCESS\nret SUCCESS\n",
+        code: "loop 2\nloop 2\nloop 2\nloop 2\nloop 2\nend\nend\nend\nend\nend\n\
+            complete r0 SUCCESS\nret SUCCESS\n",
         refused: "refused V1 Malformed driver 0 routine 0 at 4\n",
     },
     Broken {
@@ -494,13 +495,15 @@ static QUEUEING: [Queueing; 57] = [
     },
     Queueing {
         sort: "dpc",
-        code: "acquire l1\nremove r0 q x\ncomplete r0 SUCCESS\nrelease l1\nret void\nx: release l1\nret void\n",
+        code: "acquire l1\nremove r0 q x\ncomplete r0 SUCCESS\nrelease l1\nret void\n\
+            x: release l1\nret void\n",
         status: 1,
         verdict: "refused V9 LockHeld driver 0 routine 0 at 2\n",
     },
     Queueing {
         sort: "dpc",
-        code: "acquire l1\nremove r0 q x\ninsert r0 p\nrelease l1\nret void\nx: release l1\nret void\n",
+        code: "acquire l1\nremove r0 q x\ninsert r0 p\nrelease l1\nret void\nx: release l1\n\
+            ret void\n",
         status: 1,
         verdict: "refused V11 Guard driver 0 routine 0 at 2\n",
     },
@@ -616,67 +619,81 @@ static QUEUEING: [Queueing; 57] = [
         sort: "startio",
         code: "begin r0\nret void\n",
         status: 0,
-        verdict: "accepted\ndriver 0 routine 0 startio certificate 2\ndriver 0 routine 1 startio certificate 2\n",
+        verdict: "accepted\ndriver 0 routine 0 startio certificate 2\n\
+            driver 0 routine 1 startio certificate 2\n",
     },
     Queueing {
         sort: "startio",
         code: "complete r0 SUCCESS\nnext\nret void\n",
         status: 0,
-        verdict: "accepted\ndriver 0 routine 0 startio certificate 3\ndriver 0 routine 1 startio certificate 2\n",
+        verdict: "accepted\ndriver 0 routine 0 startio certificate 3\n\
+            driver 0 routine 1 startio certificate 2\n",
     },
     Queueing {
         sort: "startio",
         code: "mov r3 r0\nacquire l1\ninsert r3 q\nrelease l1\nnext\nret void\n",
         status: 0,
-        verdict: "accepted\ndriver 0 routine 0 startio certificate 6\ndriver 0 routine 1 startio certificate 2\n",
+        verdict: "accepted\ndriver 0 routine 0 startio certificate 6\n\
+            driver 0 routine 1 startio certificate 2\n",
     },
     Queueing {
         sort: "startio",
         code: "next\ncomplete r0 SUCCESS\nret void\n",
         status: 0,
-        verdict: "accepted\ndriver 0 routine 0 startio certificate 3\ndriver 0 routine 1 startio certificate 2\n",
+        verdict: "accepted\ndriver 0 routine 0 startio certificate 3\n\
+            driver 0 routine 1 startio certificate 2\n",
     },
     Queueing {
         sort: "dispatch",
         code: "mark r0\nstart r0\nret PENDING\n",
         status: 0,
-        verdict: "accepted\ndriver 0 routine 0 dispatch certificate 3\ndriver 0 routine 1 startio certificate 2\n",
+        verdict: "accepted\ndriver 0 routine 0 dispatch certificate 3\n\
+            driver 0 routine 1 startio certificate 2\n",
     },
     Queueing {
         sort: "dispatch",
-        code: "mark r0\nacquire l1\ninsert r0 q\nremove r0 q x\nrelease l1\ncomplete r0 SUCCESS\nret PENDING\nx: release l1\nret PENDING\n",
+        code: "mark r0\nacquire l1\ninsert r0 q\nremove r0 q x\nrelease l1\ncomplete r0 SUCCESS\n\
+            ret PENDING\nx: release l1\nret PENDING\n",
         status: 0,
-        verdict: "accepted\ndriver 0 routine 0 dispatch certificate 9\ndriver 0 routine 1 startio certificate 2\n",
+        verdict: "accepted\ndriver 0 routine 0 dispatch certificate 9\n\
+            driver 0 routine 1 startio certificate 2\n",
     },
     Queueing {
         sort: "dpc",
         code: "take r0 x\nnext\ncomplete r0 SUCCESS\nret void\nx: ret void\n",
         status: 0,
-        verdict: "accepted\ndriver 0 routine 0 dpc certificate 5\ndriver 0 routine 1 startio certificate 2\n",
+        verdict: "accepted\ndriver 0 routine 0 dpc certificate 5\n\
+            driver 0 routine 1 startio certificate 2\n",
     },
     Queueing {
         sort: "dpc",
         code: "take r0 x\nstart r0\nnext\nret void\nx: ret void\n",
         status: 0,
-        verdict: "accepted\ndriver 0 routine 0 dpc certificate 5\ndriver 0 routine 1 startio certificate 2\n",
+        verdict: "accepted\ndriver 0 routine 0 dpc certificate 5\n\
+            driver 0 routine 1 startio certificate 2\n",
     },
     Queueing {
         sort: "dpc",
         code: "take r0 x\nbegin r0\nret void\nx: ret void\n",
         status: 0,
-        verdict: "accepted\ndriver 0 routine 0 dpc certificate 4\ndriver 0 routine 1 startio certificate 2\n",
+        verdict: "accepted\ndriver 0 routine 0 dpc certificate 4\n\
+            driver 0 routine 1 startio certificate 2\n",
     },
     Queueing {
         sort: "dpc",
-        code: "acquire l1\nremove r0 q x\nacquire l2\ninsert r0 p\nrelease l2\nrelease l1\nret void\nx: release l1\nret void\n",
+        code: "acquire l1\nremove r0 q x\nacquire l2\ninsert r0 p\nrelease l2\nrelease l1\n\
+            ret void\nx: release l1\nret void\n",
         status: 0,
-        verdict: "accepted\ndriver 0 routine 0 dpc certificate 9\ndriver 0 routine 1 startio certificate 2\n",
+        verdict: "accepted\ndriver 0 routine 0 dpc certificate 9\n\
+            driver 0 routine 1 startio certificate 2\n",
     },
     Queueing {
         sort: "propagate",
-        code: "acquire l2\nremove r1 p x\ninsert r1 p\nrelease l2\nifpending r0 y\nret continue\nx: release l2\nifpending r0 y\nret continue\ny: mark r0\nret continue\n",
+        code: "acquire l2\nremove r1 p x\ninsert r1 p\nrelease l2\nifpending r0 y\nret continue\n\
+            x: release l2\nifpending r0 y\nret continue\ny: mark r0\nret continue\n",
         status: 0,
-        verdict: "accepted\ndriver 0 routine 0 propagate certificate 11\ndriver 0 routine 1 startio certificate 2\n",
+        verdict: "accepted\ndriver 0 routine 0 propagate certificate 11\n\
+            driver 0 routine 1 startio certificate 2\n",
     },
 ];
 
@@ -738,7 +755,8 @@ fn rules_of_queues(rt: HostRuntime) -> Result<(), Fail> {
     for queueing in QUEUEING.iter() {
         let (sort, code) = (queueing.sort, queueing.code);
         let set = format!(in rt.alloc();
-            "driver d\nqueue q l1\nqueue p l2\nroutine f {sort}\n{code}endr\nroutine s startio\nbegin r0\nret void\nendr\nstartio s\nendd\ndevice v d 1\n"
+            "driver d\nqueue q l1\nqueue p l2\nroutine f {sort}\n{code}endr\nroutine s startio\n\
+             begin r0\nret void\nendr\nstartio s\nendd\ndevice v d 1\n"
         )?;
         assert!(rt;
             is_judged_so(

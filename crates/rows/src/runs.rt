@@ -9,10 +9,12 @@ use model::status::{Major, Status};
 use verifier::verify;
 
 const COMPLETES: &[u8] =
-    b"driver d\ndispatch READ f\nroutine f dispatch\ncomplete r0 SUCCESS\nret SUCCESS\nendr\nendd\ndevice v d 1\n";
+    b"driver d\ndispatch READ f\nroutine f dispatch\ncomplete r0 SUCCESS\nret SUCCESS\nendr\nendd\n\
+      device v d 1\n";
 
 const TWICE: &[u8] =
-    b"driver d\ndispatch READ f\nroutine f dispatch\ncomplete r0 SUCCESS\ncomplete r0 SUCCESS\nret SUCCESS\nendr\nendd\ndevice v d 1\n";
+    b"driver d\ndispatch READ f\nroutine f dispatch\ncomplete r0 SUCCESS\ncomplete r0 SUCCESS\n\
+      ret SUCCESS\nendr\nendd\ndevice v d 1\n";
 
 const READ: Event = Event::Issue {
     thread: 0,

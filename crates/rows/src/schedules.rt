@@ -4,7 +4,8 @@ use crate::case::runs_so;
 use drvhost_parts::job::Verification;
 
 const SET: &str =
-    "driver d\ndispatch READ f\nroutine f dispatch\ncomplete r0 SUCCESS\nret SUCCESS\nendr\nendd\ndevice v d 1\n";
+    "driver d\ndispatch READ f\nroutine f dispatch\ncomplete r0 SUCCESS\nret SUCCESS\nendr\nendd\n\
+     device v d 1\n";
 
 /// A schedule, and the fault that is told of it.
 struct Faulty {

@@ -6,22 +6,34 @@ use drvhost_parts::job::Verification;
 const ONE_REQUEST: &str = "threads 1\nissue 0 1 READ 0\nstep 0 10\n";
 
 const CALLED: &str =
-    "driver a\ndispatch READ f\nroutine f dispatch\nmark r0\ncomplete r0 SUCCESS\nret PENDING\nendr\nendd\ndriver b\ndispatch READ f\nroutine f dispatch\ncall r0\nret lower r0\nendr\nendd\ndevice v a 1\ndevice w b 2 v\n";
+    "driver a\ndispatch READ f\nroutine f dispatch\nmark r0\ncomplete r0 SUCCESS\nret PENDING\n\
+     endr\nendd\ndriver b\ndispatch READ f\nroutine f dispatch\ncall r0\nret lower r0\nendr\nendd\n\
+     device v a 1\ndevice w b 2 v\n";
 
 const WATCHED: &str =
-    "driver a\ndispatch READ f\nroutine f dispatch\nmark r0\ncomplete r0 SUCCESS\nret PENDING\nendr\nendd\ndriver b\ndispatch READ f\nroutine f dispatch\ncall r0 h\nret lower r0\nendr\nroutine h propagate\nifpending r0 m\nret continue\nm: mark r0\nret continue\nendr\nendd\ndevice v a 1\ndevice w b 2 v\n";
+    "driver a\ndispatch READ f\nroutine f dispatch\nmark r0\ncomplete r0 SUCCESS\nret PENDING\n\
+     endr\nendd\ndriver b\ndispatch READ f\nroutine f dispatch\ncall r0 h\nret lower r0\nendr\n\
+     routine h propagate\nifpending r0 m\nret continue\nm: mark r0\nret continue\nendr\nendd\n\
+     device v a 1\ndevice w b 2 v\n";
 
 const UNCARRIED: &str =
-    "driver a\ndispatch READ f\nroutine f dispatch\nmark r0\ncomplete r0 SUCCESS\nret PENDING\nendr\nendd\ndriver b\ndispatch READ f\nroutine f dispatch\ncall r0 h\nret lower r0\nendr\nroutine h propagate\nret continue\nendr\nendd\ndevice v a 1\ndevice w b 2 v\n";
+    "driver a\ndispatch READ f\nroutine f dispatch\nmark r0\ncomplete r0 SUCCESS\nret PENDING\n\
+     endr\nendd\ndriver b\ndispatch READ f\nroutine f dispatch\ncall r0 h\nret lower r0\nendr\n\
+     routine h propagate\nret continue\nendr\nendd\ndevice v a 1\ndevice w b 2 v\n";
 
 const NOTHING_UNDER: &str =
-    "driver d\ndispatch READ f\nroutine f dispatch\npass r0\nret lower r0\nendr\nendd\ndevice v d 1\n";
+    "driver d\ndispatch READ f\nroutine f dispatch\npass r0\nret lower r0\nendr\nendd\n\
+     device v d 1\n";
 
 const TOO_SMALL: &str =
-    "driver a\ndispatch READ f\nroutine f dispatch\ncomplete r0 SUCCESS\nret SUCCESS\nendr\nendd\ndriver b\ndispatch READ f\nroutine f dispatch\ncall r0\nret lower r0\nendr\nendd\ndevice v a 1\ndevice w b 1 v\n";
+    "driver a\ndispatch READ f\nroutine f dispatch\ncomplete r0 SUCCESS\nret SUCCESS\nendr\nendd\n\
+     driver b\ndispatch READ f\nroutine f dispatch\ncall r0\nret lower r0\nendr\nendd\n\
+     device v a 1\ndevice w b 1 v\n";
 
 const LARGE_ENOUGH: &str =
-    "driver a\ndispatch READ f\nroutine f dispatch\ncomplete r0 SUCCESS\nret SUCCESS\nendr\nendd\ndriver b\ndispatch READ f\nroutine f dispatch\ncall r0\nret lower r0\nendr\nendd\ndevice v a 1\ndevice w b 2 v\n";
+    "driver a\ndispatch READ f\nroutine f dispatch\ncomplete r0 SUCCESS\nret SUCCESS\nendr\nendd\n\
+     driver b\ndispatch READ f\nroutine f dispatch\ncall r0\nret lower r0\nendr\nendd\n\
+     device v a 1\ndevice w b 2 v\n";
 
 static VERDICTS: [Case; 6] = [
     Case {
@@ -29,7 +41,8 @@ static VERDICTS: [Case; 6] = [
         set: CALLED,
         trace: None,
         status: 0,
-        out: "accepted\ndriver 0 routine 0 dispatch certificate 3\ndriver 1 routine 0 dispatch certificate 2\n",
+        out: "accepted\ndriver 0 routine 0 dispatch certificate 3\n\
+            driver 1 routine 0 dispatch certificate 2\n",
         err: "",
     },
     Case {
@@ -37,7 +50,9 @@ static VERDICTS: [Case; 6] = [
         set: WATCHED,
         trace: None,
         status: 0,
-        out: "accepted\ndriver 0 routine 0 dispatch certificate 3\ndriver 1 routine 0 dispatch certificate 2\ndriver 1 routine 1 propagate certificate 4\n",
+        out: "accepted\ndriver 0 routine 0 dispatch certificate 3\n\
+            driver 1 routine 0 dispatch certificate 2\n\
+            driver 1 routine 1 propagate certificate 4\n",
         err: "",
     },
     Case {
@@ -69,7 +84,8 @@ static VERDICTS: [Case; 6] = [
         set: LARGE_ENOUGH,
         trace: None,
         status: 0,
-        out: "accepted\ndriver 0 routine 0 dispatch certificate 2\ndriver 1 routine 0 dispatch certificate 2\n",
+        out: "accepted\ndriver 0 routine 0 dispatch certificate 2\n\
+            driver 1 routine 0 dispatch certificate 2\n",
         err: "",
     },
 ];
@@ -83,7 +99,8 @@ static TRACES: [Case; 4] = [
             Verification::Required,
         )),
         status: 0,
-        out: "0 started 0\n1 stepped\n2 stepped\n3 stepped\n4 stepped\n5 topped 0 0x00000000 0\n6 stepped\n7 finished\n",
+        out: "0 started 0\n1 stepped\n2 stepped\n3 stepped\n4 stepped\n5 topped 0 0x00000000 0\n\
+            6 stepped\n7 finished\n",
         err: "",
     },
     Case {
@@ -91,7 +108,8 @@ static TRACES: [Case; 4] = [
         set: WATCHED,
         trace: Some((ONE_REQUEST, Verification::Required)),
         status: 0,
-        out: "0 started 0\n1 stepped\n2 stepped\n3 stepped\n4 stepped\n5 stepped\n6 stepped\n7 stepped\n8 topped 0 0x00000000 0\n9 stepped\n10 finished\n",
+        out: "0 started 0\n1 stepped\n2 stepped\n3 stepped\n4 stepped\n5 stepped\n6 stepped\n\
+            7 stepped\n8 topped 0 0x00000000 0\n9 stepped\n10 finished\n",
         err: "",
     },
     Case {

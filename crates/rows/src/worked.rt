@@ -4,22 +4,27 @@ use crate::case::{Case, is_met};
 use drvhost_parts::job::Verification;
 
 const COMPLETES: &str =
-    "driver d\ndispatch READ f\nroutine f dispatch\ncomplete r0 SUCCESS\nret SUCCESS\nendr\nendd\ndevice v d 1\n";
+    "driver d\ndispatch READ f\nroutine f dispatch\ncomplete r0 SUCCESS\nret SUCCESS\nendr\nendd\n\
+     device v d 1\n";
 
 const TWICE: &str =
-    "driver d\ndispatch READ f\nroutine f dispatch\ncomplete r0 SUCCESS\ncomplete r0 SUCCESS\nret SUCCESS\nendr\nendd\ndevice v d 1\n";
+    "driver d\ndispatch READ f\nroutine f dispatch\ncomplete r0 SUCCESS\ncomplete r0 SUCCESS\n\
+     ret SUCCESS\nendr\nendd\ndevice v d 1\n";
 
 const UNMARKED: &str =
     "driver d\ndispatch READ f\nroutine f dispatch\nret PENDING\nendr\nendd\ndevice v d 1\n";
 
 const MARKED: &str =
-    "driver d\ndispatch READ f\nroutine f dispatch\nmark r0\nret SUCCESS\nendr\nendd\ndevice v d 1\n";
+    "driver d\ndispatch READ f\nroutine f dispatch\nmark r0\nret SUCCESS\nendr\nendd\n\
+     device v d 1\n";
 
 const PENDING: &str =
-    "driver d\ndispatch READ f\nroutine f dispatch\nmark r0\ncomplete r0 SUCCESS\nret PENDING\nendr\nendd\ndevice v d 1\n";
+    "driver d\ndispatch READ f\nroutine f dispatch\nmark r0\ncomplete r0 SUCCESS\nret PENDING\n\
+     endr\nendd\ndevice v d 1\n";
 
 const DROPS: &str =
-    "driver d\ndispatch READ f\nroutine f dispatch\nconst r0 1\nret SUCCESS\nendr\nendd\ndevice v d 1\n";
+    "driver d\ndispatch READ f\nroutine f dispatch\nconst r0 1\nret SUCCESS\nendr\nendd\n\
+     device v d 1\n";
 
 const ONE_REQUEST: &str = "threads 1\nissue 0 0 READ 7\nstep 0 4\n";
 
