@@ -23,12 +23,13 @@ use Rattle.model.specs.Trace.{Entry, recorded}
 use Rattle.model.specs.World.{Shared, World, is_queued, start_of}
 use Rattle.checked.specs.declared.frame.Runner.{Runner}
 use Rattle.checked.specs.Step.{Left, Ended, first_now, stays, unless_full, unless_wrong as wrong_left, left_by, fits, bounded, moved_by, runner, top_now, step_ended, step_now, ended, event_now, is_stop}
-use Rattle.checked.proofs.Lists.{set_back, last_split}
+use Rattle.checked.proofs.Lists.{set_back}
 use Rattle.checked.proofs.Stacks.{finished_more, root_more}
 use Rattle.checked.proofs.Known.{known, runs}
 use Rattle.checked.proofs.Effects.{Fine, is_bug, fine_frame}
 use Rattle.irql_locks.specs.Owns.{OwningTells}
 use Rattle.run_laws.specs.PastTells.{PastTells}
+use Rattle.run_laws.proofs.Lists.{last_split}
 
 -- the run answers as the machine ends
 pub record Same (a : Answered) (e : Ended) : Type 0 where
@@ -368,7 +369,8 @@ module _ (set : Set) (r : Run) (t : ℕ) (on : r.stopped ≡ false) (tells : Pas
 
   compare_idle : (d : ℕ) (thread : Thread) (routine : ℕ) (idle : Bool) →
       Same (run_judged set r (actor_on r t)
-      (cond {A = Change} idle (startio_from set r.world t d thread routine (start_of r.world.shared d))
+      (cond {A = Change} idle
+      (startio_from set r.world t d thread routine (start_of r.world.shared d))
       (unchanged r.world Refused)))
       (ended (cond {A = Change} idle
       (startio_from set r.world t d thread routine (start_of r.world.shared d))

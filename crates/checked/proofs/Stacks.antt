@@ -14,7 +14,8 @@ use Rattle.model.specs.declared.event.Reply.TheVariants.{Stepped}
 use Rattle.model.specs.declared.status.Status.{Status}
 use Rattle.checked.specs.Step.{Left, Moved, stays, frame_now, moved_by, runner, thread_now}
 use Rattle.checked.specs.Frames.{told_frame}
-use Rattle.checked.proofs.Lists.{last_get, last_take, refill_all, set_back, set_last}
+use Rattle.checked.proofs.Lists.{refill_all, set_back, set_last}
+use Rattle.run_laws.proofs.Lists.{before_last, last_of}
 
 -- a thread with frames has not finished, and keeps its level
 pub finished_more : (below : List Frame) (f : Frame) (frames : List Frame) (reply : Reply)
@@ -39,7 +40,7 @@ module _ (set : Set) (s : Shared) (n : ℕ) (thread : Thread) (below : List Fram
   -- what the step of the top frame has left is what the thread's step leaves
   moved : (left : Left) → left ≡ frame_now set s (runner n thread) below f
       → moved_by set thread below left ≡ thread_now set s n thread
-  moved left same = rw (same, split.0, last_get below f, last_take below f) refl
+  moved left same = rw (same, split.0, last_of below f, before_last below f) refl
 
   -- the frame as written back where it stood
   abbrev pub written : Frame → List Frame
@@ -87,7 +88,7 @@ module _ (set : Set) (s : Shared) (n : ℕ) (thread : Thread) (below : List Fram
       record { shared = after; frames = []; reply = reply; taken_below = false; told = told }
 
   pub popped : (g : Frame) → take (length (written g) - 1) (written g) ≡ below
-  popped g = rw (written_top g) (last_take below g)
+  popped g = rw (written_top g) (before_last below g)
 
   pub moved_gone : (after : Shared) (reply : Reply) (told : Option Status)
       → gone after reply told ≡ frame_now set s (runner n thread) below f →

@@ -179,7 +179,8 @@ event_now set w (Issue t d major argument) =
     ended (issue_on set w t d major argument (slice_get w.threads t) (slice_get set.devices d))
 event_now set w (Interrupt d) = ended (interrupt_on w d (dpc_of set d))
 event_now set w (Dpc t d) = ended (dpc_on set w t d (slice_get w.threads t) (dpc_of set d))
-event_now set w (StartIo t d) = ended (startio_on set w t d (slice_get w.threads t) (startio_of set d))
+event_now set w (StartIo t d) =
+    ended (startio_on set w t d (slice_get w.threads t) (startio_of set d))
 event_now set w (Step t) = step_now set w t (slice_get w.threads t)
 
 -- a bug check or a wrong operand stops the machine

@@ -141,7 +141,8 @@ fn is_less(a: &Activation, r: Register, s: Register) -> Option<bool>
 /// `jz r L`: jumps if r is 0.
 pub fn jump_if_zero(r: Register, label: u16, a: &mut Activation) -> Ran
     requires { a.old.position < MAX_INSTRUCTIONS }
-    ensures { LeavesShared a.old (λ u. jump_effect u a.old label (is_zero_at a.old r)) a.new result }
+    ensures { LeavesShared a.old (λ u. jump_effect u a.old label (is_zero_at a.old r)) a.new
+        result }
 {
     let test = is_zero(a, r);
     jump_if(label, test, a)

@@ -23,8 +23,8 @@ mod queues;
 mod starting;
 mod touching;
 
-/// The packets, the locks, and by device its cells, its queues, what it has for StartIo, and whether
-/// its DPC is queued.
+/// The packets, the locks, and by device its cells, its queues, what it has for StartIo, and
+/// whether its DPC is queued.
 #[derive(Drop)]
 pub struct Shared {
     packet_table: PacketTable,

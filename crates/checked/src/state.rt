@@ -61,7 +61,8 @@ impl State {
 
     /// The same by what the state holds, and not by the trace of its run.
     fn advance(&mut self, set: &DriverSet, event: &Event) -> Reply
-        ensures { record { state = self.new; reply = result } ≡ state_now set.now self.old event.now }
+        ensures { record { state = self.new; reply = result }
+            ≡ state_now set.now self.old event.now }
     {
         if self.halted {
             return Reply::Refused;

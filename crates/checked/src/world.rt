@@ -68,7 +68,8 @@ impl World {
 
     /// What an event does, and its reply. After a bug check or a wrong operand nothing has changed.
     pub fn perform(&mut self, set: &DriverSet, event: &Event) -> Reply
-        ensures { record { world = self.new; reply = result } ≡ event_now set.now self.old event.now }
+        ensures { record { world = self.new; reply = result }
+            ≡ event_now set.now self.old event.now }
     {
         match *event {
             Event::Issue {

@@ -1,3 +1,5 @@
+pub mod Numbers
+pub mod PacketList
 pub mod Table
 pub mod Walk
 pub mod Lending

@@ -35,12 +35,17 @@ abbrev pub live_packet : Table → ℕ → Option Packet
 live_packet table n = slice_get table.packets (place_of table.packets n)
 
 -- the same with that packet changed, and without it
+abbrev pub with_place : Table → ℕ → Packet → Table
+with_place table place p = record table { packets = slice_set table.packets place p }
+
 abbrev pub with_live : Table → ℕ → Packet → Table
-with_live table n p =
-    record table { packets = slice_set table.packets (place_of table.packets n) p }
+with_live table n p = with_place table (place_of table.packets n) p
+
+abbrev pub without_place : Table → ℕ → Table
+without_place table place = record table { packets = remove table.packets place }
 
 abbrev pub without_live : Table → ℕ → Table
-without_live table n = record table { packets = remove table.packets (place_of table.packets n) }
+without_live table n = without_place table (place_of table.packets n)
 
 -- the same with a packet issued
 abbrev pub with_issued : Table → Packet → Table

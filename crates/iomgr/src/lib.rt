@@ -1,6 +1,8 @@
 //! The I/O manager: the table of live packets, and the walk by which it completes one.
 #![tactic(auto)]
 
+mod numbers;
+mod packet_list;
 pub mod packet_table;
 pub mod walk;
 

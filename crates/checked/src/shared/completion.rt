@@ -57,7 +57,8 @@ impl Shared {
     /// number.
     pub fn walk(&mut self, set: &DriverSet, below: &[Frame], n: u64) -> Ran
         ensures { (r : Runner)
-            → left_of self.new (WalkFrame n) result ≡ frame_now set.now self.old r below.now (WalkFrame n) }
+            → left_of self.new (WalkFrame n) result
+            ≡ frame_now set.now self.old r below.now (WalkFrame n) }
     {
         if is_last(below.len()) && self.runs_routine(n) {
             return Ran::Stays(Reply::Refused);
@@ -93,7 +94,8 @@ impl Shared {
     pub fn go_on(&self, below: &[Frame]) -> Ran
         ensures { let onward = continued self.now (top_of below.now) in
             (r : Runner) (f : Frame)
-            → left_of self.now f result ≡ bounded below.now self.now f (judged self.now r f onward) }
+            → left_of self.now f result
+            ≡ bounded below.now self.now f (judged self.now r f onward) }
     {
         let under = below.get(below.len().saturating_sub(1));
         match under.and_then(|frame| frame.completed_packet()) {

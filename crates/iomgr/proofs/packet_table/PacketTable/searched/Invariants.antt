@@ -1,6 +1,6 @@
 use Rattle.std.proofs.Common.{◌≡◌, ◌+◌, drop}
 use Rattle.model.specs.World.{place_of}
-use Rattle.iomgr.proofs.packet_table.PacketTable.place.Given as goal
+use Rattle.iomgr.proofs.packet_table.PacketTable.searched.Given as goal
 
 abbrev pub invariant-loop-place : goal.invariant-loop-place
 invariant-loop-place l =
