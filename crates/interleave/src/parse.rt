@@ -27,7 +27,8 @@ pub fn parse_schedule(alloc: Global, text: &[u8]) -> Result<Schedule, ScheduleFa
 
     // What is read is what the text says, and a fault is where it first fails to say a schedule.
     ensures meaning { (s : Schedule) → Lists text.now s ↔ IsListing text.now s }
-    ensures fault { IfErr result (λ f. f.kind ≢ ScheduleKind.Memory → IsFirstFault 1 (lines_of text.now) f) }
+    ensures fault { IfErr result (λ f. f.kind ≢ ScheduleKind.Memory
+        → IsFirstFault 1 (lines_of text.now) f) }
 {
     match schedule_in(alloc, text) {
         Ok(Ok(schedule)) => Ok(schedule),

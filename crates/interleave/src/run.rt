@@ -6,7 +6,6 @@ ghost use Rattle.model.specs.declared.event.Event.{Event};
 ghost use Rattle.interleave.specs.Runs.{RulesKept, StepsThreads};
 ghost use Rattle.model.specs.Machine.{Shows, Applies};
 ghost use Rattle.run_laws.specs.NeverStops.{LetsGoOn};
-ghost use Rattle.run_laws.specs.StartsNoPackets.{StartsNoPackets};
 ghost use Rattle.run_laws.specs.Rules.{KeepsTheRules};
 
 use checked::State;
@@ -35,7 +34,8 @@ impl Model for AcceptedRun {
 
     ghost view = { λ r. machine_of r.accepted r.state };
 
-    ghost invariant = { λ r. IsTypable r.accepted × (IsSound r.accepted × IsRun (machine_of r.accepted r.state)) };
+    ghost invariant = { λ r. IsTypable r.accepted
+        × (IsSound r.accepted × IsRun (machine_of r.accepted r.state)) };
 }
 
 impl AcceptedRun {
@@ -50,7 +50,7 @@ impl AcceptedRun {
         requires few { threads ≤ MAX_THREADS }
         ensures set { IfOk result (λ run. run.set ≡ accepted) }
         ensures shows { IfOk result (λ run. Shows run threads []) }
-        ensures rules { IfOk result (λ run. StartsNoPackets accepted → (events : List Event)
+        ensures rules { IfOk result (λ run. (events : List Event)
             → KeepsTheRules accepted threads events) }
         ensures back { IfErr result (λ refused. refused.0 ≡ accepted) }
     {
@@ -61,14 +61,14 @@ impl AcceptedRun {
         }
     }
 
-    /// Adds an event to the run, and answers as the run does. Where the set starts no packets, the
-    /// run keeps the rules: no bug check, no wrong operand, no activation past its certificate. A
-    /// step of a thread that it has is not refused then.
+    /// Adds an event to the run, and answers as the run does. The run keeps the rules: no bug check,
+    /// no wrong operand, no activation past its certificate; and a step of a thread that it has is
+    /// not refused.
     pub fn apply(&mut self, event: &Event) -> Reply
         ensures applies { Applies self.old event.now self.new result }
-        ensures rules { StartsNoPackets self.old.set → RulesKept self.old event.now }
-        ensures goes_on { StartsNoPackets self.old.set → LetsGoOn result }
-        ensures steps { StartsNoPackets self.old.set → StepsThreads self.old event.now result }
+        ensures rules { RulesKept self.old event.now }
+        ensures goes_on { LetsGoOn result }
+        ensures steps { StepsThreads self.old event.now result }
     {
         accepted_runs_keep_the_rules();
         self.state.apply(self.accepted.set(), event)
@@ -87,8 +87,7 @@ pub fn run(
     requires few { threads ≤ MAX_THREADS }
     ensures set { IfOk result (λ run. run.set ≡ accepted) }
     ensures shows { IfOk result (λ run. Shows run threads events.now) }
-    ensures rules { IfOk result (λ run. StartsNoPackets accepted
-        → KeepsTheRules accepted threads events.now) }
+    ensures rules { IfOk result (λ run. KeepsTheRules accepted threads events.now) }
     ensures back { IfErr result (λ refused. refused.0 ≡ accepted) }
 {
     accepted_runs_keep_the_rules();

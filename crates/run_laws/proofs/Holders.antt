@@ -1,7 +1,9 @@
 pub mod Sums
 pub mod Rights
 pub mod Queued
+pub mod Started
 pub mod Counts
+pub mod Waits
 pub mod Steps
 pub mod Runs
 pub mod Once

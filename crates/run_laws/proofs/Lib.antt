@@ -6,6 +6,7 @@ pub mod Runs
 pub mod States
 pub mod Past
 pub mod Locks
+pub mod Tokens
 pub mod Holders
 pub mod Room
 pub mod Uses

@@ -1,3 +1,4 @@
 pub mod Extents
+pub mod Waiting
 pub mod Steps
 pub mod Runs

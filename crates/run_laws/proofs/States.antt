@@ -6,6 +6,7 @@ pub mod NoViews
 pub mod Follows
 pub mod Remaining
 pub mod Known
+pub mod StartsFit
 pub mod Fits
 pub mod Frames
 pub mod Moves

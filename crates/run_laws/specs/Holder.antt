@@ -1,5 +1,5 @@
 -- Who holds a packet: a register that has the right to it, the I/O manager's frame that completes it,
--- or a queue.
+-- a queue, or what a device has for StartIo.
 use Rattle.std.specs.Prelude.{ℕ, ◌≡◌, ◌<◌, ◌+◌, ◌&&◌, not, Bool, List, [], ◌∷◌, length, Option, None, Some, nat_eq, nat_lt, slice_get, if◌then◌else◌}
 use Rattle.model.specs.declared.abs.Abs.{Abs}
 use Rattle.model.specs.declared.abs.Kind.{Kind}
@@ -16,12 +16,12 @@ use Rattle.model.specs.declared.world.Value.TheVariants.{Blank, Num, Ref, Status
 use Rattle.model.specs.Fault.{topped}
 use Rattle.model.specs.LocalRule.{is_right}
 use Rattle.model.specs.Paths.{Arrives}
+use Rattle.model.specs.Queues.{StartState}
 use Rattle.model.specs.Run.{Run, frames_on, run}
 use Rattle.model.specs.Set.{Set, member, routine_of}
 use Rattle.model.specs.Sound.{IsSound}
 use Rattle.model.specs.Typable.{IsTypable}
-use Rattle.model.specs.World.{packet_of}
-use Rattle.run_laws.specs.StartsNoPackets.{StartsNoPackets}
+use Rattle.model.specs.World.{Shared, packet_of}
 
 -- 1 where a value refers to a packet, else 0
 abbrev pub names : Value → ℕ → ℕ
@@ -72,6 +72,23 @@ abbrev pub times_queued : List (List (List ℕ)) → ℕ → ℕ
 times_queued [] n = 0
 times_queued (lists ∷ queues) n = times_on lists n + times_queued queues n
 
+-- how often it stands in what a device has for StartIo: in its start list, its device queue and its
+-- current slot; in that of all devices; and in all lists and slots together
+abbrev pub times_in_slot : Option ℕ → ℕ → ℕ
+times_in_slot None n = 0
+times_in_slot (Some m) n = if nat_eq m n then 1 else 0
+
+abbrev pub times_at : StartState → ℕ → ℕ
+times_at start n =
+    times_in start.start_list n + times_in start.device_queue n + times_in_slot start.slot n
+
+abbrev pub times_started : List StartState → ℕ → ℕ
+times_started [] n = 0
+times_started (start ∷ starts) n = times_at start n + times_started starts n
+
+abbrev pub times_waiting : Shared → ℕ → ℕ
+times_waiting s n = times_queued s.queues n + times_started s.starts n
+
 abbrev pub alive : Option Packet → ℕ
 alive None = 0
 alive (Some p) = 1
@@ -88,10 +105,10 @@ pub record StandsInside (set : Set) (a : Activation) : Type 0 where
   pub registers : length a.registers ≡ REGISTERS
 
 -- a packet of a run that was issued and hasn't topped out has one holder, be it a register, the I/O
--- manager's frame or a place in a queue, and is in the list of live packets; any other one has none,
--- and isn't there. The states are those that arrive at the
--- positions of the routines, and every routine's frame, on top of its thread or below, stands at
--- one of them
+-- manager's frame, a place in a queue, a start list or a device queue, or a current slot, and is in
+-- the list of live packets; any other one has none, and isn't there. The states are those that
+-- arrive at the positions of the routines, and every routine's frame, on top of its thread or below,
+-- stands at one of them
 pub record HasOneHolder (set : Set) (threads : ℕ) (events : List Event) : Type 0 where
   pub states : ℕ → ℕ → ℕ → Abs
   pub arrive : (driver number p : ℕ) (routine : RoutineOf) → routine_of set driver number ≡ Some routine
@@ -101,12 +118,12 @@ pub record HasOneHolder (set : Set) (threads : ℕ) (events : List Event) : Type
       ≡ Some (Routine a)
       → StandsInside set a
   pub one : (n : ℕ) → holders states (run set threads events).world.threads n
-      + times_queued (run set threads events).world.shared.queues n
+      + times_waiting (run set threads events).world.shared n
       ≡ (if is_live (run set threads events) n then 1 else 0)
   pub listed : (n : ℕ) → alive (packet_of (run set threads events).world.shared n)
       ≡ (if is_live (run set threads events) n then 1 else 0)
 
 abbrev pub PacketsHaveOneHolder : Type 0
 PacketsHaveOneHolder =
-    (set : Set) → IsTypable set → IsSound set → StartsNoPackets set → (threads : ℕ) (events : List Event)
+    (set : Set) → IsTypable set → IsSound set → (threads : ℕ) (events : List Event)
     → HasOneHolder set threads events

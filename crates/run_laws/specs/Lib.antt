@@ -1,7 +1,7 @@
-pub mod StartsNoPackets
 pub mod NoWrong
 pub mod LockOrder
 pub mod Holder
+pub mod OneToken
 pub mod TopsOnce
 pub mod NeverStops
 pub mod Rules

@@ -10,7 +10,6 @@ use Rattle.model.specs.Set.{Set}
 use Rattle.model.specs.Sound.{IsSound}
 use Rattle.model.specs.Trace.{Entry, Serving, Tag, Managing, Activated}
 use Rattle.model.specs.Typable.{IsTypable}
-use Rattle.run_laws.specs.StartsNoPackets.{StartsNoPackets}
 
 -- what a frame did that is the activation of a number
 abbrev pub is_activation : ℕ → Tag → Bool
@@ -82,5 +81,5 @@ pub record KeepCertificates (set : Set) (threads : ℕ) (events : List Event) : 
 
 abbrev pub ActivationsKeepTheirCertificate : Type 0
 ActivationsKeepTheirCertificate =
-    (set : Set) → IsTypable set → IsSound set → StartsNoPackets set → (threads : ℕ) (events : List Event)
+    (set : Set) → IsTypable set → IsSound set → (threads : ℕ) (events : List Event)
     → KeepCertificates set threads events

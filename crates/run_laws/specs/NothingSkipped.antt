@@ -14,7 +14,6 @@ use Rattle.model.specs.Sound.{IsSound}
 use Rattle.model.specs.Trace.{Entry, Serving, Tag, Managing, Activated, uses}
 use Rattle.model.specs.Typable.{IsTypable}
 use Rattle.model.specs.World.{packet_of}
-use Rattle.run_laws.specs.StartsNoPackets.{StartsNoPackets}
 
 -- a tag is an activation's, and one that serves a use
 abbrev pub IsActivation : Tag → Type 0
@@ -81,5 +80,5 @@ pub record SkipsNothing (set : Set) (threads : ℕ) (events : List Event) : Type
 
 abbrev pub NothingIsSkipped : Type 0
 NothingIsSkipped =
-    (set : Set) → IsTypable set → IsSound set → StartsNoPackets set → (threads : ℕ) (events : List Event)
+    (set : Set) → IsTypable set → IsSound set → (threads : ℕ) (events : List Event)
     → SkipsNothing set threads events

@@ -11,9 +11,9 @@ use Rattle.model.specs.Typable.{IsTypable}
 use Rattle.run_laws.specs.Holder.{HasOneHolder}
 use Rattle.run_laws.specs.Lifetime.{KeepCertificates}
 use Rattle.run_laws.specs.NeverStops.{NeverStops}
-use Rattle.run_laws.specs.StartsNoPackets.{StartsNoPackets}
 use Rattle.run_laws.specs.NothingSkipped.{SkipsNothing}
 use Rattle.run_laws.specs.NoWrong.{NeverGoesWrong}
+use Rattle.run_laws.specs.OneToken.{HasOneToken}
 use Rattle.run_laws.specs.TopsOnce.{times_topped}
 
 -- no action of a trace makes a bug check, looking back over what was before it
@@ -24,7 +24,7 @@ Faultless (e ∷ past) = (fault_of past e.actor e.action ≡ None) × Faultless 
 -- the run of these events: no bug check and no operand of a wrong kind in its trace, so it hasn't
 -- stopped and no step of its threads is refused; each activation is within its certificate, what
 -- was returned agrees with the marks, nothing that these two go by is missing, each live packet has
--- one holder, and no packet tops out twice
+-- one holder, each busy device one token, and no packet tops out twice
 pub record KeepsTheRules (set : Set) (threads : ℕ) (events : List Event) : Type 0 where
   pub faultless : Faultless (run set threads events).past
   pub right : NeverGoesWrong set threads events
@@ -33,9 +33,10 @@ pub record KeepsTheRules (set : Set) (threads : ℕ) (events : List Event) : Typ
   pub pending : PendingAgree (run set threads events).past
   pub complete : SkipsNothing set threads events
   pub holders : HasOneHolder set threads events
+  pub tokens : HasOneToken set threads events
   pub topped : (n : ℕ) → times_topped (run set threads events).past n ≤ 1
 
 abbrev pub AcceptedRunsKeepTheRules : Type 0
 AcceptedRunsKeepTheRules =
-    (set : Set) → IsTypable set → IsSound set → StartsNoPackets set → (threads : ℕ) (events : List Event)
+    (set : Set) → IsTypable set → IsSound set → (threads : ℕ) (events : List Event)
     → KeepsTheRules set threads events

@@ -1,6 +1,6 @@
-//! Laws of runs: what holds of every run of an accepted set that starts no packets, whatever its
-//! threads and events; and what holds of any set's. Nothing runs here: each law is the contract of
-//! a function that does nothing.
+//! Laws of runs: what holds of every run of an accepted set, whatever its threads and events; and
+//! what holds of any set's. Nothing runs here: each law is the contract of a function that does
+//! nothing.
 #![tactic(auto)]
 
 ghost use Rattle.run_laws.specs.CarriedMark.{CarriedUp};
@@ -11,6 +11,7 @@ ghost use Rattle.run_laws.specs.LockOrder.{LocksAreOrderly};
 ghost use Rattle.run_laws.specs.NeverStops.{AcceptedRunsNeverStop};
 ghost use Rattle.run_laws.specs.NothingSkipped.{NothingIsSkipped};
 ghost use Rattle.run_laws.specs.NoWrong.{AcceptedRunsNeverGoWrong};
+ghost use Rattle.run_laws.specs.OneToken.{BusyDevicesHaveOneToken};
 ghost use Rattle.run_laws.specs.PastTells.{PastTellsOfTheWorld};
 ghost use Rattle.run_laws.specs.PendingReturns.{AcceptedRunsAgreeOnPending};
 ghost use Rattle.run_laws.specs.Rules.{AcceptedRunsKeepTheRules};
@@ -24,15 +25,15 @@ pub fn the_past_tells_of_the_world()
     ensures { PastTellsOfTheWorld }
 {}
 
-/// No run of an accepted set that starts no packets goes wrong: no operand is of a wrong kind, no
-/// position is outside its routine, no loop instruction is without its loop, and an activation's
-/// device is there with its locks and cells.
+/// No run of an accepted set goes wrong: no operand is of a wrong kind, no position is outside its
+/// routine, no loop instruction is without its loop, and an activation's device is there with its
+/// locks and cells.
 pub fn accepted_runs_never_go_wrong()
     ensures { AcceptedRunsNeverGoWrong }
 {}
 
-/// Every activation of an accepted set that starts no packets executes at most as many instructions
-/// as the certificate of its routine.
+/// Every activation of an accepted set executes at most as many instructions as the certificate of
+/// its routine.
 pub fn activations_keep_their_certificate()
     ensures { ActivationsKeepTheirCertificate }
 {}
@@ -44,14 +45,21 @@ pub fn locks_are_orderly()
 {}
 
 /// Each live packet has one holder: a register that has the right to it, the I/O manager's frame
-/// that completes it, or a place in a queue. One that has topped out has none. Every routine's
-/// frame stands inside its code.
+/// that completes it, a place in a queue, a start list or a device queue, or a current slot. One
+/// that has topped out has none. Every routine's frame stands inside its code.
 pub fn packets_have_one_holder()
     ensures { PacketsHaveOneHolder }
 {}
 
-/// No run of an accepted set that starts no packets stops: there is no bug check of any kind,
-/// nothing goes wrong, and no step of a thread is refused.
+/// A busy device has one token: a packet for which StartIo has to begin, one in its current slot,
+/// or a routine's frame that has to take the device on to the next packet. An idle one has none,
+/// and no packet waits in its device queue.
+pub fn busy_devices_have_one_token()
+    ensures { BusyDevicesHaveOneToken }
+{}
+
+/// No run of an accepted set stops: there is no bug check of any kind, nothing goes wrong, and no
+/// step of a thread is refused.
 pub fn accepted_runs_never_stop()
     ensures { AcceptedRunsNeverStop }
 {}
@@ -69,7 +77,7 @@ pub fn nothing_is_skipped()
     ensures { NothingIsSkipped }
 {}
 
-/// Every run of an accepted set that starts no packets keeps all these rules.
+/// Every run of an accepted set keeps all these rules.
 pub fn accepted_runs_keep_the_rules()
     ensures { AcceptedRunsKeepTheRules }
 {}

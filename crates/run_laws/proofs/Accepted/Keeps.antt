@@ -28,6 +28,8 @@ use Rattle.run_laws.proofs.States.Frames.{IsGood}
 use Rattle.run_laws.proofs.States.Rules.{States}
 use Rattle.run_laws.proofs.States.Standing.{Standing, standing_begun, right_event, standing_kept, standing_queued}
 use Rattle.run_laws.proofs.Steps.Faults.{is_touch, fault_among, NoFaults, no_fault}
+use Rattle.run_laws.proofs.Tokens.Runs.{tokens_begun, tokens_kept, tokens_queued}
+use Rattle.run_laws.proofs.Tokens.Sums.{OneTokenEach}
 
 pub record Keeps (set : Set) (states : States) (threads : ℕ) (w : World) (past : List Entry) : Type
     0 where
@@ -35,6 +37,7 @@ pub record Keeps (set : Set) (states : States) (threads : ℕ) (w : World) (past
   pub told : Telling w past
   pub locks : LocksAgree states w past
   pub held : Held states w
+  pub tokens : OneTokenEach states w
   pub sees : Sees set states w
   pub room : Roomy set states w
   pub falls : AllFall set w
@@ -53,6 +56,7 @@ keeps_begun set states threads =
       told = telling_begun set threads;
       locks = locks_begun set states threads;
       held = held_begun set states threads;
+      tokens = tokens_begun set states threads;
       sees = sees_begun set states threads;
       room = roomy_begun set states threads;
       falls = falls_begun set threads;
@@ -80,8 +84,8 @@ module _ (set : Set) (states : States) (threads : ℕ) (w : World) (past : List 
       let none : NoFaults past actor c.actions = record {
         locks = lock_faults_none set states w past good keeps.stands keeps.locks actor c root happens;
         touches = touches;
-        calls = call_faults_none set states w past good keeps.stands keeps.held keeps.room actor c
-            happens touches;
+        calls = call_faults_none set states w past good keeps.stands keeps.held keeps.room
+            keeps.tokens actor c happens touches;
         completions =
             completion_faults_none set states w past good keeps.stands keeps.held keeps.told.unarmed
             actor c
@@ -102,9 +106,11 @@ module _ (set : Set) (states : States) (threads : ℕ) (w : World) (past : List 
         stands = standing_kept set states w past good keeps.stands actor c on;
         told = telling_happens set good.sound w past actor c keeps.told on.happens on.quiet on.within;
         locks = locks_kept set states w past good keeps.stands keeps.locks actor c on;
-        held = held_kept set states w past good keeps.stands keeps.held actor c on;
+        held = held_kept set states w past good keeps.stands keeps.held keeps.tokens actor c on;
+        tokens = tokens_kept set states w past good keeps.stands keeps.tokens actor c on;
         sees = sees_event set states w past good keeps.stands keeps.sees actor.thread c on.happens;
-        room = roomy_kept set states w past good keeps.stands keeps.held keeps.room actor c on;
+        room = roomy_kept set states w past good keeps.stands keeps.held keeps.room keeps.tokens
+            actor c on;
         falls = falls_event set states w actor.thread keeps.falls past c good keeps.stands on.happens;
         «uses» = uses_event set states w past actor c known_world keeps.«uses» on.happens on.quiet;
         once = once_kept set past actor keeps.once w c keeps.stands.tells on.happens;
@@ -122,8 +128,15 @@ module _ (set : Set) (states : States) (threads : ℕ) (w : World) (past : List 
         told = telling_queued w past d queued keeps.told;
         locks = keeps.locks;
         held = record { rights = keeps.held.rights; walks = keeps.held.walks };
+        tokens = tokens_queued states w d queued keeps.tokens;
         sees = keeps.sees;
-        room = record { frames = keeps.room.frames; queues = keeps.room.queues };
+        room = record {
+          frames = keeps.room.frames;
+          waiting = record {
+            queues = keeps.room.waiting.queues;
+            starts = keeps.room.waiting.starts;
+          };
+        };
         falls = keeps.falls;
         «uses» = record { traced = keeps.«uses».traced; live = keeps.«uses».live };
         once = keeps.once;

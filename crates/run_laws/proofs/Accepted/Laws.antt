@@ -15,9 +15,9 @@ use Rattle.run_laws.specs.Holder.{HasOneHolder, PacketsHaveOneHolder}
 use Rattle.run_laws.specs.Lifetime.{KeepCertificates, ActivationsKeepTheirCertificate}
 use Rattle.run_laws.specs.LockOrder.{LocksAreOrderly}
 use Rattle.run_laws.specs.NeverStops.{LetsGoOn, NeverStops, AcceptedRunsNeverStop}
-use Rattle.run_laws.specs.StartsNoPackets.{StartsNoPackets}
 use Rattle.run_laws.specs.NothingSkipped.{SkipsNothing, NothingIsSkipped}
 use Rattle.run_laws.specs.NoWrong.{NeverGoesWrong, AcceptedRunsNeverGoWrong}
+use Rattle.run_laws.specs.OneToken.{BusyDevicesHaveOneToken, HasOneToken}
 use Rattle.run_laws.specs.PendingReturns.{AcceptedRunsAgreeOnPending}
 use Rattle.run_laws.specs.Rules.{AcceptedRunsKeepTheRules}
 use Rattle.run_laws.specs.TopsOnce.{times_topped, PacketsTopOutOnce}
@@ -43,14 +43,13 @@ lets_go reply right =
       wrong = λ place same. (let no : true ≡ false = sym (ap stops_run same) ∙ right in cc);
     }
 
-module _ (set : Set) (typable : IsTypable set) (sound : IsSound set) (startless : StartsNoPackets set)
-    (threads : ℕ)
+module _ (set : Set) (typable : IsTypable set) (sound : IsSound set) (threads : ℕ)
     (events : List Event) where
   abbrev states : States
   states = (led set typable sound).0
 
   good : IsGood set states
-  good = record { sound = sound; startless = startless; led = (led set typable sound).1 }
+  good = record { sound = sound; led = (led set typable sound).1 }
 
   abbrev here : Run
   here = run set threads events
@@ -104,6 +103,16 @@ module _ (set : Set) (typable : IsTypable set) (sound : IsSound set) (startless 
         listed = λ n. live_listed here lasting.keeps.stands.tells n;
       }
 
+  has_one_token : HasOneToken set threads events
+  has_one_token =
+      record {
+        states = states;
+        arrive = λ driver number p routine there within.
+            (good.led.known driver number routine there).follows.arrives p within;
+        one = lasting.keeps.tokens.one;
+        idle = lasting.keeps.tokens.idle;
+      }
+
   at_most_once : (n : ℕ) → times_topped here.past n ≤ 1
   at_most_once n = tops_at_most_once here.past lasting.keeps.once n
 
@@ -136,32 +145,36 @@ accepted_certificates = keep_certificates
 pub accepted_holders : PacketsHaveOneHolder
 accepted_holders = has_one_holder
 
+pub accepted_tokens : BusyDevicesHaveOneToken
+accepted_tokens = has_one_token
+
 pub accepted_tops : PacketsTopOutOnce
 accepted_tops = at_most_once
 
 -- no bug check at all is about a lock: a law of its own, as its reader asks for it by itself
 pub accepted_locks : LocksAreOrderly
-accepted_locks set typable sound startless threads events e bug reply =
-    absurd (((never_stops set typable sound startless threads events).replies e).bug bug reply)
+accepted_locks set typable sound threads events e bug reply =
+    absurd (((never_stops set typable sound threads events).replies e).bug bug reply)
 
 pub accepted_agree : AcceptedRunsAgreeOnPending
-accepted_agree set typable sound startless threads events =
-    pending_agree (states set typable sound startless threads events) (run set threads events).world
+accepted_agree set typable sound threads events =
+    pending_agree (states set typable sound threads events) (run set threads events).world
     (run set threads events).past
-    (lasting set typable sound startless threads events).attends.agree
+    (lasting set typable sound threads events).attends.agree
 
 pub accepted_skip_nothing : NothingIsSkipped
 accepted_skip_nothing = skips_nothing
 
 pub accepted_rules : AcceptedRunsKeepTheRules
-accepted_rules set typable sound startless threads events =
+accepted_rules set typable sound threads events =
     record {
-      faultless = (lasting set typable sound startless threads events).keeps.faultless;
-      right = never_wrong set typable sound startless threads events;
-      lasting = never_stops set typable sound startless threads events;
-      certificates = keep_certificates set typable sound startless threads events;
-      pending = accepted_agree set typable sound startless threads events;
-      complete = skips_nothing set typable sound startless threads events;
-      holders = has_one_holder set typable sound startless threads events;
-      topped = at_most_once set typable sound startless threads events;
+      faultless = (lasting set typable sound threads events).keeps.faultless;
+      right = never_wrong set typable sound threads events;
+      lasting = never_stops set typable sound threads events;
+      certificates = keep_certificates set typable sound threads events;
+      pending = accepted_agree set typable sound threads events;
+      complete = skips_nothing set typable sound threads events;
+      holders = has_one_holder set typable sound threads events;
+      tokens = has_one_token set typable sound threads events;
+      topped = at_most_once set typable sound threads events;
     }

@@ -23,11 +23,10 @@ use Rattle.run_laws.proofs.Lists.{last_of}
 use Rattle.run_laws.proofs.Runs.Events.{StepsFrame, Happens, nothing, steps, issues, past_with, begins, begins_startio}
 use Rattle.run_laws.proofs.Runs.Kept.{with_queued}
 use Rattle.run_laws.proofs.Runs.Threads.{frames_there, frames_put}
-use Rattle.run_laws.proofs.States.Entering.{begins_request, begins_dpc}
+use Rattle.run_laws.proofs.States.Entering.{begins_request, begins_dpc, startio_activation}
 use Rattle.run_laws.proofs.States.Frames.{IsGood, due}
-use Rattle.run_laws.proofs.States.Queueing.{never_starts}
 use Rattle.run_laws.proofs.States.Rules.{States}
-use Rattle.run_laws.proofs.States.Standing.{Standing, on_top}
+use Rattle.run_laws.proofs.States.Standing.{Standing, on_top, startio_enters}
 use Rattle.run_laws.proofs.Steps.Below.{standing_is}
 use Rattle.std.proofs.lemmas.Option.{get_or_from_slice_get}
 use Rattle.model.specs.declared.world.Irql.{Irql}
@@ -210,7 +209,10 @@ module _ (set : Set) (states : States) (good : IsGood set states) (r : Run) (t :
       begins_tally h.thread c.world.shared DispatchLevel (dpc_activation set h.d h.routine) [] c.reply
       h.found h.idle refl
       (begins_dpc set states good r.world.shared.issued h.d h.routine h.there).due
-  tally_kept c (begins_startio h) = absurd (never_starts good h)
+  tally_kept c (begins_startio h) =
+      begins_tally h.thread c.world.shared DispatchLevel (startio_activation set h.d h.routine h.n) []
+      c.reply h.found h.idle refl
+      (startio_enters set states r.world r.past good stands t h).due
 
 -- where a DPC is queued
 pub tally_queued : (set : Set) (r : Run) (d : ℕ) → Tallied set r

@@ -177,7 +177,7 @@ module _ (set : Set) (states : States) (s : Shared) where
   pays t under f o h (frees_lock a i lock owner at freed owned) =
       goes_next_on a i 1 refl h at (frees_plain a i lock freed)
   pays t under f o h (works_on_queues a i b queues starts actions full at queued) =
-      let on : MovedOn set states s a i b queues =
+      let on : MovedOn set states s a i b queues starts =
       queue_moves set states s a i (runs set states s a i h at) queued in
       elim (queued_touches queued) [
         | inl none ↦ rw none (moves_on a b (onto (state_of states a) i on.jumped) 1 refl on.moved)

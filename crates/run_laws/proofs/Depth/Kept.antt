@@ -13,15 +13,15 @@ use Rattle.model.specs.Run.{begun, frames_on}
 use Rattle.model.specs.Set.{Set}
 use Rattle.model.specs.Sound.{IsSound}
 use Rattle.model.specs.Trace.{Entry}
-use Rattle.model.specs.World.{Shared, World, with_dpc}
+use Rattle.model.specs.Queues.{without_first_to_start}
+use Rattle.model.specs.World.{Shared, World, with_dpc, with_start}
 use Rattle.run_laws.proofs.Depth.Falls.{Falls, falls_length, falls_after, short}
 use Rattle.run_laws.proofs.Runs.Events.{Happens, nothing, steps, issues, begins, begins_startio}
 use Rattle.run_laws.proofs.Runs.Threads.{frames_there, frames_put, each_frames, idle_frames}
-use Rattle.run_laws.proofs.States.Entering.{begins_dpc}
+use Rattle.run_laws.proofs.States.Entering.{begins_dpc, startio_activation}
 use Rattle.run_laws.proofs.States.Frames.{IsGood, Serves}
-use Rattle.run_laws.proofs.States.Queueing.{never_starts}
 use Rattle.run_laws.proofs.States.Rules.{States}
-use Rattle.run_laws.proofs.States.Standing.{Standing, stands_there, on_top}
+use Rattle.run_laws.proofs.States.Standing.{Standing, stands_there, on_top, startio_enters}
 use Rattle.run_laws.proofs.Steps.Below.{standing_is}
 use Rattle.run_laws.proofs.Steps.Comes.{walks_gone, Comes}
 use Rattle.model.specs.declared.world.Frame.TheVariants.{Routine, Walk}
@@ -92,7 +92,14 @@ module _ (set : Set) (states : States) (w : World) (t : ℕ) (falls : AllFall se
             slice_get_within set.devices h.d served.0 served.1),
         tt,
       )
-  falls_event past c good stands (begins_startio h) = absurd (never_starts good h)
+  falls_event past c good stands (begins_startio h) =
+      falls_put (with_start w.shared h.d (without_first_to_start h.start)) h.thread
+      (rooted h.thread DispatchLevel (startio_activation set h.d h.routine h.n)) h.found (
+        (let served : Serves set h.d (startio_activation set h.d h.routine h.n).driver =
+            (startio_enters set states w past good stands t h).ready.1.serves in
+            slice_get_within set.devices h.d served.0 served.1),
+        tt,
+      )
 
   -- no list is full
   not_full : (s : Shared) (past : List Entry) (under : Option Frame) (f : Frame) (o : Outcome)

@@ -9,7 +9,7 @@ use Rattle.model.specs.Run.{frames_of, frames_on}
 use Rattle.model.specs.Set.{Set}
 use Rattle.model.specs.Trace.{Entry}
 use Rattle.model.specs.World.{Shared, World}
-use Rattle.run_laws.specs.Holder.{times_queued, frame_rights, frame_walks, stack_sum, thread_sum}
+use Rattle.run_laws.specs.Holder.{times_waiting, frame_rights, frame_walks, stack_sum, thread_sum}
 use Rattle.run_laws.proofs.Holders.Runs.{top_holding}
 use Rattle.run_laws.proofs.Holders.Sums.{top_le, unheld, held, Held, stack_append, stack_le, two_le}
 use Rattle.run_laws.proofs.Past.LivePackets.{find, find_above}
@@ -60,10 +60,10 @@ module _ (set : Set) (states : States) (w : World) (past : List Entry)
   module _ (t : ℕ) (h : StepsFrame set w t) (n : ℕ) where
     apart_of : (more : ℕ) → 1 ≤ more
         → more + frame_rights states h.frame n
-        ≤ thread_sum (λ f. frame_rights states f n) w.threads + times_queued w.shared.queues n
+        ≤ thread_sum (λ f. frame_rights states f n) w.threads + times_waiting w.shared n
         → IsApart states w.shared h.frame n
     apart_of more some both =
-        let all : thread_sum (λ f. frame_rights states f n) w.threads + times_queued w.shared.queues n
+        let all : thread_sum (λ f. frame_rights states f n) w.threads + times_waiting w.shared n
         ≡ unheld (find w.shared.packets n) =
         kept.rights n in
         let one : unheld (find w.shared.packets n) + held (find w.shared.packets n) ≤ 1 =
@@ -85,11 +85,11 @@ module _ (set : Set) (states : States) (w : World) (past : List Entry)
         (h.frame ∷ []) = parts in
         apart_of (rights_in n h.below) some (omega arith)
 
-    pub apart_queued : 1 ≤ times_queued w.shared.queues n → IsApart states w.shared h.frame n
-    apart_queued some =
+    pub apart_waiting : 1 ≤ times_waiting w.shared n → IsApart states w.shared h.frame n
+    apart_waiting some =
         let le : frame_rights states h.frame n ≤ thread_sum (λ f. frame_rights states f n) w.threads =
         top_le (λ f. frame_rights states f n) w.threads t h.thread h.below h.frame h.found h.frames in
-        apart_of (times_queued w.shared.queues n) some (omega arith)
+        apart_of (times_waiting w.shared n) some (omega arith)
 
     pub apart_other : (k : ℕ) → t ≢ k → 1 ≤ rights_in n (frames_on w k)
         → IsApart states w.shared h.frame n
@@ -102,10 +102,10 @@ module _ (set : Set) (states : States) (w : World) (past : List Entry)
         (h.frame ∷ []) = parts in
         apart_of (rights_in n (frames_on w k)) some (omega arith)
 
-  -- no packet that isn't issued yet stands in a queue, and no frame has the right to one
-  pub queued_not_yet : (n : ℕ) → 1 ≤ times_queued w.shared.queues n → w.shared.issued ≢ n
-  queued_not_yet n some same =
-      let all : thread_sum (λ f. frame_rights states f n) w.threads + times_queued w.shared.queues n
+  -- no packet that isn't issued yet waits in a list or slot, and no frame has the right to one
+  pub waiting_not_yet : (n : ℕ) → 1 ≤ times_waiting w.shared n → w.shared.issued ≢ n
+  waiting_not_yet n some same =
+      let all : thread_sum (λ f. frame_rights states f n) w.threads + times_waiting w.shared n
       ≡ unheld (find w.shared.packets n) =
       kept.rights n in
       let none : find w.shared.packets n ≡ None =
@@ -117,7 +117,7 @@ module _ (set : Set) (states : States) (w : World) (past : List Entry)
   not_yet k n some same =
       let le : rights_in n (frames_on w k) ≤ thread_sum (λ f. frame_rights states f n) w.threads =
       thread_le (λ g. frame_rights states g n) w.threads k (slice_get w.threads k) refl in
-      let all : thread_sum (λ f. frame_rights states f n) w.threads + times_queued w.shared.queues n
+      let all : thread_sum (λ f. frame_rights states f n) w.threads + times_waiting w.shared n
       ≡ unheld (find w.shared.packets n) =
       kept.rights n in
       let none : find w.shared.packets n ≡ None =

@@ -13,7 +13,7 @@ use Rattle.model.specs.declared.world.Value.TheVariants.{Blank, Num, Ref, Status
 use Rattle.model.specs.LocalRule.{is_right, kind_of}
 use Rattle.model.specs.Trace.{Entry}
 use Rattle.model.specs.World.{Shared, place_of, packet_of, packet_in, register}
-use Rattle.run_laws.specs.Holder.{times_queued, right, rights, frame_rights, frame_walks}
+use Rattle.run_laws.specs.Holder.{times_waiting, right, rights, frame_rights, frame_walks}
 use Rattle.run_laws.proofs.Holders.Rights.{one_right, right_le}
 use Rattle.run_laws.proofs.Holders.Sums.{unheld, held, own_if, walked_if}
 use Rattle.run_laws.proofs.Past.LivePackets.{Rises, find, find_above, find_set, find_remove, find_push}
@@ -109,11 +109,11 @@ module _ (s : Shared) (p : Packet) (rises : Rises 0 s.packets s.issued) (number 
       kept_count held (find s.packets) (find (s.packets ++ p ∷ [])) s.issued (Some p)
       (find_push 0 s.packets s.issued p rises number) (rw (new_none, free) refl)
 
--- a frame's rights are to live packets, and to others than those that stand in queues
+-- a frame's rights are to live packets, and to others than those that wait in lists and slots
 pub record Holding (states : States) (s : Shared) (past : List Entry) (f : Frame) : Type 0 where
   pub tells : Tells s past
   pub rights : (n : ℕ) → frame_rights states f n ≤ unheld (find s.packets n)
-  pub queued : (n : ℕ) → frame_rights states f n + times_queued s.queues n ≤ unheld (find s.packets n)
+  pub waiting : (n : ℕ) → frame_rights states f n + times_waiting s n ≤ unheld (find s.packets n)
   pub walks : (n : ℕ) → frame_walks f n ≤ held (find s.packets n)
 
 -- what a register refers to

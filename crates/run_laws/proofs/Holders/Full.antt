@@ -1,10 +1,13 @@
--- A queue has room for a packet that a routine has the right to: the packet and the entries are different
--- live packets, and there are no more of these than a queue takes.
-use Rattle.std.proofs.Common.{subst, inr, inl, true, ◌≡◌, ◌≤◌, ◌+◌, ◌<◌, ℕ, Bool, false, List, [], ◌∷◌, length, Option, Some, refl, ap, arith}
-use Rattle.std.specs.Prelude.{nat_le, nat_eq, if◌then◌else◌}
+-- A queue, a start list and a device queue have room for a packet that a routine has the right to,
+-- and the start list for the first one of the device queue: the packet and the entries are
+-- different live packets, and there are no more of these than a list takes.
+use Rattle.std.proofs.Common.{true, ◌≡◌, ◌≤◌, ◌+◌, ℕ, Bool, false, List, [], ◌∷◌, length, Option, Some, refl, ap, arith}
+use Rattle.std.specs.Prelude.{nat_eq, not, if◌then◌else◌}
+use Rattle.std.proofs.lemmas.Bool.{cond_both}
 use Rattle.std.proofs.lemmas.List.{length-append}
+use Rattle.model.specs.declared.abs.Kind.TheVariants.{Blank as BlankKind}
 use Rattle.model.specs.declared.instr.Instr.{Instr}
-use Rattle.model.specs.declared.instr.Instr.TheVariants.{Insert}
+use Rattle.model.specs.declared.instr.Instr.TheVariants.{Insert, Start}
 use Rattle.model.specs.declared.limits.TheConstants.{MAX_ENTRIES, MAX_LIVE_PACKETS}
 use Rattle.model.specs.declared.world.Activation.{Activation}
 use Rattle.model.specs.declared.world.Frame.{Frame}
@@ -12,97 +15,129 @@ use Rattle.model.specs.declared.world.Frame.TheVariants.{Routine}
 use Rattle.model.specs.declared.world.Packet.{Packet}
 use Rattle.model.specs.Action.{Action}
 use Rattle.model.specs.Effect.{Outcome}
-use Rattle.model.specs.LocalRule.{is_right, kind_of}
-use Rattle.model.specs.Queues.{StartState, inserted, is_full}
-use Rattle.model.specs.Set.{Set}
+use Rattle.model.specs.LocalRule.{handed, is_right, kind_of}
+use Rattle.model.specs.Queues.{StartState, inserted, is_full, room_for_next}
+use Rattle.model.specs.Set.{Set, flow_of}
 use Rattle.model.specs.Trace.{Entry}
-use Rattle.model.specs.World.{Shared, queue_of, register}
-use Rattle.run_laws.specs.Holder.{frame_rights, right, rights, times_in, times_queued}
-use Rattle.run_laws.proofs.Holders.Counts.{Holding, reads_ref}
+use Rattle.model.specs.World.{Shared, next, start_of}
+use Rattle.run_laws.specs.Holder.{frame_rights, times_at, times_in, times_queued, times_started, times_waiting}
+use Rattle.run_laws.proofs.Holders.Counts.{Holding}
 use Rattle.run_laws.proofs.Holders.Queued.{entries_few, times_le, times_pushed}
-use Rattle.run_laws.proofs.Holders.Rights.{one_right, right_le}
+use Rattle.run_laws.proofs.Holders.Started.{started_le}
 use Rattle.run_laws.proofs.Holders.Sums.{own_if, unheld, unheld_one}
+use Rattle.run_laws.proofs.Holders.Waits.{gives_right, kinds_with, rights_given}
 use Rattle.run_laws.proofs.Past.LivePackets.{find}
 use Rattle.run_laws.proofs.States.Frames.{Runs, state_of}
+use Rattle.run_laws.proofs.States.Moves.{has_next}
 use Rattle.run_laws.proofs.States.OnTop.{OnTop, runs}
-use Rattle.run_laws.proofs.States.Queueing.{runs_no_start}
-use Rattle.run_laws.proofs.States.Rules.{first_none, States}
-use Rattle.run_laws.proofs.Steps.Comes.{Comes, Queued, Reads, inserts, removes, removes_none, works_on_queues}
-use Rattle.std.proofs.lemmas.Bool.Decides.{leb_tells, eqb_tells}
-use Rattle.run_laws.proofs.States.Obeyed.{inserts_right}
+use Rattle.run_laws.proofs.States.Rules.{States}
+use Rattle.run_laws.proofs.Tests.{not_at_most}
+use Rattle.run_laws.proofs.Steps.Comes.{Comes, Queued, Reads, inserts, puts_in, removes, removes_none, starts_next, starts_packet, takes_none, takes_out, works_on_queues}
 
-owns_inserted : (set : Set) (states : States) (s : Shared) (a : Activation) (r q n : ℕ)
-    → Runs set states s a (Insert r q) → Reads s a r n → 1 ≤ frame_rights states (Routine a) n
-owns_inserted set states s a r q n h reads =
-    let own : is_right (kind_of (state_of states a) r) ≡ true =
-    ap is_right (inserts_right (kind_of (state_of states a) r) (first_none _ _ h.obeys)) in
-    let one : right (kind_of (state_of states a) r) (register a r) n ≡ 1 =
-    one_right (kind_of (state_of states a) r) (register a r) n own
-    (reads_ref s (register a r) n reads) in
-    let le : right (kind_of (state_of states a) r) (register a r) n
-    ≤ rights (state_of states a).kinds a.registers n =
-    right_le s.issued (state_of states a).kinds a.registers r n h.stays.kinds in
-    omega arith
-
-not_at_most : (a b : ℕ) → b < a → nat_le a b ≡ false
-not_at_most a b l =
-    elim (leb_tells a b) [ inl g ↦ let k : a ≤ b = g.1 in absurd (omega arith) | inr g ↦ g.0 ]
+-- a list has room for a packet, where that and the entries are different live packets
+room_for : (s : Shared) → length s.packets ≤ MAX_LIVE_PACKETS → (entries : List ℕ) (n : ℕ)
+    → ((m : ℕ) → times_in entries m + (if nat_eq n m then 1 else 0) ≤ unheld (find s.packets m))
+    → is_full entries ≡ false
+room_for s limit entries n once =
+    let all : (m : ℕ) → times_in (inserted entries n) m ≤ unheld (find s.packets m) =
+    (λ m.
+    let le : times_in entries m + (if nat_eq n m then 1 else 0) ≤ unheld (find s.packets m) =
+    once m in
+    let pushed : times_in (inserted entries n) m
+    ≡ times_in entries m + (if nat_eq n m then 1 else 0) = times_pushed entries n m in
+    omega arith) in
+    let few : length (inserted entries n) ≤ length s.packets =
+    entries_few s.packets (inserted entries n)
+    (λ m.
+    let le : times_in (inserted entries n) m ≤ unheld (find s.packets m) = all m in
+    let one : unheld (find s.packets m) ≤ 1 = unheld_one (find s.packets m) in
+    omega arith)
+    (λ m some.
+    let le : times_in (inserted entries n) m ≤ unheld (find s.packets m) = all m in
+    let its : (p : Packet) × (find s.packets m ≡ Some p) × (p.completing ≡ false) =
+    own_if (find s.packets m) (omega arith) in (its.0, its.1)) in
+    let long : length (inserted entries n) ≡ length entries + length (n ∷ []) =
+    length-append entries (n ∷ []) in
+    let last : length (n ∷ []) ≡ 1 = refl in
+    not_at_most MAX_ENTRIES (length entries) (omega arith)
 
 module _ (set : Set) (states : States) (s : Shared) (past : List Entry) (a : Activation)
     (holding : Holding states s past (Routine a)) where
-  counts : (m : ℕ) → frame_rights states (Routine a) m + times_queued s.queues m
-      ≤ unheld (find s.packets m)
-  counts m = holding.queued m
-
-  room_left : (r q n : ℕ) (entries : List ℕ) → Runs set states s a (Insert r q) → Reads s a r n
-      → queue_of s a.device q ≡ Some entries → is_full entries ≡ false
-  room_left r q n entries h reads there =
-      let own : 1 ≤ frame_rights states (Routine a) n = owns_inserted set states s a r q n h reads in
-      let all : (m : ℕ) → times_in (inserted entries n) m ≤ unheld (find s.packets m) =
+  -- a packet that a routine gives away, to a list of packets that wait
+  room_left : (i : Instr) (h : Runs set states s a i) (r n : ℕ) (entries : List ℕ)
+      → has_next (flow_of i) ≡ true
+      → (handed (state_of states a) i).kinds ≡ kinds_with set states s a i h r BlankKind
+      → is_right (kind_of (state_of states a) r) ≡ true → Reads s a r n
+      → ((m : ℕ) → times_in entries m ≤ times_waiting s m) → is_full entries ≡ false
+  room_left i h r n entries on kinds own reads among =
+      room_for s h.fits.few entries n
       (λ m.
-      let le : times_in entries m ≤ times_queued s.queues m = times_le s a.device q entries m there in
-      let pushed : times_in (inserted entries n) m
-      ≡ times_in entries m + (if nat_eq n m then 1 else 0) = times_pushed entries n m in
-      let count : frame_rights states (Routine a) m + times_queued s.queues m
-      ≤ unheld (find s.packets m) = counts m in
-      elim (eqb_tells n m) [
-        | inl e ↦
-            let its : 1 ≤ frame_rights states (Routine a) m =
-            subst (λ (k : ℕ). 1 ≤ frame_rights states (Routine a) k) e.1 own in
-            let one : times_in (inserted entries n) m ≡ times_in entries m + 1 = rw e.0 at pushed in
-            omega arith
-        | inr e ↦
-            let one : times_in (inserted entries n) m ≡ times_in entries m + 0 = rw e.0 at pushed in
-            omega arith
-      ]) in
-      let few : length (inserted entries n) ≤ length s.packets =
-      entries_few s.packets (inserted entries n)
-      (λ m.
-      let le : times_in (inserted entries n) m ≤ unheld (find s.packets m) = all m in
-      let one : unheld (find s.packets m) ≤ 1 = unheld_one (find s.packets m) in
+      let le : times_in entries m ≤ times_waiting s m = among m in
+      let gone : frame_rights states (Routine (next a)) m + (if nat_eq n m then 1 else 0)
+      ≡ frame_rights states (Routine a) m =
+      rights_given set states s a i h r n on kinds own reads m in
+      let count : frame_rights states (Routine a) m + times_waiting s m
+      ≤ unheld (find s.packets m) =
+      holding.waiting m in
       omega arith)
-      (λ m some.
-      let le : times_in (inserted entries n) m ≤ unheld (find s.packets m) = all m in
-      let its : (p : Packet) × (find s.packets m ≡ Some p) × (p.completing ≡ false) =
-      own_if (find s.packets m) (omega arith) in (its.0, its.1)) in
-      let limit : length s.packets ≤ MAX_LIVE_PACKETS = h.fits.few in
-      let long : length (inserted entries n) ≡ length entries + length (n ∷ []) =
-      length-append entries (n ∷ []) in
-      let last : length (n ∷ []) ≡ 1 = refl in
-      not_at_most MAX_ENTRIES (length entries) (omega arith)
+
+  -- the first packet that waits while the device is busy, and the start list
+  next_room : (start : StartState) (entries : List ℕ) → length s.packets ≤ MAX_LIVE_PACKETS
+      → start_of s a.device ≡ Some start
+      → start.device_queue ≡ entries → not (room_for_next start.start_list entries) ≡ false
+  next_room start [] limit there is = refl
+  next_room start (n ∷ entries) limit there is =
+      let room : is_full start.start_list ≡ false =
+      room_for s limit start.start_list n
+      (λ m.
+      let first : times_in start.device_queue m
+      ≡ (if nat_eq n m then 1 else 0) + times_in entries m =
+      ap (λ (xs : List ℕ). times_in xs m) is in
+      let le : times_at start m ≤ times_started s.starts m =
+      started_le s.starts a.device start m there in
+      let count : frame_rights states (Routine a) m + times_waiting s m
+      ≤ unheld (find s.packets m) =
+      holding.waiting m in
+      omega arith) in
+      rw room refl
+
+  queued_full : (i : Instr) → Runs set states s a i → {b : Activation}
+      {queues : List (List (List ℕ))} {lists : List StartState} {actions : List Action}
+      {full : Bool}
+      → Queued s a i b queues lists actions full → full ≡ false
+  queued_full i h (inserts r q n entries reads there) =
+      room_left (Insert r q) h r n entries refl refl
+      (gives_right (kind_of (state_of states a) r) _ h.obeys) reads
+      (λ m.
+      let le : times_in entries m ≤ times_queued s.queues m =
+      times_le s a.device q entries m there in
+      omega arith)
+  queued_full i h (removes r q label n entries there) = refl
+  queued_full i h (removes_none r q label there) = refl
+  queued_full i h (starts_packet r n start reads there) =
+      let room : (entries : List ℕ) → ((m : ℕ) → times_in entries m ≤ times_at start m)
+      → not (not (is_full entries)) ≡ false =
+      (λ entries among.
+      rw (room_left (Start r) h r n entries refl refl
+      (gives_right (kind_of (state_of states a) r) _ h.obeys) reads
+      (λ m.
+      let its : times_in entries m ≤ times_at start m = among m in
+      let le : times_at start m ≤ times_started s.starts m =
+      started_le s.starts a.device start m there in
+      omega arith)) refl) in
+      cond_both start.busy start.device_queue start.start_list
+      (λ (entries : List ℕ). not (not (is_full entries)) ≡ false)
+      (λ busy. room start.device_queue (λ m. omega arith))
+      (λ free. room start.start_list (λ m. omega arith))
+  queued_full i h (takes_out r label n start there slot) = refl
+  queued_full i h (takes_none r label start there slot) = refl
+  queued_full i h (puts_in r n start reads there) = refl
+  queued_full i h (starts_next start there) =
+      next_room start start.device_queue h.fits.few there refl
 
   -- so no list gets an entry more than it has room for
   pub never_full : (t : ℕ) (under : Option Frame) (o : Outcome) → OnTop set states s (Routine a)
       → Comes set s t under (Routine a) o → o.full ≡ false
   never_full t under o top (works_on_queues b i c queues starts actions full at queued) =
-      left i c queues starts actions full (runs set states s a i top at) queued
-    where
-      left : (i : Instr) (c : Activation) (queues : List (List (List ℕ))) (lists : List StartState)
-          (actions : List Action) (full : Bool) → Runs set states s a i
-          → Queued s a i c queues lists actions full → full ≡ false
-      left i c queues lists actions full h (inserts r q n entries reads there) =
-          room_left r q n entries h reads there
-      left i c queues lists actions full h (removes r q label n entries there) = refl
-      left i c queues lists actions full h (removes_none r q label there) = refl
-      left i c queues lists actions full h _ = absurd (runs_no_start h refl)
+      queued_full i (runs set states s a i top at) queued
   never_full t under o top _ = refl

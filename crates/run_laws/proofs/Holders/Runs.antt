@@ -2,7 +2,7 @@
 use Rattle.std.proofs.Common.{length, ◌≡◌, ℕ, zero, suc, ◌+◌, ◌-◌, ◌≤◌, List, [], ◌∷◌, ◌++◌, Option, None, Some, Bool, true, false, refl, ap, ◌∙◌, arith}
 use Rattle.std.specs.Prelude.{◌&&◌, not, is_none, nat_eq, nat_lt, replicate, slice_get, slice_set, if◌then◌else◌}
 use Rattle.std.proofs.lemmas.Bool.{ltb-false}
-use Rattle.model.specs.declared.set.Sort.TheVariants.{Dispatch}
+use Rattle.model.specs.declared.set.Sort.TheVariants.{Dispatch, StartIo}
 use Rattle.model.specs.declared.status.Status.{Status}
 use Rattle.model.specs.declared.world.Activation.{Activation}
 use Rattle.model.specs.declared.world.Frame.{Frame}
@@ -15,27 +15,30 @@ use Rattle.model.specs.Fault.{armed, first_fault, topped}
 use Rattle.model.specs.Run.{Run, begun}
 use Rattle.model.specs.Set.{Set, instruction_at}
 use Rattle.model.specs.Trace.{Entry, Actor}
-use Rattle.model.specs.World.{World, idle_thread, new_packet, packet_of}
-use Rattle.run_laws.specs.Holder.{times_queued, frame_rights, frame_walks, stack_sum, thread_sum, holders, alive, is_live}
+use Rattle.model.specs.World.{World, idle_thread, new_packet, packet_of, with_start}
+use Rattle.run_laws.specs.Holder.{times_at, times_queued, times_started, times_waiting, frame_rights, frame_walks, stack_sum, thread_sum, holders, alive, is_live}
 use Rattle.run_laws.proofs.Holders.Counts.{Holding, new_unheld, new_held}
 use Rattle.run_laws.proofs.Holders.Rights.{begun_rights, rights_told, dpc_rights}
 use Rattle.run_laws.proofs.Holders.Steps.{HoldStep, hold, completion_faults}
-use Rattle.run_laws.proofs.Holders.Sums.{Held, unheld, held, stack_append, thread_set, top_le}
+use Rattle.run_laws.proofs.Holders.Sums.{Held, unheld, held, stack_append, thread_set, top_le, first_frame, last_sum}
 use Rattle.run_laws.proofs.Past.LivePackets.{find, find_place, find_above}
 use Rattle.run_laws.proofs.Past.Packets.{Tells}
 use Rattle.run_laws.proofs.Runs.Events.{StepsFrame, Happens, nothing, steps, issues, begins, begins_startio}
 use Rattle.run_laws.proofs.Runs.Kept.{GoesOnBy}
-use Rattle.run_laws.proofs.States.Entering.{begins_request, begins_dpc}
+use Rattle.run_laws.proofs.States.Entering.{begins_request, begins_dpc, startio_activation}
 use Rattle.run_laws.proofs.States.Fine.{StepLeaves, leaves_fine}
 use Rattle.run_laws.proofs.States.Frames.{IsGood, Ready, state_of}
-use Rattle.run_laws.proofs.States.Queueing.{never_starts}
 use Rattle.run_laws.proofs.States.Rules.{States}
 use Rattle.run_laws.proofs.States.Stacks.{Stands, Stacked, Replaces}
-use Rattle.run_laws.proofs.States.Standing.{Standing, stands_there, on_top}
+use Rattle.run_laws.proofs.States.Standing.{Standing, stands_there, on_top, startio_enters}
 use Rattle.run_laws.proofs.States.Told.{told_frame, told_last, last_same, standing_last}
 use Rattle.run_laws.proofs.Steps.Faults.{is_completion, is_touch, fault_among, quiet_among}
 use Rattle.model.specs.declared.limits.TheConstants.{MAX_QUEUES}
 use Rattle.run_laws.proofs.Holders.Queued.{none_queued}
+use Rattle.run_laws.proofs.Holders.Started.{none_started, started_put, times_first}
+use Rattle.run_laws.proofs.Holders.Waits.{FreesSlot}
+use Rattle.run_laws.proofs.Tokens.Sums.{OneTokenEach, token_slot}
+use Rattle.model.specs.Queues.{StartState, idle, without_first_to_start}
 
 -- a frame that is told a status has the same rights, and is the I/O manager's where it was
 module _ (set : Set) (states : States) (issued n : ℕ) where
@@ -78,11 +81,7 @@ module _ (set : Set) (states : States) (issued n : ℕ) where
   last_walks : (below : List Frame) (told : Option Status)
       → stack_sum (λ g. frame_walks g n) (told_last set told below)
       ≡ stack_sum (λ g. frame_walks g n) below
-  last_walks [] told = refl
-  last_walks (g ∷ []) told =
-      let same : frame_walks (told_frame set told g) n ≡ frame_walks g n =
-      frame_told_walks told g in omega arith
-  last_walks (g ∷ e ∷ below) told = ap (λ (sum : ℕ). frame_walks g n + sum) (last_walks (e ∷ below) told)
+  last_walks below told = last_sum set (λ g. frame_walks g n) told (frame_told_walks told) below
 
   -- where frames stand in place of the top one, nothing is told or they return
   last_after : (below : List Frame) (f : Frame) (told : Option Status) (frames : List Frame)
@@ -112,7 +111,7 @@ top_replaced count threads t thread after below lower f frames before now found 
     ap (stack_sum count) new ∙ stack_append count lower frames in
     omega arith
 
-top_changed : (count : Frame → ℕ) (threads : List Thread) (t : ℕ) (thread after : Thread)
+pub top_changed : (count : Frame → ℕ) (threads : List Thread) (t : ℕ) (thread after : Thread)
     (below lower : List Frame) (f : Frame) (frames : List Frame)
     → slice_get threads t ≡ Some thread → thread.frames.items ≡ below ++ f ∷ []
     → after.frames.items ≡ lower ++ frames → stack_sum count lower ≡ stack_sum count below
@@ -138,14 +137,14 @@ top_holding set states w past stands kept t h =
       rights = λ n.
           let le : frame_rights states h.frame n ≤ thread_sum (λ f. frame_rights states f n) w.threads =
           top_le (λ f. frame_rights states f n) w.threads t h.thread h.below h.frame h.found h.frames in
-          let all : thread_sum (λ f. frame_rights states f n) w.threads + times_queued w.shared.queues n
+          let all : thread_sum (λ f. frame_rights states f n) w.threads + times_waiting w.shared n
           ≡ unheld (find w.shared.packets n) =
           kept.rights n in
           omega arith;
-      queued = λ n.
+      waiting = λ n.
           let le : frame_rights states h.frame n ≤ thread_sum (λ f. frame_rights states f n) w.threads =
           top_le (λ f. frame_rights states f n) w.threads t h.thread h.below h.frame h.found h.frames in
-          let all : thread_sum (λ f. frame_rights states f n) w.threads + times_queued w.shared.queues n
+          let all : thread_sum (λ f. frame_rights states f n) w.threads + times_waiting w.shared n
           ≡ unheld (find w.shared.packets n) =
           kept.rights n in
           omega arith;
@@ -157,6 +156,17 @@ top_holding set states w past stands kept t h =
           omega arith;
     }
 
+-- and where it has the token of its device, the current slot is empty
+pub frees_slot : (set : Set) (states : States) (w : World) → OneTokenEach states w → (t : ℕ)
+    (h : StepsFrame set w t)
+    → FreesSlot states w.shared h.frame
+frees_slot set states w tokens t h = frees_of h.frame refl
+  where
+    frees_of : (f : Frame) → h.frame ≡ f → FreesSlot states w.shared f
+    frees_of (Routine a) is =
+        λ start has there. (token_slot set states w tokens t h a is has start there).0
+    frees_of (Walk n) is = tt
+
 -- what an event does to the rights
 module _ (set : Set) (states : States) (w : World) (past : List Entry) (good : IsGood set states)
     (stands : Standing set states w past) (kept : Held states w) where
@@ -167,17 +177,16 @@ module _ (set : Set) (states : States) (w : World) (past : List Entry) (good : I
       → thread_sum count w.threads ≡ before
       → now ≡ count f + before → thread_sum count (slice_set w.threads t after) ≡ now
   begun_on count t thread after f found idle items before now sum even =
-      let set_one : thread_sum count (slice_set w.threads t after) + stack_sum count thread.frames.items
-      ≡ thread_sum count w.threads + stack_sum count after.frames.items =
-      thread_set count w.threads t thread after found in
-      let none : stack_sum count thread.frames.items ≡ 0 = ap (stack_sum count) idle in
-      let one : stack_sum count after.frames.items ≡ count f + 0 = ap (stack_sum count) items in
+      let sum_after : thread_sum count (slice_set w.threads t after)
+      ≡ count f + thread_sum count w.threads =
+      first_frame count w.threads t thread after f found idle items in
       omega arith
 
-  held_happens : (actor : Actor) (c : Change) → Happens set w actor.thread c
+  held_happens : OneTokenEach states w → (actor : Actor) (c : Change)
+      → Happens set w actor.thread c
       → first_fault past actor c.actions ≡ None → Held states c.world
-  held_happens actor c (nothing reply right) quiet = kept
-  held_happens actor c (steps h) quiet =
+  held_happens tokens actor c (nothing reply right) quiet = kept
+  held_happens tokens actor c (steps h) quiet =
       let o : Outcome = h.outcome in
       let t : ℕ = actor.thread in
       let under : Option Frame = top_of h.below in
@@ -189,7 +198,7 @@ module _ (set : Set) (states : States) (w : World) (past : List Entry) (good : I
       quiet h.comes in
       let step : HoldStep states w.shared h.frame o =
       hold set states w.shared past actor under h.frame o (on_top set states w past good stands t h)
-      (top_holding set states w past stands kept t h) h.comes
+      (top_holding set states w past stands kept t h) (frees_slot set states w tokens t h) h.comes
       (quiet_among is_touch past actor o.actions quiet) in
       let after : Thread = with_stack h.thread (standing set h.below o) in
       let lower : List Frame = told_last set o.told h.below in
@@ -198,7 +207,7 @@ module _ (set : Set) (states : States) (w : World) (past : List Entry) (good : I
       record {
         rights = λ n.
             let before : thread_sum (λ f. frame_rights states f n) w.threads
-            + times_queued w.shared.queues n ≡ unheld (find w.shared.packets n) = kept.rights n in
+            + times_waiting w.shared n ≡ unheld (find w.shared.packets n) = kept.rights n in
             let changed : thread_sum (λ f. frame_rights states f n)
             (slice_set w.threads t after) + frame_rights states h.frame n
             ≡ thread_sum (λ f. frame_rights states f n) w.threads
@@ -208,8 +217,8 @@ module _ (set : Set) (states : States) (w : World) (past : List Entry) (good : I
             (last_after set states w.shared.issued n h.below h.frame o.told o.frames on_thread
             leaves.stands) in
             let even : stack_sum (λ g. frame_rights states g n) o.frames
-            + times_queued o.shared.queues n + unheld (find w.shared.packets n)
-            ≡ frame_rights states h.frame n + times_queued w.shared.queues n
+            + times_waiting o.shared n + unheld (find w.shared.packets n)
+            ≡ frame_rights states h.frame n + times_waiting w.shared n
             + unheld (find o.shared.packets n) = step.rights n in
             omega arith;
         walks = λ n. top_replaced (λ f. frame_walks f n) w.threads t h.thread after h.below lower
@@ -218,7 +227,7 @@ module _ (set : Set) (states : States) (w : World) (past : List Entry) (good : I
             (kept.walks n) new
             (last_walks set states w.shared.issued n h.below o.told) (step.walks n);
       }
-  held_happens actor c (issues h) quiet =
+  held_happens tokens actor c (issues h) quiet =
       let m : ℕ = w.shared.issued in
       let a : Activation = serves_request set h.d h.device h.major m in
       let p : Packet = new_packet m h.d h.major h.argument h.device.stack in
@@ -232,9 +241,11 @@ module _ (set : Set) (states : States) (w : World) (past : List Entry) (good : I
             ≡ (if nat_eq m n then 1 else 0) + unheld (find w.shared.packets n) =
             new_unheld w.shared p stands.tells.rises refl refl n in
             let before : thread_sum (λ f. frame_rights states f n) w.threads
-            + times_queued w.shared.queues n ≡ unheld (find w.shared.packets n) = kept.rights n in
-            let sum : thread_sum (λ f. frame_rights states f n) (slice_set w.threads actor.thread after)
-            ≡ frame_rights states (Routine a) n + thread_sum (λ f. frame_rights states f n) w.threads =
+            + times_waiting w.shared n ≡ unheld (find w.shared.packets n) = kept.rights n in
+            let sum : thread_sum (λ f. frame_rights states f n)
+            (slice_set w.threads actor.thread after)
+            ≡ frame_rights states (Routine a) n
+            + thread_sum (λ f. frame_rights states f n) w.threads =
             begun_on (λ f. frame_rights states f n) actor.thread h.thread after (Routine a) h.found
             h.idle refl _ _ refl refl in
             omega arith;
@@ -245,7 +256,7 @@ module _ (set : Set) (states : States) (w : World) (past : List Entry) (good : I
             (held (find w.shared.packets n)) (held (find (w.shared.packets ++ p ∷ []) n))
             (kept.walks n) (omega arith);
       }
-  held_happens actor c (begins h) quiet =
+  held_happens tokens actor c (begins h) quiet =
       let a : Activation = dpc_activation set h.d h.routine in
       let after : Thread = rooted h.thread DispatchLevel a in
       record {
@@ -254,21 +265,54 @@ module _ (set : Set) (states : States) (w : World) (past : List Entry) (good : I
             dpc_rights set states w.shared.issued a n
             (begins_dpc set states good w.shared.issued h.d h.routine h.there) in
             let before : thread_sum (λ f. frame_rights states f n) w.threads
-            + times_queued w.shared.queues n ≡ unheld (find w.shared.packets n) = kept.rights n in
-            let sum : thread_sum (λ f. frame_rights states f n) (slice_set w.threads actor.thread after)
-            ≡ frame_rights states (Routine a) n + thread_sum (λ f. frame_rights states f n) w.threads =
+            + times_waiting w.shared n ≡ unheld (find w.shared.packets n) = kept.rights n in
+            let sum : thread_sum (λ f. frame_rights states f n)
+            (slice_set w.threads actor.thread after)
+            ≡ frame_rights states (Routine a) n
+            + thread_sum (λ f. frame_rights states f n) w.threads =
             begun_on (λ f. frame_rights states f n) actor.thread h.thread after (Routine a) h.found
             h.idle refl _ _ refl refl in
             omega arith;
-        walks = λ n. begun_on (λ f. frame_walks f n) actor.thread h.thread after (Routine a) h.found
+        walks =
+            λ n. begun_on (λ f. frame_walks f n) actor.thread h.thread after (Routine a) h.found
             h.idle refl
             (held (find w.shared.packets n)) (held (find w.shared.packets n)) (kept.walks n)
             (omega arith);
       }
-  held_happens actor c (begins_startio h) quiet = absurd (never_starts good h)
+  held_happens tokens actor c (begins_startio h) quiet =
+      let a : Activation = startio_activation set h.d h.routine h.n in
+      let after : Thread = rooted h.thread DispatchLevel a in
+      let start : StartState = without_first_to_start h.start in
+      record {
+        rights = λ n.
+            let one : frame_rights states (Routine a) n ≡ (if nat_eq h.n n then 1 else 0) =
+            begun_rights set states w.shared.issued a StartIo h.n n
+            (startio_enters set states w past good stands actor.thread h) in
+            let before : thread_sum (λ f. frame_rights states f n) w.threads
+            + times_waiting w.shared n ≡ unheld (find w.shared.packets n) = kept.rights n in
+            let put : times_started (with_start w.shared h.d start).starts n + times_at h.start n
+            ≡ times_started w.shared.starts n + times_at start n =
+            started_put w.shared.starts h.d h.start start n h.has in
+            let gone : times_at start n + (if nat_eq h.n n then 1 else 0) ≡ times_at h.start n =
+            times_first h.start h.n n h.first in
+            let sum : thread_sum (λ f. frame_rights states f n)
+            (slice_set w.threads actor.thread after)
+            ≡ frame_rights states (Routine a) n
+            + thread_sum (λ f. frame_rights states f n) w.threads =
+            begun_on (λ f. frame_rights states f n) actor.thread h.thread after (Routine a) h.found
+            h.idle refl _ _ refl refl in
+            omega arith;
+        walks =
+            λ n. begun_on (λ f. frame_walks f n) actor.thread h.thread after (Routine a) h.found
+            h.idle refl
+            (held (find w.shared.packets n)) (held (find w.shared.packets n)) (kept.walks n)
+            (omega arith);
+      }
 
-  pub held_kept : (actor : Actor) (c : Change) → GoesOnBy set w past actor c → Held states c.world
-  held_kept actor c on = held_happens actor c on.happens on.quiet
+  pub held_kept : OneTokenEach states w → (actor : Actor) (c : Change)
+      → GoesOnBy set w past actor c
+      → Held states c.world
+  held_kept tokens actor c on = held_happens tokens actor c on.happens on.quiet
 
   pub completion_faults_none : ((n : ℕ) → armed past n ≡ false) → (actor : Actor) (c : Change)
       → Happens set w actor.thread c → fault_among is_completion past actor c.actions ≡ None
@@ -282,7 +326,8 @@ module _ (set : Set) (states : States) (w : World) (past : List Entry) (good : I
   completion_faults_none unarmed actor c (begins_startio h) = refl
 
 -- before the first event
-idle_sum : (count : Frame → ℕ) (threads : ℕ) → thread_sum count (replicate threads idle_thread) ≡ 0
+pub idle_sum : (count : Frame → ℕ) (threads : ℕ)
+    → thread_sum count (replicate threads idle_thread) ≡ 0
 idle_sum count zero = refl
 idle_sum count (suc threads) =
     let others : thread_sum count (replicate threads idle_thread) ≡ 0 =
@@ -296,6 +341,8 @@ held_begun set states threads =
           idle_sum (λ f. frame_rights states f n) threads in
           let empty : times_queued (replicate (length set.devices) (replicate MAX_QUEUES [])) n ≡ 0 =
           none_queued (length set.devices) n in
+          let idle_ones : times_started (replicate (length set.devices) idle) n ≡ 0 =
+          none_started (length set.devices) n in
           omega arith;
       walks = λ n. idle_sum (λ f. frame_walks f n) threads;
     }
@@ -347,14 +394,15 @@ module _ (r : Run) (tells : Tells r.world.shared r.past) (n : ℕ) where
       (ltb-false n r.world.shared.issued late))
 
   pub one_holder : (states : States) → Held states r.world
-      → holders states r.world.threads n + times_queued r.world.shared.queues n ≡ (if is_live r n then 1 else 0)
+      → holders states r.world.threads n + times_waiting r.world.shared n
+      ≡ (if is_live r n then 1 else 0)
   one_holder states kept =
       let both : holders states r.world.threads n
       ≡ thread_sum (λ f. frame_rights states f n) r.world.threads
       + thread_sum (λ f. frame_walks f n) r.world.threads =
       thread_both (λ f. frame_rights states f n) (λ f. frame_walks f n) r.world.threads in
       let rights_are : thread_sum (λ f. frame_rights states f n) r.world.threads
-      + times_queued r.world.shared.queues n
+      + times_waiting r.world.shared n
       ≡ unheld (find r.world.shared.packets n) = kept.rights n in
       let walks_are : thread_sum (λ f. frame_walks f n) r.world.threads
       ≡ held (find r.world.shared.packets n) =

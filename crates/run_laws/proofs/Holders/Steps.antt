@@ -11,7 +11,7 @@ use Rattle.model.specs.declared.event.Bug.{Bug}
 use Rattle.model.specs.declared.event.BugCheck.TheVariants.{IrqlNotLessOrEqual}
 use Rattle.model.specs.declared.event.Subject.TheVariants.{Packet as PacketSubject}
 use Rattle.model.specs.declared.instr.Instr.{Instr}
-use Rattle.model.specs.declared.instr.Instr.TheVariants.{Remove, Insert, Const, Move, Add, Subtract, Loop, End, Load, LoadPaged, Get, Put, Mark, Pass, Call, Complete, Ret}
+use Rattle.model.specs.declared.instr.Instr.TheVariants.{Const, Move, Add, Subtract, Loop, End, Load, LoadPaged, Get, Put, Mark, Pass, Call, Complete, Ret}
 use Rattle.model.specs.declared.instr.Return.{Return}
 use Rattle.model.specs.declared.instr.Return.TheVariants.{Continue, Void}
 use Rattle.model.specs.declared.set.Sort.{Sort}
@@ -26,14 +26,14 @@ use Rattle.model.specs.declared.world.Value.{Value}
 use Rattle.model.specs.declared.world.Value.TheVariants.{Blank, Num, Ref}
 use Rattle.model.specs.Effect.{Outcome, turned, dispatched, completes_with, set_by}
 use Rattle.model.specs.Fault.{topped, completing, armed, bug_if, first_or, completion_fault}
-use Rattle.model.specs.LocalRule.{an_owned_one, free_kind, demanded, least_of, guard_fault, is_packet, kind_of, handed, marked, given_down, is_right, number_kind, refuses}
+use Rattle.model.specs.LocalRule.{kind_of, handed, marked, given_down, is_right, number_kind, refuses}
 use Rattle.model.specs.Set.{Set, flow_of, sort_of, lower_of}
 use Rattle.model.specs.Sound.{OperandFits}
 use Rattle.model.specs.Trace.{Entry, Actor}
-use Rattle.model.specs.World.{at_label, with_register, with_queue, Shared, packet_of, register, next, with_loops, with_packet, without_packet, with_info, mark_current, completed, shared_with, sent_down, left_location, moved_up, current_location, asked_of}
-use Rattle.run_laws.specs.Holder.{times_in, times_queued, right, rights, frame_rights, frame_walks, stack_sum}
+use Rattle.model.specs.World.{Shared, packet_of, register, next, with_loops, with_packet, without_packet, with_info, mark_current, completed, shared_with, sent_down, left_location, moved_up, current_location, asked_of}
+use Rattle.run_laws.specs.Holder.{times_waiting, right, rights, frame_rights, frame_walks, stack_sum}
 use Rattle.run_laws.proofs.Holders.Counts.{Holding, unheld_set, held_set, unheld_taken, held_taken, unheld_removed, held_removed, reads_ref, right_free, right_lives, walk_taken, walk_lives}
-use Rattle.run_laws.proofs.Holders.Rights.{rights_both, no_right, rights_write, rights_turn, rights_move, no_rights, not_right, begun_rights}
+use Rattle.run_laws.proofs.Holders.Rights.{rights_write, rights_turn, rights_move, no_rights, not_right, begun_rights}
 use Rattle.run_laws.proofs.Holders.Sums.{unheld, held}
 use Rattle.run_laws.proofs.Lists.{all_at}
 use Rattle.run_laws.proofs.Past.LivePackets.{find}
@@ -43,39 +43,24 @@ use Rattle.run_laws.proofs.States.Frames.{state_of, Moved, Runs}
 use Rattle.run_laws.proofs.States.Kinds.{HasKinds, kinds_get, kinds_set, label_kinds, number_kinds, still_kinds}
 use Rattle.run_laws.proofs.States.LoopEnds.{moved_end}
 use Rattle.run_laws.proofs.States.Moves.{has_next, falls_next, arrives, arrives_next}
-use Rattle.run_laws.proofs.States.Obeyed.{inserts_right, SendsDown, sends_down, completes_one, returns_by}
+use Rattle.run_laws.proofs.States.Obeyed.{SendsDown, sends_down, completes_one, returns_by}
 use Rattle.run_laws.proofs.States.OnTop.{OnTop, runs}
 use Rattle.run_laws.proofs.States.Rules.{States, first_none, second_none, unbroken}
-use Rattle.run_laws.proofs.Steps.Comes.{removes_none, removes, inserts, queued_to, Queued, Written, keeps_all, makes_number, moves_over, makes_blank, GoesTo, onward, jumping, Reads, Comes, errs, awaits_lock, computes, opens_loop, turns_loop, pages, touches_gone, looks_at, writes_info, marks_packet, takes_lock, retakes_lock, frees_lock, completes_packet, completes_gone, passes_down, calls_down, returns_status, lets_go, lets_walk, walks_gone, walks_to, walks_up, carries_up, tops_out, ends_dpc, works_on_queues, ends_startio}
+use Rattle.run_laws.proofs.Steps.Comes.{queued_to, Queued, Written, keeps_all, makes_number, moves_over, makes_blank, GoesTo, onward, jumping, Reads, Comes, errs, awaits_lock, computes, opens_loop, turns_loop, pages, touches_gone, looks_at, writes_info, marks_packet, takes_lock, retakes_lock, frees_lock, completes_packet, completes_gone, passes_down, calls_down, returns_status, lets_go, lets_walk, walks_gone, walks_to, walks_up, carries_up, tops_out, ends_dpc, works_on_queues, ends_startio}
 use Rattle.run_laws.proofs.Steps.Faults.{is_touch, is_completion, fault_among}
 use Rattle.run_laws.proofs.Steps.Locking.{LockWord, taken_word, freed_word}
 use Rattle.run_laws.proofs.Steps.Words.{is_giving, Forwarding, work_of, packet_operand, keeps_registers, numbered_by}
-use Rattle.model.specs.Queues.{inserted, StartState}
+use Rattle.model.specs.Queues.{StartState}
 use Rattle.run_laws.proofs.Steps.Queues.{queued_touches}
 use Rattle.model.specs.Action.{Action}
-use Rattle.run_laws.proofs.Holders.Queued.{times_pushed, times_put}
-use Rattle.run_laws.proofs.States.Queueing.{runs_no_start}
-use Rattle.model.specs.declared.abs.Rule.TheVariants.{Dropped}
-use Rattle.model.specs.declared.abs.Rule.{Rule}
-
--- a register that is inserted had one
-inserted_right : (k : Kind) (fault : Option Rule) → least_of (demanded an_owned_one k) fault ≡ None
-    → is_right k ≡ true
-inserted_right k fault rule =
-    ap is_right (inserts_right k (first_none (demanded an_owned_one k) fault rule))
-
--- a register that a packet is removed to had no right
-removed_free : (fault : Option Rule) (k : Kind) → least_of fault (free_kind k) ≡ None
-    → is_right k ≡ false
-removed_free fault k rule =
-    not_right k (unbroken (is_packet k) Dropped (second_none fault (free_kind k) rule))
+use Rattle.run_laws.proofs.Holders.Waits.{FreesSlot, queued_rights}
 
 -- the rights before and after a step, those of the packets that are gone or came included
 pub record HoldStep (states : States) (s : Shared) (f : Frame) (o : Outcome) : Type 0 where
   pub rights : (n : ℕ)
-      → stack_sum (λ g. frame_rights states g n) o.frames + times_queued o.shared.queues n
+      → stack_sum (λ g. frame_rights states g n) o.frames + times_waiting o.shared n
       + unheld (find s.packets n)
-      ≡ frame_rights states f n + times_queued s.queues n + unheld (find o.shared.packets n)
+      ≡ frame_rights states f n + times_waiting s n + unheld (find o.shared.packets n)
   pub walks : (n : ℕ) → stack_sum (λ g. frame_walks g n) o.frames + held (find s.packets n)
       ≡ frame_walks f n + held (find o.shared.packets n)
   pub fewer : (n : ℕ) → unheld (find o.shared.packets n) ≤ unheld (find s.packets n)
@@ -204,28 +189,30 @@ module _ (set : Set) (states : States) (s : Shared) (a : Activation) (i : Instr)
 
 -- every step
 module _ (set : Set) (states : States) (s : Shared) (past : List Entry) (actor : Actor) where
-  -- the frames have the same rights, the queues are as before, and so is each packet, live and
-  -- completing or not
-  even : (f : Frame) (o : Outcome) → o.shared.queues ≡ s.queues
+  -- the frames have the same rights, the lists and slots are as before, and so is each packet,
+  -- live and completing or not
+  even : (f : Frame) (o : Outcome) → ((n : ℕ) → times_waiting o.shared n ≡ times_waiting s n)
       → ((n : ℕ) → stack_sum (λ g. frame_rights states g n) o.frames ≡ frame_rights states f n)
       → ((n : ℕ) → stack_sum (λ g. frame_walks g n) o.frames ≡ frame_walks f n)
       → ((n : ℕ) → unheld (find o.shared.packets n) ≡ unheld (find s.packets n))
       → ((n : ℕ) → held (find o.shared.packets n) ≡ held (find s.packets n)) → HoldStep states s f o
-  even f o queues rights_same walks_same unheld_same held_same =
+  even f o waits rights_same walks_same unheld_same held_same =
       record {
-        rights = λ n. rw (rights_same n, unheld_same n, queues) refl;
+        rights = λ n. rw (rights_same n, unheld_same n, waits n) refl;
         walks = λ n. rw (walks_same n, held_same n) refl;
         fewer = λ n. rw (unheld_same n) (omega arith);
       }
 
   -- the frame goes on, and the packets stay with who has them
-  kept : (a b : Activation) (o : Outcome) → o.shared.queues ≡ s.queues → o.frames ≡ Routine b ∷ []
+  kept : (a b : Activation) (o : Outcome)
+      → ((n : ℕ) → times_waiting o.shared n ≡ times_waiting s n)
+      → o.frames ≡ Routine b ∷ []
       → ((n : ℕ) → frame_rights states (Routine b) n ≡ frame_rights states (Routine a) n)
       → ((n : ℕ) → unheld (find o.shared.packets n) ≡ unheld (find s.packets n))
       → ((n : ℕ) → held (find o.shared.packets n) ≡ held (find s.packets n))
       → HoldStep states s (Routine a) o
-  kept a b o queues frames same unheld_same held_same =
-      even (Routine a) o queues
+  kept a b o waits frames same unheld_same held_same =
+      even (Routine a) o waits
       (λ n. let one : frame_rights states (Routine b) n ≡ frame_rights states (Routine a) n = same n in
       rw frames (omega arith))
       (λ n. rw frames refl) unheld_same held_same
@@ -249,7 +236,7 @@ module _ (set : Set) (states : States) (s : Shared) (past : List Entry) (actor :
       operand in
       let at : find s.packets n ≡ Some p = found s n (Some p) there in
       let its : q.number ≡ n = number ∙ numbered s n p there in
-      even (Routine a) o (ap (λ (x : Shared). x.queues) shared)
+      even (Routine a) o (λ m. rw shared refl)
       (λ m.
       let given : rights (given_down (state_of states a) r k).kinds a.registers m + right k
       (register a r) m
@@ -274,7 +261,7 @@ module _ (set : Set) (states : States) (s : Shared) (past : List Entry) (actor :
   returns : (a : Activation) (form : Return) (o : Outcome) → Runs set states s a (Ret form) → o.shared ≡ s
       → o.frames ≡ [] → HoldStep states s (Routine a) o
   returns a form o h shared frames =
-      even (Routine a) o (ap (λ (x : Shared). x.queues) shared)
+      even (Routine a) o (λ m. rw shared refl)
       (λ n. rw frames (sym (no_rights (state_of states a).kinds a.registers n
       (returns_by (state_of states a) (sort_of set a.driver a.routine) set a.driver form
       h.obeys).nothing_left)))
@@ -290,7 +277,7 @@ module _ (set : Set) (states : States) (s : Shared) (past : List Entry) (actor :
   goes_up n p q above o there number same shared frames no_rights_above no_walks_above =
       let at : find s.packets n ≡ Some p = found s n (Some p) there in
       let its : q.number ≡ n = number ∙ numbered s n p there in
-      even (Walk n) o (ap (λ (x : Shared). x.queues) shared)
+      even (Walk n) o (λ m. rw shared refl)
       (λ m. let none : stack_sum (λ g. frame_rights states g m) above ≡ 0 = no_rights_above m in
       rw frames (omega arith))
       (λ m. let none : stack_sum (λ g. frame_walks g m) above ≡ 0 =
@@ -298,81 +285,18 @@ module _ (set : Set) (states : States) (s : Shared) (past : List Entry) (actor :
       (λ m. rw shared (unheld_set s n p at q its same m))
       (λ m. rw shared (held_set s n p at q its same m))
 
-  -- a packet goes from a register to a queue, or from a queue to a register
-  pub queued_rights : (a : Activation) (i : Instr) (b : Activation) (queues : List (List (List ℕ)))
-      (lists : List StartState) (actions : List Action) (full : Bool) → Runs set states s a i
-      → Queued s a i b queues lists actions full → (n : ℕ)
-      → frame_rights states (Routine b) n + times_queued queues n
-      ≡ frame_rights states (Routine a) n + times_queued s.queues n
-  queued_rights a i b queues lists actions full h (inserts r q m entries reads there) n =
-      let own : is_right (kind_of (state_of states a) r) ≡ true =
-      inserted_right (kind_of (state_of states a) r) (guard_fault (state_of states a) set a.driver q)
-      h.obeys in
-      let turn : rights (slice_set (state_of states a).kinds r BlankKind) a.registers n
-      + right (kind_of (state_of states a) r) (register a r) n
-      ≡ rights (state_of states a).kinds a.registers n + 0 =
-      rights_turn s.issued (state_of states a).kinds a.registers r BlankKind n h.stays.kinds in
-      let gone : right (kind_of (state_of states a) r) (register a r) n ≡ (if nat_eq m n then 1 else 0) =
-      named_right (kind_of (state_of states a) r) (register a r) m n own
-      (reads_ref s (register a r) m reads) in
-      let now : frame_rights states (Routine (next a)) n
-      ≡ rights (slice_set (state_of states a).kinds r BlankKind) a.registers n =
-      next_state_rights set states s a (Insert r q) h refl n in
-      let put : times_queued (with_queue s a.device q (inserted entries m)).queues n + times_in entries n
-      ≡ times_queued s.queues n + times_in (inserted entries m) n =
-      times_put s a.device q entries (inserted entries m) n there in
-      let pushed : times_in (entries ++ m ∷ []) n
-      ≡ times_in entries n + (if nat_eq m n then 1 else 0) = times_pushed entries m n in
-      omega arith
-  queued_rights a i b queues lists actions full h (removes r q label m entries there) n =
-      let small : r < REGISTERS =
-      all_at OperandFits h.routine.code a.position (Remove r q label) h.known.operands h.here in
-      let long : length (state_of states a).kinds ≡ REGISTERS = h.stays.sixteen in
-      let none : right (kind_of (state_of states a) r) (register a r) n ≡ 0 =
-      no_right (kind_of (state_of states a) r) (register a r) n
-      (removed_free (guard_fault (state_of states a) set a.driver q) (kind_of (state_of states a) r)
-      h.obeys) in
-      let both : rights (slice_set (state_of states a).kinds r Own) (slice_set a.registers r (Ref m)) n
-      + right (kind_of (state_of states a) r) (register a r) n
-      ≡ rights (state_of states a).kinds a.registers n + right Own (Ref m) n =
-      rights_both s.issued (state_of states a).kinds a.registers r Own (Ref m) n h.stays.kinds
-      (omega arith) in
-      let now : frame_rights states (Routine (next (with_register a r (Ref m)))) n
-      ≡ rights (slice_set (state_of states a).kinds r Own) (slice_set a.registers r (Ref m)) n =
-      ap (λ (state : Abs). rights state.kinds (slice_set a.registers r (Ref m)) n)
-      (arrives_next set states s a (Remove r q label) h refl) in
-      let new : right Own (Ref m) n ≡ (if nat_eq m n then 1 else 0) = refl in
-      let put : times_queued (with_queue s a.device q entries).queues n + times_in (m ∷ entries) n
-      ≡ times_queued s.queues n + times_in entries n =
-      times_put s a.device q (m ∷ entries) entries n there in
-      let first : times_in (m ∷ entries) n ≡ (if nat_eq m n then 1 else 0) + times_in entries n = refl in
-      omega arith
-  queued_rights a i b queues lists actions full h (removes_none r q label there) n =
-      let none : right (kind_of (state_of states a) r) (register a r) n ≡ 0 =
-      no_right (kind_of (state_of states a) r) (register a r) n
-      (removed_free (guard_fault (state_of states a) set a.driver q) (kind_of (state_of states a) r)
-      h.obeys) in
-      let turn : rights (slice_set (state_of states a).kinds r BlankKind) a.registers n
-      + right (kind_of (state_of states a) r) (register a r) n
-      ≡ rights (state_of states a).kinds a.registers n + 0 =
-      rights_turn s.issued (state_of states a).kinds a.registers r BlankKind n h.stays.kinds in
-      let now : frame_rights states (Routine (at_label a label)) n
-      ≡ rights (slice_set (state_of states a).kinds r BlankKind) a.registers n =
-      ap (λ (state : Abs). rights state.kinds a.registers n)
-      (arrives set states s a (Remove r q label) h _ true (jumping label refl)) in
-      omega arith
-  queued_rights a i b queues lists actions full h _ n = absurd (runs_no_start h refl)
-
+  -- a packet goes to a list or slot, or comes from one
   queues_hold : (a : Activation) (i : Instr) (b : Activation) (queues : List (List (List ℕ)))
       (lists : List StartState) (actions : List Action) (full : Bool) → Runs set states s a i
-      → Queued s a i b queues lists actions full
+      → FreesSlot states s (Routine a) → Queued s a i b queues lists actions full
       → HoldStep states s (Routine a) (queued_to s b queues lists actions full)
-  queues_hold a i b queues lists actions full h queued =
+  queues_hold a i b queues lists actions full h frees queued =
       record {
         rights = λ n.
-            let same : frame_rights states (Routine b) n + times_queued queues n
-            ≡ frame_rights states (Routine a) n + times_queued s.queues n =
-            queued_rights a i b queues lists actions full h queued n in
+            let same : frame_rights states (Routine b) n
+            + times_waiting (record s { queues = queues; starts = lists }) n
+            ≡ frame_rights states (Routine a) n + times_waiting s n =
+            queued_rights set states s a i h frees queued n in
             omega arith;
         walks = λ n. refl;
         fewer = λ n. omega arith;
@@ -427,108 +351,112 @@ module _ (set : Set) (states : States) (s : Shared) (past : List Entry) (actor :
       cc
 
   pub hold : (under : Option Frame) (f : Frame) (o : Outcome) → OnTop set states s f
-      → Holding states s past f
+      → Holding states s past f → FreesSlot states s f
       → Comes set s actor.thread under f o → fault_among is_touch past actor o.actions ≡ None
       → HoldStep states s f o
-  hold under f o top holding (errs a lacks) quiet = kept a a o refl refl (λ n. refl) (λ n. refl) (λ n. refl)
-  hold under f o top holding (awaits_lock a i lock owner at takes owned other) quiet =
-      kept a a o refl refl (λ n. refl) (λ n. refl) (λ n. refl)
-  hold under f o top holding (computes a i b jumped cells at is goes long) quiet =
-      kept a b o refl refl
+  hold under f o top holding slot (errs a lacks) quiet =
+      kept a a o (λ n. refl) refl (λ n. refl) (λ n. refl) (λ n. refl)
+  hold under f o top holding slot (awaits_lock a i lock owner at takes owned other) quiet =
+      kept a a o (λ n. refl) refl (λ n. refl) (λ n. refl) (λ n. refl)
+  hold under f o top holding slot (computes a i b jumped cells at is goes long) quiet =
+      kept a b o (λ n. refl) refl
       (goes_rights set states s a i (runs set states s a i top at) b jumped (rw is refl) goes)
       (λ n. refl) (λ n. refl)
-  hold under f o top holding (opens_loop a turns at room) quiet =
+  hold under f o top holding slot (opens_loop a turns at room) quiet =
       kept a (next (with_loops a
-      (a.loops.items ++ record { start = a.position + 1; turns = turns } ∷ []))) o refl refl
+      (a.loops.items ++ record { start = a.position + 1; turns = turns } ∷ []))) o (λ n. refl) refl
       (still_rights set states s a (Loop turns) (runs set states s a (Loop turns) top at) refl refl refl)
       (λ n. refl) (λ n. refl)
-  hold under f o top holding (turns_loop a loop at there) quiet =
+  hold under f o top holding slot (turns_loop a loop at there) quiet =
       let ends : Moved set states s.issued a (turned a loop) (state_of states a) =
       moved_end set states s a (runs set states s a End top at) loop there in
-      kept a (turned a loop) o refl refl
+      kept a (turned a loop) o (λ n. refl) refl
       (λ n. ap (λ (state : Abs). rights state.kinds (turned a loop).registers n) ends.arrives
       ∙ ap (λ (values : List Value). rights (state_of states a).kinds values n) (turned_registers a loop))
       (λ n. refl) (λ n. refl)
-  hold under f o top holding (pages a i b cell cells at is goes long) quiet =
-      kept a b o refl refl
+  hold under f o top holding slot (pages a i b cell cells at is goes long) quiet =
+      kept a b o (λ n. refl) refl
       (goes_rights set states s a i (runs set states s a i top at) b false (rw is refl) goes)
       (λ n. refl) (λ n. refl)
-  hold under f o top holding (touches_gone a i r n at is on operand reads gone) quiet =
+  hold under f o top holding slot (touches_gone a i r n at is on operand reads gone) quiet =
       absurd (topped_faults n
       (gone_topped s past n holding.tells (named s (register a r) n reads) gone) quiet)
-  hold under f o top holding (looks_at a i b jumped r n p at is goes operand reads there jumps) quiet =
-      kept a b o refl refl
+  hold under f o top holding slot
+      (looks_at a i b jumped r n p at is goes operand reads there jumps) quiet =
+      kept a b o (λ n. refl) refl
       (goes_rights set states s a i (runs set states s a i top at) b jumped (rw is refl) goes)
       (λ m. refl) (λ m. refl)
-  hold under f o top holding (writes_info a q r n p info at reads there number) quiet =
+  hold under f o top holding slot (writes_info a q r n p info at reads there number) quiet =
       let found_there : find s.packets n ≡ Some p = found s n (Some p) there in
-      kept a (next a) o refl refl
+      kept a (next a) o (λ n. refl) refl
       (still_rights set states s a (Put q r) (runs set states s a (Put q r) top at) refl refl refl)
       (unheld_set s n p found_there (with_info p info) (numbered s n p there) refl)
       (held_set s n p found_there (with_info p info) (numbered s n p there) refl)
-  hold under f o top holding (marks_packet a r n p at reads there) quiet =
+  hold under f o top holding slot (marks_packet a r n p at reads there) quiet =
       let h : Runs set states s a (Mark r) = runs set states s a (Mark r) top at in
       let found_there : find s.packets n ≡ Some p = found s n (Some p) there in
-      kept a (next a) o refl refl
+      kept a (next a) o (λ n. refl) refl
       (λ m. next_state_rights set states s a (Mark r) h refl m
       ∙ mark_rights s.issued (state_of states a) a.registers r (kind_of (state_of states a) r) m
       h.stays.kinds refl)
       (unheld_set s n p found_there (mark_current p) (numbered s n p there) refl)
       (held_set s n p found_there (mark_current p) (numbered s n p there) refl)
-  hold under f o top holding (takes_lock a i lock at takes free) quiet =
-      kept a (next a) o refl refl
+  hold under f o top holding slot (takes_lock a i lock at takes free) quiet =
+      kept a (next a) o (λ n. refl) refl
       (lock_rights set states s a i (runs set states s a i top at) (taken_word a i lock takes))
       (λ n. refl) (λ n. refl)
-  hold under f o top holding (retakes_lock a i lock at takes its) quiet =
-      kept a (next a) o refl refl
+  hold under f o top holding slot (retakes_lock a i lock at takes its) quiet =
+      kept a (next a) o (λ n. refl) refl
       (lock_rights set states s a i (runs set states s a i top at) (taken_word a i lock takes))
       (λ n. refl) (λ n. refl)
-  hold under f o top holding (frees_lock a i lock owner at frees there) quiet =
-      kept a (next a) o refl refl
+  hold under f o top holding slot (frees_lock a i lock owner at frees there) quiet =
+      kept a (next a) o (λ n. refl) refl
       (lock_rights set states s a i (runs set states s a i top at) (freed_word a i lock frees))
       (λ n. refl) (λ n. refl)
-  hold under f o top holding (works_on_queues a i b queues starts actions full at queued) quiet =
-      queues_hold a i b queues starts actions full (runs set states s a i top at) queued
-  hold under f o top holding (completes_packet a r status n p at reads there) quiet =
+  hold under f o top holding slot
+      (works_on_queues a i b queues starts actions full at queued) quiet =
+      queues_hold a i b queues starts actions full (runs set states s a i top at) slot queued
+  hold under f o top holding slot (completes_packet a r status n p at reads there) quiet =
       completes a r status n p o (runs set states s a (Complete r status) top at) holding reads
       there refl refl
-  hold under f o top holding (completes_gone a r status n at reads gone) quiet =
+  hold under f o top holding slot (completes_gone a r status n at reads gone) quiet =
       let h : Runs set states s a (Complete r status) = runs set states s a (Complete r status) top at in
       absurd (right_lives states s past a holding h.stays.kinds r n
       (completes_one (state_of states a) (sort_of set a.driver a.routine) set a.driver r status
       h.obeys).right reads gone)
-  hold under f o top holding (passes_down a r n p lower at reads there below) quiet =
+  hold under f o top holding slot (passes_down a r n p lower at reads there below) quiet =
       sends a (Pass r) (runs set states s a (Pass r) top at) r lower n p (shared_with p lower) o
       refl refl refl
       reads there below refl refl refl refl
-  hold under f o top holding (calls_down a r g n p lower at reads there below) quiet =
+  hold under f o top holding slot (calls_down a r g n p lower at reads there below) quiet =
       sends a (Call r g) (runs set states s a (Call r g) top at) r lower n p
       (sent_down p lower (set_by a g)) o
       refl refl refl reads there below refl refl refl refl
-  hold under f o top holding (returns_status a form status at is told) quiet =
+  hold under f o top holding slot (returns_status a form status at is told) quiet =
       returns a form o (runs set states s a (Ret form) top at) refl refl
-  hold under f o top holding (lets_go a at is walk) quiet =
+  hold under f o top holding slot (lets_go a at is walk) quiet =
       returns a Continue o (runs set states s a (Ret Continue) top at) refl refl
-  hold under f o top holding (lets_walk a n at is) quiet =
+  hold under f o top holding slot (lets_walk a n at is) quiet =
       returns a Continue o (runs set states s a (Ret Continue) top at) refl refl
-  hold under f o top holding (ends_startio a at is) quiet =
+  hold under f o top holding slot (ends_startio a at is) quiet =
       returns a Void o (runs set states s a (Ret Void) top at) refl refl
-  hold under f o top holding (ends_dpc a at is) quiet =
+  hold under f o top holding slot (ends_dpc a at is) quiet =
       returns a Void o (runs set states s a (Ret Void) top at) refl refl
-  hold under f o top holding (walks_gone n gone) quiet = absurd (walk_lives states s past n holding gone)
-  hold under f o top holding (walks_to n p c there set_there) quiet =
+  hold under f o top holding slot (walks_gone n gone) quiet =
+      absurd (walk_lives states s past n holding gone)
+  hold under f o top holding slot (walks_to n p c there set_there) quiet =
       let b : Activation = completes_with set c n in
       goes_up n p (moved_up (left_location p)) (Routine b ∷ []) o there refl refl refl refl
       (λ m. let new : frame_rights states (Routine b) m ≡ 0 =
       begun_rights set states s.issued b Propagate n m
       (begins_back set states s top.good top.fits n p c top.stands there set_there) in omega arith)
       (λ m. refl)
-  hold under f o top holding (walks_up n p there without deep unmarked) quiet =
+  hold under f o top holding slot (walks_up n p there without deep unmarked) quiet =
       goes_up n p (moved_up (left_location p)) [] o there refl refl refl refl (λ m. refl) (λ m. refl)
-  hold under f o top holding (carries_up n p there without deep marked) quiet =
+  hold under f o top holding slot (carries_up n p there without deep marked) quiet =
       goes_up n p (mark_current (moved_up (left_location p))) [] o there refl refl refl refl
       (λ m. refl) (λ m. refl)
-  hold under f o top holding (tops_out n p there without first) quiet =
+  hold under f o top holding slot (tops_out n p there without first) quiet =
       let at : find s.packets n ≡ Some p = found s n (Some p) there in
       let done : p.completing ≡ true = walk_taken states s past n holding p there in
       record {

@@ -5,10 +5,13 @@ use Rattle.std.specs.Prelude.{slice_get, slice_set, if◌then◌else◌}
 use Rattle.model.specs.declared.world.Frame.{Frame}
 use Rattle.model.specs.declared.world.Packet.{Packet}
 use Rattle.model.specs.declared.world.Thread.{Thread}
+use Rattle.model.specs.declared.status.Status.{Status}
+use Rattle.model.specs.Set.{Set}
 use Rattle.model.specs.World.{World}
-use Rattle.run_laws.specs.Holder.{times_queued, frame_rights, frame_walks, stack_sum, thread_sum}
+use Rattle.run_laws.specs.Holder.{times_waiting, frame_rights, frame_walks, stack_sum, thread_sum}
 use Rattle.run_laws.proofs.Past.LivePackets.{find}
 use Rattle.run_laws.proofs.States.Rules.{States}
+use Rattle.run_laws.proofs.States.Told.{told_frame, told_last}
 
 -- a live packet that isn't completing, and one that is
 abbrev pub unheld : Option Packet → ℕ
@@ -19,10 +22,11 @@ abbrev pub held : Option Packet → ℕ
 held None = 0
 held (Some p) = if p.completing then 1 else 0
 
--- the packets that are held by a register or stand in a queue, and those that the I/O manager has
+-- the packets that are held by a register or wait in a list or slot, and those that the I/O
+-- manager has
 pub record Held (states : States) (w : World) : Type 0 where
   pub rights : (n : ℕ)
-      → thread_sum (λ f. frame_rights states f n) w.threads + times_queued w.shared.queues n
+      → thread_sum (λ f. frame_rights states f n) w.threads + times_waiting w.shared n
       ≡ unheld (find w.shared.packets n)
   pub walks : (n : ℕ) → thread_sum (λ f. frame_walks f n) w.threads ≡ held (find w.shared.packets n)
 
@@ -47,6 +51,29 @@ thread_set count (x ∷ threads) (suc t) thread after found =
     thread_set count threads t thread after found
     in
     omega arith
+
+-- one frame on a thread that had none
+pub first_frame : (count : Frame → ℕ) (threads : List Thread) (t : ℕ) (thread after : Thread)
+    (f : Frame)
+    → slice_get threads t ≡ Some thread → thread.frames.items ≡ [] → after.frames.items ≡ f ∷ []
+    → thread_sum count (slice_set threads t after) ≡ count f + thread_sum count threads
+first_frame count threads t thread after f found idle items =
+    let set : thread_sum count (slice_set threads t after) + stack_sum count thread.frames.items
+    ≡ thread_sum count threads + stack_sum count after.frames.items =
+    thread_set count threads t thread after found in
+    let none : stack_sum count thread.frames.items ≡ 0 = ap (stack_sum count) idle in
+    let one : stack_sum count after.frames.items ≡ count f + 0 = ap (stack_sum count) items in
+    omega arith
+
+-- the frame that is told a status counts as it did
+pub last_sum : (set : Set) (count : Frame → ℕ) (told : Option Status)
+    → ((g : Frame) → count (told_frame set told g) ≡ count g) → (below : List Frame)
+    → stack_sum count (told_last set told below) ≡ stack_sum count below
+last_sum set count told same [] = refl
+last_sum set count told same (g ∷ []) =
+    let one : count (told_frame set told g) ≡ count g = same g in omega arith
+last_sum set count told same (g ∷ e ∷ below) =
+    ap (λ (sum : ℕ). count g + sum) (last_sum set count told same (e ∷ below))
 
 pub stack_le : (count : Frame → ℕ) (threads : List Thread) (t : ℕ) (thread : Thread)
     → slice_get threads t ≡ Some thread

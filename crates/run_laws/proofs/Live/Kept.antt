@@ -3,7 +3,9 @@
 use Rattle.std.proofs.Common.{◌≡◌, ℕ, suc, ◌+◌, ◌-◌, ◌≤◌, ◌⊎◌, inl, inr, List, [], ◌∷◌, ◌++◌, length, take, Option, None, Some, refl, ap, sym, ◌∙◌, subst, arith}
 use Rattle.std.specs.Prelude.{slice_get}
 use Rattle.std.proofs.lemmas.Bool.{eq-eqb}
+use Rattle.model.specs.declared.set.Sort.TheVariants.{Dpc, StartIo}
 use Rattle.model.specs.declared.status.Status.{Status}
+use Rattle.model.specs.declared.world.Activation.{Activation}
 use Rattle.model.specs.declared.world.Frame.{Frame}
 use Rattle.model.specs.declared.world.Frame.TheVariants.{Routine, Walk}
 use Rattle.model.specs.declared.world.Irql.TheVariants.{Passive, Dispatch as DispatchLevel}
@@ -18,17 +20,16 @@ use Rattle.run_laws.specs.Holder.{frame_walks, stack_sum, thread_sum}
 use Rattle.run_laws.proofs.Holders.Counts.{Holding}
 use Rattle.run_laws.proofs.Holders.Sums.{Held, held, stack_append, stack_le, walked_if}
 use Rattle.run_laws.proofs.Lists.{last_split}
-use Rattle.run_laws.proofs.Live.Sees.{Seen, AllSeen, seen_append, seen_below, seen_top, told_seen}
+use Rattle.run_laws.proofs.Live.Sees.{deferred_sort, Seen, AllSeen, seen_append, seen_below, seen_top, told_seen}
 use Rattle.run_laws.proofs.Live.Steps.{UnderLives, seen, touch_faults}
 use Rattle.run_laws.proofs.Past.LivePackets.{find}
 use Rattle.run_laws.proofs.Past.Packets.{found}
 use Rattle.run_laws.proofs.Runs.Events.{StepsFrame, Happens, nothing, steps, issues, begins, begins_startio}
 use Rattle.run_laws.proofs.Runs.Threads.{frames_there, each_frames, idle_frames}
-use Rattle.run_laws.proofs.States.Entering.{begins_request, begins_dpc}
+use Rattle.run_laws.proofs.States.Entering.{begins_request, begins_dpc, startio_activation}
 use Rattle.run_laws.proofs.States.Frames.{IsGood}
-use Rattle.run_laws.proofs.States.Queueing.{never_starts}
 use Rattle.run_laws.proofs.States.Rules.{States}
-use Rattle.run_laws.proofs.States.Standing.{Standing, on_top}
+use Rattle.run_laws.proofs.States.Standing.{Standing, on_top, startio_enters}
 use Rattle.run_laws.proofs.States.Told.{last_under}
 use Rattle.run_laws.proofs.Steps.Comes.{Comes, returns_status}
 use Rattle.run_laws.proofs.Steps.Below.{standing_is}
@@ -142,10 +143,17 @@ module _ (set : Set) (states : States) (w : World) (past : List Entry) (good : I
   sees_event t c (begins h) =
       sees_put t c.world.shared h.thread
       (rooted h.thread DispatchLevel (dpc_activation set h.d h.routine)) h.found (
-        inr (begins_dpc set states good w.shared.issued h.d h.routine h.there).of_sort,
+        inr (deferred_sort set (dpc_activation set h.d h.routine) Dpc
+            (begins_dpc set states good w.shared.issued h.d h.routine h.there).of_sort refl),
         tt,
       )
-  sees_event t c (begins_startio h) = absurd (never_starts good h)
+  sees_event t c (begins_startio h) =
+      let a : Activation = startio_activation set h.d h.routine h.n in
+      sees_put t c.world.shared h.thread (rooted h.thread DispatchLevel a) h.found (
+        inr (deferred_sort set a StartIo
+            (startio_enters set states w past good stands t h).of_sort refl),
+        tt,
+      )
 
   -- and touches live packets alone
   pub touches_none : (actor : Actor) (c : Change) → Held states w

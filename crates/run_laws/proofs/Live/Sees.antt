@@ -1,10 +1,11 @@
 -- Which packets the frames of a thread see: a completion routine's registers refer to the packet of
 -- the I/O manager's frame below it, where they refer to one on its way up, and every other routine is a
--- dispatch routine or a DPC routine.
-use Rattle.std.proofs.Common.{true, ◌≡◌, ◌⊎◌, ℕ, ◌-◌, List, [], ◌∷◌, ◌++◌, Option, None, Some, inl, inr, refl, sym, subst, ◌∙◌}
+-- dispatch routine, or a deferred one: a DPC routine or a StartIo routine.
+use Rattle.std.proofs.Common.{true, ap, ◌≡◌, ◌⊎◌, ℕ, ◌-◌, List, [], ◌∷◌, ◌++◌, Option, None, Some, inl, inr, refl, sym, subst, ◌∙◌}
 use Rattle.std.specs.Prelude.{⊤, nat_lt, replicate}
 use Rattle.std.proofs.lemmas.Bool.{cases_Bool}
-use Rattle.model.specs.declared.set.Sort.TheVariants.{Propagate, Dispatch, Dpc}
+use Rattle.model.specs.declared.set.Sort.{Sort}
+use Rattle.model.specs.declared.set.Sort.TheVariants.{Propagate, Dispatch}
 use Rattle.model.specs.declared.status.Status.{Status}
 use Rattle.model.specs.declared.world.Activation.{Activation}
 use Rattle.model.specs.declared.world.Frame.{Frame}
@@ -12,7 +13,7 @@ use Rattle.model.specs.declared.world.Frame.TheVariants.{Routine, Walk}
 use Rattle.model.specs.declared.world.Value.{Value}
 use Rattle.model.specs.declared.world.Value.TheVariants.{Blank, Num, Ref, Status as StatusValue}
 use Rattle.model.specs.Effect.{operand_of, answered_in, told_to}
-use Rattle.model.specs.Set.{Set, instruction_at}
+use Rattle.model.specs.Set.{Set, instruction_at, sort_of}
 use Rattle.model.specs.World.{Shared, packet_in, register}
 use Rattle.run_laws.proofs.States.Entering.{Begins, IsOfSort}
 use Rattle.run_laws.proofs.States.Stacks.{answered_in_sort}
@@ -22,7 +23,7 @@ use Rattle.run_laws.proofs.States.Rules.{States}
 use Rattle.run_laws.proofs.States.HandedOver.{hold_get, hold_none, hold_told, HoldOf}
 use Rattle.model.specs.LocalRule.{kind_of, is_view}
 use Rattle.run_laws.proofs.States.Frames.{state_of}
-use Rattle.run_laws.proofs.States.NoViews.{handed_views}
+use Rattle.run_laws.proofs.States.NoViews.{handed_views, is_deferred}
 use Rattle.model.specs.declared.abs.Kind.TheVariants.{Blank as BlankKind}
 
 abbrev pub RefersTo : ℕ → Value → Type 0
@@ -63,9 +64,23 @@ begins_views set states issued a n begins =
       hold_none is_view handed_views (RefersTo n) (replicate 15 BlankKind) (replicate 15 Blank) refl,
     )
 
+-- a DPC routine or a StartIo routine
+abbrev pub IsDeferred : Set → Activation → Type 0
+IsDeferred set a = is_deferred (sort_of set a.driver a.routine) ≡ true
+
+pub deferred_sort : (set : Set) (a : Activation) (sort : Sort) → IsOfSort set a sort
+    → is_deferred sort ≡ true → IsDeferred set a
+deferred_sort set a sort is deferred = ap is_deferred is ∙ deferred
+
+pub answered_in_deferred : (set : Set) (a : Activation) (status : Status) (r : Option ℕ)
+    → IsDeferred set a → IsDeferred set (answered_in a status r)
+answered_in_deferred set a status r is =
+    deferred_sort set (answered_in a status r) (sort_of set a.driver a.routine)
+    (answered_in_sort set a status r (sort_of set a.driver a.routine) refl) is
+
 module _ (set : Set) (states : States) where
   abbrev pub Seen : Option Frame → Frame → Type 0
-  Seen None (Routine a) = IsOfSort set a Dispatch ⊎ IsOfSort set a Dpc
+  Seen None (Routine a) = IsOfSort set a Dispatch ⊎ IsDeferred set a
   Seen None (Walk n) = ⊤
   Seen (Some (Routine b)) (Routine a) = IsOfSort set a Dispatch
   Seen (Some (Routine b)) (Walk n) = ⊤
@@ -109,7 +124,7 @@ module _ (set : Set) (states : States) where
       let r : Option ℕ = operand_of (instruction_at set a.driver a.routine (a.position - 1)) in
       elim h [
         | inl is ↦ inl (answered_in_sort set a status r Dispatch is)
-        | inr is ↦ inr (answered_in_sort set a status r Dpc is)
+        | inr is ↦ inr (answered_in_deferred set a status r is)
       ]
   frame_seen (Some (Routine b)) (Some status) (Routine a) h =
       answered_in_sort set a status

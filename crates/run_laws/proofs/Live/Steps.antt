@@ -7,7 +7,7 @@ use Rattle.std.proofs.lemmas.Bool.{eq-eqb, cond_both}
 use Rattle.model.specs.declared.abs.Kind.{Kind}
 use Rattle.model.specs.declared.abs.Kind.TheVariants.{Blank as BlankKind, Num as NumKind, Lower as LowerKind, New, Own, View}
 use Rattle.model.specs.declared.instr.Instr.{Instr}
-use Rattle.model.specs.declared.set.Sort.TheVariants.{Dpc, Dispatch}
+use Rattle.model.specs.declared.set.Sort.TheVariants.{Dispatch}
 use Rattle.model.specs.declared.world.Activation.{Activation}
 use Rattle.model.specs.declared.world.Frame.{Frame}
 use Rattle.model.specs.declared.world.Frame.TheVariants.{Routine, Walk}
@@ -22,12 +22,12 @@ use Rattle.model.specs.Action.{Executes, Action, Touches}
 use Rattle.model.specs.Effect.{completes_with, Outcome, asks, turned}
 use Rattle.model.specs.Fault.{bug_if, fault_of, first_or}
 use Rattle.model.specs.LocalRule.{is_packet, is_right, is_view, kind_of}
-use Rattle.model.specs.Set.{flow_of, Set, lower_of, member}
+use Rattle.model.specs.Set.{flow_of, Set, lower_of, member, sort_of}
 use Rattle.model.specs.Trace.{Entry, Actor}
 use Rattle.model.specs.World.{Shared, asked_of, at_label, current_location, next, outer_loops, packet_of, packet_in, register, with_loops}
 use Rattle.run_laws.proofs.Holders.Counts.{Holding, right_lives, walk_lives}
-use Rattle.run_laws.proofs.Live.Sees.{begins_views, view_refers, Views, RefersTo, Seen, AllSeen}
-use Rattle.run_laws.proofs.States.NoViews.{dpc_no_view, handed_views, HasNoView, no_view_at, dispatch_no_view}
+use Rattle.run_laws.proofs.Live.Sees.{begins_views, view_refers, Views, RefersTo, Seen, AllSeen, IsDeferred}
+use Rattle.run_laws.proofs.States.NoViews.{deferred_no_view, handed_views, HasNoView, no_view_at, dispatch_no_view}
 use Rattle.run_laws.proofs.Past.Packets.{Tells, found, named, untopped}
 use Rattle.run_laws.proofs.States.Entering.{begins_back, IsOfSort, begins_lower, sort_there}
 use Rattle.run_laws.proofs.States.Frames.{Runs, state_of}
@@ -35,7 +35,7 @@ use Rattle.run_laws.proofs.States.Kinds.{packet_ref, packet_wanted}
 use Rattle.run_laws.proofs.States.Lacking.{never_lacks}
 use Rattle.run_laws.proofs.States.OnTop.{OnTop, runs, value_suits}
 use Rattle.run_laws.proofs.States.Rules.{States}
-use Rattle.run_laws.proofs.Steps.Comes.{removes_none, removes, inserts, Queued, GoesTo, onward, jumping, Executing, Reads, Comes, errs, awaits_lock, computes, opens_loop, turns_loop, pages, touches_gone, looks_at, writes_info, marks_packet, takes_lock, retakes_lock, frees_lock, completes_packet, completes_gone, passes_down, calls_down, returns_status, lets_go, lets_walk, walks_gone, walks_to, walks_up, carries_up, tops_out, ends_dpc, works_on_queues, ends_startio}
+use Rattle.run_laws.proofs.Steps.Comes.{removes_none, removes, inserts, starts_packet, takes_out, takes_none, puts_in, starts_next, Queued, GoesTo, onward, jumping, Executing, Reads, Comes, errs, awaits_lock, computes, opens_loop, turns_loop, pages, touches_gone, looks_at, writes_info, marks_packet, takes_lock, retakes_lock, frees_lock, completes_packet, completes_gone, passes_down, calls_down, returns_status, lets_go, lets_walk, walks_gone, walks_to, walks_up, carries_up, tops_out, ends_dpc, works_on_queues, ends_startio}
 use Rattle.run_laws.proofs.Steps.Faults.{fault_among, is_touch}
 use Rattle.run_laws.proofs.Steps.Words.{packet_operand}
 use Rattle.run_laws.proofs.States.Moves.{falls_next, has_next}
@@ -44,11 +44,11 @@ use Rattle.run_laws.proofs.Steps.Locking.{freed_word, taken_word, LockWord}
 use Rattle.run_laws.proofs.States.LoopEnds.{moved_end, moved_loop}
 use Rattle.model.specs.declared.set.Sort.{Sort}
 use Rattle.model.specs.Queues.{StartState}
-use Rattle.model.specs.declared.instr.Instr.TheVariants.{Call, Pass, Complete, Mark, Insert, Put, End, Loop}
+use Rattle.model.specs.declared.instr.Instr.TheVariants.{Begin, Call, Pass, Complete, Mark, Insert, Put, End, Loop, Start}
 use Rattle.run_laws.proofs.Holders.Sums.{own_if, unheld}
 use Rattle.run_laws.proofs.Past.LivePackets.{find}
-use Rattle.run_laws.specs.Holder.{frame_rights, times_queued, times_in}
-use Rattle.run_laws.proofs.States.Queueing.{never_starting, queue_moves, MovedOn}
+use Rattle.run_laws.specs.Holder.{frame_rights, times_queued, times_waiting, times_in}
+use Rattle.run_laws.proofs.States.Queueing.{queue_moves, MovedOn}
 use Rattle.run_laws.proofs.Holders.Queued.{times_le}
 
 -- a routine that goes on sees what it saw
@@ -170,7 +170,7 @@ module _ (set : Set) (states : States) (s : Shared) where
       (lock_seen under a i h at (freed_word a i lock freed) sees, tt)
   seen t under top f o h sees (works_on_queues a i b queues starts actions full at queued) =
       let run : Runs set states s a i = runs set states s a i h at in
-      let on : MovedOn set states s a i b queues = queue_moves set states s a i run queued in (
+      let on : MovedOn set states s a i b queues starts = queue_moves set states s a i run queued in (
         goes_seen set states under a b on.moved.driver on.moved.routine
             (λ m views. queued_hold is_view handed_views (RefersTo m) set states s a i tt run queued views)
             sees,
@@ -238,12 +238,13 @@ module _ (set : Set) (states : States) (s : Shared) (past : List Entry) where
       (dispatch_no_view (member set a.driver a.routine h.routine) a.position (state_of states a)
       (sort_is a i Dispatch h is) (h.known.follows.arrives a.position h.stays.within)) view
 
-  dpc_views : (a : Activation) (i : Instr) (r : ℕ) → Runs set states s a i → IsOfSort set a Dpc
+  deferred_views : (a : Activation) (i : Instr) (r : ℕ) → Runs set states s a i → IsDeferred set a
       → is_view (kind_of (state_of states a) r) ≡ true → ⊥
-  dpc_views a i r h is view =
+  deferred_views a i r h is view =
       none_views a i r h
-      (dpc_no_view (member set a.driver a.routine h.routine) a.position (state_of states a)
-      (sort_is a i Dpc h is) (h.known.follows.arrives a.position h.stays.within)) view
+      (deferred_no_view (member set a.driver a.routine h.routine) a.position (state_of states a)
+      (sort_of set a.driver a.routine) (sort_is a i (sort_of set a.driver a.routine) h refl) is
+      (h.known.follows.arrives a.position h.stays.within)) view
 
   refers_same : (m n : ℕ) (v : Value) → v ≡ Ref n → RefersTo m v → n ≡ m
   refers_same m n v is refers = subst (λ (x : Value). RefersTo m x) is refers
@@ -253,7 +254,10 @@ module _ (set : Set) (states : States) (s : Shared) (past : List Entry) where
       → is_view (kind_of (state_of states a) r) ≡ true
       → register a r ≡ Ref n → packet_of s n ≡ None → ⊥
   view_lives None a i r n h seen live view refers gone =
-      elim seen [ inl is ↦ dispatch_views a i r h is view | inr is ↦ dpc_views a i r h is view ]
+      elim seen [
+        | inl is ↦ dispatch_views a i r h is view
+        | inr is ↦ deferred_views a i r h is view
+      ]
   view_lives (Some (Routine b)) a i r n h seen live view refers gone = dispatch_views a i r h seen view
   view_lives (Some (Walk m)) a i r n h seen live view refers gone =
       let same : n ≡ m =
@@ -316,11 +320,19 @@ module _ (set : Set) (states : States) (s : Shared) (past : List Entry) where
       let le : times_in (n ∷ entries) n ≤ times_queued s.queues n =
       times_le s a.device q (n ∷ entries) n there in
       let one : times_in (n ∷ entries) n ≡ 1 + times_in entries n = rw (eq-eqb n n refl) refl in
-      let all : frame_rights states (Routine a) n + times_queued s.queues n ≤ unheld (find s.packets n) =
-      holding.queued n in
+      let all : frame_rights states (Routine a) n + times_waiting s n ≤ unheld (find s.packets n) =
+      holding.waiting n in
       first_only _ (queued_lives n holding.tells (omega arith) actor)
   queued_faults actor under a i h holding seen live at (removes_none r q label there) = refl
-  queued_faults actor under a i h holding seen live at _ = absurd (never_starting h.good a at refl)
+  queued_faults actor under a i h holding seen live at (starts_packet r n start reads there) =
+      first_only _ (under_one actor n (packet_of s n) holding.tells refl
+      (operand_lives under a (Start r) r n _ h holding at seen live refl reads refl))
+  queued_faults actor under a i h holding seen live at (takes_out r label n start there slot) = refl
+  queued_faults actor under a i h holding seen live at (takes_none r label start there slot) = refl
+  queued_faults actor under a i h holding seen live at (puts_in r n start reads there) =
+      first_only _ (under_one actor n (packet_of s n) holding.tells refl
+      (operand_lives under a (Begin r) r n _ h holding at seen live refl reads refl))
+  queued_faults actor under a i h holding seen live at (starts_next start there) = refl
 
   -- so no step touches one that has
   pub touch_faults : (actor : Actor) (under : Option Frame) (f : Frame) (o : Outcome) → Tells s past

@@ -6,7 +6,7 @@ use Rattle.std.proofs.lemmas.Bool.{ne_eqb}
 use Rattle.std.proofs.lemmas.List.{append-nil}
 use Rattle.model.specs.declared.event.Lock.{Lock}
 use Rattle.model.specs.declared.status.Status.{Status}
-use Rattle.model.specs.declared.set.Sort.TheVariants.{Dispatch, Dpc}
+use Rattle.model.specs.declared.set.Sort.TheVariants.{Dispatch, Dpc, StartIo}
 use Rattle.model.specs.declared.world.Activation.{Activation}
 use Rattle.model.specs.declared.world.Frame.{Frame}
 use Rattle.model.specs.declared.world.Frame.TheVariants.{Routine, Walk}
@@ -20,19 +20,19 @@ use Rattle.model.specs.Fault.{holds_after, holds}
 use Rattle.model.specs.Run.{begun, root_of, frames_on}
 use Rattle.model.specs.Set.{Set, instruction_at}
 use Rattle.model.specs.Trace.{Entry, Actor, entry, recorded}
-use Rattle.model.specs.World.{Shared, World, with_dpc}
+use Rattle.model.specs.Queues.{without_first_to_start}
+use Rattle.model.specs.World.{Shared, World, with_dpc, with_start}
 use Rattle.run_laws.proofs.Locks.Says.{frame_says, top_says, free_says}
 use Rattle.run_laws.proofs.Locks.Steps.{begun_says, own, lock_faults}
 use Rattle.run_laws.proofs.Runs.Events.{StepsFrame, Happens, nothing, steps, issues, begins, begins_startio}
 use Rattle.run_laws.proofs.Runs.Kept.{GoesOnBy}
 use Rattle.run_laws.proofs.Runs.Threads.{frames_there, each_frames, idle_frames}
-use Rattle.run_laws.proofs.States.Entering.{begins_request, begins_dpc}
+use Rattle.run_laws.proofs.States.Entering.{begins_request, begins_dpc, startio_activation}
 use Rattle.run_laws.proofs.States.Frames.{state_of, IsGood}
-use Rattle.run_laws.proofs.States.Queueing.{never_starts}
 use Rattle.run_laws.proofs.States.Roots.{Low}
 use Rattle.run_laws.proofs.States.Rules.{States}
 use Rattle.run_laws.proofs.States.Stacks.{Stands, Stacked}
-use Rattle.run_laws.proofs.States.Standing.{Standing, stands_there, on_top, low_there}
+use Rattle.run_laws.proofs.States.Standing.{Standing, stands_there, on_top, low_there, startio_enters}
 use Rattle.run_laws.proofs.States.Told.{told_frame, told_last, standing_last}
 use Rattle.run_laws.proofs.Steps.Faults.{is_of_locks, fault_among}
 
@@ -158,7 +158,15 @@ module _ (set : Set) (states : States) (w : World) (past : List Entry) (good : I
       (frames_there w actor.thread h.thread h.found ∙ h.idle)
       ∙ sym (begun_says set states w.shared.issued a Dpc Blank l
       (begins_dpc set states good w.shared.issued h.d h.routine h.there)))
-  locks_happen actor c (begins_startio h) = absurd (never_starts good h)
+  locks_happen actor c (begins_startio h) =
+      let a : Activation = startio_activation set h.d h.routine h.n in
+      agree_after actor [] (with_start w.shared h.d (without_first_to_start h.start)) h.thread
+      (rooted h.thread DispatchLevel a) h.found
+      (λ l. agree actor.thread l
+      ∙ ap (λ (frames : List Frame). top_says states frames l)
+      (frames_there w actor.thread h.thread h.found ∙ h.idle)
+      ∙ sym (begun_says set states w.shared.issued a StartIo (Ref h.n) l
+      (startio_enters set states w past good stands actor.thread h)))
 
   pub locks_kept : (actor : Actor) (c : Change) → GoesOnBy set w past actor c
       → LocksAgree states c.world (recorded past actor c.actions)

@@ -224,7 +224,7 @@ module _ (set : Set) (states : States) (s : Shared) (past : List Entry) (actor :
       own_now a i h agrees lock true false (falls_next (flow_of i) (freed_word a i lock frees).on)
       (locks_freed a i h agrees lock frees).now l
   own under f o top agrees (works_on_queues a i b queues starts actions full at queued) l =
-      let on : MovedOn set states s a i b queues =
+      let on : MovedOn set states s a i b queues starts =
       queue_moves set states s a i (runs set states s a i top at) queued in
       let says : frame_says states (Routine b) l ≡ frame_says states (Routine a) l =
       ap (λ d. state_says (state_of states b) d l) on.moved.device

@@ -21,11 +21,12 @@ use Rattle.model.specs.LocalRule.{is_view, kind_of, completion_fault, completion
 use Rattle.model.specs.Set.{Set, sort_of}
 use Rattle.model.specs.World.{Shared}
 use Rattle.run_laws.proofs.Pending.Returned.{is_telling, tells_beyond}
+use Rattle.run_laws.proofs.Live.Sees.{IsDeferred}
 use Rattle.run_laws.proofs.States.Entering.{IsOfSort}
 use Rattle.run_laws.proofs.States.Frames.{state_of}
 use Rattle.run_laws.proofs.States.Rules.{States, first_none, second_none}
 use Rattle.run_laws.proofs.Steps.Comes.{Queued, Comes, Executing, GoesTo, Reads, calls_down, completes_packet, computes, jumping, lets_go, lets_walk, looks_at, marks_packet, onward, pages, passes_down, returns_status, turns_loop, walks_gone, ends_dpc, works_on_queues, ends_startio}
-use Rattle.run_laws.proofs.States.NoViews.{handed_news, none_at, is_new, HasNone}
+use Rattle.run_laws.proofs.States.NoViews.{is_deferred, handed_news, none_at, is_new, HasNone}
 use Rattle.model.specs.Queues.{StartState}
 use Rattle.model.specs.Action.{Executes, Action}
 use Rattle.model.specs.declared.abs.Kind.TheVariants.{New}
@@ -154,7 +155,7 @@ completion_looks m set states s t below a o kept is none own (ends_dpc b at sort
 completion_looks m set states s t below a o kept is none own _ =
     record { told = refl; alone = (refl, refl); silent = refl }
 
--- a DPC routine goes on, over what it completes or alone, or is gone
+-- a deferred routine goes on, over what it completes or alone, or is gone
 abbrev pub IsOver : Activation → List Frame → Type 0
 IsOver a [] = ⊤
 IsOver a (Routine b ∷ []) = (b.driver ≡ a.driver) × (b.routine ≡ a.routine)
@@ -166,61 +167,66 @@ pub record Works (a : Activation) (o : Outcome) : Type 0 where
   pub over : IsOver a o.frames
   pub silent : list_any is_telling o.actions ≡ false
 
-dpc_never : (sort : Sort) → sort ≡ Dpc → forward_sort_fault sort ≡ None → ⊥
-dpc_never Propagate is rule = cc
-dpc_never StartIo is rule = cc
-dpc_never Dpc is rule = cc
-dpc_never Dispatch is rule = cc
+deferred_never : (sort : Sort) → is_deferred sort ≡ true → forward_sort_fault sort ≡ None → ⊥
+deferred_never Propagate is rule = cc
+deferred_never StartIo is rule = cc
+deferred_never Dpc is rule = cc
+deferred_never Dispatch is rule = cc
 
-dpc_forwards : (s : Abs) (sort : Sort) (set : Set) (driver locations : ℕ) → sort ≡ Dpc
-    → forward_fault s sort set driver locations ≡ None → ⊥
-dpc_forwards s sort set driver locations is rule =
-    dpc_never sort is (first_none _ _ (second_none _ _ rule))
+deferred_forwards : (s : Abs) (sort : Sort) (set : Set) (driver locations : ℕ)
+    → is_deferred sort ≡ true → forward_fault s sort set driver locations ≡ None → ⊥
+deferred_forwards s sort set driver locations is rule =
+    deferred_never sort is (first_none _ _ (second_none _ _ rule))
 
 -- every step of one, which has no packet that was handed over, and none on its way up
-pub dpc_works : (set : Set) (states : States) (s : Shared) (t : ℕ) (below : Option Frame)
+pub deferred_works : (set : Set) (states : States) (s : Shared) (t : ℕ) (below : Option Frame)
     (a : Activation) (o : Outcome) → KeepsRules set states a
-    → IsOfSort set a Dpc → HasNone is_new (state_of states a)
+    → IsDeferred set a → HasNone is_new (state_of states a)
     → ((r : ℕ) → is_view (kind_of (state_of states a) r) ≡ true → ⊥)
     → Comes set s t below (Routine a) o → Works a o
-dpc_works set states s t below a o kept is none unseen (marks_packet b r n p at reads there) =
+deferred_works set states s t below a o kept is none unseen (marks_packet b r n p at reads there) =
     elim (marked_kind (state_of states a).settled (kind_of (state_of states a) r) (kept (Mark r) at)) [
       | inl new ↦ absurd (never_new (state_of states a) r none new)
       | inr view ↦ absurd (unseen r (ap is_view view.0))
     ]
-dpc_works set states s t below a o kept is none unseen (passes_down b r n p lower at reads there under) =
-    absurd (dpc_forwards (state_of states a) (sort_of set a.driver a.routine) set a.driver 0 is
+deferred_works set states s t below a o kept is none unseen
+    (passes_down b r n p lower at reads there under) =
+    absurd (deferred_forwards (state_of states a) (sort_of set a.driver a.routine) set a.driver 0 is
     (second_none _ _ (kept (Pass r) at)))
-dpc_works set states s t below a o kept is none unseen (calls_down b r f n p lower at reads there under) =
-    absurd (dpc_forwards (state_of states a) (sort_of set a.driver a.routine) set a.driver 1 is
+deferred_works set states s t below a o kept is none unseen
+    (calls_down b r f n p lower at reads there under) =
+    absurd (deferred_forwards (state_of states a) (sort_of set a.driver a.routine) set a.driver 1 is
     (second_none _ _ (kept (Call r f) at)))
-dpc_works set states s t below a o kept is none unseen (returns_status b form status at sort there) =
-    let no : Dpc ≡ Dispatch = sym is ∙ sort in cc
-dpc_works set states s t below a o kept is none unseen (computes b i c jumped cells at work goes long) =
+deferred_works set states s t below a o kept is none unseen
+    (returns_status b form status at sort there) =
+    let no : true ≡ false = sym is ∙ ap is_deferred sort in cc
+deferred_works set states s t below a o kept is none unseen
+    (computes b i c jumped cells at work goes long) =
     record { told = refl; over = goes_same a i c jumped goes; silent = refl }
-dpc_works set states s t below a o kept is none unseen (pages b i c cell cells at work goes long) =
+deferred_works set states s t below a o kept is none unseen
+    (pages b i c cell cells at work goes long) =
     record { told = refl; over = goes_same a i c false goes; silent = refl }
-dpc_works set states s t below a o kept is none unseen
+deferred_works set states s t below a o kept is none unseen
     (looks_at b i c jumped r n p at work goes operand reads there jumps) =
     record { told = refl; over = goes_same a i c jumped goes; silent = refl }
-dpc_works set states s t below a o kept is none unseen (turns_loop b l at there) =
+deferred_works set states s t below a o kept is none unseen (turns_loop b l at there) =
     record { told = refl; over = ((turned_same a l).0, (turned_same a l).1); silent = refl }
-dpc_works set states s t below a o kept is none unseen
+deferred_works set states s t below a o kept is none unseen
     (works_on_queues b i c queues starts actions full at queued) =
     record {
       told = refl;
       over = queued_same queued;
       silent = elim (queued_touches queued) [ inl empty ↦ rw empty refl | inr one ↦ rw one.1 refl ];
     }
-dpc_works set states s t below a o kept is none unseen (lets_go b at sort bare) =
+deferred_works set states s t below a o kept is none unseen (lets_go b at sort bare) =
     record { told = refl; over = tt; silent = refl }
-dpc_works set states s t below a o kept is none unseen (lets_walk b n at sort) =
+deferred_works set states s t below a o kept is none unseen (lets_walk b n at sort) =
     record { told = refl; over = tt; silent = refl }
-dpc_works set states s t below a o kept is none unseen (ends_startio b at sort) =
+deferred_works set states s t below a o kept is none unseen (ends_startio b at sort) =
     record { told = refl; over = tt; silent = refl }
-dpc_works set states s t below a o kept is none unseen (ends_dpc b at sort) =
+deferred_works set states s t below a o kept is none unseen (ends_dpc b at sort) =
     record { told = refl; over = tt; silent = refl }
-dpc_works set states s t below a o kept is none unseen _ =
+deferred_works set states s t below a o kept is none unseen _ =
     record { told = refl; over = (refl, refl); silent = refl }
 
 -- frames that the I/O manager's frame leaves: none, or one of its own, with a completion routine on

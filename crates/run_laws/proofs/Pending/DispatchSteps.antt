@@ -10,7 +10,7 @@ use Rattle.model.specs.declared.abs.Kind.TheVariants.{Blank as BlankKind, Num as
 use Rattle.model.specs.declared.abs.Settled.{Settled}
 use Rattle.model.specs.declared.event.Reply.TheVariants.{Stepped, Waited}
 use Rattle.model.specs.declared.instr.Instr.{Instr}
-use Rattle.model.specs.declared.instr.Instr.TheVariants.{Remove, Insert, Call, Complete, Loop, Mark, Pass, Put, Ret}
+use Rattle.model.specs.declared.instr.Instr.TheVariants.{Begin, Next, Remove, Insert, Start, Take, Call, Complete, Loop, Mark, Pass, Put, Ret}
 use Rattle.model.specs.declared.instr.Return.{Return}
 use Rattle.model.specs.declared.instr.Return.TheVariants.{Continue, Lower as LowerStatus, WithStatus, Void}
 use Rattle.model.specs.declared.set.Sort.TheVariants.{Dispatch, Propagate, Dpc, StartIo}
@@ -25,7 +25,7 @@ use Rattle.model.specs.Action.{Action, Acquires, Executes, Releases, Touches, To
 use Rattle.model.specs.Effect.{Outcome, answered, dispatched, operand_of, set_by, turned}
 use Rattle.model.specs.Fault.{first_fault}
 use Rattle.model.specs.LocalRule.{handed_at_label, complete_kind, demanded, duty_completed, given_down, handed, is_given_down, is_kept, is_lower, is_pending, is_right, is_view, kind_of, mark_fault, marked, one_handed_or_owned, status_fault, with_kind}
-use Rattle.model.specs.Set.{Set, flow_of, lower_of, sort_of}
+use Rattle.model.specs.Set.{Set, flow_of, label_of, lower_of, sort_of}
 use Rattle.model.specs.Trace.{Actor, Entry}
 use Rattle.model.specs.World.{at_label, with_register, Shared, asked_of, completed, current_location, mark_current, next, packet_of, register, sent_down, shared_with, status_in, with_info, with_locks, with_loops, with_owner, with_packet}
 use Rattle.model.specs.LocalRule.{handed_at_label}
@@ -47,7 +47,7 @@ use Rattle.run_laws.proofs.States.Moves.{arrives, arrives_next, falls_next, has_
 use Rattle.run_laws.proofs.States.Obeyed.{ReturnsBy, completes_one, returns_by}
 use Rattle.run_laws.proofs.Steps.Locking.{LockWord, freed_word, taken_word}
 use Rattle.run_laws.proofs.States.Rules.{States, first_none, second_none, unbroken}
-use Rattle.run_laws.proofs.Steps.Comes.{removes_none, removes, inserts, Queued, Reads, Comes, Executing, GoesTo, Lacks, Written, awaits_lock, calls_down, completes_gone, completes_packet, computes, errs, frees_lock, jumping, lets_go, lets_walk, looks_at, keeps_all, makes_blank, makes_number, marks_packet, moves_over, onward, opens_loop, pages, passes_down, retakes_lock, returns_status, takes_lock, touches_gone, turns_loop, writes_info, ends_dpc, works_on_queues, ends_startio}
+use Rattle.run_laws.proofs.Steps.Comes.{removes_none, removes, inserts, puts_in, starts_next, starts_packet, takes_none, takes_out, Queued, Reads, Comes, Executing, GoesTo, Lacks, Written, awaits_lock, calls_down, completes_gone, completes_packet, computes, errs, frees_lock, jumping, lets_go, lets_walk, looks_at, keeps_all, makes_blank, makes_number, marks_packet, moves_over, onward, opens_loop, pages, passes_down, retakes_lock, returns_status, takes_lock, touches_gone, turns_loop, writes_info, ends_dpc, works_on_queues, ends_startio}
 use Rattle.run_laws.proofs.Steps.Words.{is_giving, keeps_registers, status_returned, work_of}
 use Rattle.run_laws.proofs.Tests.{not_false, or_left, or_right}
 use Rattle.run_laws.proofs.Uses.Steps.{found_put}
@@ -57,7 +57,6 @@ use Rattle.run_laws.proofs.States.HandedOver.{hold_turn, queued_hold, next_hold,
 use Rattle.model.specs.Queues.{StartState}
 use Rattle.run_laws.proofs.Steps.Queues.{queued_touches}
 use Rattle.run_laws.proofs.Live.Sees.{reads_to, RefersTo}
-use Rattle.run_laws.proofs.States.Queueing.{runs_no_start}
 use Rattle.run_laws.proofs.Holders.Rights.{rights_turn}
 use Rattle.run_laws.proofs.Holders.Counts.{reads_ref}
 use Rattle.run_laws.proofs.Holders.Sums.{unheld_one, unheld}
@@ -298,42 +297,79 @@ module _ (set : Set) (states : States) (s : Shared) (past : List Entry) (actor :
             next_hold is_new handed_news (RefersTo m) set states s a tt i run leads plain refers;
       }
 
+  -- a packet that it then owns is taken off a queue or out of the current slot, or none was there
+  takes_own : (i : Instr) (r n : ℕ) {queues : List (List (List ℕ))} {lists : List StartState}
+      {actions : List Action} {full : Bool} → Executing set a i
+      → Queued s a i (next (with_register a r (Ref n))) queues lists actions full
+      → has_next (flow_of i) ≡ true → (handed now i).kinds ≡ slice_set now.kinds r Own
+      → (handed now i).duty ≡ now.duty → GoesOnAs states a (next (with_register a r (Ref n)))
+  takes_own i r n at queued leads kinds duty =
+      let run : Runs set states s a i = h.routine.runs i at in
+      let on : state_of states (next (with_register a r (Ref n))) ≡ handed now i =
+      arrives_next set states s a i run leads in
+      record {
+        driver = refl;
+        routine = refl;
+        duty = ap (λ (state : Abs). state.duty) on ∙ duty;
+        lowers = λ x left.
+            subst (λ (ks : List Kind). Lowers x ks (slice_set a.registers r (Ref n)))
+            (sym (ap (λ (state : Abs). state.kinds) on ∙ kinds))
+            (lowers_set x now.kinds a.registers r Own (Ref n) left tt);
+        news = λ m refers.
+            queued_hold is_new handed_news (RefersTo m) set states s a i tt run queued refers;
+      }
+
+  takes_nothing : (i : Instr) (r label : ℕ) {queues : List (List (List ℕ))}
+      {lists : List StartState} {actions : List Action} {full : Bool} → Executing set a i
+      → Queued s a i (at_label a label) queues lists actions full → label_of i ≡ Some label
+      → (handed_at_label now i).kinds ≡ slice_set now.kinds r BlankKind
+      → (handed_at_label now i).duty ≡ now.duty → GoesOnAs states a (at_label a label)
+  takes_nothing i r label at queued labelled kinds duty =
+      let run : Runs set states s a i = h.routine.runs i at in
+      let on : state_of states (at_label a label) ≡ handed_at_label now i =
+      arrives set states s a i run _ true (jumping label labelled) in
+      record {
+        driver = refl;
+        routine = refl;
+        duty = ap (λ (state : Abs). state.duty) on ∙ duty;
+        lowers = λ x left.
+            subst (λ (ks : List Kind). Lowers x ks a.registers)
+            (sym (ap (λ (state : Abs). state.kinds) on ∙ kinds))
+            (lowers_turn x now.kinds a.registers r BlankKind left tt);
+        news = λ m refers.
+            queued_hold is_new handed_news (RefersTo m) set states s a i tt run queued refers;
+      }
+
   queued_as : (i : Instr) (b : Activation) (queues : List (List (List ℕ)))
       (lists : List StartState) (actions : List Action) (full : Bool) → Executing set a i
       → Queued s a i b queues lists actions full → GoesOnAs states a b
   queued_as i b queues lists actions full at (inserts r q n entries reads there) =
       gives_own (Insert r q) r at refl refl refl refl
   queued_as i b queues lists actions full at (removes r q label n entries there) =
-      let run : Runs set states s a (Remove r q label) = h.routine.runs (Remove r q label) at in
-      let on : state_of states (next (with_register a r (Ref n))) ≡ handed now (Remove r q label) =
-      arrives_next set states s a (Remove r q label) run refl in
-      record {
-        driver = refl;
-        routine = refl;
-        duty = ap (λ (state : Abs). state.duty) on;
-        lowers = λ x left.
-            subst (λ (state : Abs). Lowers x state.kinds (slice_set a.registers r (Ref n))) (sym on)
-            (lowers_set x now.kinds a.registers r Own (Ref n) left tt);
-        news = λ m refers.
-            queued_hold is_new handed_news (RefersTo m) set states s a (Remove r q label) tt run
-            (removes r q label n entries there) refers;
-      }
+      takes_own (Remove r q label) r n at (removes r q label n entries there) refl refl refl
   queued_as i b queues lists actions full at (removes_none r q label there) =
-      let run : Runs set states s a (Remove r q label) = h.routine.runs (Remove r q label) at in
-      let on : state_of states (at_label a label) ≡ handed_at_label now (Remove r q label) =
-      arrives set states s a (Remove r q label) run _ true (jumping label refl) in
+      takes_nothing (Remove r q label) r label at (removes_none r q label there) refl refl refl
+  queued_as i b queues lists actions full at (starts_packet r n start reads there) =
+      gives_own (Start r) r at refl refl refl refl
+  queued_as i b queues lists actions full at (takes_out r label n start there slot) =
+      takes_own (Take r label) r n at (takes_out r label n start there slot) refl refl refl
+  queued_as i b queues lists actions full at (takes_none r label start there slot) =
+      takes_nothing (Take r label) r label at (takes_none r label start there slot) refl refl refl
+  queued_as i b queues lists actions full at (puts_in r n start reads there) =
+      gives_own (Begin r) r at refl refl refl refl
+  queued_as i b queues lists actions full at (starts_next start there) =
+      let run : Runs set states s a Next = h.routine.runs Next at in
+      let on : state_of states (next a) ≡ handed now Next =
+      arrives_next set states s a Next run refl in
       record {
         driver = refl;
         routine = refl;
         duty = ap (λ (state : Abs). state.duty) on;
-        lowers = λ x left.
-            subst (λ (state : Abs). Lowers x state.kinds a.registers) (sym on)
-            (lowers_turn x now.kinds a.registers r BlankKind left tt);
+        lowers = λ x left. subst (λ (state : Abs). Lowers x state.kinds a.registers) (sym on) left;
         news = λ m refers.
-            queued_hold is_new handed_news (RefersTo m) set states s a (Remove r q label) tt run
-            (removes_none r q label there) refers;
+            queued_hold is_new handed_news (RefersTo m) set states s a Next tt run
+            (starts_next start there) refers;
       }
-  queued_as i b queues lists actions full at _ = absurd (runs_no_start (h.routine.runs _ at) refl)
 
   -- a packet is given down
   gives_down : (i : Instr) (r n : ℕ) → Executing set a i → Reads s a r n → has_next (flow_of i) ≡ true

@@ -1,9 +1,9 @@
 -- Each entry of the trace says who acts, or which use its action is about; and each frame's tag
 -- says whose it is.
-use Rattle.std.proofs.Common.{◌≡◌, ℕ, zero, suc, ◌<◌, ◌≤◌, List, [], ◌∷◌, length, drop, Option, None, Some, true, refl, ap, sym, ◌∙◌, subst, arith, inl, inr}
+use Rattle.std.proofs.Common.{◌≡◌, ℕ, zero, suc, ◌<◌, ◌≤◌, List, [], ◌∷◌, length, drop, Option, None, Some, true, false, refl, ap, sym, ◌∙◌, subst, arith, inl, inr}
 use Rattle.std.specs.Prelude.{All, nat_eq, nat_lt, slice_get, slice_index_or, if◌then◌else◌}
 use Rattle.std.proofs.lemmas.Bool.{eq-eqb, ltb-true}
-use Rattle.model.specs.declared.set.Sort.TheVariants.{Dispatch, Propagate, Dpc}
+use Rattle.model.specs.declared.set.Sort.TheVariants.{Dispatch, Propagate}
 use Rattle.model.specs.declared.world.Activation.{Activation}
 use Rattle.model.specs.declared.world.Frame.{Frame}
 use Rattle.model.specs.declared.world.Frame.TheVariants.{Routine, Walk}
@@ -21,6 +21,7 @@ use Rattle.run_laws.proofs.Pending.Serving.{AllServe, FrameServes, MustServe, Ta
 use Rattle.run_laws.proofs.Pending.Threads.{TopServes, top_serves}
 use Rattle.run_laws.proofs.Runs.Events.{Happens, issues, nothing, steps, begins, begins_startio}
 use Rattle.run_laws.proofs.Runs.Threads.{frames_there}
+use Rattle.run_laws.proofs.States.NoViews.{is_deferred}
 use Rattle.run_laws.proofs.States.Rules.{States}
 use Rattle.run_laws.proofs.States.Stacks.{Stacked, Stands}
 use Rattle.run_laws.proofs.States.Told.{last_under}
@@ -59,7 +60,7 @@ dispatch_serves_use : (set : Set) (states : States) (w : World) (past : List Ent
 dispatch_serves_use set states w past None a over tag on h is =
     elim h [
       | inl must ↦ must_serve set states w past a over tag must
-      | inr dpc ↦ let no : Dpc ≡ Dispatch = sym dpc ∙ is in cc
+      | inr deferred ↦ let no : true ≡ false = sym deferred ∙ ap is_deferred is in cc
     ]
 dispatch_serves_use set states w past (Some (Routine b)) a over tag on h is =
     must_serve set states w past a over tag h

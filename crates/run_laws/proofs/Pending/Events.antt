@@ -6,6 +6,7 @@ use Rattle.std.proofs.lemmas.List.{append-nil, append_assoc, get_or-set_other, g
 use Rattle.std.proofs.lemmas.Bool.{ne_eqb, cases_eq, eq-eqb}
 use Rattle.std.proofs.lemmas.Option.{slice_get_within}
 use Rattle.model.specs.declared.event.Reply.TheVariants.{Idle}
+use Rattle.model.specs.declared.set.Sort.TheVariants.{Dpc, StartIo}
 use Rattle.model.specs.declared.status.Status.{Status}
 use Rattle.model.specs.declared.world.Activation.{Activation}
 use Rattle.model.specs.declared.world.Frame.{Frame}
@@ -14,7 +15,7 @@ use Rattle.model.specs.declared.world.Irql.TheVariants.{Passive, Dispatch as Dis
 use Rattle.model.specs.declared.world.Packet.{Packet}
 use Rattle.model.specs.declared.world.Thread.{Thread}
 use Rattle.model.specs.Action.{Issues}
-use Rattle.model.specs.Effect.{Change, Outcome, issued, rooted, serves_request, standing, told_to, top_of, with_stack, with_thread, dpc_activation, dpc_begun, unchanged}
+use Rattle.model.specs.Effect.{Change, Outcome, issued, rooted, serves_request, standing, told_to, top_of, with_stack, with_thread, dpc_activation, unchanged}
 use Rattle.model.specs.Fault.{first_fault}
 use Rattle.model.specs.PendingAgreement.{was_marked}
 use Rattle.model.specs.Run.{begun, frames_on, new_tag, tags_after, top_tag}
@@ -29,6 +30,7 @@ use Rattle.run_laws.proofs.Holders.Counts.{Holding, walk_held}
 use Rattle.run_laws.proofs.Holders.Runs.{frame_told_rights, top_holding}
 use Rattle.run_laws.proofs.Holders.Sums.{Held, held}
 use Rattle.run_laws.proofs.Live.Kept.{last_is_top, walk_counts}
+use Rattle.run_laws.proofs.Live.Sees.{IsDeferred, deferred_sort}
 use Rattle.run_laws.proofs.Past.LivePackets.{find}
 use Rattle.run_laws.proofs.Pending.FramesServe.{Turned, frame_turned}
 use Rattle.run_laws.proofs.Pending.Returned.{AllAgree, agree_begun, agree_kept}
@@ -36,15 +38,14 @@ use Rattle.run_laws.proofs.Pending.Serving.{AllServe, Current, FrameServes, Keep
 use Rattle.run_laws.proofs.Pending.Threads.{Tagged, TopServes, all_on, all_told, row_same, tagged_all, tags_kept, top_serves}
 use Rattle.run_laws.proofs.Pending.TopDispatch.{begins_serving}
 use Rattle.run_laws.proofs.Pending.UsesServed.{BeginsServing, Settles, begun_serves, new_serving}
-use Rattle.run_laws.proofs.Runs.Events.{Happens, IssuesPacket, StepsFrame, issues, nothing, steps, begins, BeginsDpc, begins_startio}
+use Rattle.run_laws.proofs.Runs.Events.{Happens, IssuesPacket, StepsFrame, issues, nothing, steps, begins, begins_startio}
 use Rattle.run_laws.proofs.Runs.Kept.{with_queued}
 use Rattle.run_laws.proofs.Runs.Threads.{frames_put, frames_there, idle_frames, others_put, thread_put}
-use Rattle.run_laws.proofs.States.Entering.{begins_request, begins_dpc}
+use Rattle.run_laws.proofs.States.Entering.{begins_request, begins_dpc, startio_activation}
 use Rattle.run_laws.proofs.States.Fine.{StepLeaves, leaves_fine}
-use Rattle.run_laws.proofs.States.Queueing.{never_starts}
 use Rattle.run_laws.proofs.States.Rules.{States}
 use Rattle.run_laws.proofs.States.Stacks.{Replaces, Stacked, Stands}
-use Rattle.run_laws.proofs.States.Standing.{on_top, stands_there}
+use Rattle.run_laws.proofs.States.Standing.{on_top, stands_there, startio_enters}
 use Rattle.run_laws.proofs.States.Told.{last_same, last_under, standing_last, told_last}
 use Rattle.run_laws.proofs.Steps.Below.{standing_is}
 use Rattle.run_laws.proofs.Uses.CurrentUses.{Others, agreed_finished, agreed_marked, current_others, linked_agrees, linked_waits}
@@ -377,35 +378,32 @@ module _ (set : Set) (states : States) (w : World) (past : List Entry) (tags : L
       (agree_kept states w c.world past actor (Issues n h.device.stack ∷ []) settles.keeps refl
       attends.agree)))
 
-  -- a DPC begins: its routine serves no use
-  dpc_attends : (h : BeginsDpc set w actor.thread)
-      → Settles states w past (dpc_begun set w actor.thread h.d h.thread h.routine).world past
-      → Attends set states (dpc_begun set w actor.thread h.d h.thread h.routine).world past
-      (tags_by (dpc_begun set w actor.thread h.d h.thread h.routine))
-  dpc_attends h settles =
-      let a : Activation = dpc_activation set h.d h.routine in
-      let c : Change = dpc_begun set w actor.thread h.d h.thread h.routine in
-      let after : Thread = rooted h.thread DispatchLevel a in
-      let before : frames_on w actor.thread ≡ [] = frames_there w actor.thread h.thread h.found
-      ∙ h.idle in
-      let now : frames_on c.world actor.thread ≡ Routine a ∷ [] =
-      frames_put w actor.thread c.world.shared after h.thread h.found in
-      subst (λ (all : List Frame). Attends set states c.world past
+  -- a deferred routine begins on an idle thread: it serves no use
+  deferred_attends : (s : Shared) (thread : Thread) (a : Activation)
+      → slice_get w.threads actor.thread ≡ Some thread → thread.frames.items ≡ []
+      → IsDeferred set a
+      → Settles states w past
+      (with_thread w actor.thread s (rooted thread DispatchLevel a)) past
+      → Attends set states (with_thread w actor.thread s (rooted thread DispatchLevel a)) past
       (slice_set tags actor.thread
-      (tags_after set past number all row (frames_on c.world actor.thread)))) (sym before)
-      (subst (λ (all : List Frame). Attends set states c.world past
+      (tags_after set past number (frames_on w actor.thread) row
+      (frames_on (with_thread w actor.thread s (rooted thread DispatchLevel a)) actor.thread)))
+  deferred_attends s thread a found idle deferred settles =
+      let after : Thread = rooted thread DispatchLevel a in
+      let now_w : World = with_thread w actor.thread s after in
+      let before : frames_on w actor.thread ≡ [] =
+      frames_there w actor.thread thread found ∙ idle in
+      let now : frames_on now_w actor.thread ≡ Routine a ∷ [] =
+      frames_put w actor.thread s after thread found in
+      subst (λ (all : List Frame). Attends set states now_w past
+      (slice_set tags actor.thread
+      (tags_after set past number all row (frames_on now_w actor.thread)))) (sym before)
+      (subst (λ (all : List Frame). Attends set states now_w past
       (slice_set tags actor.thread (tags_after set past number [] row all))) (sym now)
-      (attend_put past c.world.shared h.thread after (new_tag set past number (Routine a) ∷ [])
-      h.found settles.keeps (
-        (
-          (refl, refl),
-          inr
-              (begins_dpc set states known.good w.shared.issued h.d h.routine h.there).of_sort,
-        ),
-        tt,
-      )
+      (attend_put past s thread after (new_tag set past number (Routine a) ∷ []) found settles.keeps
+      (((refl, refl), inr deferred), tt)
       (λ k apart m some. same_uses past m)
-      (agree_kept states w c.world past actor [] settles.keeps refl attends.agree)))
+      (agree_kept states w now_w past actor [] settles.keeps refl attends.agree)))
 
   -- where a DPC is queued or isn't
   pub attends_queued : (d : ℕ) (queued : Bool) → UsesTell w past
@@ -456,8 +454,18 @@ module _ (set : Set) (states : States) (w : World) (past : List Entry) (tags : L
           attends)
       attends_by c (steps h) quiet kept settles = step_attends h acts quiet kept settles
       attends_by c (issues h) quiet kept settles = issue_attends h settles
-      attends_by c (begins h) quiet kept settles = dpc_attends h settles
-      attends_by c (begins_startio h) quiet kept settles = absurd (never_starts known.good h)
+      attends_by c (begins h) quiet kept settles =
+          let a : Activation = dpc_activation set h.d h.routine in
+          deferred_attends c.world.shared h.thread a h.found h.idle
+          (deferred_sort set a Dpc
+          (begins_dpc set states known.good w.shared.issued h.d h.routine h.there).of_sort refl)
+          settles
+      attends_by c (begins_startio h) quiet kept settles =
+          let a : Activation = startio_activation set h.d h.routine h.n in
+          deferred_attends c.world.shared h.thread a h.found h.idle
+          (deferred_sort set a StartIo
+          (startio_enters set states w past known.good known.stands actor.thread h).of_sort refl)
+          settles
 
 -- before the first event
 pub attends_begun : (set : Set) (states : States) (threads : ℕ)

@@ -3,7 +3,6 @@
 use Rattle.std.proofs.Common.{◌≡◌, Bool, List, None, Option, Some, [], ap, arith, false, inl, inr, refl, subst, sym, true, ℕ, ◌∷◌, ◌≤◌, ◌⊎◌, ◌∙◌}
 use Rattle.std.specs.List.{list_any}
 use Rattle.std.proofs.lemmas.Bool.Decides.{eqb_tells}
-use Rattle.model.specs.declared.set.Sort.TheVariants.{Dispatch, Dpc}
 use Rattle.model.specs.declared.status.Status.{Status}
 use Rattle.model.specs.declared.world.Activation.{Activation}
 use Rattle.model.specs.declared.world.Frame.{Frame}
@@ -17,7 +16,7 @@ use Rattle.model.specs.World.{World}
 use Rattle.run_laws.specs.Holder.{frame_rights}
 use Rattle.run_laws.proofs.Holders.Sums.{held, held_apart, unheld}
 use Rattle.run_laws.proofs.Past.LivePackets.{find}
-use Rattle.run_laws.proofs.Pending.CompletionSteps.{dpc_works, Works, IsOver, Looks, Manages, completion_looks, IsAlone, is_managing, walk_manages}
+use Rattle.run_laws.proofs.Pending.CompletionSteps.{deferred_works, Works, IsOver, Looks, Manages, completion_looks, IsAlone, is_managing, walk_manages}
 use Rattle.run_laws.proofs.Pending.DispatchSteps.{dispatch_does}
 use Rattle.run_laws.proofs.Pending.DispatchServes.{Does, OnRoutine, ReturnsFrom, StepServes, does_spare, dispatch_serves}
 use Rattle.run_laws.proofs.Pending.Returned.{silent_about, silent_returns, AllAgree, agree_kept, beyond_returns, beyond_uses, tells_beyond}
@@ -28,11 +27,11 @@ use Rattle.run_laws.proofs.Pending.UsesServed.{Settles}
 use Rattle.run_laws.proofs.States.OnTop.{runs}
 use Rattle.run_laws.proofs.States.Rules.{States}
 use Rattle.run_laws.proofs.Steps.Comes.{Comes}
-use Rattle.run_laws.proofs.Live.Sees.{reads_view, Seen}
-use Rattle.run_laws.proofs.States.Entering.{IsOfSort}
+use Rattle.run_laws.proofs.Live.Sees.{IsDeferred, reads_view, Seen}
+use Rattle.run_laws.proofs.States.NoViews.{is_deferred}
 use Rattle.run_laws.proofs.Uses.Fates.{late_marks}
 use Rattle.run_laws.proofs.Uses.RoutineSteps.{OnWalk}
-use Rattle.run_laws.proofs.Uses.TopFrames.{propagate_news, stays, dpc_views, dpc_news, KnownTop}
+use Rattle.run_laws.proofs.Uses.TopFrames.{propagate_news, stays, deferred_views, deferred_news, KnownTop}
 use Rattle.run_laws.proofs.Uses.Traced.{SameUses, same_recorded}
 use Rattle.run_laws.proofs.Pending.Duties.{fresh_rights, Dutiful}
 use Rattle.run_laws.proofs.States.Frames.{state_of}
@@ -147,28 +146,28 @@ module _ (set : Set) (states : States) (w later_w : World) (past : List Entry) (
         spares = λ n some none. beyond_spares m looks.silent (h.walked m on) n some;
       }
 
-  -- a DPC routine, which nothing stands under
-  dpc_serves : (a : Activation) (frames : List Frame) → IsOver a frames
-      → TagNames a.driver a.routine actor.tag → IsOfSort set a Dpc
+  -- a deferred routine, which nothing stands under
+  deferred_serves : (a : Activation) (frames : List Frame) → IsOver a frames
+      → TagNames a.driver a.routine actor.tag → IsDeferred set a
       → AllServe set states later_w later None frames
       (tags_after set later number (Routine a ∷ []) (actor.tag ∷ []) frames)
-  dpc_serves a [] same names is = tt
-  dpc_serves a (Routine b ∷ []) same names is =
+  deferred_serves a [] same names is = tt
+  deferred_serves a (Routine b ∷ []) same names is =
       ((rw (same.0, same.1) names, inr (rw (same.0, same.1) is)), tt)
-  dpc_serves a (Routine b ∷ Walk n ∷ []) same names is =
+  deferred_serves a (Routine b ∷ Walk n ∷ []) same names is =
       ((rw (same.0, same.1) names, inr (rw (same.0, same.1) is)), (refl, tt))
-  dpc_serves a (Routine b ∷ Walk n ∷ f ∷ frames) same names is = absurd same
-  dpc_serves a (Routine b ∷ Routine c ∷ frames) same names is = absurd same
-  dpc_serves a (Walk n ∷ frames) same names is = absurd same
+  deferred_serves a (Routine b ∷ Walk n ∷ f ∷ frames) same names is = absurd same
+  deferred_serves a (Routine b ∷ Routine c ∷ frames) same names is = absurd same
+  deferred_serves a (Walk n ∷ frames) same names is = absurd same
 
-  dpc_turned : (a : Activation) → under ≡ None → TagNames a.driver a.routine actor.tag
-      → IsOfSort set a Dpc → Works a o → Turning (Routine a) → Turned (Routine a)
-  dpc_turned a on names is works h =
+  deferred_turned : (a : Activation) → under ≡ None → TagNames a.driver a.routine actor.tag
+      → IsDeferred set a → Works a o → Turning (Routine a) → Turned (Routine a)
+  deferred_turned a on names is works h =
       record {
         serve = subst
             (λ (u : Option Frame). AllServe set states later_w later u o.frames
             (new_tags (Routine a))) (sym on)
-            (dpc_serves a o.frames works.over names is);
+            (deferred_serves a o.frames works.over names is);
         goes = inl (
           works.told,
           subst (λ (u : Option Frame). SameOver u (served actor.tag)
@@ -250,14 +249,14 @@ module _ (set : Set) (states : States) (w later_w : World) (past : List Entry) (
                   (steps_dispatch set states w.shared past under a h.known sort) below o comes
                   h.quiet)
                   (steps_dispatch set states w.shared past under a h.known sort).arrived.dutiful h
-              | inr dpc ↦ let no : Dpc ≡ Dispatch = sym dpc ∙ sort in cc
+              | inr deferred ↦ let no : true ≡ false = sym deferred ∙ ap is_deferred sort in cc
             ]
-        | inr dpc ↦
-            dpc_turned a is names dpc
-            (dpc_works set states w.shared actor.thread below a o
-            (λ i at. (runs set states w.shared a i h.known.top at).obeys) dpc
-            (dpc_news set states w.shared past under a h.known dpc)
-            (dpc_views set states w.shared past under a h.known dpc) comes) h
+        | inr deferred ↦
+            deferred_turned a is names deferred
+            (deferred_works set states w.shared actor.thread below a o
+            (λ i at. (runs set states w.shared a i h.known.top at).obeys) deferred
+            (deferred_news set states w.shared past under a h.known deferred)
+            (deferred_views set states w.shared past under a h.known deferred) comes) h
       ]
   routine_turned (Some (Routine b)) below a is seen on serves names comes h =
       dispatch_turned a (served actor.tag) refl (rw is tt) names serves

@@ -5,7 +5,6 @@ use Rattle.std.specs.Prelude.{slice_get, ⊤}
 use Rattle.model.specs.declared.abs.Abs.{Abs}
 use Rattle.model.specs.declared.abs.Duty.{Duty}
 use Rattle.model.specs.declared.abs.Duty.TheVariants.{Finished, Fresh, GivenDown, NoDuty, Pending}
-use Rattle.model.specs.declared.set.Sort.TheVariants.{Dpc}
 use Rattle.model.specs.declared.status.Status.{Status}
 use Rattle.model.specs.declared.world.Activation.{Activation}
 use Rattle.model.specs.declared.world.Frame.{Frame}
@@ -18,16 +17,14 @@ use Rattle.model.specs.Trace.{Serving, Activated, Entry, Managing, Tag, current_
 use Rattle.model.specs.World.{World}
 use Rattle.run_laws.specs.Holder.{frame_rights, stack_sum}
 use Rattle.run_laws.proofs.Pending.LowerStatuses.{Lowers}
-use Rattle.run_laws.proofs.States.Entering.{IsOfSort}
 use Rattle.run_laws.proofs.States.Frames.{state_of}
 use Rattle.run_laws.proofs.States.Rules.{States}
-use Rattle.run_laws.proofs.States.Stacks.{answered_in_sort}
 use Rattle.run_laws.proofs.States.Told.{told_frame}
 use Rattle.run_laws.proofs.Uses.Fates.{Agreed, Linked}
 use Rattle.run_laws.proofs.Uses.Traced.{SameUses}
 use Rattle.run_laws.proofs.States.HandedOver.{hold_told, HoldOf}
 use Rattle.run_laws.proofs.States.NoViews.{handed_news, is_new}
-use Rattle.run_laws.proofs.Live.Sees.{RefersTo}
+use Rattle.run_laws.proofs.Live.Sees.{IsDeferred, RefersTo, answered_in_deferred}
 use Rattle.model.specs.declared.world.Value.TheVariants.{Status as StatusValue}
 
 -- a use is its packet's current one, and was marked or not
@@ -93,10 +90,10 @@ module _ (set : Set) (states : States) where
     MustServe a over None = ⊥
     MustServe a over (Some v) = ServesUse v a over
 
-    -- a dispatch routine serves a use; a DPC routine and completion routines, which stand on the I/O
-    -- manager's frames, serve none
+    -- a dispatch routine serves a use; a deferred routine and completion routines, which stand on
+    -- the I/O manager's frames, serve none
     abbrev pub UnderServes : Option Frame → Activation → Option Serving → Option Serving → Type 0
-    UnderServes None a over v = MustServe a over v ⊎ IsOfSort set a Dpc
+    UnderServes None a over v = MustServe a over v ⊎ IsDeferred set a
     UnderServes (Some (Routine b)) a over v = MustServe a over v
     UnderServes (Some (Walk m)) a over v = ⊤
 
@@ -284,8 +281,8 @@ module _ (set : Set) (states : States) (w : World) (past : List Entry)
       elim h [
         | inl must ↦ inl (must_told a lower v rights must agreed)
         | inr is ↦
-            inr (answered_in_sort set a status
-            (operand_of (instruction_at set a.driver a.routine (a.position - 1))) Dpc is)
+            inr (answered_in_deferred set a status
+            (operand_of (instruction_at set a.driver a.routine (a.position - 1))) is)
       ]
   under_told (Some (Routine b)) a lower v rights h agreed = must_told a lower v rights h agreed
   under_told (Some (Walk m)) a lower v rights h agreed = tt

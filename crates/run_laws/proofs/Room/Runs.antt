@@ -5,7 +5,7 @@ use Rattle.std.specs.Prelude.{option_and_then, nat_eq, slice_get, replicate, if�
 use Rattle.std.proofs.lemmas.Bool.Decides.{eqb_tells}
 use Rattle.std.proofs.lemmas.List.{length-replicate}
 use Rattle.model.specs.declared.set.Device.{Device}
-use Rattle.model.specs.declared.set.Sort.TheVariants.{Dispatch}
+use Rattle.model.specs.declared.set.Sort.TheVariants.{Dispatch, StartIo}
 use Rattle.model.specs.declared.status.Major.{Major}
 use Rattle.model.specs.declared.status.Status.{Status}
 use Rattle.model.specs.declared.world.Activation.{Activation}
@@ -19,37 +19,40 @@ use Rattle.model.specs.Fault.{first_fault}
 use Rattle.model.specs.Run.{begun, frames_on}
 use Rattle.model.specs.Set.{Set, instruction_at}
 use Rattle.model.specs.Trace.{Entry, Actor}
-use Rattle.model.specs.World.{queue_of, Shared, World, new_packet, unused_location, with_dpc}
-use Rattle.run_laws.specs.Holder.{times_in, times_queued, frame_rights, stack_sum}
-use Rattle.run_laws.proofs.Holders.Apart.{queued_not_yet, apart_queued, IsApart, apart_below, apart_other, not_yet}
+use Rattle.model.specs.World.{queue_of, start_of, Shared, World, new_packet, unused_location, with_dpc, with_start}
+use Rattle.run_laws.specs.Holder.{times_at, times_in, times_queued, times_started, times_waiting, frame_rights, stack_sum}
+use Rattle.run_laws.proofs.Holders.Apart.{waiting_not_yet, apart_waiting, IsApart, apart_below, apart_other, not_yet}
 use Rattle.run_laws.proofs.Holders.Rights.{handed_over, begun_rights, dpc_rights}
-use Rattle.run_laws.proofs.Holders.Runs.{frame_told_rights, top_holding}
+use Rattle.run_laws.proofs.Holders.Runs.{frame_told_rights, frees_slot, top_holding}
 use Rattle.run_laws.proofs.Holders.Steps.{hold}
 use Rattle.run_laws.proofs.Holders.Sums.{Held}
 use Rattle.run_laws.proofs.Lists.{Each, each_append, each_before, each_after}
 use Rattle.run_laws.proofs.Past.LivePackets.{find, find_push}
 use Rattle.run_laws.proofs.Room.Extents.{Extent, extent_of, extent, stack_of, stack_at, some_stack}
-use Rattle.run_laws.proofs.Room.Steps.{EvenStep, QueuesRoom, HasRoom, LeavesRoom, call_faults, room_step}
-use Rattle.run_laws.proofs.Runs.Events.{StepsFrame, Happens, nothing, steps, issues, begins, begins_startio}
+use Rattle.run_laws.proofs.Room.Steps.{EvenStep, LeavesRoom, SameWaiting, call_faults, room_step}
+use Rattle.run_laws.proofs.Room.Waiting.{HasRoom, WaitingRoom, start_put_room}
+use Rattle.run_laws.proofs.Runs.Events.{BeginsStartIo, StepsFrame, Happens, nothing, steps, issues, begins, begins_startio}
 use Rattle.run_laws.proofs.Runs.Kept.{GoesOnBy}
 use Rattle.run_laws.proofs.Runs.Threads.{frames_there, each_frames, idle_frames}
-use Rattle.run_laws.proofs.States.Entering.{Begins, begins_request, begins_dpc}
+use Rattle.run_laws.proofs.States.Entering.{Begins, begins_request, begins_dpc, startio_activation}
 use Rattle.run_laws.proofs.States.Fine.{StepLeaves, leaves_fine}
 use Rattle.run_laws.proofs.States.Frames.{IsGood}
-use Rattle.run_laws.proofs.States.Queueing.{never_starts}
 use Rattle.run_laws.proofs.States.Rules.{States}
 use Rattle.run_laws.proofs.States.Stacks.{Stands, Stacked, Replaces}
-use Rattle.run_laws.proofs.States.Standing.{Standing, stands_there, on_top}
+use Rattle.run_laws.proofs.States.Standing.{Standing, stands_there, on_top, startio_enters}
 use Rattle.run_laws.proofs.States.Told.{told_frame, told_last, told_is}
 use Rattle.run_laws.proofs.Steps.Below.{standing_is}
 use Rattle.run_laws.proofs.Steps.Faults.{is_call, is_touch, fault_among, quiet_among}
 use Rattle.model.specs.declared.limits.TheConstants.{MAX_QUEUES}
 use Rattle.run_laws.proofs.Holders.Queued.{none_queued, times_le}
+use Rattle.run_laws.proofs.Holders.Started.{none_started, started_le, times_first}
+use Rattle.run_laws.proofs.Tokens.Sums.{OneTokenEach}
+use Rattle.model.specs.Queues.{StartState, idle, without_first_to_start}
 
 -- every frame that has the right to a live packet has room for its device
 pub record Roomy (set : Set) (states : States) (w : World) : Type 0 where
   pub frames : (t : ℕ) → Each (HasRoom set states w.shared) (frames_on w t)
-  pub queues : QueuesRoom set w.shared
+  pub waiting : WaitingRoom set w.shared
 
 pub roomy_begun : (set : Set) (states : States) (threads : ℕ) → Roomy set states (begun set threads).world
 roomy_begun set states threads =
@@ -58,13 +61,22 @@ roomy_begun set states threads =
           subst (λ (frames : List Frame). Each (HasRoom set states (begun set threads).world.shared)
           frames)
           (sym (idle_frames threads t)) tt;
-      queues = λ d q n entries there some.
-          let none : times_queued (replicate (length set.devices) (replicate MAX_QUEUES [])) n ≡ 0 =
-          none_queued (length set.devices) n in
-          let le : times_in entries n
-          ≤ times_queued (replicate (length set.devices) (replicate MAX_QUEUES [])) n =
-          times_le (begun set threads).world.shared d q entries n there in
-          absurd (omega arith);
+      waiting = record {
+        queues = λ d q n entries there some.
+            let none : times_queued (replicate (length set.devices) (replicate MAX_QUEUES [])) n
+            ≡ 0 =
+            none_queued (length set.devices) n in
+            let le : times_in entries n
+            ≤ times_queued (replicate (length set.devices) (replicate MAX_QUEUES [])) n =
+            times_le (begun set threads).world.shared d q entries n there in
+            absurd (omega arith);
+        starts = λ d n start there some.
+            let none : times_started (replicate (length set.devices) idle) n ≡ 0 =
+            none_started (length set.devices) n in
+            let le : times_at start n ≤ times_started (replicate (length set.devices) idle) n =
+            started_le (begun set threads).world.shared.starts d start n there in
+            absurd (omega arith);
+      };
     }
 
 -- a frame that is told a status is for the same device
@@ -148,40 +160,42 @@ module _ (set : Set) (states : States) (w : World) (past : List Entry) (good : I
   top_room : (t : ℕ) (h : StepsFrame set w t) → HasRoom set states w.shared h.frame
   top_room t h = (each_after (HasRoom set states w.shared) h.below (h.frame ∷ []) (room_there t h)).0
 
-  even : (actor : Actor) (h : StepsFrame set w actor.thread)
+  even : OneTokenEach states w → (actor : Actor) (h : StepsFrame set w actor.thread)
       → fault_among is_touch past actor h.outcome.actions ≡ None → EvenStep states w.shared h.frame h.outcome
-  even actor h touches =
+  even tokens actor h touches =
       (hold set states w.shared past actor (top_of h.below) h.frame h.outcome
       (on_top set states w past good stands actor.thread h)
-      (top_holding set states w past stands holds actor.thread h) h.comes touches).rights
+      (top_holding set states w past stands holds actor.thread h)
+      (frees_slot set states w tokens actor.thread h) h.comes touches).rights
 
   -- where nothing is touched that has topped out, nothing is sent down past its last location
-  pub call_faults_none : (actor : Actor) (c : Change) → Happens set w actor.thread c
+  pub call_faults_none : OneTokenEach states w → (actor : Actor) (c : Change)
+      → Happens set w actor.thread c
       → fault_among is_touch past actor c.actions ≡ None → fault_among is_call past actor c.actions ≡ None
-  call_faults_none actor c (nothing reply right) touches = refl
-  call_faults_none actor c (steps h) touches =
+  call_faults_none tokens actor c (nothing reply right) touches = refl
+  call_faults_none tokens actor c (steps h) touches =
       call_faults set states w.shared past actor (top_of h.below) h.frame h.outcome
       (on_top set states w past good stands actor.thread h)
       (top_holding set states w past stands holds actor.thread h) (top_room actor.thread h)
-      (even actor h touches)
+      (even tokens actor h touches)
       h.comes
-  call_faults_none actor c (issues h) touches = refl
-  call_faults_none actor c (begins h) touches = refl
-  call_faults_none actor c (begins_startio h) touches = refl
+  call_faults_none tokens actor c (issues h) touches = refl
+  call_faults_none tokens actor c (begins h) touches = refl
+  call_faults_none tokens actor c (begins_startio h) touches = refl
 
   -- frames of each thread after an event
   threads_room : (t : ℕ) (s : Shared) (thread after : Thread) → slice_get w.threads t ≡ Some thread
       → Each (HasRoom set states s) after.frames.items
       → ((k : ℕ) → t ≢ k → (n : ℕ) → 1 ≤ stack_sum (λ g. frame_rights states g n) (frames_on w k)
       → extent (find s.packets n) ≡ extent (find w.shared.packets n))
-      → QueuesRoom set s → Roomy set states (with_thread w t s after)
-  threads_room t s thread after found here others queues =
+      → WaitingRoom set s → Roomy set states (with_thread w t s after)
+  threads_room t s thread after found here others waiting =
       record {
         frames = each_frames w t s after (λ k frames. Each (HasRoom set states s) frames) thread
             found here
             (λ k apart. others_room set states w.shared s (frames_on w k) (others k apart)
             (roomy.frames k));
-        queues = queues;
+        waiting = waiting;
       }
 
   module _ (h : Device) (d : ℕ) (major : Major) (argument : ℕ)
@@ -237,11 +251,33 @@ module _ (set : Set) (states : States) (w : World) (past : List Entry) (good : I
       → extent (find o.shared.packets n) ≡ extent (find w.shared.packets n)
   others_kept f o n room apart = room.others n apart.right apart.walk
 
-  step_room : (actor : Actor) (h : StepsFrame set w actor.thread)
+  -- packets that wait as before, and are as far down
+  kept_waiting : (s : Shared) → SameWaiting w.shared s
+      → ((n : ℕ) → 1 ≤ times_waiting w.shared n
+      → extent (find s.packets n) ≡ extent (find w.shared.packets n))
+      → WaitingRoom set s
+  kept_waiting s same kept =
+      record {
+        queues = λ d q n entries there some x is.
+            let before : queue_of w.shared d q ≡ Some entries =
+            ap (λ (queues : List (List (List ℕ))). option_and_then (λ lists. slice_get lists q)
+            (slice_get queues d)) (sym same.0) ∙ there in
+            let le : times_in entries n ≤ times_queued w.shared.queues n =
+            times_le w.shared d q entries n before in
+            roomy.waiting.queues d q n entries before some x (sym (kept n (omega arith)) ∙ is);
+        starts = λ d n start there some x is.
+            let before : start_of w.shared d ≡ Some start =
+            ap (λ (starts : List StartState). slice_get starts d) (sym same.1) ∙ there in
+            let le : times_at start n ≤ times_started w.shared.starts n =
+            started_le w.shared.starts d start n before in
+            roomy.waiting.starts d n start before some x (sym (kept n (omega arith)) ∙ is);
+      }
+
+  step_room : OneTokenEach states w → (actor : Actor) (h : StepsFrame set w actor.thread)
       → first_fault past actor h.outcome.actions ≡ None
       → Roomy set states
       (with_thread w actor.thread h.outcome.shared (with_stack h.thread (standing set h.below h.outcome)))
-  step_room actor h quiet =
+  step_room tokens actor h quiet =
       let t : ℕ = actor.thread in
       let o : Outcome = h.outcome in
       let leaves : StepLeaves set states w.shared h.frame o =
@@ -250,8 +286,8 @@ module _ (set : Set) (states : States) (w : World) (past : List Entry) (good : I
       let room : LeavesRoom set states w.shared h.frame o =
       room_step set states w.shared past actor (top_of h.below) h.frame o
       (on_top set states w past good stands t h)
-      (top_holding set states w past stands holds t h) (top_room t h) roomy.queues
-      (even actor h (quiet_among is_touch past actor o.actions quiet)) h.comes in
+      (top_holding set states w past stands holds t h) (top_room t h) roomy.waiting
+      (even tokens actor h (quiet_among is_touch past actor o.actions quiet)) h.comes in
       let below : Each (HasRoom set states o.shared) h.below =
       others_room set states w.shared o.shared h.below
       (λ n some. others_kept h.frame o n room (apart_below set states w past stands holds t h n some))
@@ -262,43 +298,60 @@ module _ (set : Set) (states : States) (w : World) (past : List Entry) (good : I
       (stands_there set states w past good stands t h) leaves.stands below room.frames))
       (λ k apart n some. others_kept h.frame o n room
       (apart_other set states w past stands holds t h n k apart some))
-      (elim room.queues [
+      (elim room.waiting [
         | inl same ↦
-            (λ d q n entries there some x is.
-            let before : queue_of w.shared d q ≡ Some entries =
-            ap (λ (queues : List (List (List ℕ))). option_and_then (λ lists. slice_get lists q)
-            (slice_get queues d)) (sym same) ∙ there in
-            let le : times_in entries n ≤ times_queued w.shared.queues n =
-            times_le w.shared d q entries n before in
-            let kept : extent (find o.shared.packets n) ≡ extent (find w.shared.packets n) =
-            others_kept h.frame o n room
-            (apart_queued set states w past stands holds t h n (omega arith)) in
-            roomy.queues d q n entries before some x (sym kept ∙ is))
+            kept_waiting o.shared same
+            (λ n some. others_kept h.frame o n room
+            (apart_waiting set states w past stands holds t h n some))
         | inr after ↦ after
       ])
 
-  pub roomy_kept : (actor : Actor) (c : Change) → GoesOnBy set w past actor c → Roomy set states c.world
-  roomy_kept actor c on = kept c on.happens on.quiet
+  -- the StartIo routine that begins has the right to the first packet of the start list alone
+  startio_room : (t : ℕ) (h : BeginsStartIo set w t)
+      → HasRoom set states (with_start w.shared h.d (without_first_to_start h.start))
+      (Routine (startio_activation set h.d h.routine h.n))
+  startio_room t h n x is some =
+      let one : frame_rights states (Routine (startio_activation set h.d h.routine h.n)) n
+      ≡ (if nat_eq h.n n then 1 else 0) =
+      begun_rights set states w.shared.issued (startio_activation set h.d h.routine h.n) StartIo
+      h.n n
+      (startio_enters set states w past good stands t h) in
+      let gone : times_at (without_first_to_start h.start) n + (if nat_eq h.n n then 1 else 0)
+      ≡ times_at h.start n = times_first h.start h.n n h.first in
+      roomy.waiting.starts h.d n h.start h.has (omega arith) x is
+
+  pub roomy_kept : OneTokenEach states w → (actor : Actor) (c : Change)
+      → GoesOnBy set w past actor c
+      → Roomy set states c.world
+  roomy_kept tokens actor c on = kept c on.happens on.quiet
     where
       kept : (c : Change) → Happens set w actor.thread c → first_fault past actor c.actions ≡ None
           → Roomy set states c.world
       kept c (nothing reply right) quiet = roomy
-      kept c (steps h) quiet = step_room actor h quiet
+      kept c (steps h) quiet = step_room tokens actor h quiet
       kept c (issues h) quiet =
           threads_room actor.thread (with_new_packet w.shared h.d h.device h.major h.argument) h.thread
           (rooted h.thread Passive (serves_request set h.d h.device h.major w.shared.issued)) h.found
           (request_room h.device h.d h.major h.argument h.there, tt)
           (λ k apart n some. old_extent h.device h.d h.major h.argument h.there n
           (not_yet set states w past stands holds k n some))
-          (λ d q n entries there some x is.
-          let le : times_in entries n ≤ times_queued w.shared.queues n =
-          times_le w.shared d q entries n there in
-          let kept : extent (find (w.shared.packets ++ packet h.device h.d h.major h.argument h.there ∷ [])
-          n) ≡ extent (find w.shared.packets n) =
-          old_extent h.device h.d h.major h.argument h.there n
-          (queued_not_yet set states w past stands holds n (omega arith)) in
-          roomy.queues d q n entries there some x (sym kept ∙ is))
-      kept c (begins_startio h) quiet = absurd (never_starts good h)
+          (kept_waiting (with_new_packet w.shared h.d h.device h.major h.argument) (refl, refl)
+          (λ n some. old_extent h.device h.d h.major h.argument h.there n
+          (waiting_not_yet set states w past stands holds n some)))
+      kept c (begins_startio h) quiet =
+          let start : StartState = without_first_to_start h.start in
+          threads_room actor.thread (with_start w.shared h.d start) h.thread
+          (rooted h.thread DispatchLevel (startio_activation set h.d h.routine h.n)) h.found
+          (startio_room actor.thread h, tt) (λ k apart n some. refl)
+          (record {
+            queues = roomy.waiting.queues;
+            starts = start_put_room set w.shared roomy.waiting h.d h.start start h.has
+                (λ m some.
+                let gone : times_at start m + (if nat_eq h.n m then 1 else 0)
+                ≡ times_at h.start m =
+                times_first h.start h.n m h.first in
+                roomy.waiting.starts h.d m h.start h.has (omega arith));
+          })
       kept c (begins h) quiet =
           let a : Activation = dpc_activation set h.d h.routine in
           threads_room actor.thread (with_dpc w.shared h.d false) h.thread
@@ -310,4 +363,5 @@ module _ (set : Set) (states : States) (w : World) (past : List Entry) (good : I
                 absurd (omega arith)),
             tt,
           )
-          (λ k apart n some. refl) roomy.queues
+          (λ k apart n some. refl)
+          (kept_waiting (with_dpc w.shared h.d false) (refl, refl) (λ n some. refl))

@@ -2,9 +2,8 @@
 -- among them, are as many as the stack size of the device. Each step keeps it, and sends no packet
 -- past its last location.
 use Rattle.std.proofs.Common.{◌⊎◌, ◌≡◌, ◌≢◌, ℕ, ◌+◌, ◌<◌, ◌≤◌, inl, inr, List, [], ◌∷◌, length, Option, None, Some, Bool, true, false, refl, ap, sym, ◌∙◌, subst, arith}
-use Rattle.std.specs.Prelude.{nat_eq, if◌then◌else◌, ⊤, nat_le, slice_get}
+use Rattle.std.specs.Prelude.{⊤, nat_le, slice_get}
 use Rattle.std.proofs.lemmas.Bool.{eq-eqb}
-use Rattle.std.proofs.lemmas.Bool.Decides.{eqb_tells, leb_tells}
 use Rattle.model.specs.declared.instr.Instr.{Instr}
 use Rattle.model.specs.declared.instr.Instr.TheVariants.{Pass, Call}
 use Rattle.model.specs.declared.set.Sort.TheVariants.{Dispatch}
@@ -12,16 +11,15 @@ use Rattle.model.specs.declared.world.Activation.{Activation}
 use Rattle.model.specs.declared.world.Frame.{Frame}
 use Rattle.model.specs.declared.world.Frame.TheVariants.{Routine, Walk}
 use Rattle.model.specs.declared.world.Packet.{Packet}
-use Rattle.model.specs.Action.{Action, Executes, Touches, Calls}
+use Rattle.model.specs.Action.{Executes, Touches, Calls}
 use Rattle.model.specs.Effect.{Outcome, leaves, asks, dispatched, set_by}
 use Rattle.model.specs.Fault.{stack_size, depth}
 use Rattle.model.specs.Set.{Set, lower_of}
 use Rattle.model.specs.Trace.{Entry, Actor}
-use Rattle.model.specs.World.{queue_of, Shared, packet_of, with_packet, register, next, with_info, mark_current, current_location, asked_of, completed, sent_down, shared_with, left_location, moved_up}
-use Rattle.run_laws.specs.Holder.{rights, right, times_in, times_queued, frame_rights, frame_walks, stack_sum}
-use Rattle.run_laws.proofs.Holders.Steps.{queued_rights}
-use Rattle.run_laws.proofs.Holders.Counts.{reads_ref, Holding}
-use Rattle.run_laws.proofs.Holders.Rights.{right_le, one_right, begun_rights}
+use Rattle.model.specs.World.{Shared, packet_of, with_packet, register, next, with_info, mark_current, current_location, asked_of, completed, sent_down, shared_with, left_location, moved_up}
+use Rattle.run_laws.specs.Holder.{times_queued, times_started, times_waiting, frame_rights, frame_walks, stack_sum}
+use Rattle.run_laws.proofs.Holders.Counts.{Holding}
+use Rattle.run_laws.proofs.Holders.Rights.{begun_rights}
 use Rattle.run_laws.proofs.Holders.Sums.{unheld, unheld_one}
 use Rattle.run_laws.proofs.Lists.{Each}
 use Rattle.run_laws.proofs.Past.LivePackets.{find}
@@ -29,67 +27,55 @@ use Rattle.run_laws.proofs.Past.Packets.{Tells, found, named}
 use Rattle.run_laws.proofs.Past.Stacks.{Measured}
 use Rattle.run_laws.proofs.Room.Extents.{Extent, extent_of, extent, stack_at, mark_extent, shared_extent, sent_extent, Still, fewer_set, still_set, other_extent, changed_extent, removed_other, goes_device, turned_device, dispatched_device, some_stack, smaller}
 use Rattle.run_laws.proofs.States.Entering.{Begins, LowerThere, begins_lower}
-use Rattle.run_laws.proofs.States.Frames.{state_of, Runs}
+use Rattle.run_laws.proofs.States.Frames.{Runs}
 use Rattle.run_laws.proofs.States.Lacking.{down, lower_device}
-use Rattle.run_laws.proofs.States.Obeyed.{inserts_right, locations_wanted}
+use Rattle.run_laws.proofs.States.Obeyed.{locations_wanted}
 use Rattle.run_laws.proofs.States.OnTop.{OnTop, runs}
-use Rattle.run_laws.proofs.States.Rules.{first_none, States}
-use Rattle.run_laws.proofs.Steps.Comes.{removes_none, removes, inserts, Queued, Reads, Comes, computes, turns_loop, pages, looks_at, writes_info, marks_packet, completes_packet, passes_down, calls_down, returns_status, lets_go, lets_walk, walks_gone, walks_to, walks_up, carries_up, tops_out, ends_dpc, works_on_queues, ends_startio}
+use Rattle.run_laws.proofs.States.Rules.{States}
+use Rattle.run_laws.proofs.Steps.Comes.{Comes, computes, turns_loop, pages, looks_at, writes_info, marks_packet, completes_packet, passes_down, calls_down, returns_status, lets_go, lets_walk, walks_gone, walks_to, walks_up, carries_up, tops_out, ends_dpc, works_on_queues, ends_startio}
 use Rattle.run_laws.proofs.Steps.Faults.{is_call, fault_among}
 use Rattle.run_laws.proofs.Steps.Words.{Forwarding, work_of, packet_operand}
-use Rattle.run_laws.proofs.States.Queueing.{runs_no_start, queue_moves}
-use Rattle.model.specs.Queues.{inserted, StartState}
+use Rattle.run_laws.proofs.States.Queueing.{queue_moves}
+use Rattle.model.specs.Queues.{StartState}
 use Rattle.run_laws.proofs.Steps.Queues.{queued_touches}
-use Rattle.model.specs.LocalRule.{is_right, kind_of}
-use Rattle.model.specs.declared.abs.Kind.TheVariants.{Own}
-use Rattle.run_laws.proofs.Holders.Queued.{times_pushed, times_put, queue_after}
+use Rattle.run_laws.proofs.Tests.{not_at_most}
+use Rattle.run_laws.proofs.Room.Waiting.{HasRoom, WaitingRoom, frame_room, waiting_room}
 
--- a frame that has the right to a live packet has room for its device
-abbrev pub HasRoom : Set → States → Shared → Frame → Type 0
-HasRoom set states s (Routine a) =
-    (n : ℕ) (x : Extent) → extent (find s.packets n) ≡ Some x → 1 ≤ frame_rights states (Routine a) n
-    → x.down + stack_at set a.device ≤ x.size + 1
-HasRoom set states s (Walk n) = ⊤
-
--- a packet in a queue of a device has room for it
-abbrev pub HasPlace : Set → Shared → ℕ → ℕ → Type 0
-HasPlace set s d n =
-    (x : Extent) → extent (find s.packets n) ≡ Some x → x.down + stack_at set d ≤ x.size + 1
-
-abbrev pub QueuesRoom : Set → Shared → Type 0
-QueuesRoom set s =
-    (d q n : ℕ) (entries : List ℕ) → queue_of s d q ≡ Some entries → 1 ≤ times_in entries n
-    → HasPlace set s d n
+-- the lists and slots are as they were
+abbrev pub SameWaiting : Shared → Shared → Type 0
+SameWaiting s after = (after.queues ≡ s.queues) × (after.starts ≡ s.starts)
 
 -- what a step leaves: room, and the packets as they were that the frame neither holds nor completes
 pub record LeavesRoom (set : Set) (states : States) (s : Shared) (f : Frame) (o : Outcome) : Type 0 where
   pub frames : Each (HasRoom set states o.shared) o.frames
   pub others : (n : ℕ) → frame_rights states f n ≡ 0 → frame_walks f n ≡ 0
       → extent (find o.shared.packets n) ≡ extent (find s.packets n)
-  pub queues : (o.shared.queues ≡ s.queues) ⊎ QueuesRoom set o.shared
+  pub waiting : SameWaiting s o.shared ⊎ WaitingRoom set o.shared
 
--- the rights and the queues before and after a step, those of the packets that are gone or came
--- included; where the queues are as before the rights alone
+-- the rights and the packets that wait before and after a step, those of the packets that are gone
+-- or came included; where the lists and slots are as before the rights alone
 abbrev pub EvenStep : States → Shared → Frame → Outcome → Type 0
 EvenStep states s f o =
     (n : ℕ)
-    → stack_sum (λ g. frame_rights states g n) o.frames + times_queued o.shared.queues n
+    → stack_sum (λ g. frame_rights states g n) o.frames + times_waiting o.shared n
     + unheld (find s.packets n)
-    ≡ frame_rights states f n + times_queued s.queues n + unheld (find o.shared.packets n)
+    ≡ frame_rights states f n + times_waiting s n + unheld (find o.shared.packets n)
 
 abbrev pub Even : States → Shared → Frame → Outcome → Type 0
 Even states s f o =
     (n : ℕ) → stack_sum (λ g. frame_rights states g n) o.frames + unheld (find s.packets n)
     ≡ frame_rights states f n + unheld (find o.shared.packets n)
 
-plain_even : (states : States) (s : Shared) (f : Frame) (o : Outcome) → o.shared.queues ≡ s.queues
+plain_even : (states : States) (s : Shared) (f : Frame) (o : Outcome) → SameWaiting s o.shared
     → EvenStep states s f o → Even states s f o
 plain_even states s f o same even n =
-    let all : stack_sum (λ g. frame_rights states g n) o.frames + times_queued o.shared.queues n
+    let all : stack_sum (λ g. frame_rights states g n) o.frames + times_waiting o.shared n
     + unheld (find s.packets n)
-    ≡ frame_rights states f n + times_queued s.queues n + unheld (find o.shared.packets n) = even n in
-    let alike : times_queued o.shared.queues n ≡ times_queued s.queues n =
-    ap (λ (queues : List (List (List ℕ))). times_queued queues n) same in
+    ≡ frame_rights states f n + times_waiting s n + unheld (find o.shared.packets n) = even n in
+    let queued : times_queued o.shared.queues n ≡ times_queued s.queues n =
+    ap (λ (queues : List (List (List ℕ))). times_queued queues n) same.0 in
+    let given : times_started o.shared.starts n ≡ times_started s.starts n =
+    ap (λ (starts : List StartState). times_started starts n) same.1 in
     omega arith
 
 -- a routine's device has a stack that is no larger than another one's
@@ -100,10 +86,6 @@ Smaller set d (Walk n) = ⊤
 same_stack : (set : Set) (d e : ℕ) → d ≡ e → stack_at set d ≤ stack_at set e
 same_stack set d e same = let equal : stack_at set d ≡ stack_at set e =
     ap (stack_at set) same in omega arith
-
-not_at_most : (a b : ℕ) → b < a → nat_le a b ≡ false
-not_at_most a b l =
-    elim (leb_tells a b) [ inl g ↦ let k : a ≤ b = g.1 in absurd (omega arith) | inr g ↦ g.0 ]
 
 apart_of : (n m : ℕ) → frame_walks (Walk n) m ≡ 0 → n ≢ m
 apart_of n m walk same =
@@ -175,15 +157,15 @@ module _ (set : Set) (states : States) (s : Shared) where
     devices a under o h (ends_dpc b at sort) = tt
     devices a under o h _ = (omega arith, tt)
 
-    -- steps that leave the queues as they were
+    -- steps that leave the lists and slots as they were
     abbrev is_queueing : {under : Option Frame} {f : Frame} {o : Outcome} → Comes set s t under f o → Bool
     is_queueing (works_on_queues a i b queues starts actions full at queued) = true
     is_queueing _ = false
 
-    same_queues : (under : Option Frame) (f : Frame) (o : Outcome) (c : Comes set s t under f o)
-        → is_queueing c ≡ false → o.shared.queues ≡ s.queues
-    same_queues under f o (works_on_queues a i b queues starts actions full at queued) isnt = cc
-    same_queues under f o _ isnt = refl
+    same_waiting : (under : Option Frame) (f : Frame) (o : Outcome) (c : Comes set s t under f o)
+        → is_queueing c ≡ false → SameWaiting s o.shared
+    same_waiting under f o (works_on_queues a i b queues starts actions full at queued) isnt = cc
+    same_waiting under f o _ isnt = (refl, refl)
 
     -- steps that send no packet down and take none up
     abbrev is_moving : {under : Option Frame} {f : Frame} {o : Outcome} → Comes set s t under f o → Bool
@@ -228,11 +210,11 @@ module _ (set : Set) (states : States) (s : Shared) where
   frames_room after d (Walk m ∷ frames) small room =
       (tt, frames_room after d frames small.1 (λ n x there some. room n x there (omega arith)))
 
-  still_room : (a : Activation) (o : Outcome) → o.shared.queues ≡ s.queues
+  still_room : (a : Activation) (o : Outcome) → SameWaiting s o.shared
       → HasRoom set states s (Routine a)
       → Even states s (Routine a) o
       → Still s o.shared → Each (Smaller set a.device) o.frames → LeavesRoom set states s (Routine a) o
-  still_room a o queues room even keeps small =
+  still_room a o same room even keeps small =
       record {
         frames = frames_room o.shared a.device o.frames small
             (λ n x there some.
@@ -241,7 +223,7 @@ module _ (set : Set) (states : States) (s : Shared) where
             let fewer : unheld (find o.shared.packets n) ≤ unheld (find s.packets n) = keeps.fewer n in
             room n x (sym (keeps.extents n) ∙ there) (omega arith));
         others = λ n right walk. keeps.extents n;
-        queues = inl queues;
+        waiting = inl same;
       }
 
   -- a packet is sent down in a location of its own
@@ -356,98 +338,8 @@ module _ (set : Set) (states : States) (s : Shared) where
               let none : frame_rights states (Routine a) n ≡ 0 =
               subst (λ (k : ℕ). frame_rights states (Routine a) k ≡ 0) (sym same) right in
               absurd (omega arith));
-          queues = inl refl;
+          waiting = inl (refl, refl);
         }
-
-  -- a packet is put into a queue, or taken off one
-  module _ (past : List Entry) (actor : Actor) (a : Activation) (room : HasRoom set states s (Routine a))
-      (queued_room : QueuesRoom set s) where
-    owns_one : {i : Instr} → Runs set states s a i → (r n : ℕ) → Reads s a r n
-        → kind_of (state_of states a) r ≡ Own → 1 ≤ frame_rights states (Routine a) n
-    owns_one h r n reads own =
-        let one : right (kind_of (state_of states a) r) (register a r) n ≡ 1 =
-        one_right (kind_of (state_of states a) r) (register a r) n (ap is_right own)
-        (reads_ref s (register a r) n reads) in
-        let le : right (kind_of (state_of states a) r) (register a r) n
-        ≤ rights (state_of states a).kinds a.registers n =
-        right_le s.issued (state_of states a).kinds a.registers r n h.stays.kinds in
-        omega arith
-
-    frame_room : (i : Instr) (b : Activation) (queues : List (List (List ℕ))) (lists : List StartState)
-        (actions : List Action) (full : Bool) → Runs set states s a i
-        → Queued s a i b queues lists actions full → HasRoom set states s (Routine b)
-    frame_room i b queues lists actions full h (inserts r q n entries reads there) m x is some =
-        let even : frame_rights states (Routine b) m + times_queued queues m
-        ≡ frame_rights states (Routine a) m + times_queued s.queues m =
-        queued_rights set states s past actor a i b queues lists actions full h
-        (inserts r q n entries reads there) m in
-        let put : times_queued queues m + times_in entries m
-        ≡ times_queued s.queues m + times_in (inserted entries n) m =
-        times_put s a.device q entries (inserted entries n) m there in
-        let pushed : times_in (inserted entries n) m
-        ≡ times_in entries m + (if nat_eq n m then 1 else 0) = times_pushed entries n m in
-        room m x is (omega arith)
-    frame_room i b queues lists actions full h (removes r q label n entries there) m x is some =
-        let even : frame_rights states (Routine b) m + times_queued queues m
-        ≡ frame_rights states (Routine a) m + times_queued s.queues m =
-        queued_rights set states s past actor a i b queues lists actions full h
-        (removes r q label n entries there) m in
-        let put : times_queued queues m + times_in (n ∷ entries) m
-        ≡ times_queued s.queues m + times_in entries m =
-        times_put s a.device q (n ∷ entries) entries m there in
-        elim (eqb_tells n m) [
-          | inl same ↦
-              queued_room a.device q m (n ∷ entries) there (rw same.0 (omega arith)) x is
-          | inr apart ↦
-              let first : times_in (n ∷ entries) m ≡ 0 + times_in entries m = rw apart.0 refl in
-              room m x is (omega arith)
-        ]
-    frame_room i b queues lists actions full h (removes_none r q label there) m x is some =
-        let even : frame_rights states (Routine b) m + times_queued queues m
-        ≡ frame_rights states (Routine a) m + times_queued s.queues m =
-        queued_rights set states s past actor a i b queues lists actions full h
-        (removes_none r q label there) m in
-        room m x is (omega arith)
-    frame_room i b queues lists actions full h _ m x is some = absurd (runs_no_start h refl)
-
-    entries_room : (i : Instr) (b : Activation) (queues : List (List (List ℕ))) (lists : List StartState)
-        (actions : List Action) (full : Bool) → Runs set states s a i
-        → Queued s a i b queues lists actions full
-        → QueuesRoom set (record s { queues = queues; starts = lists })
-    entries_room i b queues lists actions full h (inserts r q n entries reads there) e k m others here_now
-        some =
-        elim (queue_after s a.device q entries (inserted entries n) e k others there here_now) [
-          | inl here ↦
-              let pushed : times_in (inserted entries n) m
-              ≡ times_in entries m + (if nat_eq n m then 1 else 0) = times_pushed entries n m in
-              let count : times_in others m ≡ times_in (inserted entries n) m =
-              ap (λ (xs : List ℕ). times_in xs m) here.1 in
-              subst (λ (d : ℕ). HasPlace set s d m) here.0
-              (elim (eqb_tells n m) [
-                | inl same ↦ λ x is.
-                    room m x is
-                    (subst (λ (j : ℕ). 1 ≤ frame_rights states (Routine a) j) same.1
-                    (owns_one h r n reads (inserts_right (kind_of (state_of states a) r) (first_none _ _ h.obeys))))
-                | inr apart ↦
-                    let first : times_in (inserted entries n) m ≡ times_in entries m + 0 =
-                    rw apart.0 at pushed in
-                    queued_room a.device q m entries there (omega arith)
-              ])
-          | inr same ↦ queued_room e k m others same some
-        ]
-    entries_room i b queues lists actions full h (removes r q label n entries there) e k m others here_now
-        some =
-        elim (queue_after s a.device q (n ∷ entries) entries e k others there here_now) [
-          | inl here ↦
-              let count : times_in others m ≡ times_in entries m =
-              ap (λ (xs : List ℕ). times_in xs m) here.1 in
-              subst (λ (d : ℕ). HasPlace set s d m) here.0
-              (queued_room a.device q m (n ∷ entries) there (omega arith))
-          | inr same ↦ queued_room e k m others same some
-        ]
-    entries_room i b queues lists actions full h (removes_none r q label there) e k m others here_now some =
-        queued_room e k m others here_now some
-    entries_room i b queues lists actions full h _ e k m others here_now some = absurd (runs_no_start h refl)
 
   -- every step
   module _ (past : List Entry) (actor : Actor) where
@@ -457,39 +349,41 @@ module _ (set : Set) (states : States) (s : Shared) where
     call_faults under f o h holding room even (calls_down a r g n p lower at reads there below) =
         rw (call_fits past a r g n p lower (runs set states s a (Call r g) h at) there below
         (named s (register a r) n reads) holding room
-        (plain_even states s (Routine a) o refl even)) refl
+        (plain_even states s (Routine a) o (refl, refl) even)) refl
     call_faults under f o h holding room even
         (works_on_queues a i b queues starts actions full at queued) =
         elim (queued_touches queued) [ inl none ↦ rw none refl | inr one ↦ rw one.1 refl ]
     call_faults under f o h holding room even _ = refl
 
     routine_room : (a : Activation) (under : Option Frame) (o : Outcome) → OnTop set states s (Routine a)
-        → Holding states s past (Routine a) → HasRoom set states s (Routine a) → QueuesRoom set s
+        → Holding states s past (Routine a) → HasRoom set states s (Routine a) → WaitingRoom set s
         → EvenStep states s (Routine a) o
         → Comes set s actor.thread under (Routine a) o → LeavesRoom set states s (Routine a) o
-    routine_room a under o h holding room queued_room even
+    routine_room a under o h holding room waiting even
         (calls_down b r g n p lower at reads there below) =
         call_room past a r g n p lower (runs set states s a (Call r g) h at) there below
-        (named s (register a r) n reads) holding room (plain_even states s (Routine a) o refl even)
-    routine_room a under o h holding room queued_room even
+        (named s (register a r) n reads) holding room
+        (plain_even states s (Routine a) o (refl, refl) even)
+    routine_room a under o h holding room waiting even
         (works_on_queues b i c queues starts actions full at queued) =
         let run : Runs set states s a i = runs set states s a i h at in
         record {
-          frames = (frame_room past actor a room queued_room i c queues starts actions full run queued, tt);
+          frames = (frame_room set states s a room waiting i run queued, tt);
           others = λ n right walk. refl;
-          queues = inr (entries_room past actor a room queued_room i c queues starts actions full run
-              queued);
+          waiting =
+              inr (waiting_room set states s a room waiting i run queued);
         }
-    routine_room a under o h holding room queued_room even c =
-        still_room a o (same_queues actor.thread under (Routine a) o c refl) room
-        (plain_even states s (Routine a) o (same_queues actor.thread under (Routine a) o c refl) even)
+    routine_room a under o h holding room waiting even c =
+        still_room a o (same_waiting actor.thread under (Routine a) o c refl) room
+        (plain_even states s (Routine a) o (same_waiting actor.thread under (Routine a) o c refl)
+        even)
         (still actor.thread under (Routine a) o c refl)
         (devices actor.thread a under o h c)
 
     walk_room : (m : ℕ) (under : Option Frame) (o : Outcome) → Tells s past → EvenStep states s (Walk m) o
         → Comes set s actor.thread under (Walk m) o → LeavesRoom set states s (Walk m) o
     walk_room m under o tells even (walks_gone n gone) =
-        record { frames = tt; others = λ k right walk. refl; queues = inl refl }
+        record { frames = tt; others = λ k right walk. refl; waiting = inl (refl, refl) }
     walk_room m under o tells even (walks_to n p c there with) =
         let moved_on : Packet = moved_up (left_location p) in
         record {
@@ -504,20 +398,20 @@ module _ (set : Set) (states : States) (s : Shared) where
                   (find s.packets k)
                   ≡ frame_rights states (Walk m) k + unheld
                   (find (with_packet s n moved_on).packets k) =
-                  plain_even states s (Walk m) o refl even k in
+                  plain_even states s (Walk m) o (refl, refl) even k in
                   absurd (omega arith),
               tt,
             ),
           );
           others = λ k right walk. other_extent s n p moved_on there refl k (apart_of n k walk);
-          queues = inl refl;
+          waiting = inl (refl, refl);
         }
     walk_room m under o tells even (walks_up n p there without deep unmarked) =
         record {
           frames = (tt, tt);
           others = λ k right walk. other_extent s n p (moved_up (left_location p)) there refl k
               (apart_of n k walk);
-          queues = inl refl;
+          waiting = inl (refl, refl);
         }
     walk_room m under o tells even (carries_up n p there without deep marked) =
         record {
@@ -525,18 +419,20 @@ module _ (set : Set) (states : States) (s : Shared) where
           others = λ k right walk.
               other_extent s n p (mark_current (moved_up (left_location p))) there refl k
               (apart_of n k walk);
-          queues = inl refl;
+          waiting = inl (refl, refl);
         }
     walk_room m under o tells even (tops_out n p there without first) =
         record {
           frames = tt;
           others = λ k right walk. removed_other s n k tells.rises (apart_of n k walk);
-          queues = inl refl;
+          waiting = inl (refl, refl);
         }
 
     pub room_step : (under : Option Frame) (f : Frame) (o : Outcome) → OnTop set states s f
-        → Holding states s past f → HasRoom set states s f → QueuesRoom set s → EvenStep states s f o
+        → Holding states s past f → HasRoom set states s f → WaitingRoom set s
+        → EvenStep states s f o
         → Comes set s actor.thread under f o → LeavesRoom set states s f o
-    room_step under (Routine a) o h holding room queued_room even c =
-        routine_room a under o h holding room queued_room even c
-    room_step under (Walk m) o h holding room queued_room even c = walk_room m under o holding.tells even c
+    room_step under (Routine a) o h holding room waiting even c =
+        routine_room a under o h holding room waiting even c
+    room_step under (Walk m) o h holding room waiting even c =
+        walk_room m under o holding.tells even c

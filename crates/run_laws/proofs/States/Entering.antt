@@ -1,5 +1,5 @@
--- Routines that begin: those that serve a request of a device, its DPC routine, and those that
--- completion calls.
+-- Routines that begin: those that serve a request of a device, its DPC and StartIo routines, and those
+-- that completion calls.
 use Rattle.std.proofs.Common.{◌≡◌, ℕ, zero, suc, ◌+◌, ◌-◌, ◌<◌, ◌≤◌, Bool, true, false, List, [], ◌∷◌, length, Option, None, Some, refl, ap, sym, ◌∙◌, subst, arith, nat_eq}
 use Rattle.std.specs.Prelude.{◌&&◌, slice_get, slice_index_or, replicate, unwrap_or, option_and_then, is_none, IfSome}
 use Rattle.std.specs.List.{list_any}
@@ -26,8 +26,8 @@ use Rattle.model.specs.Certificate.{certificate, certificate_in, certificate_of}
 use Rattle.model.specs.Effect.{serving_for, dispatched, routine_of_device, completes_with, serves_request, dpc_activation}
 use Rattle.model.specs.Forwarding.{lacks_lower}
 use Rattle.model.specs.LocalRule.{entered_with, entry_of_sort}
-use Rattle.model.specs.Set.{Set, member, handler_of, serving, dpc_of, routine_of, sort_in, sort_of, lower_of, default_number, default_routine}
-use Rattle.model.specs.Sound.{IsSound, DriverFits, DeviceFits, HandlerFits, HasSort, IsDispatch, IsDpc, DpcFits}
+use Rattle.model.specs.Set.{Set, member, handler_of, serving, dpc_of, startio_of, routine_of, sort_in, sort_of, lower_of, default_number, default_routine}
+use Rattle.model.specs.Sound.{IsSound, DriverFits, DeviceFits, HandlerFits, HasSort, IsDispatch, IsDpc, IsStartIo, DpcFits, StartIoFits}
 use Rattle.model.specs.World.{Shared, completion_of, current_location, packet_of, entered}
 use Rattle.run_laws.proofs.Devices.{device_fits}
 use Rattle.run_laws.proofs.Lists.{all_at}
@@ -59,6 +59,12 @@ dpc_sort Dispatch h = absurd h
 dpc_sort StartIo h = absurd h
 dpc_sort Dpc h = refl
 dpc_sort Propagate h = absurd h
+
+startio_sort : (sort : Sort) → IsStartIo sort → sort ≡ StartIo
+startio_sort Dispatch h = absurd h
+startio_sort StartIo h = refl
+startio_sort Dpc h = absurd h
+startio_sort Propagate h = absurd h
 
 handler_fits : (driver : Driver) (major : Major) → DriverFits driver
     → HandlerFits driver.routines (handler_of driver major)
@@ -145,6 +151,11 @@ pub record Enters (set : Set) (states : States) (issued : ℕ) (a : Activation) 
   pub start : state_of states a ≡ first_state sort
   pub registers : a.registers ≡ first ∷ replicate (REGISTERS - 1) Blank
 
+-- the StartIo routine of a device, for a packet
+abbrev pub startio_activation : Set → ℕ → ℕ → ℕ → Activation
+startio_activation set device number n =
+    entered (routine_of_device (slice_get set.devices device)) number device (Ref n)
+
 -- handed a packet
 abbrev pub Begins : Set → States → ℕ → Activation → Sort → ℕ → Type 0
 Begins set states issued a sort n = Enters set states issued a sort (Ref n)
@@ -185,43 +196,64 @@ module _ (set : Set) (states : States) (good : IsGood set states) (issued : ℕ)
         registers = refl;
       }
 
+  -- a routine that the driver of a device names, of a sort, as the lowest frame of a thread
+  module _ (sort : Sort) (first : Value) (Is : Sort → Type 0) (named : Driver → Option ℕ)
+      (kinds : HasKinds issued (first_state sort).kinds (first ∷ replicate (REGISTERS - 1) Blank))
+      (is_sort : (other : Sort) → Is other → other ≡ sort)
+      (fits : (driver : Driver) (number : ℕ) → DriverFits driver → named driver ≡ Some number
+      → HasSort Is (slice_get driver.routines number)) where
+    abbrev EntersFor : ℕ → ℕ → Type 0
+    EntersFor device number =
+        Enters set states issued
+        (entered (routine_of_device (slice_get set.devices device)) number device first) sort first
+
+    root_found : (device number : ℕ) (d : Device) (driver : Driver) (o : Option RoutineOf)
+        → slice_get set.devices device ≡ Some d → slice_get set.drivers d.driver ≡ Some driver
+        → slice_get driver.routines number ≡ o → HasSort Is o → EntersFor device number
+    root_found device number d driver None there of_driver found h = absurd h
+    root_found device number d driver (Some routine) there of_driver found h =
+        let few : length driver.routines ≤ MAX_ROUTINES =
+        (all_at DriverFits set.drivers d.driver driver good.sound.drivers of_driver).few in
+        subst (λ (x : ℕ). Enters set states issued (entered x number device first) sort first)
+        (sym (ap routine_of_device there))
+        (enters_with d.driver number device routine sort first kinds
+        (routine_found set d.driver driver of_driver few number routine found)
+        (is_sort routine.sort h) (d, there, refl))
+
+    root_driver : (device number : ℕ) (d : Device) (o : Option Driver)
+        → slice_get set.devices device ≡ Some d → slice_get set.drivers d.driver ≡ o
+        → option_and_then named o ≡ Some number → EntersFor device number
+    root_driver device number d None there of_driver is = cc
+    root_driver device number d (Some driver) there of_driver is =
+        root_found device number d driver (slice_get driver.routines number) there of_driver refl
+        (fits driver number
+        (all_at DriverFits set.drivers d.driver driver good.sound.drivers of_driver) is)
+
+    root_device : (device number : ℕ) (o : Option Device) → slice_get set.devices device ≡ o
+        → option_and_then named (option_and_then (λ d. slice_get set.drivers d.driver) o)
+        ≡ Some number
+        → EntersFor device number
+    root_device device number None there is = cc
+    root_device device number (Some d) there is =
+        root_driver device number d (slice_get set.drivers d.driver) there refl is
+
   -- the DPC routine of a device
-  dpc_found : (device number : ℕ) (d : Device) (driver : Driver) (o : Option RoutineOf)
-      → slice_get set.devices device ≡ Some d → slice_get set.drivers d.driver ≡ Some driver
-      → slice_get driver.routines number ≡ o → HasSort IsDpc o
-      → Enters set states issued (dpc_activation set device number) Dpc Blank
-  dpc_found device number d driver None there of_driver found h = absurd h
-  dpc_found device number d driver (Some routine) there of_driver found h =
-      let few : length driver.routines ≤ MAX_ROUTINES =
-      (all_at DriverFits set.drivers d.driver driver good.sound.drivers of_driver).few in
-      subst (λ (x : ℕ). Enters set states issued (entered x number device Blank) Dpc Blank)
-      (sym (ap routine_of_device there))
-      (enters_with d.driver number device routine Dpc Blank
-      (tt, blank_kinds issued (REGISTERS - 1))
-      (routine_found set d.driver driver of_driver few number routine found)
-      (dpc_sort routine.sort h) (d, there, refl))
-
-  dpc_driver : (device number : ℕ) (d : Device) (o : Option Driver)
-      → slice_get set.devices device ≡ Some d → slice_get set.drivers d.driver ≡ o
-      → option_and_then (λ driver. driver.dpc) o ≡ Some number
-      → Enters set states issued (dpc_activation set device number) Dpc Blank
-  dpc_driver device number d None there of_driver is = cc
-  dpc_driver device number d (Some driver) there of_driver is =
-      dpc_found device number d driver (slice_get driver.routines number) there of_driver refl
-      (subst (λ (x : Option ℕ). DpcFits driver.routines x) is
-      (all_at DriverFits set.drivers d.driver driver good.sound.drivers of_driver).dpc)
-
-  dpc_device : (device number : ℕ) (o : Option Device) → slice_get set.devices device ≡ o
-      → option_and_then (λ driver. driver.dpc)
-      (option_and_then (λ d. slice_get set.drivers d.driver) o) ≡ Some number
-      → Enters set states issued (dpc_activation set device number) Dpc Blank
-  dpc_device device number None there is = cc
-  dpc_device device number (Some d) there is =
-      dpc_driver device number d (slice_get set.drivers d.driver) there refl is
-
   pub begins_dpc : (device number : ℕ) → dpc_of set device ≡ Some number
       → Enters set states issued (dpc_activation set device number) Dpc Blank
-  begins_dpc device number is = dpc_device device number (slice_get set.devices device) refl is
+  begins_dpc device number is =
+      root_device Dpc Blank IsDpc (λ driver. driver.dpc) (tt, blank_kinds issued (REGISTERS - 1))
+      dpc_sort
+      (λ driver number fits is. subst (λ (o : Option ℕ). DpcFits driver.routines o) is fits.dpc)
+      device number (slice_get set.devices device) refl is
+
+  -- its StartIo routine, for a packet
+  pub begins_startio : (device number n : ℕ) → n < issued → startio_of set device ≡ Some number
+      → Begins set states issued (startio_activation set device number n) StartIo n
+  begins_startio device number n low is =
+      root_device StartIo (Ref n) IsStartIo (λ driver. driver.startio)
+      (first_kinds issued n StartIo low) startio_sort
+      (λ driver number fits is. subst (λ (o : Option ℕ). StartIoFits driver.routines o) is fits.startio)
+      device number (slice_get set.devices device) refl is
 
 module _ (set : Set) (states : States) (good : IsGood set states) (issued n : ℕ) (low : n < issued) where
   begins_with : (driver number device : ℕ) (routine : RoutineOf) (sort : Sort)

@@ -38,16 +38,16 @@ use Rattle.run_laws.proofs.States.Kinds.{given_kinds}
 use Rattle.run_laws.proofs.States.Known.{Continues, SetBy, CallLeads}
 use Rattle.run_laws.proofs.States.Lacking.{never_lacks, taken_there, freed_there, down}
 use Rattle.run_laws.proofs.States.LoopEnds.{moved_loop, moved_end}
-use Rattle.run_laws.proofs.States.Moves.{falls_next, moved, moved_next, arrives_next}
+use Rattle.run_laws.proofs.States.Moves.{moved_on, falls_next, moved, moved_next, arrives_next}
 use Rattle.run_laws.proofs.States.Obeyed.{SendsDown, CompletesOne, completes_one}
 use Rattle.run_laws.proofs.States.OnTop.{OnTop, at_routine, runs}
 use Rattle.run_laws.proofs.States.Rules.{States}
 use Rattle.run_laws.proofs.States.Stacks.{Stands, Replaces}
 use Rattle.run_laws.proofs.States.Told.{told_frame}
-use Rattle.run_laws.proofs.Steps.Comes.{onward, keeps_all, Comes, errs, awaits_lock, computes, opens_loop, turns_loop, pages, touches_gone, looks_at, writes_info, marks_packet, takes_lock, retakes_lock, frees_lock, completes_packet, completes_gone, passes_down, calls_down, returns_status, lets_go, lets_walk, ends_dpc, walks_gone, walks_to, walks_up, carries_up, tops_out, works_on_queues, ends_startio}
+use Rattle.run_laws.proofs.Steps.Comes.{Comes, errs, awaits_lock, computes, opens_loop, turns_loop, pages, touches_gone, looks_at, writes_info, marks_packet, takes_lock, retakes_lock, frees_lock, completes_packet, completes_gone, passes_down, calls_down, returns_status, lets_go, lets_walk, ends_dpc, walks_gone, walks_to, walks_up, carries_up, tops_out, works_on_queues, ends_startio}
 use Rattle.run_laws.proofs.Steps.Locking.{freed_word, taken_word}
 use Rattle.run_laws.proofs.Steps.Faults.{none_first}
-use Rattle.run_laws.proofs.Steps.Words.{Forwarding, is_forwarding, work_of, goes_next, keeps_registers, packet_operand}
+use Rattle.run_laws.proofs.Steps.Words.{Forwarding, is_forwarding, work_of, goes_next, packet_operand}
 use Rattle.run_laws.proofs.Tests.{or_left}
 use Rattle.model.specs.declared.limits.TheConstants.{MAX_LIVE_PACKETS}
 use Rattle.run_laws.proofs.Steps.Queues.{queued_touches}
@@ -171,12 +171,6 @@ module _ (past : List Entry) (actor : Actor) (n : ℕ) where
 
 module _ (set : Set) (states : States) (s : Shared) (a : Activation) (i : Instr)
     (h : Runs set states s a i) where
-  -- an instruction that leaves the registers alone and goes on
-  pub moved_on : goes_next i ≡ true → keeps_registers i ≡ true → is_forwarding (work_of i) ≡ false
-      → Moved set states s.issued a (next a) (handed (state_of states a) i)
-  moved_on on keeps stays =
-      moved set states s a i h (next a) false stays (onward a.registers on (keeps_all i keeps))
-
   -- a routine that sends a packet down goes on whatever status it is told
   pub moved_told : (r : ℕ) → work_of i ≡ Forwarding → packet_operand i ≡ Some r → (status : Status)
       → Moved set states s.issued a
@@ -308,10 +302,10 @@ module _ (set : Set) (states : States) (s : Shared) (past : List Entry) (actor :
       (ap is_forwarding (freed_word a i lock frees).work))
       (with_owner_fits set s h.fits lock None (freed_there set states s a i lock run frees)) refl
   leaves_fine under f o h quiet (works_on_queues a i b queues starts actions full at queued) =
-      let on : MovedOn set states s a i b queues =
+      let on : MovedOn set states s a i b queues starts =
       queue_moves set states s a i (runs set states s a i h at) queued in
       record {
-        fits = with_queues_fits set s h.fits queues starts on.fits;
+        fits = with_queues_fits set s h.fits queues starts on.fits on.starts;
         issued = refl;
         stands = (
           refl,
@@ -403,6 +397,7 @@ module _ (set : Set) (states : States) (s : Shared) (past : List Entry) (actor :
           rows = h.fits.rows;
           completions = each_remove (PacketLeads set) s.packets (place_of s.packets n) h.fits.completions;
           queued = h.fits.queued;
+          starts = h.fits.starts;
           few = (let less : length (remove s.packets (place_of s.packets n)) ≤ length s.packets =
               length_removed s.packets (place_of s.packets n) in
               let few : length s.packets ≤ MAX_LIVE_PACKETS = h.fits.few in

@@ -18,6 +18,7 @@ use Rattle.model.specs.Set.{Set}
 use Rattle.model.specs.World.{with_queue, queue_of, Shared, blank_cells, unused, owner_of, with_owner, with_locks, place_of, packet_of, with_packet, current_location, marked_location, mark_current, copied_location, sent_down, shared_location, shared_with, completion_of, new_packet, unused_location}
 use Rattle.run_laws.proofs.Lists.{each_map, Each, each_at, each_set, each_same, set_same, set_other}
 use Rattle.run_laws.proofs.States.Known.{Continues}
+use Rattle.run_laws.proofs.States.StartsFit.{AllStartsFit, WereIssued, idle_starts, issued_later}
 use Rattle.model.specs.Queues.{StartState}
 
 -- a completion routine of the driver of a device
@@ -33,9 +34,6 @@ abbrev pub PacketLeads : Set → Packet → Type 0
 PacketLeads set p = Each (LocationLeads set) p.locations.items
 
 -- the queues of a device are four, and the packets in them were issued
-abbrev pub WereIssued : ℕ → List ℕ → Type 0
-WereIssued issued entries = Each (λ (n : ℕ). n < issued) entries
-
 abbrev pub QueuesFit : ℕ → List (List ℕ) → Type 0
 QueuesFit issued lists = (length lists ≡ MAX_QUEUES) × Each (WereIssued issued) lists
 
@@ -43,7 +41,8 @@ pub record AllQueuesFit (set : Set) (queues : List (List (List ℕ))) (issued : 
   pub long : length queues ≡ length set.devices
   pub each : Each (QueuesFit issued) queues
 
--- each device has its cells, its eight spin locks and its queues, and no more packets live than may
+-- each device has its cells, its eight spin locks, its queues and what it has for StartIo, and no
+-- more packets live than may
 pub record Fits (set : Set) (s : Shared) : Type 0 where
   pub cells : length s.cells ≡ length set.devices
   pub spin : length s.locks.spin ≡ length set.devices
@@ -51,6 +50,7 @@ pub record Fits (set : Set) (s : Shared) : Type 0 where
       → length owners ≡ SPIN_LOCKS
   pub completions : Each (PacketLeads set) s.packets
   pub queued : AllQueuesFit set s.queues s.issued
+  pub starts : AllStartsFit set s.starts s.issued
   pub few : length s.packets ≤ MAX_LIVE_PACKETS
 
 -- one queue
@@ -142,6 +142,7 @@ module _ (set : Set) where
           each = each_same (QueuesFit 0) (length set.devices) (replicate MAX_QUEUES [])
               (refl, each_same (WereIssued 0) MAX_QUEUES [] tt);
         };
+        starts = idle_starts set;
         few = omega arith;
       }
 
@@ -155,9 +156,7 @@ module _ (set : Set) where
             (λ lists fits. (
               fits.0,
               each_map (WereIssued issued) (WereIssued more) lists
-                  (λ entries named.
-                  each_map (λ (n : ℕ). n < issued) (λ (n : ℕ). n < more) entries
-                  (λ n low. omega arith) named) fits.1,
+                  (λ entries named. issued_later issued more le entries named) fits.1,
             )) h.each;
       }
 
@@ -203,6 +202,7 @@ module _ (set : Set) where
           completions =
               each_set (PacketLeads set) s.packets (place_of s.packets n) p fits.completions leads;
           queued = fits.queued;
+          starts = fits.starts;
           few = (let long : length (with_packet s n p).packets ≡ length s.packets =
               length-set s.packets (place_of s.packets n) p in
               let few : length s.packets ≤ MAX_LIVE_PACKETS = fits.few in
@@ -218,6 +218,7 @@ module _ (set : Set) where
           rows = fits.rows;
           completions = fits.completions;
           queued = fits.queued;
+          starts = fits.starts;
           few = fits.few;
         }
 
@@ -271,6 +272,7 @@ module _ (set : Set) where
           rows = fits.rows;
           completions = fits.completions;
           queued = fits.queued;
+          starts = fits.starts;
           few = fits.few;
         }
     with_owner_fits (Spin l) owner there =
@@ -283,6 +285,7 @@ module _ (set : Set) where
               (cases_eq l.device e) h;
           completions = fits.completions;
           queued = fits.queued;
+          starts = fits.starts;
           few = fits.few;
         }
 
@@ -301,13 +304,15 @@ module _ (set : Set) where
         cc
 
     pub with_queues_fits : (queues : List (List (List ℕ))) (starts : List StartState)
-        → AllQueuesFit set queues s.issued → Fits set (record s { queues = queues; starts = starts })
-    with_queues_fits queues starts queued =
+        → AllQueuesFit set queues s.issued → AllStartsFit set starts s.issued
+        → Fits set (record s { queues = queues; starts = starts })
+    with_queues_fits queues starts queued started =
         record {
           cells = fits.cells;
           spin = fits.spin;
           rows = fits.rows;
           completions = fits.completions;
           queued = queued;
+          starts = started;
           few = fits.few;
         }

@@ -1,7 +1,7 @@
 -- Frames of accepted routines: a routine's frame stands as the state at its position says, for a
 -- device of its driver, with the loops open that are open there; and what it has left to execute.
-use Rattle.std.proofs.Common.{◌≡◌, ℕ, ◌+◌, ◌-◌, ◌*◌, ◌<◌, ◌≤◌, List, [], ◌∷◌, ◌++◌, length, drop, Option, None, Some, refl, arith, ◌∙◌, ap, false}
-use Rattle.std.specs.Prelude.{slice_get, option_and_then}
+use Rattle.std.proofs.Common.{◌≡◌, ℕ, ◌+◌, ◌-◌, ◌*◌, ◌<◌, ◌≤◌, List, [], ◌∷◌, ◌++◌, length, drop, Option, None, Some, refl, arith, ◌∙◌, ap}
+use Rattle.std.specs.Prelude.{slice_get}
 use Rattle.std.proofs.lemmas.List.{length-append}
 use Rattle.model.specs.declared.abs.Abs.{Abs}
 use Rattle.model.specs.declared.instr.Instr.{Instr}
@@ -15,7 +15,6 @@ use Rattle.model.specs.Loops.{open_at}
 use Rattle.model.specs.Set.{Set, member, routine_of, sort_of}
 use Rattle.model.specs.Sound.{IsSound}
 use Rattle.model.specs.World.{Shared}
-use Rattle.run_laws.specs.StartsNoPackets.{StartsNoPackets, starts_packets}
 use Rattle.run_laws.proofs.States.Fits.{Fits}
 use Rattle.run_laws.proofs.States.Kinds.{HasKinds}
 use Rattle.run_laws.proofs.States.Known.{IsKnown, IsLed}
@@ -100,10 +99,9 @@ pub record Moved (set : Set) (states : States) (issued : ℕ) (a b : Activation)
   pub arrives : state_of states b ≡ to
   pub less : 1 + due set b ≤ due set a
 
--- an accepted set that starts no packets, with its states
+-- an accepted set with its states
 pub record IsGood (set : Set) (states : States) : Type 0 where
   pub sound : IsSound set
-  pub startless : StartsNoPackets set
   pub led : IsLed set states
 
 -- a routine's frame of an accepted set is about to execute an instruction
@@ -116,11 +114,3 @@ pub record Runs (set : Set) (states : States) (s : Shared) (a : Activation) (i :
   pub obeys : refuses (state_of states a) i (sort_of set a.driver a.routine) set a.driver ≡ None
   pub fits : Fits set s
   pub good : IsGood set states
-
--- none of its instructions starts packets
-pub starts_none : (set : Set) (states : States) (s : Shared) (a : Activation) (i : Instr)
-    → Runs set states s a i → starts_packets i ≡ false
-starts_none set states s a i h =
-    h.good.startless.routines a.driver a.routine a.position i
-    (ap (λ (o : Option Routine). option_and_then (λ r. slice_get r.code a.position) o) h.stays.is_of
-    ∙ h.here)

@@ -7,7 +7,7 @@ use Rattle.model.specs.declared.abs.Abs.{Abs}
 use Rattle.model.specs.declared.abs.Kind.{Kind}
 use Rattle.model.specs.declared.abs.Kind.TheVariants.{Blank as BlankKind, Num as NumKind, Lower, New, Own}
 use Rattle.model.specs.declared.instr.Instr.{Instr}
-use Rattle.model.specs.declared.instr.Instr.TheVariants.{Const, Move, Clear, Load, LoadPaged, Get, Mark, Insert, Remove, Start, Take, Begin, Pass, Call, Complete, IfPending}
+use Rattle.model.specs.declared.instr.Instr.TheVariants.{Const, Move, Clear, Load, LoadPaged, Get, Mark, Insert, Remove, Start, Take, Begin, Next, Pass, Call, Complete, IfPending}
 use Rattle.model.specs.declared.world.Activation.{Activation}
 use Rattle.model.specs.declared.world.Value.{Value}
 use Rattle.model.specs.declared.world.Value.TheVariants.{Blank, Num, Ref}
@@ -20,9 +20,8 @@ use Rattle.run_laws.proofs.States.Frames.{Runs, state_of}
 use Rattle.run_laws.proofs.States.Kinds.{number_kinds}
 use Rattle.run_laws.proofs.States.Moves.{arrives, arrives_next, has_next}
 use Rattle.run_laws.proofs.States.NoViews.{IsHanded, left_none}
-use Rattle.run_laws.proofs.States.Queueing.{runs_no_start}
 use Rattle.run_laws.proofs.States.Rules.{States}
-use Rattle.run_laws.proofs.Steps.Comes.{GoesTo, Queued, Written, inserts, jumping, keeps_all, makes_blank, makes_number, moves_over, onward, removes, removes_none}
+use Rattle.run_laws.proofs.Steps.Comes.{GoesTo, Queued, Written, inserts, jumping, keeps_all, makes_blank, makes_number, moves_over, onward, puts_in, removes, removes_none, starts_next, starts_packet, takes_none, takes_out}
 use Rattle.run_laws.proofs.Steps.Words.{is_touching, keeps_registers, work_of}
 use Rattle.run_laws.proofs.Tests.{or_left, or_right}
 
@@ -193,4 +192,16 @@ module _ (f : Kind → Bool) (given : IsHanded f) (P : Value → Type 0) where
       (λ is. absurd (is_not Own given.own is)))
   queued_hold set states s a i empty h (removes_none r q label there) held =
       goes_hold set states s a empty (Remove r q label) _ true h (jumping label refl) held
-  queued_hold set states s a i empty h _ held = absurd (runs_no_start h refl)
+  queued_hold set states s a i empty h (starts_packet r n start reads there) held =
+      next_hold set states s a empty (Start r) h refl refl held
+  queued_hold set states s a i empty h (takes_out r label n start there slot) held =
+      subst (λ (state : Abs). HoldOf f P state.kinds (slice_set a.registers r (Ref n)))
+      (sym (arrives_next set states s a (Take r label) h refl))
+      (hold_set (state_of states a).kinds a.registers r Own (Ref n) held
+      (λ is. absurd (is_not Own given.own is)))
+  queued_hold set states s a i empty h (takes_none r label start there slot) held =
+      goes_hold set states s a empty (Take r label) _ true h (jumping label refl) held
+  queued_hold set states s a i empty h (puts_in r n start reads there) held =
+      next_hold set states s a empty (Begin r) h refl refl held
+  queued_hold set states s a i empty h (starts_next start there) held =
+      next_hold set states s a empty Next h refl refl held

@@ -31,7 +31,7 @@ use Rattle.run_laws.proofs.States.OnTop.{OnTop, at_routine, runs, value_suits, p
 use Rattle.run_laws.proofs.States.Rules.{States, first_none}
 use Rattle.run_laws.proofs.Steps.Comes.{Lacks, no_instruction, no_number, no_packet, no_room, no_loop, no_cells, none_taken, none_freed, no_queue, no_start, no_lower, no_status, no_form}
 use Rattle.run_laws.proofs.Steps.Words.{Forwarding, work_of, packet_operand, lock_taken, lock_freed, status_returned, is_form_of}
-use Rattle.run_laws.proofs.States.Queueing.{never_starting}
+use Rattle.run_laws.proofs.States.StartsFit.{start_there}
 
 broken_not : (b : Bool) (rule : Rule) → broken_if (not b) rule ≡ None → b ≡ true
 broken_not true rule h = refl
@@ -146,7 +146,8 @@ module _ (set : Set) (states : States) (s : Shared) (a : Activation) where
   never_lacks h (no_queue i q at is none) =
       let run : Runs set states s a i = runs set states s a i h at in
       queue_there set s h.fits a.device q (device_within i run) (queue_within i q run is) none
-  never_lacks h (no_start i at is none) = absurd (never_starting h.good a at is)
+  never_lacks h (no_start i at is none) =
+      start_there set s a.device h.fits.starts (device_within i (runs set states s a i h at)) none
   never_lacks h (no_lower i at is none) =
       let lower : LowerThere set a.device = lower_device i (runs set states s a i h at) is in
       let no : None ≡ Some lower.0 = sym none ∙ lower.1 in

@@ -24,8 +24,8 @@ use Rattle.run_laws.proofs.States.Kinds.{HasKinds, written_kinds, handed_long, h
 use Rattle.run_laws.proofs.States.Known.{RoutineOperandsFit}
 use Rattle.run_laws.proofs.States.Remaining.{rest, rest_by, IsFormed, HasTurns, round_open, summed, summed_same, forward_le}
 use Rattle.run_laws.proofs.States.Rules.{States}
-use Rattle.run_laws.proofs.Steps.Comes.{GoesTo, onward, jumping}
-use Rattle.run_laws.proofs.Steps.Words.{work_of, is_forwarding, falls_through, goes_next}
+use Rattle.run_laws.proofs.Steps.Comes.{GoesTo, keeps_all, onward, jumping}
+use Rattle.run_laws.proofs.Steps.Words.{work_of, is_forwarding, falls_through, goes_next, keeps_registers}
 use Rattle.run_laws.proofs.Tests.{and_left, and_right}
 
 -- the state that an instruction which breaks no rule leads to, at the next position or at its label
@@ -308,6 +308,11 @@ module _ (set : Set) (states : States) (s : Shared) (a : Activation) (i : Instr)
       (written_kinds (state_of states a) _ set a.driver s.issued a i registers h.obeys on stays
       written h.stays.kinds)
   moved b jumped stays (jumping label labelled) = moved_label label labelled
+
+  -- an instruction that leaves the registers alone and goes on
+  pub moved_on : goes_next i ≡ true → keeps_registers i ≡ true → is_forwarding (work_of i) ≡ false
+      → Moved set states s.issued a (next a) (handed (state_of states a) i)
+  moved_on on keeps stays = moved (next a) false stays (onward a.registers on (keeps_all i keeps))
 
   -- the state there
   pub arrives_next : has_next (flow_of i) ≡ true

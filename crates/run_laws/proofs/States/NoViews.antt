@@ -1,6 +1,7 @@
 -- A register becomes one with a packet that was handed over, or one with a packet on its way up, where
--- a routine begins alone: a dispatch routine and a DPC routine have no packet on its way up, in no state
--- that arrives at a position, and a DPC routine and a completion routine have none that was handed over.
+-- a routine begins alone: a dispatch routine and a deferred routine have no packet on its way up,
+-- in no state that arrives at a position, and a deferred routine and a completion routine have none
+-- that was handed over.
 use Rattle.std.proofs.Common.{true, ◌≡◌, ℕ, zero, suc, Bool, false, List, [], ◌∷◌, Some, refl, ap, sym, ◌∙◌, subst}
 use Rattle.std.specs.Prelude.{◌||◌, slice_set, slice_index_or}
 use Rattle.std.specs.List.{list_any}
@@ -11,7 +12,7 @@ use Rattle.model.specs.declared.abs.Kind.TheVariants.{Blank, Num, Lower, New, Ow
 use Rattle.model.specs.declared.abs.Settled.TheVariants.{Open, Settled as SettledMark}
 use Rattle.model.specs.declared.instr.Instr.{Instr}
 use Rattle.model.specs.declared.instr.Instr.TheVariants.{Const, Move, Clear, Load, LoadPaged, Get, Mark, Pass, Call, Complete, IfPending, Insert, Remove, Start, Take, Begin}
-use Rattle.model.specs.declared.set.Sort.TheVariants.{Propagate, Dpc, Dispatch}
+use Rattle.model.specs.declared.set.Sort.TheVariants.{Propagate, Dpc, Dispatch, StartIo}
 use Rattle.model.specs.LocalRule.{entered_with, entry_of_sort, given_down, handed, handed_at_label, is_view, kind_of, left_behind, marked}
 use Rattle.model.specs.Paths.{Arrives}
 use Rattle.model.specs.Set.{Member}
@@ -128,16 +129,34 @@ dispatch_no_view m p s is arrives =
     arrives_none is_view handed_views m p s Dispatch (entered_with New Fresh SettledMark false) is refl
     refl arrives
 
-pub dpc_no_view : (m : Member) (p : ℕ) (s : Abs) → m.routine.sort ≡ Dpc → Arrives m p s → HasNoView s
-dpc_no_view m p s is arrives =
+-- deferred routines: those that begin on an idle thread at DISPATCH_LEVEL, and serve no use
+abbrev pub is_deferred : Sort → Bool
+is_deferred Dispatch = false
+is_deferred StartIo = true
+is_deferred Dpc = true
+is_deferred Propagate = false
+
+pub deferred_no_view : (m : Member) (p : ℕ) (s : Abs) (sort : Sort) → m.routine.sort ≡ sort
+    → is_deferred sort ≡ true → Arrives m p s → HasNoView s
+deferred_no_view m p s Dispatch is deferred arrives = cc
+deferred_no_view m p s StartIo is deferred arrives =
+    arrives_none is_view handed_views m p s StartIo (entered_with Own NoDuty SettledMark true) is
+    refl refl arrives
+deferred_no_view m p s Dpc is deferred arrives =
     arrives_none is_view handed_views m p s Dpc (entered_with Blank NoDuty SettledMark false) is refl
     refl arrives
+deferred_no_view m p s Propagate is deferred arrives = cc
 
-pub dpc_no_new : (m : Member) (p : ℕ) (s : Abs) → m.routine.sort ≡ Dpc → Arrives m p s
-    → HasNone is_new s
-dpc_no_new m p s is arrives =
+pub deferred_no_new : (m : Member) (p : ℕ) (s : Abs) (sort : Sort) → m.routine.sort ≡ sort
+    → is_deferred sort ≡ true → Arrives m p s → HasNone is_new s
+deferred_no_new m p s Dispatch is deferred arrives = cc
+deferred_no_new m p s StartIo is deferred arrives =
+    arrives_none is_new handed_news m p s StartIo (entered_with Own NoDuty SettledMark true) is
+    refl refl arrives
+deferred_no_new m p s Dpc is deferred arrives =
     arrives_none is_new handed_news m p s Dpc (entered_with Blank NoDuty SettledMark false) is refl
     refl arrives
+deferred_no_new m p s Propagate is deferred arrives = cc
 
 pub propagate_no_new : (m : Member) (p : ℕ) (s : Abs) → m.routine.sort ≡ Propagate → Arrives m p s
     → HasNone is_new s

@@ -1,67 +1,49 @@
 -- What the instructions about queues do to a routine's frame: it goes on to the next position, with the
--- first packet of a queue in a register where one was removed, or to a label where there was none. In
--- an accepted set no instruction starts packets, and no StartIo routine begins.
-use Rattle.std.proofs.Common.{◌<◌, ◌≡◌, ℕ, Bool, true, false, List, ◌∷◌, None, Some, refl, sym, ◌∙◌}
+-- first packet of a queue or the one in the current slot in a register where one was taken, or to a
+-- label where there was none.
+use Rattle.std.proofs.Common.{◌<◌, ℕ, Bool, true, false, List, ◌∷◌, None, Some, refl, subst}
 use Rattle.std.specs.Prelude.{slice_set}
 use Rattle.model.specs.declared.abs.Kind.TheVariants.{Own}
 use Rattle.model.specs.declared.instr.Instr.{Instr}
-use Rattle.model.specs.declared.instr.Instr.TheVariants.{Insert, Remove}
+use Rattle.model.specs.declared.instr.Instr.TheVariants.{Begin, Insert, Next, Remove, Start, Take}
 use Rattle.model.specs.declared.world.Activation.{Activation}
 use Rattle.model.specs.declared.world.Value.TheVariants.{Ref}
 use Rattle.model.specs.Action.{Action}
-use Rattle.model.specs.Queues.{StartState, inserted}
+use Rattle.model.specs.Queues.{StartState, inserted, next_started, started, with_slot}
 use Rattle.model.specs.Set.{Set}
-use Rattle.model.specs.World.{Shared, World}
-use Rattle.run_laws.specs.StartsNoPackets.{starts_packets}
+use Rattle.model.specs.World.{Shared}
 use Rattle.run_laws.proofs.Lists.{each_push}
 use Rattle.run_laws.proofs.Past.Packets.{named}
-use Rattle.run_laws.proofs.Runs.Events.{BeginsStartIo}
-use Rattle.run_laws.proofs.States.Fits.{AllQueuesFit, WereIssued, queue_issued, queue_put_fits}
-use Rattle.run_laws.proofs.States.Frames.{IsGood, Moved, Runs, starts_none, state_of}
+use Rattle.run_laws.proofs.States.Fits.{AllQueuesFit, queue_issued, queue_put_fits}
+use Rattle.run_laws.proofs.States.Frames.{Moved, Runs, state_of}
 use Rattle.run_laws.proofs.States.Kinds.{kinds_set}
-use Rattle.run_laws.proofs.States.Moves.{moved, moved_label, moved_next, onto}
+use Rattle.run_laws.proofs.States.Moves.{moved_label, moved_next, moved_on, onto}
 use Rattle.run_laws.proofs.States.Rules.{States}
-use Rattle.run_laws.proofs.Steps.Comes.{Executing, Queued, inserts, removes, removes_none, keeps_all, onward}
-
-pub never_starts : {set : Set} {states : States} {w : World} {t : ℕ} → IsGood set states
-    → BeginsStartIo set w t → ⊥
-never_starts good h =
-    let no : Some h.routine ≡ None = sym h.there ∙ good.startless.startio h.d in
-    cc
-
-pub never_starting : {set : Set} {states : States} {i : Instr} → IsGood set states → (a : Activation)
-    → Executing set a i → starts_packets i ≡ true → ⊥
-never_starting {i = i} good a at is =
-    let no : true ≡ false = sym is ∙ good.startless.routines a.driver a.routine a.position i at in
-    cc
-
-pub runs_no_start : {set : Set} {states : States} {s : Shared} {a : Activation} {i : Instr}
-    → Runs set states s a i → starts_packets i ≡ true → ⊥
-runs_no_start {set = set} {states = states} {s = s} {a = a} {i = i} h is =
-    let no : true ≡ false = sym is ∙ starts_none set states s a i h in
-    cc
+use Rattle.run_laws.proofs.States.StartsFit.{AllStartsFit, SlotFits, StartFits, WereIssued, next_started_fits, slot_put_fits, start_issued, start_put_fits, started_fits}
+use Rattle.run_laws.proofs.Steps.Comes.{Queued, inserts, removes, removes_none, puts_in, starts_next, starts_packet, takes_none, takes_out}
 
 -- where the frame goes on
 pub record MovedOn (set : Set) (states : States) (s : Shared) (a : Activation) (i : Instr) (b : Activation)
-    (queues : List (List (List ℕ))) : Type 0 where
+    (queues : List (List (List ℕ))) (lists : List StartState) : Type 0 where
   pub jumped : Bool
   pub moved : Moved set states s.issued a b (onto (state_of states a) i jumped)
   pub fits : AllQueuesFit set queues s.issued
+  pub starts : AllStartsFit set lists s.issued
 
 pub queue_moves : (set : Set) (states : States) (s : Shared) (a : Activation) (i : Instr)
     → Runs set states s a i
     → {b : Activation} {queues : List (List (List ℕ))} {lists : List StartState}
     {actions : List Action} {full : Bool} → Queued s a i b queues lists actions full
-    → MovedOn set states s a i b queues
+    → MovedOn set states s a i b queues lists
 queue_moves set states s a i h (inserts r q n entries reads there) =
     record {
       jumped = false;
-      moved = moved set states s a (Insert r q) h _ false refl
-          (onward a.registers refl (keeps_all (Insert r q) refl));
+      moved = moved_on set states s a (Insert r q) h refl refl refl;
       fits = queue_put_fits set s a.device q entries (inserted entries n) there
           (each_push (λ (m : ℕ). m < s.issued) entries n
           (queue_issued set s a.device q entries there h.fits.queued) (named s _ n reads))
           h.fits.queued;
+      starts = h.fits.starts;
     }
 queue_moves set states s a i h (removes r q label n entries there) =
     let all : WereIssued s.issued (n ∷ entries) =
@@ -72,11 +54,60 @@ queue_moves set states s a i h (removes r q label n entries there) =
           (kinds_set s.issued (state_of states a).kinds a.registers r Own (Ref n) h.stays.kinds
           (n, refl, all.0));
       fits = queue_put_fits set s a.device q (n ∷ entries) entries there all.1 h.fits.queued;
+      starts = h.fits.starts;
     }
 queue_moves set states s a i h (removes_none r q label there) =
     record {
       jumped = true;
       moved = moved_label set states s a (Remove r q label) h label refl;
       fits = h.fits.queued;
+      starts = h.fits.starts;
     }
-queue_moves set states s a i h _ = absurd (runs_no_start h refl)
+queue_moves set states s a i h (starts_packet r n start reads there) =
+    record {
+      jumped = false;
+      moved = moved_on set states s a (Start r) h refl refl refl;
+      fits = h.fits.queued;
+      starts = start_put_fits set s a.device (started start n)
+          (started_fits s.issued start (start_issued set s a.device start there h.fits.starts) n
+          (named s _ n reads))
+          h.fits.starts;
+    }
+queue_moves set states s a i h (takes_out r label n start there slot) =
+    let fits : StartFits s.issued start = start_issued set s a.device start there h.fits.starts in
+    let low : n < s.issued = subst (SlotFits s.issued) slot fits.slot in
+    record {
+      jumped = false;
+      moved = moved_next set states s a (Take r label) h refl (slice_set a.registers r (Ref n))
+          (kinds_set s.issued (state_of states a).kinds a.registers r Own (Ref n) h.stays.kinds
+          (n, refl, low));
+      fits = h.fits.queued;
+      starts = start_put_fits set s a.device (with_slot start None)
+          (slot_put_fits s.issued start fits None tt) h.fits.starts;
+    }
+queue_moves set states s a i h (takes_none r label start there slot) =
+    record {
+      jumped = true;
+      moved = moved_label set states s a (Take r label) h label refl;
+      fits = h.fits.queued;
+      starts = h.fits.starts;
+    }
+queue_moves set states s a i h (puts_in r n start reads there) =
+    record {
+      jumped = false;
+      moved = moved_on set states s a (Begin r) h refl refl refl;
+      fits = h.fits.queued;
+      starts = start_put_fits set s a.device (with_slot start (Some n))
+          (slot_put_fits s.issued start (start_issued set s a.device start there h.fits.starts) (Some n)
+          (named s _ n reads))
+          h.fits.starts;
+    }
+queue_moves set states s a i h (starts_next start there) =
+    record {
+      jumped = false;
+      moved = moved_on set states s a Next h refl refl refl;
+      fits = h.fits.queued;
+      starts = start_put_fits set s a.device (next_started start)
+          (next_started_fits s.issued start (start_issued set s a.device start there h.fits.starts))
+          h.fits.starts;
+    }

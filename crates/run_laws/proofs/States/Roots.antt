@@ -93,7 +93,7 @@ module _ (set : Set) (root : Irql) where
     step_low under f o h low (lets_go a at sort free) = tt
     step_low under f o h low (lets_walk a n at sort) = tt
     step_low under f o h low (works_on_queues a i b queues starts actions full at queued) =
-        let on : MovedOn set states s a i b queues =
+        let on : MovedOn set states s a i b queues starts =
         queue_moves set states s a i (runs set states s a i h at) queued in
         (rw (on.moved.driver, on.moved.routine) low, tt)
     step_low under f o h low (ends_startio a at sort) = tt

@@ -3,7 +3,7 @@ use Rattle.std.proofs.Common.{◌≡◌, ℕ, Bool, true, false, Option, None, S
 use Rattle.std.specs.Prelude.{nat_le}
 use Rattle.model.specs.declared.abs.Abs.{Abs}
 use Rattle.model.specs.declared.abs.Rule.{Rule}
-use Rattle.model.specs.LocalRule.{broken_if, least_of, rule_number}
+use Rattle.model.specs.LocalRule.{broken_if, least_of, rule_number, unless}
 
 -- a state for every position of every routine of a set
 abbrev pub States : Type 0
@@ -29,3 +29,7 @@ second_none (Some rule) (Some later) h =
 pub unbroken : (b : Bool) (rule : Rule) → broken_if b rule ≡ None → b ≡ false
 unbroken false rule h = refl
 unbroken true rule h = cc
+
+pub granted : (b : Bool) (rule : Rule) → unless b rule ≡ None → b ≡ true
+granted true rule h = refl
+granted false rule h = cc

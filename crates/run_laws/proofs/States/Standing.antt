@@ -5,7 +5,7 @@ use Rattle.std.specs.Prelude.{slice_get}
 use Rattle.std.specs.List.{list_any}
 use Rattle.model.specs.declared.event.Reply.{Reply}
 use Rattle.model.specs.declared.event.Reply.TheVariants.{Stepped}
-use Rattle.model.specs.declared.set.Sort.TheVariants.{Dispatch, Dpc}
+use Rattle.model.specs.declared.set.Sort.TheVariants.{Dispatch, Dpc, StartIo}
 use Rattle.model.specs.declared.world.Frame.{Frame}
 use Rattle.model.specs.declared.world.Irql.{Irql}
 use Rattle.model.specs.declared.world.Irql.TheVariants.{Passive, Dispatch as DispatchLevel}
@@ -17,22 +17,24 @@ use Rattle.model.specs.Run.{begun, root_of, frames_of, frames_on}
 use Rattle.model.specs.Set.{Set}
 use Rattle.model.specs.Sound.{DeviceFits}
 use Rattle.model.specs.Trace.{Entry, Actor, recorded}
-use Rattle.model.specs.World.{Shared, World, new_packet, with_dpc}
+use Rattle.model.specs.Queues.{StartState, without_first_to_start}
+use Rattle.model.specs.World.{Shared, World, new_packet, with_dpc, with_start}
+use Rattle.model.specs.declared.world.Activation.{Activation}
 use Rattle.run_laws.proofs.Devices.{device_fits}
 use Rattle.run_laws.proofs.Lists.{Each, each_push, each_append, each_before, each_after}
 use Rattle.run_laws.proofs.Past.Packets.{Tells, tells_issue, tells_nothing}
 use Rattle.run_laws.proofs.Past.Steps.{told_packets}
-use Rattle.run_laws.proofs.Runs.Events.{stops_run, StepsFrame, Happens, nothing, steps, issues, begins, begins_startio}
+use Rattle.run_laws.proofs.Runs.Events.{BeginsStartIo, stops_run, StepsFrame, Happens, nothing, steps, issues, begins, begins_startio as startio_begins}
 use Rattle.run_laws.proofs.Runs.Kept.{GoesOnBy, with_queued}
 use Rattle.run_laws.proofs.Runs.Threads.{frames_there, each_thread, each_frames, idle_frames}
-use Rattle.run_laws.proofs.States.Entering.{Enters, begins_request, begins_dpc}
+use Rattle.run_laws.proofs.States.Entering.{Begins, Enters, begins_request, begins_dpc, begins_startio, startio_activation}
 use Rattle.run_laws.proofs.States.Fine.{is_wrong, IsRight, is_right_step, StepLeaves, leaves_fine}
 use Rattle.run_laws.proofs.States.Fits.{queues_later, PacketLeads, Fits, new_leads, unused_fits}
 use Rattle.run_laws.proofs.States.Frames.{IsGood}
 use Rattle.run_laws.proofs.States.OnTop.{OnTop}
-use Rattle.run_laws.proofs.States.Queueing.{never_starts}
 use Rattle.run_laws.proofs.States.Roots.{Low, last_low, step_low, low_over}
 use Rattle.run_laws.proofs.States.Rules.{States}
+use Rattle.run_laws.proofs.States.StartsFit.{StartFits, begun_fits, first_low, start_issued, start_put_fits, starts_later}
 use Rattle.run_laws.proofs.States.Stacks.{Stacked, top_stands, replaced, stacked_later}
 use Rattle.run_laws.proofs.States.Told.{told_last, standing_last}
 use Rattle.run_laws.proofs.Steps.Below.{standing_is}
@@ -92,7 +94,7 @@ module _ (set : Set) (states : States) (w : World) (past : List Entry) (good : I
       (is.silent, finished_stops (standing set h.below h.outcome) h.outcome.reply is.right)
   right_event t c (issues h) = (refl, refl)
   right_event t c (begins h) = (refl, refl)
-  right_event t c (begins_startio h) = (refl, refl)
+  right_event t c (startio_begins h) = (refl, refl)
 
   -- each thread where one has other frames
   frames_after : (t : ℕ) (s : Shared) (thread after : Thread) → slice_get w.threads t ≡ Some thread
@@ -131,6 +133,14 @@ module _ (set : Set) (states : States) (w : World) (past : List Entry) (good : I
       each_thread w t s after (λ k o. Each (Low set (root_of o)) (frames_of o)) thread found h
       (λ k apart. stands.roots k)
 
+  -- a StartIo routine that begins
+  pub startio_enters : (t : ℕ) (h : BeginsStartIo set w t)
+      → Begins set states w.shared.issued (startio_activation set h.d h.routine h.n) StartIo h.n
+  startio_enters t h =
+      begins_startio set states good w.shared.issued h.d h.routine h.n
+      (first_low w.shared.issued h.start
+      (start_issued set w.shared h.d h.start h.has stands.fits.starts) h.n h.first) h.there
+
   -- where a DPC is queued or isn't
   pub standing_queued : (d : ℕ) (queued : Bool) → Standing set states (with_queued w d queued) past
   standing_queued d queued =
@@ -141,6 +151,7 @@ module _ (set : Set) (states : States) (w : World) (past : List Entry) (good : I
           rows = stands.fits.rows;
           completions = stands.fits.completions;
           queued = stands.fits.queued;
+          starts = stands.fits.starts;
           few = stands.fits.few;
         };
         tells = stands.tells;
@@ -189,6 +200,7 @@ module _ (set : Set) (states : States) (w : World) (past : List Entry) (good : I
                   (new_packet n h.d h.major h.argument h.device.stack) stands.fits.completions
                   (new_leads set n h.d h.major h.argument h.device.stack);
               queued = queues_later set w.shared.queues n (n + 1) (omega arith) stands.fits.queued;
+              starts = starts_later set w.shared.starts n (n + 1) (omega arith) stands.fits.starts;
               few = (let room : length w.shared.packets < MAX_LIVE_PACKETS =
                   ltb-true (length w.shared.packets) MAX_LIVE_PACKETS (and_left _ _ h.room) in
                   let one : length (new_packet n h.d h.major h.argument h.device.stack ∷ []) ≡ 1 = refl in
@@ -208,7 +220,32 @@ module _ (set : Set) (states : States) (w : World) (past : List Entry) (good : I
                 (begins_request set states good (n + 1) n (omega arith) h.d h.device h.major
                 h.there).ready;
           }
-      kept c (begins_startio h) quiet = absurd (never_starts good h)
+      kept c (startio_begins h) quiet =
+          let t : ℕ = actor.thread in
+          let fits : StartFits w.shared.issued h.start =
+          start_issued set w.shared h.d h.start h.has stands.fits.starts in
+          let after : StartState = without_first_to_start h.start in
+          let s : Shared = with_start w.shared h.d after in
+          let a : Activation = startio_activation set h.d h.routine h.n in
+          let thread : Thread = rooted h.thread DispatchLevel a in
+          let enters : Begins set states w.shared.issued a StartIo h.n =
+          startio_enters actor.thread h in
+          record {
+            fits = record {
+              cells = stands.fits.cells;
+              spin = stands.fits.spin;
+              rows = stands.fits.rows;
+              completions = stands.fits.completions;
+              queued = stands.fits.queued;
+              starts = start_put_fits set w.shared h.d after (begun_fits w.shared.issued h.start fits)
+                  stands.fits.starts;
+              few = stands.fits.few;
+            };
+            tells = stands.tells;
+            roots = roots_after t s h.thread thread h.found
+                ((λ is. (let no : StartIo ≡ Dispatch = sym enters.of_sort ∙ is in cc)), tt);
+            frames = frames_after t s h.thread thread h.found (omega arith) enters.ready;
+          }
       kept c (begins h) quiet =
           let t : ℕ = actor.thread in
           let s : Shared = with_dpc w.shared h.d false in

@@ -27,7 +27,7 @@ use Rattle.model.specs.Queues.{StartState, has_room_for_next, has_room_to_start,
 use Rattle.model.specs.Set.{Set, instruction_at, sort_of, lower_of, label_of}
 use Rattle.model.specs.Sound.{queue_named}
 use Rattle.model.specs.World.{Shared, queue_of, with_queue, start_of, with_start, with_register, owner_of, with_owner, with_locks, packet_of, with_packet, without_packet, packet_in, number_in, register, next, at_label, innermost, with_loops, with_info, mark_current, current_location, sent_down, shared_with, left_location, moved_up, is_marked, completion_of, completed}
-use Rattle.run_laws.specs.StartsNoPackets.{starts_packets}
+use Rattle.run_laws.proofs.Steps.Words.{starts_packets}
 use Rattle.run_laws.proofs.Steps.Words.{Computing, Paging, Looking, Forwarding, work_of, is_touching, goes_next, packet_operand, number_operand, second_operand, keeps_registers, numbered_by, is_of_cells, lock_taken, lock_freed, jumps_on, status_returned, is_form_of}
 
 -- the instruction at an activation's position

@@ -203,3 +203,11 @@ is_form_of Propagate (WithStatus status) = false
 is_form_of Propagate (Lower r) = false
 is_form_of Propagate Continue = true
 is_form_of Propagate Void = false
+
+-- an instruction is about what a device has for StartIo
+abbrev pub starts_packets : Instr → Bool
+starts_packets (Start r) = true
+starts_packets (Take r label) = true
+starts_packets (Begin r) = true
+starts_packets Next = true
+starts_packets _ = false

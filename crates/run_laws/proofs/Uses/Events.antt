@@ -23,7 +23,7 @@ use Rattle.run_laws.proofs.Past.LivePackets.{find, find_above, find_push}
 use Rattle.run_laws.proofs.Runs.Events.{Happens, IssuesPacket, StepsFrame, issues, nothing, steps, begins, begins_startio}
 use Rattle.run_laws.proofs.Runs.Threads.{frames_there}
 use Rattle.run_laws.proofs.States.Frames.{IsGood}
-use Rattle.run_laws.proofs.States.Queueing.{never_starts}
+use Rattle.run_laws.proofs.States.Entering.{startio_activation}
 use Rattle.run_laws.proofs.States.Rules.{States}
 use Rattle.run_laws.proofs.States.Stacks.{Stacked}
 use Rattle.run_laws.proofs.States.Standing.{Standing, on_top, stands_there}
@@ -189,6 +189,22 @@ module _ (set : Set) (states : States) (w : World) (past : List Entry)
             (λ q there. same q.pending_returned)
       ])
 
+  -- a routine begins on an idle thread for no request
+  root_turns : (actor : Actor) (after : World) (thread : Thread) (a : Activation)
+      → slice_get w.threads actor.thread ≡ Some thread → thread.frames.items ≡ []
+      → after.threads ≡ slice_set w.threads actor.thread (rooted thread DispatchLevel a)
+      → after.shared.packets ≡ w.shared.packets → (n : ℕ)
+      → WorldTurns states w after past (recorded past actor []) n
+  root_turns actor after thread a found idle threads packets n =
+      turn_recorded past actor [] n (find w.shared.packets n) (find after.shared.packets n)
+      (late_in_world states w n) (late_in_world states after n)
+      (apart_becomes past past n (find w.shared.packets n) (find after.shared.packets n)
+      (λ returned. late_marks states returned n w.threads)
+      (λ returned. late_marks states returned n after.threads)
+      (same_uses past n) (ap (λ (ps : List Packet). find ps n) packets)
+      (λ p there. ap (λ (ts : List Thread). late_marks states p.pending_returned n ts) threads
+      ∙ root_late actor.thread thread DispatchLevel a n found idle p.pending_returned))
+
   -- an event
   pub event_turns : (actor : Actor) (c : Change) → Happens set w actor.thread c
       → first_fault past actor c.actions ≡ None
@@ -204,15 +220,11 @@ module _ (set : Set) (states : States) (w : World) (past : List Entry)
   event_turns actor c (steps h) quiet n = frame_turns actor h quiet n
   event_turns actor c (issues h) quiet n = issue_turns actor h n
   event_turns actor c (begins h) quiet n =
-      let a : Activation = dpc_activation set h.d h.routine in
-      turn_recorded past actor [] n (find w.shared.packets n) (find w.shared.packets n)
-      (late_in_world states w n) (late_in_world states c.world n)
-      (apart_becomes past past n (find w.shared.packets n) (find w.shared.packets n)
-      (λ returned. late_marks states returned n w.threads)
-      (λ returned. late_marks states returned n c.world.threads)
-      (same_uses past n) refl
-      (λ p there. root_late actor.thread h.thread DispatchLevel a n h.found h.idle p.pending_returned))
-  event_turns actor c (begins_startio h) quiet n = absurd (never_starts known.good h)
+      root_turns actor c.world h.thread (dpc_activation set h.d h.routine) h.found h.idle refl refl
+      n
+  event_turns actor c (begins_startio h) quiet n =
+      root_turns actor c.world h.thread (startio_activation set h.d h.routine h.n) h.found h.idle
+      refl refl n
 
 -- what is agreed on in a world, in the words of the turns
 module _ (states : States) (w : World) (past : List Entry) where

@@ -253,7 +253,7 @@ module _ (set : Set) (states : States) (s : Shared) (past : List Entry) (actor :
       → Queued s a i b queues lists actions full
       → (state_of states b).settled ≡ (state_of states a).settled
   queued_settled i b queues lists actions full at queued =
-      let on : MovedOn set states s a i b queues = queue_moves set states s a i (h.runs i at) queued in
+      let on : MovedOn set states s a i b queues lists = queue_moves set states s a i (h.runs i at) queued in
       ap (λ (state : Abs). state.settled) on.moved.arrives
       ∙ onto_settled (state_of states a) i on.jumped
       (quiet_work i (ap keeps_settled (queued_work queued)))

@@ -1,16 +1,16 @@
 -- What is known of a thread's top frame that steps, over another frame or none: it stands as it
 -- should, its rights are to live packets, and what it sees and stands on is as its sort says.
-use Rattle.std.proofs.Common.{◌≡◌, ℕ, ◌≤◌, List, Option, None, Some, true, false, ap, sym, ◌∙◌, arith, inl, inr}
+use Rattle.std.proofs.Common.{◌≡◌, ℕ, ◌≤◌, List, Option, None, Some, true, false, refl, ap, sym, ◌∙◌, arith, inl, inr}
 use Rattle.std.specs.Prelude.{⊤}
 use Rattle.model.specs.declared.abs.Abs.{Abs}
 use Rattle.model.specs.declared.instr.Instr.TheVariants.{End}
 use Rattle.model.specs.declared.set.Sort.{Sort}
-use Rattle.model.specs.declared.set.Sort.TheVariants.{Propagate, Dpc, Dispatch}
+use Rattle.model.specs.declared.set.Sort.TheVariants.{Propagate, Dispatch}
 use Rattle.model.specs.declared.world.Activation.{Activation}
 use Rattle.model.specs.declared.world.Frame.{Frame}
 use Rattle.model.specs.declared.world.Frame.TheVariants.{Routine, Walk}
 use Rattle.model.specs.LocalRule.{is_view, kind_of}
-use Rattle.model.specs.Set.{Set, member}
+use Rattle.model.specs.Set.{Set, member, sort_of}
 use Rattle.model.specs.Trace.{Actor, Entry}
 use Rattle.model.specs.World.{Shared, register}
 use Rattle.run_laws.specs.Holder.{right, rights}
@@ -21,11 +21,11 @@ use Rattle.run_laws.proofs.States.Entering.{IsOfSort, sort_there, begins_back}
 use Rattle.run_laws.proofs.States.Frames.{Stays, state_of}
 use Rattle.run_laws.proofs.States.Known.{IsKnown}
 use Rattle.run_laws.proofs.States.LoopEnds.{moved_end}
-use Rattle.run_laws.proofs.States.NoViews.{propagate_no_new, dpc_no_new, is_new, HasNone, dpc_no_view, dispatch_no_view, no_view_at}
+use Rattle.run_laws.proofs.States.NoViews.{propagate_no_new, deferred_no_new, is_new, HasNone, deferred_no_view, dispatch_no_view, no_view_at}
 use Rattle.run_laws.proofs.States.OnTop.{OnTop, runs}
 use Rattle.run_laws.proofs.States.Rules.{States}
 use Rattle.run_laws.proofs.Steps.Comes.{Reads}
-use Rattle.run_laws.proofs.Live.Sees.{reads_view, Seen}
+use Rattle.run_laws.proofs.Live.Sees.{IsDeferred, reads_view, Seen}
 use Rattle.run_laws.proofs.Uses.RoutineSteps.{OnWalk, StepsRoutine}
 use Rattle.run_laws.proofs.Uses.WalkSteps.{StepsWalk}
 
@@ -63,19 +63,22 @@ module _ (set : Set) (states : States) (s : Shared) (past : List Entry) (under :
   never_views : IsOfSort set a Dispatch → (r : ℕ) → is_view (kind_of (state_of states a) r) ≡ true → ⊥
   never_views is r views = let no : false ≡ true = sym (unseen is r) ∙ views in cc
 
-  pub dpc_views : IsOfSort set a Dpc → (r : ℕ) → is_view (kind_of (state_of states a) r) ≡ true → ⊥
-  dpc_views is r views =
+  pub deferred_views : IsDeferred set a → (r : ℕ)
+      → is_view (kind_of (state_of states a) r) ≡ true → ⊥
+  deferred_views is r views =
+      let sort : Sort = sort_of set a.driver a.routine in
       let none : is_view (kind_of (state_of states a) r) ≡ false =
       no_view_at (state_of states a).kinds r
-      (dpc_no_view (member set a.driver a.routine h.top.stands.0) a.position (state_of states a)
-      (sort_is Dpc is) (known.follows.arrives a.position stays.within)) in
+      (deferred_no_view (member set a.driver a.routine h.top.stands.0) a.position (state_of states a)
+      sort (sort_is sort refl) is (known.follows.arrives a.position stays.within)) in
       let no : false ≡ true = sym none ∙ views in cc
 
-  -- a DPC routine and a completion routine have no packet that was handed over
-  pub dpc_news : IsOfSort set a Dpc → HasNone is_new (state_of states a)
-  dpc_news is =
-      dpc_no_new (member set a.driver a.routine h.top.stands.0) a.position (state_of states a)
-      (sort_is Dpc is) (known.follows.arrives a.position stays.within)
+  -- a deferred routine and a completion routine have no packet that was handed over
+  pub deferred_news : IsDeferred set a → HasNone is_new (state_of states a)
+  deferred_news is =
+      let sort : Sort = sort_of set a.driver a.routine in
+      deferred_no_new (member set a.driver a.routine h.top.stands.0) a.position (state_of states a)
+      sort (sort_is sort refl) is (known.follows.arrives a.position stays.within)
 
   pub propagate_news : IsOfSort set a Propagate → HasNone is_new (state_of states a)
   propagate_news is =
@@ -87,7 +90,7 @@ module _ (set : Set) (states : States) (s : Shared) (past : List Entry) (under :
   views_under None seen r n views reads =
       elim seen [
         | inl is ↦ absurd (never_views is r views)
-        | inr is ↦ absurd (dpc_views is r views)
+        | inr is ↦ absurd (deferred_views is r views)
       ]
   views_under (Some (Routine b)) seen r n views reads = absurd (never_views seen r views)
   views_under (Some (Walk m)) seen r n views reads =

@@ -1,0 +1,3 @@
+pub mod Sums
+pub mod Steps
+pub mod Runs

@@ -1,0 +1,233 @@
+-- In every run of an accepted set a busy device has one token, and an idle one none.
+use Rattle.std.proofs.Common.{◌≡◌, ◌≢◌, ℕ, ◌+◌, Bool, true, false, List, [], ◌∷◌, length, Some, inl, inr, refl, ap, sym, ◌∙◌, arith}
+use Rattle.std.specs.Prelude.{replicate, slice_get, slice_set, if◌then◌else◌}
+use Rattle.std.proofs.lemmas.Bool.{cases_eq}
+use Rattle.model.specs.declared.set.Sort.TheVariants.{StartIo}
+use Rattle.model.specs.declared.world.Activation.{Activation}
+use Rattle.model.specs.declared.world.Frame.TheVariants.{Routine}
+use Rattle.model.specs.declared.world.Irql.TheVariants.{Dispatch as DispatchLevel}
+use Rattle.model.specs.declared.world.Thread.{Thread}
+use Rattle.model.specs.Effect.{Change, Outcome, dpc_activation, rooted, serves_request, settled, standing, top_of, with_stack}
+use Rattle.model.specs.Queues.{StartState, head_of, idle, without_first_to_start, without_head}
+use Rattle.model.specs.Run.{begun}
+use Rattle.model.specs.Set.{Set}
+use Rattle.model.specs.Trace.{Actor, Entry}
+use Rattle.model.specs.World.{World, idle_thread, start_of}
+use Rattle.run_laws.specs.Holder.{stack_sum, thread_sum}
+use Rattle.run_laws.specs.OneToken.{frame_tokens, start_tokens, tokens}
+use Rattle.run_laws.proofs.Holders.Runs.{idle_sum, top_changed}
+use Rattle.run_laws.proofs.Holders.Sums.{first_frame, last_sum}
+use Rattle.run_laws.proofs.Lists.{each_at, each_same, set_other, set_same}
+use Rattle.run_laws.proofs.Runs.Events.{BeginsStartIo, Happens, StepsFrame, begins, begins_startio as startio_begins, issues, nothing, steps}
+use Rattle.run_laws.proofs.Runs.Kept.{GoesOnBy, with_queued}
+use Rattle.run_laws.proofs.States.Entering.{Begins, begins_dpc, begins_request, startio_activation}
+use Rattle.run_laws.proofs.States.Frames.{IsGood, state_of}
+use Rattle.run_laws.proofs.States.Rules.{States}
+use Rattle.run_laws.proofs.States.Standing.{Standing, on_top, startio_enters}
+use Rattle.run_laws.proofs.States.Told.{told_last, standing_last}
+use Rattle.run_laws.proofs.Tokens.Steps.{EvenFor, TokenStep, begun_tokens, frame_told_tokens, other_tokens, own_tokens, token_step}
+use Rattle.run_laws.proofs.Tokens.Sums.{OneTokenEach, few_tokens}
+
+-- StartIo begins for the first packet of a start list
+without_first : (entries : List ℕ) (n : ℕ) → head_of entries ≡ Some n
+    → length entries ≡ length (without_head entries) + 1
+without_first [] n first = cc
+without_first (m ∷ entries) n first = omega arith
+
+module _ (set : Set) (states : States) (w : World) (past : List Entry) (good : IsGood set states)
+    (stands : Standing set states w past) (each : OneTokenEach states w) where
+  -- a routine without a token begins on an idle thread, and what the devices have is as before
+  begun_each : (t : ℕ) (thread after : Thread) (a : Activation) (now : World)
+      → slice_get w.threads t ≡ Some thread → thread.frames.items ≡ []
+      → after.frames.items ≡ Routine a ∷ [] → now.threads ≡ slice_set w.threads t after
+      → now.shared.starts ≡ w.shared.starts
+      → ((d : ℕ) → frame_tokens states d (Routine a) ≡ 0) → OneTokenEach states now
+  begun_each t thread after a now found idle items threads starts none =
+      record {
+        one = λ d start there.
+            let before : tokens states w.threads d start ≡ (if start.busy then 1 else 0) =
+            each.one d start (had d start there) in
+            let sum : thread_sum (λ f. frame_tokens states d f) (slice_set w.threads t after)
+            ≡ frame_tokens states d (Routine a)
+            + thread_sum (λ f. frame_tokens states d f) w.threads =
+            first_frame (λ f. frame_tokens states d f) w.threads t thread after (Routine a) found
+            idle items in
+            let zero_new : frame_tokens states d (Routine a) ≡ 0 = none d in
+            rw threads (omega arith);
+        idle = λ d start there free. each.idle d start (had d start there) free;
+      }
+    where
+      had : (d : ℕ) (start : StartState) → start_of now.shared d ≡ Some start
+          → start_of w.shared d ≡ Some start
+      had d start there = ap (λ (lists : List StartState). slice_get lists d) (sym starts) ∙ there
+
+  -- the StartIo routine of a device begins: the token goes from the start list to its frame
+  startio_each : (t : ℕ) (h : BeginsStartIo set w t) (now : World)
+      → now.threads ≡ slice_set w.threads t
+      (rooted h.thread DispatchLevel (startio_activation set h.d h.routine h.n))
+      → now.shared.starts ≡ slice_set w.shared.starts h.d (without_first_to_start h.start)
+      → OneTokenEach states now
+  startio_each t h now threads starts =
+      record {
+        one = λ d start there. elim (cases_eq h.d d) [
+          | inl same ↦ one_here d start there same
+          | inr apart ↦ one_other d start there apart
+        ];
+        idle = λ d start there free. elim (cases_eq h.d d) [
+          | inl same ↦ idle_here d start there same free
+          | inr apart ↦ each.idle d start (had d start there apart) free
+        ];
+      }
+    where
+      a : Activation
+      a = startio_activation set h.d h.routine h.n
+
+      sum : (d : ℕ) → thread_sum (λ f. frame_tokens states d f) now.threads
+          ≡ frame_tokens states d (Routine a) + thread_sum (λ f. frame_tokens states d f) w.threads
+      sum d = rw threads (first_frame (λ f. frame_tokens states d f) w.threads t h.thread
+          (rooted h.thread DispatchLevel a) (Routine a) h.found h.idle refl)
+
+      had : (d : ℕ) (start : StartState) → start_of now.shared d ≡ Some start → h.d ≢ d
+          → start_of w.shared d ≡ Some start
+      had d start there apart =
+          sym (ap (λ (lists : List StartState). slice_get lists d) starts
+          ∙ set_other w.shared.starts h.d d (without_first_to_start h.start) apart) ∙ there
+
+      is : (d : ℕ) (start : StartState) → start_of now.shared d ≡ Some start → h.d ≡ d
+          → without_first_to_start h.start ≡ start
+      is d start there same =
+          let put : start_of now.shared d ≡ Some (without_first_to_start h.start) =
+          ap (λ (lists : List StartState). slice_get lists d) starts
+          ∙ rw (← same) (set_same w.shared.starts h.d h.start (without_first_to_start h.start)
+          h.has) in
+          let both : Some (without_first_to_start h.start) ≡ Some start = sym put ∙ there in
+          cc
+
+      one_other : (d : ℕ) (start : StartState) → start_of now.shared d ≡ Some start → h.d ≢ d
+          → tokens states now.threads d start ≡ (if start.busy then 1 else 0)
+      one_other d start there apart =
+          let before : tokens states w.threads d start ≡ (if start.busy then 1 else 0) =
+          each.one d start (had d start there apart) in
+          let none : frame_tokens states d (Routine a) ≡ 0 = other_tokens states a d apart in
+          let new : thread_sum (λ f. frame_tokens states d f) now.threads
+          ≡ frame_tokens states d (Routine a)
+          + thread_sum (λ f. frame_tokens states d f) w.threads =
+          sum d in
+          omega arith
+
+      one_here : (d : ℕ) (start : StartState) → start_of now.shared d ≡ Some start → h.d ≡ d
+          → tokens states now.threads d start ≡ (if start.busy then 1 else 0)
+      one_here d start there same =
+          let enters : Begins set states w.shared.issued a StartIo h.n =
+          startio_enters set states w past good stands t h in
+          let has : (state_of states a).token ≡ true =
+          ap (λ state. state.token) enters.start in
+          let own : frame_tokens states d (Routine a) ≡ 1 =
+          own_tokens states a d same ∙ rw has refl in
+          let before : tokens states w.threads d h.start ≡ (if h.start.busy then 1 else 0) =
+          each.one d h.start (rw (← same) h.has) in
+          let new : thread_sum (λ f. frame_tokens states d f) now.threads
+          ≡ frame_tokens states d (Routine a)
+          + thread_sum (λ f. frame_tokens states d f) w.threads =
+          sum d in
+          let shorter : length h.start.start_list ≡ length (without_head h.start.start_list) + 1 =
+          without_first h.start.start_list h.n h.first in
+          rw (← is d start there same) (omega arith)
+
+      idle_here : (d : ℕ) (start : StartState) → start_of now.shared d ≡ Some start → h.d ≡ d
+          → start.busy ≡ false → start.device_queue ≡ []
+      idle_here d start there same free =
+          let same_start : without_first_to_start h.start ≡ start = is d start there same in
+          rw (← same_start) (each.idle h.d h.start h.has
+          (ap (λ (x : StartState). x.busy) same_start ∙ free))
+
+  -- the top frame of a thread steps
+  stepped_each : (t : ℕ) (h : StepsFrame set w t)
+      → OneTokenEach states (settled set w t h.thread h.below h.outcome).world
+  stepped_each t h =
+      record {
+        one = λ d start there.
+            let even : EvenFor states w.shared h.frame o.frames d start = step d start there in
+            let before : tokens states w.threads d even.start ≡ (if even.start.busy then 1 else 0) =
+            each.one d even.start even.has in
+            let sums : stack_sum (λ f. frame_tokens states d f) o.frames + start_tokens start
+            + (if even.start.busy then 1 else 0)
+            ≡ frame_tokens states d h.frame + start_tokens even.start
+            + (if start.busy then 1 else 0) = even.even in
+            let changed : thread_sum (λ f. frame_tokens states d f) (slice_set w.threads t after)
+            + frame_tokens states d h.frame
+            ≡ thread_sum (λ f. frame_tokens states d f) w.threads
+            + stack_sum (λ f. frame_tokens states d f) o.frames = sum d in
+            omega arith;
+        idle = λ d start there.
+            (step d start there).idle
+            (each.idle d (step d start there).start (step d start there).has);
+      }
+    where
+      o : Outcome
+      o = h.outcome
+
+      after : Thread
+      after = with_stack h.thread (standing set h.below h.outcome)
+
+      step : TokenStep states w.shared h.frame h.outcome
+      step =
+          token_step set states w.shared t (top_of h.below) h.frame h.outcome
+          (on_top set states w past good stands t h) (few_tokens set states w each t h) h.comes
+
+      sum : (d : ℕ) → thread_sum (λ f. frame_tokens states d f)
+          (slice_set w.threads t (with_stack h.thread (standing set h.below h.outcome)))
+          + frame_tokens states d h.frame
+          ≡ thread_sum (λ f. frame_tokens states d f) w.threads
+          + stack_sum (λ f. frame_tokens states d f) h.outcome.frames
+      sum d =
+          top_changed (λ f. frame_tokens states d f) w.threads t h.thread
+          (with_stack h.thread (standing set h.below h.outcome)) h.below
+          (told_last set h.outcome.told h.below) h.frame h.outcome.frames h.found h.frames
+          (standing_last set w.shared t (top_of h.below) h.frame h.outcome h.below h.comes)
+          (last_sum set (λ f. frame_tokens states d f) h.outcome.told
+          (frame_told_tokens set states d h.outcome.told) h.below)
+
+  tokens_happen : (actor : Actor) (c : Change) → Happens set w actor.thread c
+      → OneTokenEach states c.world
+  tokens_happen actor c (nothing reply right) = each
+  tokens_happen actor c (steps h) = stepped_each actor.thread h
+  tokens_happen actor c (issues h) =
+      let n : ℕ = w.shared.issued in
+      begun_each actor.thread h.thread _ (serves_request set h.d h.device h.major n) c.world h.found
+      h.idle refl refl refl
+      (begun_tokens (begins_request set states good (n + 1) n (omega arith) h.d h.device h.major
+      h.there)
+      refl)
+  tokens_happen actor c (begins h) =
+      begun_each actor.thread h.thread _ (dpc_activation set h.d h.routine) c.world h.found h.idle
+      refl refl refl
+      (begun_tokens (begins_dpc set states good w.shared.issued h.d h.routine h.there) refl)
+  tokens_happen actor c (startio_begins h) = startio_each actor.thread h c.world refl refl
+
+  pub tokens_kept : (actor : Actor) (c : Change) → GoesOnBy set w past actor c
+      → OneTokenEach states c.world
+  tokens_kept actor c on = tokens_happen actor c on.happens
+
+-- before the first event
+pub tokens_begun : (set : Set) (states : States) (threads : ℕ)
+    → OneTokenEach states (begun set threads).world
+tokens_begun set states threads =
+    record {
+      one = λ d start there.
+          let none : thread_sum (λ f. frame_tokens states d f) (replicate threads idle_thread) ≡ 0 =
+          idle_sum (λ f. frame_tokens states d f) threads in
+          rw (unused d start there) (omega arith);
+      idle = λ d start there free. rw (unused d start there) refl;
+    }
+  where
+    unused : (d : ℕ) (start : StartState) → start_of (begun set threads).world.shared d ≡ Some start
+        → start ≡ idle
+    unused d start there =
+        each_at (λ (x : StartState). x ≡ idle) (replicate (length set.devices) idle) d start
+        (each_same (λ (x : StartState). x ≡ idle) (length set.devices) idle refl) there
+
+-- where a DPC is queued or isn't
+pub tokens_queued : (states : States) (w : World) (d : ℕ) (queued : Bool) → OneTokenEach states w
+    → OneTokenEach states (with_queued w d queued)
+tokens_queued states w d queued each = record { one = each.one; idle = each.idle }

@@ -1,0 +1,73 @@
+-- What a run keeps of the tokens of devices: a busy one has one, an idle one none and nothing that
+-- waits.
+use Rattle.std.proofs.Common.{◌≡◌, ◌≤◌, ℕ, ◌+◌, Bool, true, false, List, [], ◌∷◌, length, Option, None, Some, refl, arith}
+use Rattle.std.specs.Prelude.{if◌then◌else◌}
+use Rattle.std.proofs.lemmas.Bool.{eq-eqb}
+use Rattle.model.specs.declared.world.Activation.{Activation}
+use Rattle.model.specs.declared.world.Frame.{Frame}
+use Rattle.model.specs.declared.world.Frame.TheVariants.{Routine}
+use Rattle.model.specs.Queues.{StartState}
+use Rattle.model.specs.Set.{Set}
+use Rattle.model.specs.World.{Shared, World, start_of}
+use Rattle.run_laws.specs.Holder.{thread_sum}
+use Rattle.run_laws.specs.OneToken.{frame_tokens, slot_tokens, start_tokens, tokens}
+use Rattle.run_laws.proofs.Holders.Sums.{top_le}
+use Rattle.run_laws.proofs.Runs.Events.{StepsFrame}
+use Rattle.run_laws.proofs.States.Frames.{state_of}
+use Rattle.run_laws.proofs.States.Rules.{States}
+
+pub record OneTokenEach (states : States) (w : World) : Type 0 where
+  pub one : (d : ℕ) (start : StartState) → start_of w.shared d ≡ Some start
+      → tokens states w.threads d start ≡ (if start.busy then 1 else 0)
+  pub idle : (d : ℕ) (start : StartState) → start_of w.shared d ≡ Some start → start.busy ≡ false
+      → start.device_queue ≡ []
+
+pub at_most_one : (b : Bool) → (if b then 1 else 0) ≤ 1
+at_most_one true = omega arith
+at_most_one false = omega arith
+
+-- a frame whose state has the token has one of its own device
+pub own_token : (states : States) (a : Activation) → (state_of states a).token ≡ true
+    → frame_tokens states a.device (Routine a) ≡ 1
+own_token states a has = rw (eq-eqb a.device a.device refl, has) refl
+
+no_slot : (slot : Option ℕ) → slot_tokens slot ≡ 0 → slot ≡ None
+no_slot None h = refl
+no_slot (Some n) h = cc
+
+none_listed : (entries : List ℕ) → length entries ≡ 0 → entries ≡ []
+none_listed [] h = refl
+none_listed (n ∷ entries) h = cc
+
+-- a device has no more tokens than one where it is busy, those of a frame among them
+abbrev pub FewTokens : States → Shared → Frame → Type 0
+FewTokens states s f =
+    (d : ℕ) (start : StartState) → start_of s d ≡ Some start
+    → frame_tokens states d f + start_tokens start ≤ (if start.busy then 1 else 0)
+
+pub few_tokens : (set : Set) (states : States) (w : World) → OneTokenEach states w → (t : ℕ)
+    (h : StepsFrame set w t) → FewTokens states w.shared h.frame
+few_tokens set states w each t h d start there =
+    let le : frame_tokens states d h.frame ≤ thread_sum (λ f. frame_tokens states d f) w.threads =
+    top_le (λ f. frame_tokens states d f) w.threads t h.thread h.below h.frame h.found h.frames in
+    let all : tokens states w.threads d start ≡ (if start.busy then 1 else 0) =
+    each.one d start there in
+    omega arith
+
+-- Where the top frame of a thread that steps has the token of its device, the current slot is
+-- empty, and StartIo has to begin for no packet.
+pub token_slot : (set : Set) (states : States) (w : World) → OneTokenEach states w → (t : ℕ)
+    (h : StepsFrame set w t) (a : Activation)
+    → h.frame ≡ Routine a → (state_of states a).token ≡ true
+    → (start : StartState) → start_of w.shared a.device ≡ Some start
+    → (start.slot ≡ None) × (start.start_list ≡ [])
+token_slot set states w each t h a is has start there =
+    let here : frame_tokens states a.device (Routine a) ≡ 1 = own_token states a has in
+    let top : frame_tokens states a.device h.frame ≡ 1 = rw is here in
+    let all : frame_tokens states a.device h.frame + start_tokens start
+    ≤ (if start.busy then 1 else 0) = few_tokens set states w each t h a.device start there in
+    let few : (if start.busy then 1 else 0) ≤ 1 = at_most_one start.busy in
+    let both : start_tokens start ≡ length start.start_list + slot_tokens start.slot = refl in
+    let none : slot_tokens start.slot ≡ 0 = omega arith in
+    let empty : length start.start_list ≡ 0 = omega arith in
+    (no_slot start.slot none, none_listed start.start_list empty)
