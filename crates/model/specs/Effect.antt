@@ -1,14 +1,14 @@
--- What an event does to a world: the world after it, the actions that make it up, and the reply. It
--- tells what is refused, idle, waited for or wrong. It looks for no bug check: those are found from
--- the actions (the module Fault).
-use Rattle.std.specs.Prelude.{ℕ, ◌+◌, ◌-◌, ◌%◌, ◌^◌, ◌&&◌, ◌||◌, not, option_and_then, option_map, slice_index_or, Bool, true, false, List, [], ◌∷◌, ◌++◌, length, Option, None, Some, nat_eq, nat_lt, take, slice_get, slice_set, if◌then◌else◌}
+-- What a step of a thread's top frame does: the shared part of the world and the frames after it, the
+-- actions that make it up, and the reply. It tells what is idle, waited for or wrong. It looks for no
+-- bug check: those are found from the actions (the module Fault).
+use Rattle.std.specs.Prelude.{ℕ, ◌+◌, ◌-◌, ◌%◌, ◌^◌, not, is_none, option_and_then, option_map, slice_index_or, Bool, true, false, List, [], ◌∷◌, ◌++◌, length, Option, None, Some, nat_eq, nat_lt, take, slice_get, slice_set, if◌then◌else◌}
 use Rattle.model.specs.declared.world.Activation.{Activation}
 use Rattle.model.specs.declared.world.Frame.{Frame}
-use Rattle.model.specs.declared.world.Frame.TheVariants.{Routine, Walk}
-use Rattle.model.specs.declared.world.Irql.{Irql}
-use Rattle.model.specs.declared.world.Irql.TheVariants.{Passive, Dispatch as DispatchLevel}
-use Rattle.model.specs.declared.world.Thread.{Thread}
-use Rattle.model.specs.declared.limits.TheConstants.{MAX_FRAMES, MAX_ISSUED, MAX_LIVE_PACKETS, MAX_LOOPS}
+use Rattle.model.specs.declared.world.Frame.TheVariants.{Routine, Walk, Cancel as CancelFrame}
+use Rattle.model.specs.declared.world.Armer.{Armer}
+use Rattle.model.specs.declared.world.CancelStep.{CancelStep}
+use Rattle.model.specs.declared.world.CancelStep.TheVariants.{Acquire as AcquireStep, SetFlag, Exchange}
+use Rattle.model.specs.declared.limits.TheConstants.{MAX_LOOPS}
 use Rattle.model.specs.declared.world.Packet.{Packet}
 use Rattle.model.specs.declared.world.Cells.{Cells}
 use Rattle.model.specs.declared.world.OpenLoop.{OpenLoop}
@@ -17,24 +17,23 @@ use Rattle.model.specs.declared.status.Status.{Status}
 use Rattle.model.specs.declared.status.Major.{Major}
 use Rattle.model.specs.declared.instr.Instr.{Instr}
 use Rattle.model.specs.declared.instr.Field.{Field}
-use Rattle.model.specs.declared.instr.Instr.TheVariants.{Const, Move, Clear, Add, Subtract, JumpIfZero, JumpIfLess, Jump, Loop, End, Load, Store, LoadPaged, StorePaged, Get, Put, Mark, Acquire, Release, AcquireCancel, ReleaseCancel, Insert, Remove, Start, Take, Begin, Next, Pass, Call, Complete, IfPending, Ret}
+use Rattle.model.specs.declared.instr.Instr.TheVariants.{Const, Move, Clear, Add, Subtract, JumpIfZero, JumpIfLess, Jump, Loop, End, Load, Store, LoadPaged, StorePaged, Get, Put, Mark, Acquire, Release, AcquireCancel, ReleaseCancel, Insert, Remove, Unlink, Arm, Disarm, IfCancel, Start, Take, Begin, Next, Pass, Call, Complete, IfPending, Ret}
 use Rattle.model.specs.declared.instr.Return.{Return}
-use Rattle.model.specs.declared.instr.Return.TheVariants.{WithStatus, Lower, Continue, Void}
+use Rattle.model.specs.declared.instr.Return.TheVariants.{WithStatus, Lower, Continue, Stop, Void}
 use Rattle.model.specs.declared.set.Device.{Device}
+use Rattle.model.specs.declared.set.QueueName.TheVariants.{Declared}
 use Rattle.model.specs.declared.set.Sort.{Sort}
-use Rattle.model.specs.declared.set.Sort.TheVariants.{Dispatch, StartIo, Dpc, Propagate}
+use Rattle.model.specs.declared.set.Sort.TheVariants.{Dispatch, StartIo, Dpc, Propagate, Hold, Cancel}
 use Rattle.model.specs.declared.world.Completion.{Completion}
 use Rattle.model.specs.declared.event.Lock.{Lock}
 use Rattle.model.specs.declared.event.Lock.TheVariants.{SystemCancel, Spin}
 use Rattle.model.specs.declared.event.OfDevice.{OfDevice}
-use Rattle.model.specs.declared.event.Event.{Event}
-use Rattle.model.specs.declared.event.Event.TheVariants.{Issue, Interrupt, Dpc as DpcEvent, StartIo as StartIoEvent, Step}
 use Rattle.model.specs.declared.event.Reply.{Reply}
-use Rattle.model.specs.declared.event.Reply.TheVariants.{Started, Stepped, Finished, Topped, Waited, Idle, Refused, Bug as BugCheckReply, Wrong}
-use Rattle.model.specs.Action.{Action, Executes, Acquires, Releases, TouchesPaged, Touches, Issues, Calls, Ups, Completes, Marks, Leaves, Returns, TopsOut, GoesWrong}
-use Rattle.model.specs.Queues.{StartState, is_full, inserted, head_of, started, has_room_to_start, next_started, has_room_for_next, without_first_to_start, with_slot}
-use Rattle.model.specs.Set.{Set, serving, instruction_at, sort_of, lower_of, dpc_of, startio_of, default_number}
-use Rattle.model.specs.World.{Shared, World, owner_of, with_owner, with_locks, with_cells, packet_of, with_packet, without_packet, packet_in, number_in, status_in, register, next, at_label, with_register, innermost, outer_loops, with_loops, field_of, with_info, mark_current, current_location, sent_down, shared_with, left_location, moved_up, carried_up, completion_of, asked_of, completed, new_packet, entered, queue_of, with_queue, start_of, with_start, is_queued, with_dpc}
+use Rattle.model.specs.declared.event.Reply.TheVariants.{Stepped, Topped, Waited, Wrong}
+use Rattle.model.specs.Action.{Action, Executes, Acquires, Releases, TouchesPaged, Touches, Calls, Ups, Completes, Continues, Lends, Exchanges, Marks, Leaves, Returns, TopsOut, GoesWrong}
+use Rattle.model.specs.Queues.{StartState, is_full, inserted, unlinked, started, has_room_to_start, next_started, has_room_for_next, with_slot}
+use Rattle.model.specs.Set.{Set, serving, instruction_at, sort_of, lower_of, cancel_routine_of, cancel_routine_named, default_number}
+use Rattle.model.specs.World.{Shared, owner_of, with_owner, with_locks, with_cells, packet_of, with_packet, without_packet, packet_in, number_in, status_in, register, next, at_label, with_register, innermost, outer_loops, with_loops, field_of, with_info, mark_current, cancelled, with_armer, current_location, sent_down, shared_with, left_location, moved_up, carried_up, completion_of, asked_of, completed, entered, queue_of, with_queue, start_of, with_start}
 
 -- what a frame's step leaves: the shared part of the world, the frames that stand in place of the
 -- one that ran (the lowest first), the actions in order, the reply, whether the frame below is
@@ -225,6 +224,49 @@ abbrev pub remove_effect : Shared → Activation → ℕ → ℕ → ℕ → Opt
 remove_effect s a r q label None = goes_wrong s a
 remove_effect s a r q label (Some entries) = remove_from s a r q label entries
 
+-- `unlink r q`: the packet is taken off a queue of the device, wherever it stands there
+abbrev pub unlink_effect : Shared → Activation → ℕ → Option ℕ → Option (List ℕ) → Outcome
+unlink_effect s a q None entries = goes_wrong s a
+unlink_effect s a q (Some n) None = goes_wrong s a
+unlink_effect s a q (Some n) (Some entries) =
+    goes_on (with_queue s a.device q (unlinked entries n)) (next a) (Touches n ∷ [])
+
+-- `arm r q`: the packet's cancel routine becomes that of the queue; a plain queue has none
+abbrev pub armer_of : Activation → ℕ → Armer
+armer_of a q = record { device = a.device; queue = Declared q }
+
+abbrev pub arm_packet : Shared → Activation → ℕ → ℕ → Option Packet → Outcome
+arm_packet s a q n None = goes_on s (next a) (Touches n ∷ [])
+arm_packet s a q n (Some p) =
+    goes_on (with_packet s n (with_armer p (Some (armer_of a q)))) (next a)
+    (Touches n ∷ Exchanges n true ∷ [])
+
+abbrev pub arm_effect : Shared → Activation → ℕ → Option ℕ → Option ℕ → Outcome
+arm_effect s a q None cancel = goes_wrong s a
+arm_effect s a q (Some n) None = goes_wrong s a
+arm_effect s a q (Some n) (Some cancel) = arm_packet s a q n (packet_of s n)
+
+-- `disarm r L`: the packet has no cancel routine then; jumps where it had none before
+abbrev pub disarm_packet : Shared → Activation → ℕ → ℕ → Option Packet → Outcome
+disarm_packet s a label n None = goes_on s (next a) (Touches n ∷ [])
+disarm_packet s a label n (Some p) =
+    goes_on (with_packet s n (with_armer p None))
+    (if is_none p.armer then at_label a label else next a) (Touches n ∷ Exchanges n false ∷ [])
+
+abbrev pub disarm_effect : Shared → Activation → ℕ → Option ℕ → Outcome
+disarm_effect s a label None = goes_wrong s a
+disarm_effect s a label (Some n) = disarm_packet s a label n (packet_of s n)
+
+-- `ifcancel r L`: jumps if Irp->Cancel is set
+abbrev pub ask_packet : Shared → Activation → ℕ → ℕ → Option Packet → Outcome
+ask_packet s a label n None = goes_on s (next a) (Touches n ∷ [])
+ask_packet s a label n (Some p) =
+    goes_on s (if p.cancel then at_label a label else next a) (Touches n ∷ [])
+
+abbrev pub ask_effect : Shared → Activation → ℕ → Option ℕ → Outcome
+ask_effect s a label None = goes_wrong s a
+ask_effect s a label (Some n) = ask_packet s a label n (packet_of s n)
+
 -- `start r`: IoStartPacket
 abbrev pub start_effect : Shared → Activation → Option ℕ → Option StartState → Outcome
 start_effect s a None start = goes_wrong s a
@@ -348,11 +390,34 @@ abbrev pub touched_under : Option Frame → List Action
 touched_under None = []
 touched_under (Some (Routine a)) = []
 touched_under (Some (Walk n)) = Touches n ∷ []
+touched_under (Some (CancelFrame c)) = []
 
 abbrev pub continued : Shared → Option Frame → Outcome
 continued s under = leaves s [] (Executes ∷ touched_under under)
 
--- a StartIo or DPC routine returns nothing
+-- one that was lent the packet gives it back to the I/O manager with that
+abbrev pub given_back : Shared → ℕ → Option Packet → Shared
+given_back s n None = s
+given_back s n (Some p) = with_packet s n (record p { completing = true })
+
+abbrev pub let_on : Shared → Option Frame → Outcome
+let_on s None = leaves s [] (Executes ∷ [])
+let_on s (Some (Routine a)) = leaves s [] (Executes ∷ [])
+let_on s (Some (Walk n)) =
+    leaves (given_back s n (packet_of s n)) [] (Executes ∷ Touches n ∷ Continues n ∷ [])
+let_on s (Some (CancelFrame c)) = leaves s [] (Executes ∷ [])
+
+-- or it stops the completion: the I/O manager's frame below is gone too
+abbrev pub is_walk : Option Frame → Bool
+is_walk None = false
+is_walk (Some (Routine a)) = false
+is_walk (Some (Walk n)) = true
+is_walk (Some (CancelFrame c)) = false
+
+abbrev pub stopped : Shared → Option Frame → Outcome
+stopped s under = record (leaves s [] (Executes ∷ [])) { taken_below = is_walk under }
+
+-- a StartIo, DPC or cancel routine returns nothing
 abbrev pub ended : Shared → Outcome
 ended s = leaves s [] (Executes ∷ [])
 
@@ -361,19 +426,33 @@ abbrev pub return_effect : Shared → Activation → Option Frame → Sort → R
 return_effect s a under Dispatch (WithStatus status) = returned s status
 return_effect s a under Dispatch (Lower r) = return_lower s a (status_in (register a r))
 return_effect s a under Dispatch Continue = goes_wrong s a
+return_effect s a under Dispatch Stop = goes_wrong s a
 return_effect s a under Dispatch Void = goes_wrong s a
 return_effect s a under StartIo (WithStatus status) = goes_wrong s a
 return_effect s a under StartIo (Lower r) = goes_wrong s a
 return_effect s a under StartIo Continue = goes_wrong s a
+return_effect s a under StartIo Stop = goes_wrong s a
 return_effect s a under StartIo Void = ended s
 return_effect s a under Dpc (WithStatus status) = goes_wrong s a
 return_effect s a under Dpc (Lower r) = goes_wrong s a
 return_effect s a under Dpc Continue = goes_wrong s a
+return_effect s a under Dpc Stop = goes_wrong s a
 return_effect s a under Dpc Void = ended s
 return_effect s a under Propagate (WithStatus status) = goes_wrong s a
 return_effect s a under Propagate (Lower r) = goes_wrong s a
 return_effect s a under Propagate Continue = continued s under
+return_effect s a under Propagate Stop = stopped s under
 return_effect s a under Propagate Void = goes_wrong s a
+return_effect s a under Hold (WithStatus status) = goes_wrong s a
+return_effect s a under Hold (Lower r) = goes_wrong s a
+return_effect s a under Hold Continue = let_on s under
+return_effect s a under Hold Stop = stopped s under
+return_effect s a under Hold Void = goes_wrong s a
+return_effect s a under Cancel (WithStatus status) = goes_wrong s a
+return_effect s a under Cancel (Lower r) = goes_wrong s a
+return_effect s a under Cancel Continue = goes_wrong s a
+return_effect s a under Cancel Stop = goes_wrong s a
+return_effect s a under Cancel Void = ended s
 
 -- the instruction at the activation's position, on a thread, over a frame or none
 abbrev pub instruction_effect : Set → Shared → ℕ → Option Frame → Activation → Instr → Outcome
@@ -412,6 +491,14 @@ instruction_effect set s t under a (Insert r q) =
     insert_effect s a q (packet_in s (register a r)) (queue_of s a.device q)
 instruction_effect set s t under a (Remove r q label) =
     remove_effect s a r q label (queue_of s a.device q)
+instruction_effect set s t under a (Unlink r q) =
+    unlink_effect s a q (packet_in s (register a r)) (queue_of s a.device q)
+instruction_effect set s t under a (Arm r q) =
+    arm_effect s a q (packet_in s (register a r)) (cancel_routine_of set a.driver q)
+instruction_effect set s t under a (Disarm r label) =
+    disarm_effect s a label (packet_in s (register a r))
+instruction_effect set s t under a (IfCancel r label) =
+    ask_effect s a label (packet_in s (register a r))
 instruction_effect set s t under a (Start r) =
     start_effect s a (packet_in s (register a r)) (start_of s a.device)
 instruction_effect set s t under a (Take r label) = take_effect s a r label (start_of s a.device)
@@ -444,10 +531,33 @@ abbrev pub completes_with : Set → Completion → ℕ → Activation
 completes_with set c n =
     entered (routine_of_device (slice_get set.devices c.device)) c.routine c.device (Ref n)
 
+-- one that may hold the packet is lent it
+abbrev pub sort_of_completion : Set → Completion → Sort
+sort_of_completion set c =
+    sort_of set (routine_of_device (slice_get set.devices c.device)) c.routine
+
+abbrev pub lent_to : Sort → Packet → Packet
+lent_to Dispatch p = p
+lent_to StartIo p = p
+lent_to Dpc p = p
+lent_to Propagate p = p
+lent_to Hold p = record p { completing = false }
+lent_to Cancel p = p
+
+abbrev pub lending : Sort → ℕ → List Action
+lending Dispatch n = []
+lending StartIo n = []
+lending Dpc n = []
+lending Propagate n = []
+lending Hold n = Lends n ∷ []
+lending Cancel n = []
+
 abbrev pub walk_to_routine : Set → Shared → ℕ → Packet → Completion → Outcome
 walk_to_routine set s n p c =
-    leaves (with_packet s n (moved_up p)) (Walk n ∷ Routine (completes_with set c n) ∷ [])
-    (Touches n ∷ Leaves n ∷ Ups n ∷ [])
+    let sort : Sort = sort_of_completion set c in
+    leaves (with_packet s n (lent_to sort (moved_up p)))
+    (Walk n ∷ Routine (completes_with set c n) ∷ [])
+    (Touches n ∷ Leaves n ∷ Ups n ∷ lending sort n)
 
 -- without one the I/O manager carries the mark up to the next location
 abbrev pub marked_above : Packet → ℕ → List Action
@@ -474,11 +584,59 @@ walk_packet set s n None = leaves s [] (Touches n ∷ [])
 walk_packet set s n (Some p) =
     walk_from set s n (left_location p) (completion_of (current_location p))
 
+-- a step of the I/O manager, which cancels a packet (Driver Kit, IoCancelIrp): it acquires the
+-- system cancel spin lock; sets the packet's cancel flag; and exchanges its cancel routine with none.
+-- Where one was set, that runs in its place with the lock held; else it releases the lock. Where the
+-- packet has topped out it releases the lock too
+abbrev pub goes_on_cancelling : ℕ → CancelStep → List Frame
+goes_on_cancelling n step = CancelFrame (record { packet = n; next = step }) ∷ []
+
+abbrev pub cancel_acquires : Shared → ℕ → ℕ → Option ℕ → Outcome
+cancel_acquires s t n None =
+    leaves (with_locks s (with_owner s.locks SystemCancel (Some t))) (goes_on_cancelling n SetFlag)
+    (Acquires SystemCancel ∷ [])
+cancel_acquires s t n (Some owner) =
+    if nat_eq owner t
+    then leaves s (goes_on_cancelling n SetFlag) (Acquires SystemCancel ∷ [])
+    else record (leaves s (goes_on_cancelling n AcquireStep) []) { reply = Waited }
+
+abbrev pub cancel_ends : Shared → List Action → Outcome
+cancel_ends s actions =
+    leaves (with_locks s (with_owner s.locks SystemCancel None)) []
+    (actions ++ Releases SystemCancel ∷ [])
+
+abbrev pub cancel_flags : Shared → ℕ → Option Packet → Outcome
+cancel_flags s n None = cancel_ends s []
+cancel_flags s n (Some p) =
+    leaves (with_packet s n (cancelled p)) (goes_on_cancelling n Exchange) []
+
+abbrev pub cancel_calls : Shared → ℕ → Armer → ℕ → Option ℕ → Outcome
+cancel_calls s n armer driver None = cancel_ends s (Exchanges n false ∷ [])
+cancel_calls s n armer driver (Some routine) =
+    leaves s (Routine (entered driver routine armer.device (Ref n)) ∷ []) (Exchanges n false ∷ [])
+
+abbrev pub cancel_armed : Set → Shared → ℕ → Option Armer → Outcome
+cancel_armed set s n None = cancel_ends s (Exchanges n false ∷ [])
+cancel_armed set s n (Some armer) =
+    let driver : ℕ = routine_of_device (slice_get set.devices armer.device) in
+    cancel_calls s n armer driver (cancel_routine_named set driver armer.queue)
+
+abbrev pub cancel_exchanges : Set → Shared → ℕ → Option Packet → Outcome
+cancel_exchanges set s n None = cancel_ends s []
+cancel_exchanges set s n (Some p) =
+    cancel_armed set (with_packet s n (with_armer p None)) n p.armer
+
+abbrev pub cancel_step : Set → Shared → ℕ → ℕ → CancelStep → Outcome
+cancel_step set s t n AcquireStep = cancel_acquires s t n (s.locks.system_cancel)
+cancel_step set s t n SetFlag = cancel_flags s n (packet_of s n)
+cancel_step set s t n Exchange = cancel_exchanges set s n (packet_of s n)
+
 -- one step of a thread's top frame, over another frame or none
 abbrev pub frame_effect : Set → Shared → ℕ → Option Frame → Frame → Outcome
 frame_effect set s t under (Routine a) =
     routine_effect set s t under a (instruction_at set a.driver a.routine a.position)
 frame_effect set s t under (Walk n) = walk_packet set s n (packet_of s n)
+frame_effect set s t under (CancelFrame c) = cancel_step set s t c.packet c.next
 
 -- a routine that waits for a lower driver is told what that returned, in the register of its `pass`
 -- or `call`
@@ -506,6 +664,10 @@ told_in AcquireCancel = None
 told_in ReleaseCancel = None
 told_in (Insert r q) = None
 told_in (Remove r q label) = None
+told_in (Unlink r q) = None
+told_in (Arm r q) = None
+told_in (Disarm r label) = None
+told_in (IfCancel r label) = None
 told_in (Start r) = None
 told_in (Take r label) = None
 told_in (Begin r) = None
@@ -534,6 +696,7 @@ top_of frames = slice_get frames (length frames - 1)
 abbrev pub told_top : Set → List Frame → Status → Option Frame → List Frame
 told_top set below status None = below
 told_top set below status (Some (Walk n)) = below
+told_top set below status (Some (CancelFrame c)) = below
 told_top set below status (Some (Routine a)) =
     take (length below - 1) below ++ Routine (answered set a status) ∷ []
 
@@ -544,177 +707,3 @@ told_to set below (Some status) = told_top set below status (top_of below)
 -- the frames that stay below the one that ran
 abbrev pub kept_below : List Frame → Bool → List Frame
 kept_below below taken = if taken then take (length below - 1) below else below
-
--- what an event leaves: the world, the actions in order, the reply, and whether it would pass a
--- bound: a 33rd frame on a thread, or a 1,025th entry of a list
-pub record Change : Type 0 where
-  pub world : World
-  pub actions : List Action
-  pub reply : Reply
-  pub over : Bool
-
--- nothing changes
-abbrev pub unchanged : World → Reply → Change
-unchanged w reply = record { world = w; actions = []; reply = reply; over = false }
-
--- a step that leaves its thread without frames has finished it
-abbrev pub finished_or : List Frame → Reply → Reply
-finished_or [] Stepped = Finished
-finished_or [] (Started packet) = Started packet
-finished_or [] Finished = Finished
-finished_or [] (Topped packet status info) = Topped packet status info
-finished_or [] Waited = Waited
-finished_or [] Idle = Idle
-finished_or [] Refused = Refused
-finished_or [] (BugCheckReply bug) = BugCheckReply bug
-finished_or [] (Wrong place) = Wrong place
-finished_or (f ∷ frames) reply = reply
-
--- a thread with other frames: one that is left without any is idle, at PASSIVE_LEVEL
-abbrev pub root_over : Irql → List Frame → Irql
-root_over root [] = Passive
-root_over root (f ∷ frames) = root
-
-abbrev pub with_stack : Thread → List Frame → Thread
-with_stack thread frames =
-    record thread { root = root_over thread.root frames; frames = record { items = frames } }
-
--- the world with another thread in place of one
-abbrev pub with_thread : World → ℕ → Shared → Thread → World
-with_thread w t s thread = record { threads = slice_set w.threads t thread; shared = s }
-
--- the frames that stand after a step: those below, told, and those in place of the one that ran
-abbrev pub standing : Set → List Frame → Outcome → List Frame
-standing set below o = told_to set (kept_below below o.taken_below) o.told ++ o.frames
-
--- the top frame's outcome, over the frames below it
-abbrev pub settled : Set → World → ℕ → Thread → List Frame → Outcome → Change
-settled set w t thread below o =
-    record {
-      world = with_thread w t o.shared (with_stack thread (standing set below o));
-      actions = o.actions;
-      reply = finished_or (standing set below o) o.reply;
-      over = o.full || nat_lt MAX_FRAMES (length (standing set below o));
-    }
-
-abbrev pub top_effect : Set → World → ℕ → Thread → List Frame → Option Frame → Change
-top_effect set w t thread below None = unchanged w Idle
-top_effect set w t thread below (Some f) =
-    settled set w t thread below (frame_effect set w.shared t (top_of below) f)
-
--- Step: the thread's top frame, if it has one, does a step
-abbrev pub step_thread : Set → World → ℕ → Option Thread → Change
-step_thread set w t None = unchanged w Refused
-step_thread set w t (Some thread) =
-    top_effect set w t thread
-    (take (length thread.frames.items - 1) thread.frames.items)
-    (slice_get thread.frames.items (length thread.frames.items - 1))
-
--- Issue: a new packet is sent to a device by an idle thread
-abbrev pub is_idle : Thread → Bool
-is_idle thread = nat_eq (length thread.frames.items) 0
-
--- fewer than 1,024 packets live, and fewer than 18,446,744,073,709,551,615 were issued
-abbrev pub can_issue : Shared → Bool
-can_issue s = nat_lt (length s.packets) MAX_LIVE_PACKETS && nat_lt s.issued MAX_ISSUED
-
-abbrev pub with_new_packet : Shared → ℕ → Device → Major → ℕ → Shared
-with_new_packet s d device major argument =
-    record s {
-      packets = s.packets ++ new_packet s.issued d major argument device.stack ∷ [];
-      issued = s.issued + 1;
-    }
-
--- an idle thread on which a routine begins at a level
-abbrev pub rooted : Thread → Irql → Activation → Thread
-rooted thread level a = record thread { root = level; frames = record { items = Routine a ∷ [] } }
-
-abbrev pub serves_request : Set → ℕ → Device → Major → ℕ → Activation
-serves_request set d device major n =
-    entered device.driver (serving (slice_get set.drivers device.driver) major) d (Ref n)
-
-abbrev pub issued : Set → World → ℕ → ℕ → Thread → Device → Major → ℕ → Change
-issued set w t d thread device major argument =
-    record {
-      world =
-          with_thread w t (with_new_packet w.shared d device major argument)
-          (rooted thread Passive (serves_request set d device major w.shared.issued));
-      actions = Issues w.shared.issued device.stack ∷ [];
-      reply = Started w.shared.issued;
-      over = false;
-    }
-
-abbrev pub issue_on : Set → World → ℕ → ℕ → Major → ℕ → Option Thread → Option Device → Change
-issue_on set w t d major argument None device = unchanged w Refused
-issue_on set w t d major argument (Some thread) None = unchanged w Refused
-issue_on set w t d major argument (Some thread) (Some device) =
-    if is_idle thread && can_issue w.shared
-    then issued set w t d thread device major argument
-    else unchanged w Refused
-
--- Interrupt: the device's DPC is queued (Driver Kit, IoRequestDpc), unless it is already
-abbrev pub interrupted : World → ℕ → Change
-interrupted w d =
-    record (unchanged w Stepped) { world = record w { shared = with_dpc w.shared d true } }
-
-abbrev pub interrupt_on : World → ℕ → Option ℕ → Change
-interrupt_on w d None = unchanged w Refused
-interrupt_on w d (Some routine) = if is_queued w.shared d then unchanged w Idle else interrupted w d
-
--- Dpc: the DPC of a device is taken off its queue, and then its routine begins at DISPATCH_LEVEL on
--- an idle thread
-abbrev pub dpc_activation : Set → ℕ → ℕ → Activation
-dpc_activation set d routine =
-    entered (routine_of_device (slice_get set.devices d)) routine d Blank
-
-abbrev pub dpc_begun : Set → World → ℕ → ℕ → Thread → ℕ → Change
-dpc_begun set w t d thread routine =
-    record (unchanged w Stepped) {
-      world =
-          with_thread w t (with_dpc w.shared d false)
-          (rooted thread DispatchLevel (dpc_activation set d routine));
-    }
-
-abbrev pub dpc_on : Set → World → ℕ → ℕ → Option Thread → Option ℕ → Change
-dpc_on set w t d None routine = unchanged w Refused
-dpc_on set w t d (Some thread) None = unchanged w Refused
-dpc_on set w t d (Some thread) (Some routine) =
-    if not (is_idle thread) then unchanged w Refused else
-    (if is_queued w.shared d then dpc_begun set w t d thread routine else unchanged w Idle)
-
--- StartIo: the first packet of the start list of a device is taken off, and the StartIo routine
--- begins for it at DISPATCH_LEVEL on an idle thread
-abbrev pub startio_begun : Set → World → ℕ → ℕ → Thread → ℕ → ℕ → StartState → Change
-startio_begun set w t d thread routine n start =
-    record (unchanged w (Started n)) {
-      world =
-          with_thread w t (with_start w.shared d (without_first_to_start start))
-          (rooted thread DispatchLevel
-          (entered (routine_of_device (slice_get set.devices d)) routine d (Ref n)));
-    }
-
-abbrev pub startio_for : Set → World → ℕ → ℕ → Thread → ℕ → StartState → Option ℕ → Change
-startio_for set w t d thread routine start None = unchanged w Idle
-startio_for set w t d thread routine start (Some n) =
-    startio_begun set w t d thread routine n start
-
-abbrev pub startio_from : Set → World → ℕ → ℕ → Thread → ℕ → Option StartState → Change
-startio_from set w t d thread routine None = unchanged w Refused
-startio_from set w t d thread routine (Some start) =
-    startio_for set w t d thread routine start (head_of start.start_list)
-
-abbrev pub startio_on : Set → World → ℕ → ℕ → Option Thread → Option ℕ → Change
-startio_on set w t d None routine = unchanged w Refused
-startio_on set w t d (Some thread) None = unchanged w Refused
-startio_on set w t d (Some thread) (Some routine) =
-    if is_idle thread then startio_from set w t d thread routine (start_of w.shared d)
-    else unchanged w Refused
-
--- what an event does
-abbrev pub effect : Set → World → Event → Change
-effect set w (Issue t d major argument) =
-    issue_on set w t d major argument (slice_get w.threads t) (slice_get set.devices d)
-effect set w (Interrupt d) = interrupt_on w d (dpc_of set d)
-effect set w (DpcEvent t d) = dpc_on set w t d (slice_get w.threads t) (dpc_of set d)
-effect set w (StartIoEvent t d) = startio_on set w t d (slice_get w.threads t) (startio_of set d)
-effect set w (Step t) = step_thread set w t (slice_get w.threads t)

@@ -7,10 +7,12 @@ pub mod Queues
 pub mod World
 pub mod Action
 pub mod Effect
+pub mod Events
 pub mod Trace
 pub mod Fault
 pub mod PendingAgreement
 pub mod Run
+pub mod Kinds
 pub mod LocalRule
 pub mod Paths
 pub mod Typable

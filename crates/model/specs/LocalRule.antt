@@ -8,28 +8,31 @@ use Rattle.model.specs.declared.abs.Abs.{Abs}
 use Rattle.model.specs.declared.abs.Duty.{Duty}
 use Rattle.model.specs.declared.abs.Duty.TheVariants.{Fresh, Pending, Finished, GivenDown, NoDuty}
 use Rattle.model.specs.declared.abs.Kind.{Kind}
-use Rattle.model.specs.declared.abs.Kind.TheVariants.{Blank, Num, Lower, New, Own, View}
+use Rattle.model.specs.declared.abs.Kind.TheVariants.{Blank, Num, Lower, New, Own, Listed, Armed, Taken, Cancelling, View}
 use Rattle.model.specs.declared.abs.Outs.{Outs}
 use Rattle.model.specs.declared.abs.Settled.{Settled}
 use Rattle.model.specs.declared.abs.Settled.TheVariants.{Open, NeedMark, Settled as SettledMark}
 use Rattle.model.specs.declared.abs.Rule.{Rule}
-use Rattle.model.specs.declared.abs.Rule.TheVariants.{Malformed, Unreachable, StatesDiffer, WrongKind, DoubleCompletion, MarkIrpPending, CancelSpinLock, SpinLock, LockHeld, Level, Guard, Dropped, Token, Sort as SortRule, Completion, StackTooSmall, NoLower, TooLong, Memory}
+use Rattle.model.specs.declared.abs.Rule.TheVariants.{Malformed, Unreachable, StatesDiffer, WrongKind, DoubleCompletion, MarkIrpPending, CancelSpinLock, SpinLock, LockHeld, Level, Guard, CancelState, Dropped, Token, Sort as SortRule, Completion, StackTooSmall, NoLower, TooLong, Memory}
 use Rattle.model.specs.declared.instr.Instr.{Instr}
-use Rattle.model.specs.declared.instr.Instr.TheVariants.{Const, Move, Clear, Add, Subtract, JumpIfZero, JumpIfLess, Jump, Loop, End, Load, Store, LoadPaged, StorePaged, Get, Put, Mark, Acquire, Release, AcquireCancel, ReleaseCancel, Insert, Remove, Start, Take, Begin, Next, Pass, Call, Complete, IfPending, Ret}
+use Rattle.model.specs.declared.instr.Instr.TheVariants.{Const, Move, Clear, Add, Subtract, JumpIfZero, JumpIfLess, Jump, Loop, End, Load, Store, LoadPaged, StorePaged, Get, Put, Mark, Acquire, Release, AcquireCancel, ReleaseCancel, Insert, Remove, Unlink, Arm, Disarm, IfCancel, Start, Take, Begin, Next, Pass, Call, Complete, IfPending, Ret}
 use Rattle.model.specs.declared.instr.Return.{Return}
-use Rattle.model.specs.declared.instr.Return.TheVariants.{WithStatus, Lower as LowerStatus, Continue, Void}
+use Rattle.model.specs.declared.instr.Return.TheVariants.{WithStatus, Lower as LowerStatus, Continue, Stop, Void}
+use Rattle.model.specs.declared.set.QueueName.{QueueName}
+use Rattle.model.specs.declared.set.QueueName.TheVariants.{Declared}
 use Rattle.model.specs.declared.set.Sort.{Sort}
-use Rattle.model.specs.declared.set.Sort.TheVariants.{Dispatch, StartIo, Dpc, Propagate}
+use Rattle.model.specs.declared.set.Sort.TheVariants.{Dispatch, StartIo, Dpc, Propagate, Hold, Cancel}
 use Rattle.model.specs.declared.status.Status.{Status}
 use Rattle.model.specs.declared.status.Status.TheVariants.{Success, Pending as PendingStatus, Busy, Unsuccessful, InvalidParameter, InvalidDeviceRequest, Cancelled}
+use Rattle.model.specs.Kinds.{is_packet, is_view, is_new, is_kept, is_blank, is_lower, is_listed, is_cancelling, is_exchanged, names_list, needs_guard, kind_inserted, kind_removed, kind_disarmed, all_let_go, left_behind, duty_completed}
 use Rattle.model.specs.Forwarding.{lacks_lower, is_too_small}
 use Rattle.model.specs.declared.limits.TheConstants.{REGISTERS, SPIN_LOCKS}
-use Rattle.model.specs.Set.{Set, Member, Flow, Onward, Branches, Jumps, Opens, Closes, Leaves, flow_of, guard_of}
+use Rattle.model.specs.Set.{Set, Member, Flow, Onward, Branches, Jumps, Opens, Closes, Leaves, flow_of, cancel_routine_of, cancels_for, guard_of, sort_of}
 
 -- the state in which a routine is entered, if it may be: a dispatch routine may do anything with
 -- the packet in its first register, a completion routine that lets the completion go on may look at
--- it, a StartIo routine owns it and has the token of its device, and a DPC routine is handed none.
--- No lock is held
+-- it, one that may hold it is lent it, a StartIo routine owns it and has the token of its device, and
+-- a DPC routine is handed none. No lock is held, but in a cancel routine
 abbrev pub entered_with : Kind → Duty → Settled → Bool → Abs
 entered_with first duty carried token =
     record {
@@ -41,14 +44,23 @@ entered_with first duty carried token =
       token = token;
     }
 
-abbrev pub entry_of_sort : Sort → Option Abs
-entry_of_sort Dispatch = Some (entered_with New Fresh SettledMark false)
-entry_of_sort StartIo = Some (entered_with Own NoDuty SettledMark true)
-entry_of_sort Dpc = Some (entered_with Blank NoDuty SettledMark false)
-entry_of_sort Propagate = Some (entered_with View NoDuty Open false)
+-- a cancel routine is handed a packet of the one list that names it, with the system cancel spin
+-- lock held; one that not exactly one list names can't be entered
+abbrev pub entry_of_cancel : Option QueueName → Option Abs
+entry_of_cancel None = None
+entry_of_cancel (Some name) =
+    Some (record (entered_with (Cancelling name) NoDuty SettledMark false) { cancel = true })
+
+abbrev pub entry_of_sort : Sort → Option QueueName → Option Abs
+entry_of_sort Dispatch name = Some (entered_with New Fresh SettledMark false)
+entry_of_sort StartIo name = Some (entered_with Own NoDuty SettledMark true)
+entry_of_sort Dpc name = Some (entered_with Blank NoDuty SettledMark false)
+entry_of_sort Propagate name = Some (entered_with View NoDuty Open false)
+entry_of_sort Hold name = Some (entered_with New Fresh SettledMark false)
+entry_of_sort Cancel name = entry_of_cancel name
 
 abbrev pub entry_state : Member → Option Abs
-entry_state m = entry_of_sort m.routine.sort
+entry_state m = entry_of_sort m.routine.sort (cancels_for m.set m.driver m.number)
 
 abbrev pub kind_of : Abs → ℕ → Kind
 kind_of s r = slice_index_or s.kinds r Blank
@@ -86,6 +98,7 @@ rule_number SpinLock = 8
 rule_number LockHeld = 9
 rule_number Level = 10
 rule_number Guard = 11
+rule_number CancelState = 12
 rule_number Dropped = 13
 rule_number Token = 14
 rule_number SortRule = 15
@@ -108,76 +121,54 @@ broken_if b rule = if b then Some rule else None
 abbrev pub unless : Bool → Rule → Option Rule
 unless b rule = if b then None else Some rule
 
--- a packet in a register
-abbrev pub is_packet : Kind → Bool
-is_packet Blank = false
-is_packet Num = false
-is_packet Lower = false
-is_packet New = true
-is_packet Own = true
-is_packet View = true
-
-abbrev pub is_view : Kind → Bool
-is_view Blank = false
-is_view Num = false
-is_view Lower = false
-is_view New = false
-is_view Own = false
-is_view View = true
-
--- a packet that a routine may not leave behind in a register: any but one on its way up
-abbrev pub is_kept : Kind → Bool
-is_kept kind = is_packet kind && not (is_view kind)
-
--- a packet that a routine has the right to
-abbrev pub is_right : Kind → Bool
-is_right Blank = false
-is_right Num = false
-is_right Lower = false
-is_right New = true
-is_right Own = true
-is_right View = false
-
 -- the packets that an instruction wants: which kinds it takes
 pub record Wanted : Type 0 where
   pub new : Bool
   pub own : Bool
   pub view : Bool
+  pub queued : Bool
 
 -- a packet of a wanted kind has to be there. Where there is none the kind is wrong; a packet that
 -- was marked where an unmarked one is wanted, or the other way round, breaks the rule on pending
--- marks; any other breaks the rule on completion
+-- marks; one that stands in a list, or might be cancelled, the rule on cancellation; any other breaks
+-- the rule on completion
 abbrev pub demanded : Wanted → Kind → Option Rule
 demanded wanted Blank = Some WrongKind
 demanded wanted Num = Some WrongKind
 demanded wanted Lower = Some WrongKind
 demanded wanted New = unless wanted.new (if wanted.own then MarkIrpPending else Completion)
 demanded wanted Own = unless wanted.own (if wanted.new then MarkIrpPending else Completion)
+demanded wanted (Listed name) = unless wanted.queued CancelState
+demanded wanted (Armed name) = unless wanted.queued CancelState
+demanded wanted (Taken name) = unless wanted.queued CancelState
+demanded wanted (Cancelling name) = unless wanted.queued CancelState
 demanded wanted View = unless wanted.view Completion
 
 abbrev pub any_packet : Wanted
-any_packet = record { new = true; own = true; view = true }
+any_packet = record { new = true; own = true; view = true; queued = true }
 
 abbrev pub a_new_one : Wanted
-a_new_one = record { new = true; own = false; view = false }
+a_new_one = record { new = true; own = false; view = false; queued = false }
 
 abbrev pub one_handed_or_owned : Wanted
-one_handed_or_owned = record { new = true; own = true; view = false }
+one_handed_or_owned = record { new = true; own = true; view = false; queued = false }
 
 abbrev pub an_owned_one : Wanted
-an_owned_one = record { new = false; own = true; view = false }
+an_owned_one = record { new = false; own = true; view = false; queued = false }
 
 abbrev pub one_to_mark : Wanted
-one_to_mark = record { new = true; own = false; view = true }
+one_to_mark = record { new = true; own = false; view = true; queued = false }
 
 abbrev pub one_to_look_at : Wanted
-one_to_look_at = record { new = false; own = false; view = true }
+one_to_look_at = record { new = false; own = false; view = true; queued = false }
 
 abbrev pub is_completion : Sort → Bool
 is_completion Dispatch = false
 is_completion StartIo = false
 is_completion Dpc = false
 is_completion Propagate = true
+is_completion Hold = true
+is_completion Cancel = false
 
 abbrev pub is_pending : Status → Bool
 is_pending PendingStatus = true
@@ -199,6 +190,10 @@ number_kind Num = None
 number_kind Lower = Some WrongKind
 number_kind New = Some WrongKind
 number_kind Own = Some WrongKind
+number_kind (Listed name) = Some WrongKind
+number_kind (Armed name) = Some WrongKind
+number_kind (Taken name) = Some WrongKind
+number_kind (Cancelling name) = Some WrongKind
 number_kind View = Some WrongKind
 
 -- paged cells may be touched below DISPATCH_LEVEL alone: dispatch routines run at PASSIVE_LEVEL
@@ -208,6 +203,8 @@ level_fault s Dispatch = broken_if (holds_lock s) Level
 level_fault s StartIo = Some Level
 level_fault s Dpc = Some Level
 level_fault s Propagate = Some Level
+level_fault s Hold = Some Level
+level_fault s Cancel = Some Level
 
 -- `mark` wants a packet that the routine was handed, or in a completion routine one whose mark has
 -- to be carried up
@@ -232,16 +229,6 @@ look_fault carried kind =
     least_of (demanded one_to_look_at kind)
     (broken_if (is_view kind && not (is_open carried)) Completion)
 
--- `complete` wants a packet that the routine was handed or owns; where the register is blank, it
--- was completed or handed on before
-abbrev pub is_blank : Kind → Bool
-is_blank Blank = true
-is_blank Num = false
-is_blank Lower = false
-is_blank New = false
-is_blank Own = false
-is_blank View = false
-
 abbrev pub complete_kind : Kind → Option Rule
 complete_kind kind = if is_blank kind then Some DoubleCompletion
     else demanded one_handed_or_owned kind
@@ -256,6 +243,8 @@ forward_sort_fault Dispatch = None
 forward_sort_fault StartIo = Some SortRule
 forward_sort_fault Dpc = Some SortRule
 forward_sort_fault Propagate = Some Completion
+forward_sort_fault Hold = Some Completion
+forward_sort_fault Cancel = Some SortRule
 
 -- a packet is forwarded by a dispatch routine, while no lock is held, from devices that all have a
 -- lower one, and stack locations for it and so many more
@@ -265,6 +254,24 @@ forward_fault s sort set driver locations =
     (least_of (forward_sort_fault sort)
     (least_of (broken_if (is_too_small set driver locations) StackTooSmall)
     (broken_if (lacks_lower set driver) NoLower)))
+
+-- a packet that wasn't marked isn't sent down with a completion routine that may hold it: what the
+-- lower driver returned would be returned for it while it is held
+abbrev pub is_hold : Sort → Bool
+is_hold Dispatch = false
+is_hold StartIo = false
+is_hold Dpc = false
+is_hold Propagate = false
+is_hold Hold = true
+is_hold Cancel = false
+
+abbrev pub is_held_by : Set → ℕ → Option ℕ → Bool
+is_held_by set driver None = false
+is_held_by set driver (Some f) = is_hold (sort_of set driver f)
+
+abbrev pub hold_fault : Kind → Set → ℕ → Option ℕ → Option Rule
+hold_fault kind set driver f =
+    broken_if (is_new kind && is_held_by set driver f) Completion
 
 -- a status is returned as the duty to the packet says: STATUS_PENDING exactly where it was marked,
 -- what the lower driver returned exactly where it was given down without a mark
@@ -282,20 +289,13 @@ is_given_down Finished = false
 is_given_down GivenDown = true
 is_given_down NoDuty = false
 
-abbrev pub is_lower : Kind → Bool
-is_lower Blank = false
-is_lower Num = false
-is_lower Lower = true
-is_lower New = false
-is_lower Own = false
-is_lower View = false
-
 abbrev pub duty_fault : Abs → Return → Option Rule
 duty_fault s (WithStatus status) = status_fault s.duty status
 duty_fault s (LowerStatus r) =
     least_of (broken_if (not (is_lower (kind_of s r))) WrongKind)
     (broken_if (not (is_given_down s.duty)) MarkIrpPending)
 duty_fault s Continue = None
+duty_fault s Stop = None
 duty_fault s Void = None
 
 -- each sort has its forms of return
@@ -303,19 +303,33 @@ abbrev pub form_fault : Sort → Return → Option Rule
 form_fault Dispatch (WithStatus status) = None
 form_fault Dispatch (LowerStatus r) = None
 form_fault Dispatch Continue = Some SortRule
+form_fault Dispatch Stop = Some SortRule
 form_fault Dispatch Void = Some SortRule
 form_fault StartIo (WithStatus status) = Some SortRule
 form_fault StartIo (LowerStatus r) = Some SortRule
 form_fault StartIo Continue = Some SortRule
+form_fault StartIo Stop = Some SortRule
 form_fault StartIo Void = None
 form_fault Dpc (WithStatus status) = Some SortRule
 form_fault Dpc (LowerStatus r) = Some SortRule
 form_fault Dpc Continue = Some SortRule
+form_fault Dpc Stop = Some SortRule
 form_fault Dpc Void = None
 form_fault Propagate (WithStatus status) = Some SortRule
 form_fault Propagate (LowerStatus r) = Some SortRule
 form_fault Propagate Continue = None
+form_fault Propagate Stop = Some SortRule
 form_fault Propagate Void = Some SortRule
+form_fault Hold (WithStatus status) = Some SortRule
+form_fault Hold (LowerStatus r) = Some SortRule
+form_fault Hold Continue = None
+form_fault Hold Stop = None
+form_fault Hold Void = Some SortRule
+form_fault Cancel (WithStatus status) = Some SortRule
+form_fault Cancel (LowerStatus r) = Some SortRule
+form_fault Cancel Continue = Some SortRule
+form_fault Cancel Stop = Some SortRule
+form_fault Cancel Void = None
 
 -- a completion routine has carried the mark up
 abbrev pub is_settled : Settled → Bool
@@ -323,27 +337,69 @@ is_settled Open = false
 is_settled NeedMark = false
 is_settled SettledMark = true
 
-abbrev pub settled_fault : Sort → Settled → Option Rule
-settled_fault Dispatch carried = None
-settled_fault StartIo carried = None
-settled_fault Dpc carried = None
-settled_fault Propagate carried = broken_if (not (is_settled carried)) Completion
+-- one that was lent the packet lets its completion go on where it has done nothing with it, and stops
+-- it where it has taken the packet back
+abbrev pub is_fresh : Duty → Bool
+is_fresh Fresh = true
+is_fresh Pending = false
+is_fresh Finished = false
+is_fresh GivenDown = false
+is_fresh NoDuty = false
 
--- no packet is left in a register, but for one on its way up
-abbrev pub left_packet : Abs → Option Rule
-left_packet s = broken_if (list_any is_kept s.kinds) Dropped
+abbrev pub is_taken_back : Duty → Bool
+is_taken_back Fresh = false
+is_taken_back Pending = true
+is_taken_back Finished = false
+is_taken_back GivenDown = false
+is_taken_back NoDuty = false
+
+abbrev pub lent_fault : Duty → Return → Option Rule
+lent_fault duty (WithStatus status) = None
+lent_fault duty (LowerStatus r) = None
+lent_fault duty Continue = unless (is_fresh duty) Completion
+lent_fault duty Stop = unless (is_taken_back duty) Completion
+lent_fault duty Void = None
+
+abbrev pub settled_fault : Sort → Abs → Return → Option Rule
+settled_fault Dispatch s form = None
+settled_fault StartIo s form = None
+settled_fault Dpc s form = None
+settled_fault Propagate s form = broken_if (not (is_settled s.settled)) Completion
+settled_fault Hold s form = lent_fault s.duty form
+settled_fault Cancel s form = None
+
+-- a routine that was lent a packet gives it back where it lets the completion go on
+abbrev pub gives_back : Sort → Return → Bool
+gives_back Dispatch form = false
+gives_back StartIo form = false
+gives_back Dpc form = false
+gives_back Propagate form = false
+gives_back Hold (WithStatus status) = false
+gives_back Hold (LowerStatus r) = false
+gives_back Hold Continue = true
+gives_back Hold Stop = false
+gives_back Hold Void = false
+gives_back Cancel form = false
+
+-- no packet is left in a register, but for one on its way up, and one that is given back
+abbrev pub is_dropped : Bool → Kind → Bool
+is_dropped back kind = is_kept kind && not (back && is_new kind)
+
+abbrev pub left_packet : Abs → Bool → Option Rule
+left_packet s back = broken_if (list_any (is_dropped back) s.kinds) Dropped
 
 -- no lock is kept, no packet, and no token
-abbrev pub kept_fault : Abs → Option Rule
-kept_fault s =
+abbrev pub kept_fault : Abs → Bool → Option Rule
+kept_fault s back =
     least_of (broken_if s.cancel CancelSpinLock)
     (least_of (broken_if (holds_spin_lock s) SpinLock)
-    (least_of (left_packet s) (broken_if s.token Token)))
+    (least_of (left_packet s back) (broken_if s.token Token)))
 
 abbrev pub return_fault : Abs → Return → Sort → Option Rule
 return_fault s form sort =
     least_of (duty_fault s form)
-    (least_of (kept_fault s) (least_of (form_fault sort form) (settled_fault sort s.settled)))
+    (least_of (kept_fault s (gives_back sort form))
+    (least_of (form_fault sort form) (settled_fault sort s form)))
 
 -- a packet isn't completed with STATUS_PENDING, nor while a lock is held, nor in a completion
 -- routine
@@ -360,6 +416,30 @@ is_guarded s (Some guard) = is_held s guard
 abbrev pub guard_fault : Abs → Set → ℕ → ℕ → Option Rule
 guard_fault s set driver q = unless (is_guarded s (guard_of set driver q)) Guard
 
+-- one of these has to be there, in a state that fits the instruction
+abbrev pub queued_kind : Bool → Kind → Option Rule
+queued_kind fits Blank = Some WrongKind
+queued_kind fits Num = Some WrongKind
+queued_kind fits Lower = Some WrongKind
+queued_kind fits New = Some CancelState
+queued_kind fits Own = Some CancelState
+queued_kind fits (Listed name) = unless fits CancelState
+queued_kind fits (Armed name) = unless fits CancelState
+queued_kind fits (Taken name) = unless fits CancelState
+queued_kind fits (Cancelling name) = unless fits CancelState
+queued_kind fits View = Some Completion
+
+abbrev pub unlink_kind : QueueName → Kind → Option Rule
+unlink_kind name kind = queued_kind (is_listed name kind || is_cancelling name kind) kind
+
+abbrev pub names_fault : Abs → QueueName → Option Rule
+names_fault s name = broken_if (list_any (names_list name) s.kinds) CancelState
+
+abbrev pub release_fault : Abs → Set → ℕ → ℕ → Option Rule
+release_fault s set driver lock =
+    least_of (broken_if (not (is_held s lock)) SpinLock)
+    (broken_if (list_any (needs_guard set driver lock) s.kinds) Guard)
+
 -- a packet is started where the driver has a StartIo routine
 abbrev pub has_startio : Set → ℕ → Bool
 has_startio set driver =
@@ -371,6 +451,8 @@ is_dpc Dispatch = false
 is_dpc StartIo = false
 is_dpc Dpc = true
 is_dpc Propagate = false
+is_dpc Hold = false
+is_dpc Cancel = false
 
 abbrev pub take_fault : Abs → Sort → Option Rule
 take_fault s sort = least_of (broken_if s.token Token) (unless (is_dpc sort) SortRule)
@@ -402,13 +484,22 @@ refuses s (Put q r) sort set driver =
     least_of (demanded any_packet (kind_of s q)) (number_kind (kind_of s r))
 refuses s (Mark r) sort set driver = mark_fault s.settled (kind_of s r)
 refuses s (Acquire lock) sort set driver = broken_if (is_held s lock) SpinLock
-refuses s (Release lock) sort set driver = broken_if (not (is_held s lock)) SpinLock
+refuses s (Release lock) sort set driver = release_fault s set driver lock
 refuses s AcquireCancel sort set driver = broken_if s.cancel CancelSpinLock
 refuses s ReleaseCancel sort set driver = broken_if (not s.cancel) CancelSpinLock
 refuses s (Insert r q) sort set driver =
     least_of (demanded an_owned_one (kind_of s r)) (guard_fault s set driver q)
 refuses s (Remove r q label) sort set driver =
-    least_of (guard_fault s set driver q) (free_kind (kind_of s r))
+    least_of (guard_fault s set driver q)
+    (least_of (free_kind (kind_of s r)) (names_fault s (Declared q)))
+refuses s (Unlink r q) sort set driver =
+    least_of (unlink_kind (Declared q) (kind_of s r)) (guard_fault s set driver q)
+refuses s (Arm r q) sort set driver =
+    least_of (queued_kind (is_listed (Declared q) (kind_of s r)) (kind_of s r))
+    (guard_fault s set driver q)
+refuses s (Disarm r label) sort set driver =
+    queued_kind (is_exchanged (kind_of s r)) (kind_of s r)
+refuses s (IfCancel r label) sort set driver = demanded any_packet (kind_of s r)
 refuses s (Start r) sort set driver =
     least_of (demanded an_owned_one (kind_of s r)) (unless (has_startio set driver) SortRule)
 refuses s (Take r label) sort set driver =
@@ -419,20 +510,12 @@ refuses s Next sort set driver = unless s.token Token
 refuses s (Pass r) sort set driver =
     least_of (demanded a_new_one (kind_of s r)) (forward_fault s sort set driver 0)
 refuses s (Call r f) sort set driver =
-    least_of (demanded one_handed_or_owned (kind_of s r)) (forward_fault s sort set driver 1)
+    least_of (demanded one_handed_or_owned (kind_of s r))
+    (least_of (forward_fault s sort set driver 1) (hold_fault (kind_of s r) set driver f))
 refuses s (Complete r status) sort set driver =
     least_of (complete_kind (kind_of s r)) (completion_fault s status sort)
 refuses s (IfPending r label) sort set driver = look_fault s.settled (kind_of s r)
 refuses s (Ret form) sort set driver = return_fault s form sort
-
--- a completion ends the duty to a packet that wasn't marked
-abbrev pub duty_completed : Kind → Duty → Duty
-duty_completed Blank duty = duty
-duty_completed Num duty = duty
-duty_completed Lower duty = duty
-duty_completed New duty = Finished
-duty_completed Own duty = duty
-duty_completed View duty = duty
 
 -- a mark: the routine owns the packet, and owes STATUS_PENDING; a completion routine has carried it
 -- up. Of other kinds nothing is said here and below, since the instruction breaks a rule
@@ -442,6 +525,10 @@ marked s r Num = s
 marked s r Lower = s
 marked s r New = record (with_kind s r Own) { duty = Pending }
 marked s r Own = s
+marked s r (Listed name) = s
+marked s r (Armed name) = s
+marked s r (Taken name) = s
+marked s r (Cancelling name) = s
 marked s r View = record s { settled = SettledMark }
 
 -- a packet is given to the lower driver: one that wasn't marked leaves its status in the register
@@ -451,55 +538,58 @@ given_down s r Num = s
 given_down s r Lower = s
 given_down s r New = record (with_kind s r Lower) { duty = GivenDown }
 given_down s r Own = with_kind s r Blank
+given_down s r (Listed name) = s
+given_down s r (Armed name) = s
+given_down s r (Taken name) = s
+given_down s r (Cancelling name) = s
 given_down s r View = s
-
--- what is moved away leaves its register blank, unless it is a number
-abbrev pub left_behind : Kind → Kind
-left_behind Blank = Blank
-left_behind Num = Num
-left_behind Lower = Blank
-left_behind New = Blank
-left_behind Own = Blank
-left_behind View = Blank
 
 abbrev pub moved : Abs → ℕ → ℕ → Abs
 moved s r q = with_kind (with_kind s r (kind_of s q)) q (left_behind (kind_of s q))
 
+abbrev pub released : Abs → Set → ℕ → ℕ → Abs
+released s set driver lock =
+    record (with_lock s lock false) { kinds = all_let_go set driver lock s.kinds }
+
 -- the state at the next position after an instruction that breaks no rule
-abbrev pub handed : Abs → Instr → Abs
-handed s (Const r n) = with_kind s r Num
-handed s (Move r q) = moved s r q
-handed s (Clear r) = with_kind s r Blank
-handed s (Add r q) = s
-handed s (Subtract r q) = s
-handed s (JumpIfZero r label) = s
-handed s (JumpIfLess r q label) = s
-handed s (Jump label) = s
-handed s (Loop turns) = s
-handed s End = s
-handed s (Load r c) = with_kind s r Num
-handed s (Store c r) = s
-handed s (LoadPaged r c) = with_kind s r Num
-handed s (StorePaged c r) = s
-handed s (Get r q field) = with_kind s r Num
-handed s (Put q r) = s
-handed s (Mark r) = marked s r (kind_of s r)
-handed s (Acquire lock) = with_lock s lock true
-handed s (Release lock) = with_lock s lock false
-handed s AcquireCancel = with_cancel s true
-handed s ReleaseCancel = with_cancel s false
-handed s (Insert r q) = with_kind s r Blank
-handed s (Remove r q label) = with_kind s r Own
-handed s (Start r) = with_kind s r Blank
-handed s (Take r label) = record (with_kind s r Own) { token = true }
-handed s (Begin r) = record (with_kind s r Blank) { token = false }
-handed s Next = record s { token = false }
-handed s (Pass r) = given_down s r (kind_of s r)
-handed s (Call r f) = given_down s r (kind_of s r)
-handed s (Complete r status) =
+abbrev pub handed : Set → ℕ → Abs → Instr → Abs
+handed set driver s (Const r n) = with_kind s r Num
+handed set driver s (Move r q) = moved s r q
+handed set driver s (Clear r) = with_kind s r Blank
+handed set driver s (Add r q) = s
+handed set driver s (Subtract r q) = s
+handed set driver s (JumpIfZero r label) = s
+handed set driver s (JumpIfLess r q label) = s
+handed set driver s (Jump label) = s
+handed set driver s (Loop turns) = s
+handed set driver s End = s
+handed set driver s (Load r c) = with_kind s r Num
+handed set driver s (Store c r) = s
+handed set driver s (LoadPaged r c) = with_kind s r Num
+handed set driver s (StorePaged c r) = s
+handed set driver s (Get r q field) = with_kind s r Num
+handed set driver s (Put q r) = s
+handed set driver s (Mark r) = marked s r (kind_of s r)
+handed set driver s (Acquire lock) = with_lock s lock true
+handed set driver s (Release lock) = released s set driver lock
+handed set driver s AcquireCancel = with_cancel s true
+handed set driver s ReleaseCancel = with_cancel s false
+handed set driver s (Insert r q) = with_kind s r (kind_inserted (cancel_routine_of set driver q) q)
+handed set driver s (Remove r q label) = with_kind s r (kind_removed (cancel_routine_of set driver q) q)
+handed set driver s (Unlink r q) = with_kind s r Own
+handed set driver s (Arm r q) = with_kind s r (Armed (Declared q))
+handed set driver s (Disarm r label) = with_kind s r (kind_disarmed (kind_of s r))
+handed set driver s (IfCancel r label) = s
+handed set driver s (Start r) = with_kind s r Blank
+handed set driver s (Take r label) = record (with_kind s r Own) { token = true }
+handed set driver s (Begin r) = record (with_kind s r Blank) { token = false }
+handed set driver s Next = record s { token = false }
+handed set driver s (Pass r) = given_down s r (kind_of s r)
+handed set driver s (Call r f) = given_down s r (kind_of s r)
+handed set driver s (Complete r status) =
     record (with_kind s r Blank) { duty = duty_completed (kind_of s r) s.duty }
-handed s (IfPending r label) = record s { settled = SettledMark }
-handed s (Ret form) = s
+handed set driver s (IfPending r label) = record s { settled = SettledMark }
+handed set driver s (Ret form) = s
 
 -- and at its label, if it has one
 abbrev pub handed_at_label : Abs → Instr → Abs
@@ -526,6 +616,10 @@ handed_at_label s AcquireCancel = s
 handed_at_label s ReleaseCancel = s
 handed_at_label s (Insert r q) = s
 handed_at_label s (Remove r q label) = with_kind s r Blank
+handed_at_label s (Unlink r q) = s
+handed_at_label s (Arm r q) = s
+handed_at_label s (Disarm r label) = with_kind s r Blank
+handed_at_label s (IfCancel r label) = s
 handed_at_label s (Start r) = s
 handed_at_label s (Take r label) = with_kind s r Blank
 handed_at_label s (Begin r) = s
@@ -546,8 +640,8 @@ outs_by (Opens turns) next jump = record { next = Some next; jump = None }
 outs_by Closes next jump = record { next = Some next; jump = None }
 outs_by Leaves next jump = record { next = None; jump = None }
 
-abbrev pub outs : Abs → Instr → Outs
-outs s i = outs_by (flow_of i) (handed s i) (handed_at_label s i)
+abbrev pub outs : Set → ℕ → Abs → Instr → Outs
+outs set driver s i = outs_by (flow_of i) (handed set driver s i) (handed_at_label s i)
 
 abbrev pub rule_or : Option Rule → Outs → Result Outs Rule
 rule_or None o = Ok o
@@ -556,4 +650,5 @@ rule_or (Some rule) o = Err rule
 -- the local rule; that a loop's end is reached in the state of its start is weighed for the whole
 -- routine
 abbrev pub local_rule : Abs → Instr → Sort → Set → ℕ → Result Outs Rule
-local_rule s i sort set driver = rule_or (refuses s i sort set driver) (outs s i)
+local_rule s i sort set driver =
+    rule_or (refuses s i sort set driver) (outs set driver s i)

@@ -2,21 +2,21 @@
 -- world stays as it was, and every later event is refused without actions.
 use Rattle.std.specs.Prelude.{ℕ, ◌+◌, ◌-◌, Bool, true, false, List, [], ◌∷◌, length, Option, None, Some, slice_get, slice_set, slice_index_or, replicate, if◌then◌else◌}
 use Rattle.model.specs.declared.set.Sort.{Sort}
-use Rattle.model.specs.declared.set.Sort.TheVariants.{Dispatch, StartIo, Dpc, Propagate}
+use Rattle.model.specs.declared.set.Sort.TheVariants.{Dispatch, StartIo, Dpc, Propagate, Hold, Cancel}
 use Rattle.model.specs.declared.world.Activation.{Activation}
 use Rattle.model.specs.declared.world.Irql.{Irql}
 use Rattle.model.specs.declared.world.Irql.TheVariants.{Passive}
 use Rattle.model.specs.declared.world.Frame.{Frame}
-use Rattle.model.specs.declared.world.Frame.TheVariants.{Routine, Walk}
+use Rattle.model.specs.declared.world.Frame.TheVariants.{Routine, Walk, Cancel as CancelFrame}
 use Rattle.model.specs.declared.world.Thread.{Thread}
 use Rattle.model.specs.declared.world.Value.{Value}
 use Rattle.model.specs.declared.world.Value.TheVariants.{Blank, Num, Ref, Status as StatusValue}
 use Rattle.model.specs.declared.event.Event.{Event}
-use Rattle.model.specs.declared.event.Event.TheVariants.{Issue, Interrupt, Dpc as DpcEvent, StartIo as StartIoEvent, Step}
+use Rattle.model.specs.declared.event.Event.TheVariants.{Issue, Cancel as CancelEvent, Interrupt, Dpc as DpcEvent, StartIo as StartIoEvent, Step}
 use Rattle.model.specs.declared.event.Bug.{Bug}
 use Rattle.model.specs.declared.event.Reply.{Reply}
 use Rattle.model.specs.declared.event.Reply.TheVariants.{Started, Stepped, Finished, Topped, Waited, Idle, Refused, Bug as BugCheckReply, Wrong}
-use Rattle.model.specs.Effect.{Change, effect}
+use Rattle.model.specs.Events.{Change, effect}
 use Rattle.model.specs.Fault.{first_fault}
 use Rattle.model.specs.Set.{Set, sort_of}
 use Rattle.model.specs.Trace.{Entry, Actor, Tag, Managing, Activated, Serving, current_use, recorded}
@@ -45,6 +45,7 @@ begun set threads =
 -- the thread that an event is about, if it is about one
 abbrev pub thread_of : Event → Option ℕ
 thread_of (Issue t d major argument) = Some t
+thread_of (CancelEvent t n level) = Some t
 thread_of (Interrupt d) = None
 thread_of (DpcEvent t d) = Some t
 thread_of (StartIoEvent t d) = Some t
@@ -91,26 +92,33 @@ serving_by past a Dispatch = serving_in past (register a 0)
 serving_by past a StartIo = None
 serving_by past a Dpc = None
 serving_by past a Propagate = None
+serving_by past a Hold = None
+serving_by past a Cancel = None
 
 -- the tag of a frame that is new at its place: a routine's is the next activation
 abbrev pub new_tag : Set → List Entry → ℕ → Frame → Tag
 new_tag set past number (Routine a) =
     Activated number a.driver a.routine (serving_by past a (sort_of set a.driver a.routine))
 new_tag set past number (Walk n) = Managing
+new_tag set past number (CancelFrame c) = Managing
 
 abbrev pub counted_new : Frame → ℕ → ℕ
 counted_new (Routine a) number = number + 1
 counted_new (Walk n) number = number
+counted_new (CancelFrame c) number = number
 
 -- a frame keeps its tag exactly where the one before it at its place was a routine's too
 abbrev pub kept_tag : Set → List Entry → ℕ → Frame → Tag → Frame → Tag
 kept_tag set past number (Routine b) tag (Routine a) = tag
 kept_tag set past number (Routine b) tag (Walk n) = Managing
+kept_tag set past number (Routine b) tag (CancelFrame c) = Managing
 kept_tag set past number (Walk m) tag f = new_tag set past number f
+kept_tag set past number (CancelFrame c) tag f = new_tag set past number f
 
 abbrev pub counted_kept : Frame → Frame → ℕ → ℕ
 counted_kept (Routine b) f number = number
 counted_kept (Walk m) f number = counted_new f number
+counted_kept (CancelFrame c) f number = counted_new f number
 
 -- the tags of the frames that stand after an event, where others stood with theirs
 abbrev pub tags_after : Set → List Entry → ℕ → List Frame → List Tag → List Frame → List Tag

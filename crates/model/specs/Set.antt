@@ -1,10 +1,13 @@
 -- Driver sets: drivers and devices, and which routine serves what.
-use Rattle.std.specs.Prelude.{ℕ, List, [], ◌∷◌, Option, None, Some, nat_eq, unwrap_or, option_and_then, option_map, slice_get, if◌then◌else◌}
+use Rattle.std.specs.Prelude.{ℕ, ◌+◌, Bool, false, List, [], ◌∷◌, Option, None, Some, nat_eq, unwrap_or, option_and_then, option_map, slice_get, if◌then◌else◌}
 use Rattle.model.specs.declared.instr.Instr.{Instr}
-use Rattle.model.specs.declared.instr.Instr.TheVariants.{Const, Move, Clear, Add, Subtract, JumpIfZero, JumpIfLess, Jump, Loop, End, Load, Store, LoadPaged, StorePaged, Get, Put, Mark, Acquire, Release, AcquireCancel, ReleaseCancel, Insert, Remove, Start, Take, Begin, Next, Pass, Call, Complete, IfPending, Ret}
+use Rattle.model.specs.declared.instr.Instr.TheVariants.{Const, Move, Clear, Add, Subtract, JumpIfZero, JumpIfLess, Jump, Loop, End, Load, Store, LoadPaged, StorePaged, Get, Put, Mark, Acquire, Release, AcquireCancel, ReleaseCancel, Insert, Remove, Unlink, Arm, Disarm, IfCancel, Start, Take, Begin, Next, Pass, Call, Complete, IfPending, Ret}
 use Rattle.model.specs.declared.instr.Return.TheVariants.{WithStatus}
 use Rattle.model.specs.declared.set.Driver.{Driver}
 use Rattle.model.specs.declared.set.Device.{Device}
+use Rattle.model.specs.declared.set.Queue.{Queue}
+use Rattle.model.specs.declared.set.QueueName.{QueueName}
+use Rattle.model.specs.declared.set.QueueName.TheVariants.{Declared}
 use Rattle.model.specs.declared.set.Routine.{Routine}
 use Rattle.model.specs.declared.set.Sort.{Sort}
 use Rattle.model.specs.declared.set.Sort.TheVariants.{Dispatch}
@@ -71,6 +74,43 @@ guard_of set driver q =
     option_map (λ queue. queue.guard)
     (option_and_then (λ d. slice_get d.queues q) (slice_get set.drivers driver))
 
+-- the cancel routine of a queue of a driver, if it has one
+abbrev pub cancel_routine_of : Set → ℕ → ℕ → Option ℕ
+cancel_routine_of set driver q =
+    option_and_then (λ queue. queue.cancel)
+    (option_and_then (λ d. slice_get d.queues q) (slice_get set.drivers driver))
+
+-- the guard and the cancel routine of a list by its name
+abbrev pub guard_named : Set → ℕ → QueueName → Option ℕ
+guard_named set driver (Declared q) = guard_of set driver q
+
+abbrev pub cancel_routine_named : Set → ℕ → QueueName → Option ℕ
+cancel_routine_named set driver (Declared q) = cancel_routine_of set driver q
+
+-- the lists whose cancel routine a routine is, from the queue of a number on
+abbrev pub is_named : Option ℕ → ℕ → Bool
+is_named None number = false
+is_named (Some cancel) number = nat_eq cancel number
+
+abbrev pub cancelled_from : List Queue → ℕ → ℕ → List QueueName
+cancelled_from [] q number = []
+cancelled_from (queue ∷ queues) q number =
+    if is_named queue.cancel number then Declared q ∷ cancelled_from queues (q + 1) number
+    else cancelled_from queues (q + 1) number
+
+abbrev pub cancelled_in : Option Driver → ℕ → List QueueName
+cancelled_in None number = []
+cancelled_in (Some d) number = cancelled_from d.queues 0 number
+
+-- the one list whose cancel routine a routine of a driver is, if it is that of exactly one
+abbrev pub only_one : List QueueName → Option QueueName
+only_one [] = None
+only_one (name ∷ []) = Some name
+only_one (name ∷ other ∷ names) = None
+
+abbrev pub cancels_for : Set → ℕ → ℕ → Option QueueName
+cancels_for set driver number = only_one (cancelled_in (slice_get set.drivers driver) number)
+
 -- the device under a device
 abbrev pub lower_of : Set → ℕ → Option ℕ
 lower_of set device = option_and_then (λ d. d.lower) (slice_get set.devices device)
@@ -121,6 +161,10 @@ flow_of AcquireCancel = Onward
 flow_of ReleaseCancel = Onward
 flow_of (Insert r q) = Onward
 flow_of (Remove r q label) = Branches label
+flow_of (Unlink r q) = Onward
+flow_of (Arm r q) = Onward
+flow_of (Disarm r label) = Branches label
+flow_of (IfCancel r label) = Branches label
 flow_of (Start r) = Onward
 flow_of (Take r label) = Branches label
 flow_of (Begin r) = Onward

@@ -2,16 +2,16 @@
 -- It doesn't keep that a routine ends in a return, nor anything that the verifier decides.
 use Rattle.std.specs.Prelude.{ℕ, suc, ⊤, ◌^◌, ◌<◌, ◌≤◌, List, [], ◌∷◌, length, All, IfSome, Option, None, Some, slice_get}
 use Rattle.model.specs.declared.instr.Instr.{Instr}
-use Rattle.model.specs.declared.instr.Instr.TheVariants.{Const, Move, Clear, Add, Subtract, JumpIfZero, JumpIfLess, Jump, Loop, End, Load, Store, LoadPaged, StorePaged, Get, Put, Mark, Acquire, Release, AcquireCancel, ReleaseCancel, Insert, Remove, Start, Take, Begin, Next, Pass, Call, Complete, IfPending, Ret}
+use Rattle.model.specs.declared.instr.Instr.TheVariants.{Const, Move, Clear, Add, Subtract, JumpIfZero, JumpIfLess, Jump, Loop, End, Load, Store, LoadPaged, StorePaged, Get, Put, Mark, Acquire, Release, AcquireCancel, ReleaseCancel, Insert, Remove, Unlink, Arm, Disarm, IfCancel, Start, Take, Begin, Next, Pass, Call, Complete, IfPending, Ret}
 use Rattle.model.specs.declared.instr.Return.{Return}
-use Rattle.model.specs.declared.instr.Return.TheVariants.{WithStatus, Lower, Continue, Void}
+use Rattle.model.specs.declared.instr.Return.TheVariants.{WithStatus, Lower, Continue, Stop, Void}
 use Rattle.model.specs.declared.limits.TheConstants.{CELLS, MAX_DEVICES, MAX_DRIVERS, MAX_INSTRUCTIONS, MAX_QUEUES, MAX_ROUTINES, MAX_STACK, MAX_TURNS, REGISTERS, SPIN_LOCKS}
 use Rattle.model.specs.declared.set.Driver.{Driver}
 use Rattle.model.specs.declared.set.Device.{Device}
 use Rattle.model.specs.declared.set.Queue.{Queue}
 use Rattle.model.specs.declared.set.Routine.{Routine}
 use Rattle.model.specs.declared.set.Sort.{Sort}
-use Rattle.model.specs.declared.set.Sort.TheVariants.{Dispatch, StartIo, Dpc, Propagate}
+use Rattle.model.specs.declared.set.Sort.TheVariants.{Dispatch, StartIo, Dpc, Propagate, Hold, Cancel}
 use Rattle.model.specs.Set.{Set, label_of}
 
 -- a label is a position of its routine
@@ -33,6 +33,7 @@ abbrev pub FormFits : Return → Type 0
 FormFits (WithStatus status) = ⊤
 FormFits (Lower r) = IsRegister r
 FormFits Continue = ⊤
+FormFits Stop = ⊤
 FormFits Void = ⊤
 
 -- all operands of an instruction are within their limits. A label, a queue and a `call`'s routine
@@ -61,6 +62,10 @@ OperandFits AcquireCancel = ⊤
 OperandFits ReleaseCancel = ⊤
 OperandFits (Insert r q) = IsRegister r
 OperandFits (Remove r q label) = IsRegister r
+OperandFits (Unlink r q) = IsRegister r
+OperandFits (Arm r q) = IsRegister r
+OperandFits (Disarm r label) = IsRegister r
+OperandFits (IfCancel r label) = IsRegister r
 OperandFits (Start r) = IsRegister r
 OperandFits (Take r label) = IsRegister r
 OperandFits (Begin r) = IsRegister r
@@ -89,6 +94,8 @@ IsDispatch Dispatch = ⊤
 IsDispatch StartIo = ⊥
 IsDispatch Dpc = ⊥
 IsDispatch Propagate = ⊥
+IsDispatch Hold = ⊥
+IsDispatch Cancel = ⊥
 
 abbrev pub HandlerFits : List Routine → Option ℕ → Type 0
 HandlerFits routines handler =
@@ -100,6 +107,8 @@ IsStartIo Dispatch = ⊥
 IsStartIo StartIo = ⊤
 IsStartIo Dpc = ⊥
 IsStartIo Propagate = ⊥
+IsStartIo Hold = ⊥
+IsStartIo Cancel = ⊥
 
 abbrev pub StartIoFits : List Routine → Option ℕ → Type 0
 StartIoFits routines startio =
@@ -111,6 +120,8 @@ IsDpc Dispatch = ⊥
 IsDpc StartIo = ⊥
 IsDpc Dpc = ⊤
 IsDpc Propagate = ⊥
+IsDpc Hold = ⊥
+IsDpc Cancel = ⊥
 
 abbrev pub DpcFits : List Routine → Option ℕ → Type 0
 DpcFits routines dpc = IfSome dpc (λ number. HasSort IsDpc (slice_get routines number))
@@ -121,6 +132,8 @@ IsCompletion Dispatch = ⊥
 IsCompletion StartIo = ⊥
 IsCompletion Dpc = ⊥
 IsCompletion Propagate = ⊤
+IsCompletion Hold = ⊤
+IsCompletion Cancel = ⊥
 
 -- the completion routine that an instruction names
 abbrev pub completion_named : Instr → Option ℕ
@@ -147,6 +160,10 @@ completion_named AcquireCancel = None
 completion_named ReleaseCancel = None
 completion_named (Insert r q) = None
 completion_named (Remove r q label) = None
+completion_named (Unlink r q) = None
+completion_named (Arm r q) = None
+completion_named (Disarm r label) = None
+completion_named (IfCancel r label) = None
 completion_named (Start r) = None
 completion_named (Take r label) = None
 completion_named (Begin r) = None
@@ -189,6 +206,10 @@ queue_named AcquireCancel = None
 queue_named ReleaseCancel = None
 queue_named (Insert r q) = Some q
 queue_named (Remove r q label) = Some q
+queue_named (Unlink r q) = Some q
+queue_named (Arm r q) = Some q
+queue_named (Disarm r label) = None
+queue_named (IfCancel r label) = None
 queue_named (Start r) = None
 queue_named (Take r label) = None
 queue_named (Begin r) = None
@@ -205,13 +226,26 @@ QueueFits queues i = IfSome (queue_named i) (λ q. q < queues)
 abbrev pub QueuesFit : ℕ → Routine → Type 0
 QueuesFit queues routine = All (QueueFits queues) routine.code
 
+-- the cancel routine of a queue is a cancel routine of the driver
+abbrev pub IsCancel : Sort → Type 0
+IsCancel Dispatch = ⊥
+IsCancel StartIo = ⊥
+IsCancel Dpc = ⊥
+IsCancel Propagate = ⊥
+IsCancel Hold = ⊥
+IsCancel Cancel = ⊤
+
+abbrev pub CancelFits : List Routine → Queue → Type 0
+CancelFits routines queue =
+    IfSome queue.cancel (λ number. HasSort IsCancel (slice_get routines number))
+
 -- the guard of a queue is one of the eight spin locks
 abbrev pub GuardFits : Queue → Type 0
 GuardFits queue = IsSpinLock queue.guard
 
 -- a driver has at most 32 routines, each of which fits, and its handlers, its StartIo and its DPC
--- routine and the routines of its calls are among them; it has at most 4 queues, and the queues
--- that its instructions name are among them
+-- routine, the routines of its calls and the cancel routines of its queues are among them; it has at
+-- most 4 queues, and the queues that its instructions name are among them
 pub record DriverFits (driver : Driver) : Type 0 where
   pub few : length driver.routines ≤ MAX_ROUTINES
   pub routines : All RoutineFits driver.routines
@@ -223,6 +257,7 @@ pub record DriverFits (driver : Driver) : Type 0 where
   pub calls : All (CallsFit driver.routines) driver.routines
   pub few_queues : length driver.queues ≤ MAX_QUEUES
   pub guards : All GuardFits driver.queues
+  pub cancels : All (CancelFits driver.routines) driver.queues
   pub queues : All (QueuesFit (length driver.queues)) driver.routines
 
 -- a device is of a driver of the set, its stack size is 1 to 16, and it is over an earlier device,

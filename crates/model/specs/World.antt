@@ -8,6 +8,7 @@ use Rattle.model.specs.declared.event.Lock.TheVariants.{SystemCancel, Spin}
 use Rattle.model.specs.declared.instr.Field.{Field}
 use Rattle.model.specs.declared.instr.Field.TheVariants.{Major as MajorField, Argument as ArgumentField, Info as InfoField}
 use Rattle.model.specs.declared.world.Activation.{Activation}
+use Rattle.model.specs.declared.world.Armer.{Armer}
 use Rattle.model.specs.declared.world.Cells.{Cells}
 use Rattle.model.specs.declared.world.OpenLoop.{OpenLoop}
 use Rattle.model.specs.declared.world.Irql.TheVariants.{Passive}
@@ -221,6 +222,13 @@ mark_current p =
 abbrev pub completed : Packet → Status → Packet
 completed p status = record p { status = status; completing = true }
 
+-- a packet that IoCancelIrp was called for, and one whose cancel word is another, or empty
+abbrev pub cancelled : Packet → Packet
+cancelled p = record p { cancel = true }
+
+abbrev pub with_armer : Packet → Option Armer → Packet
+with_armer p armer = record p { armer = armer }
+
 -- IoCallDriver with a location of its own (Driver Kit, IoCopyCurrentIrpStackLocationToNext and
 -- IoSetCompletionRoutine): the next location asks the lower device the same, with no control bit
 -- set
@@ -318,6 +326,8 @@ new_packet number device major argument stack =
       info = 0;
       completing = false;
       pending_returned = false;
+      cancel = false;
+      armer = None;
     }
 
 -- the frame of a routine that begins, with what it is handed in its first register

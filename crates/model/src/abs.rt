@@ -2,6 +2,8 @@
 
 ghost use Rattle.std.specs.Prelude.{◌≡◌};
 
+use crate::set::QueueName;
+
 /// What a register may be used for.
 #[derive(Clone, Copy, PartialEq, Eq)]
 pub enum Kind {
@@ -15,6 +17,15 @@ pub enum Kind {
     New,
     /// It holds a packet that the routine has marked pending and owns.
     Own,
+    /// It holds a packet that the routine owns and has put into the list, with no cancel routine set.
+    Listed(QueueName),
+    /// It holds a packet in the list whose cancel routine the routine has set: IoCancelIrp may have
+    /// called that since.
+    Armed(QueueName),
+    /// It holds a packet that was taken off the list, whose cancel routine may be set still.
+    Taken(QueueName),
+    /// It holds a packet that IoCancelIrp handed to the list's cancel routine.
+    Cancelling(QueueName),
     /// It holds a packet that is on its way up, which a completion routine may look at.
     View,
 }
@@ -96,6 +107,8 @@ pub enum Rule {
     Level = 10,
     /// V11: a queue is touched while the spin lock that guards it isn't held.
     Guard = 11,
+    /// V12: a packet in a list with a cancel routine is used before it is the routine's own.
+    CancelState = 12,
     /// V13: a packet is lost, or its register is written over.
     Dropped = 13,
     /// V14: the token of a busy device is lost, doubled, or used without being there.

@@ -12,6 +12,12 @@ pub enum Event {
         major: Major,
         argument: u64,
     },
+    /// IoCancelIrp is called for the packet of this number, on an idle thread at this level.
+    Cancel {
+        thread: u8,
+        packet: u64,
+        level: u8,
+    },
     /// The device interrupts: its DPC is queued.
     Interrupt {
         device: u8,

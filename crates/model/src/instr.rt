@@ -28,6 +28,8 @@ pub enum Return {
     Lower(Register),
     /// STATUS_CONTINUE_COMPLETION: `ret continue`.
     Continue,
+    /// STATUS_MORE_PROCESSING_REQUIRED: `ret stop`.
+    Stop,
     /// Nothing: `ret void`.
     Void,
 }
@@ -82,6 +84,14 @@ pub enum Instr {
     /// `remove r q L`: the register becomes the first packet of the queue, which is taken off;
     /// where the queue is empty, it jumps to the label.
     Remove(Register, u8, u16),
+    /// `unlink r q`: the packet is taken off the queue, wherever it stands there.
+    Unlink(Register, u8),
+    /// `arm r q`: IoSetCancelRoutine with the cancel routine of the queue.
+    Arm(Register, u8),
+    /// `disarm r L`: IoSetCancelRoutine with none; jumps where none was set.
+    Disarm(Register, u16),
+    /// `ifcancel r L`: jumps if Irp->Cancel is set.
+    IfCancel(Register, u16),
     /// `start r`: IoStartPacket.
     Start(Register),
     /// `take r L`: the register becomes the packet in the current slot, which is taken out of it;
@@ -117,6 +127,8 @@ impl Instr {
             | Instr::JumpIfLess(_, _, label)
             | Instr::Jump(label)
             | Instr::Remove(_, _, label)
+            | Instr::Disarm(_, label)
+            | Instr::IfCancel(_, label)
             | Instr::Take(_, label)
             | Instr::IfPending(_, label) => Some(label),
             _ => None,

@@ -18,6 +18,12 @@ pub enum Sort {
     Dpc,
     /// A completion routine that lets the completion go on: it carries the pending mark up.
     Propagate,
+    /// A completion routine that may hold the packet: it is lent it, and takes it back
+    /// (STATUS_MORE_PROCESSING_REQUIRED) or lets the completion go on.
+    Hold,
+    /// A cancel routine of a queue: IoCancelIrp calls it for a packet of that queue, with the system
+    /// cancel spin lock held.
+    Cancel,
 }
 
 /// A routine: its sort and its instructions.
@@ -27,10 +33,19 @@ pub struct Routine {
     pub code: Items<Instr>,
 }
 
-/// A queue of a driver, which each of its devices has: the number of the spin lock that guards it.
+/// A queue of a driver, which each of its devices has: the number of the spin lock that guards it,
+/// and of the cancel routine of the packets in it. Without one the queue is plain.
 #[derive(Clone, Copy)]
 pub struct Queue {
     pub guard: SpinLock,
+    pub cancel: Option<u8>,
+}
+
+/// The name of a list of packets of a driver that may have a cancel routine.
+#[derive(Clone, Copy, PartialEq, Eq)]
+pub enum QueueName {
+    /// The queue of this number that the driver declares.
+    Declared(u8),
 }
 
 /// A driver: its routines and queues, and the numbers of the routines that serve each major

@@ -1,6 +1,7 @@
 //! The state of a run: threads with their frames, and packets with their stack locations.
 
 use crate::limits::{CELLS, MAX_FRAMES, MAX_LOOPS, MAX_STACK, REGISTERS};
+use crate::set::QueueName;
 use crate::status::{Major, Status};
 use arrayvec::ArrayVec;
 
@@ -37,6 +38,24 @@ pub struct Activation {
     pub registers: [Value; REGISTERS],
 }
 
+/// What IoCancelIrp does next. Each of its steps is atomic, and others may come between them.
+#[derive(Clone, Copy)]
+pub enum CancelStep {
+    /// It acquires the system cancel spin lock.
+    Acquire,
+    /// It sets the packet's cancel flag.
+    SetFlag,
+    /// It exchanges the packet's cancel routine with none, and calls the one that was set.
+    Exchange,
+}
+
+/// IoCancelIrp, which cancels the packet of this number.
+#[derive(Clone, Copy)]
+pub struct Canceller {
+    pub packet: u64,
+    pub next: CancelStep,
+}
+
 /// One frame of a thread.
 #[derive(Drop)]
 pub enum Frame {
@@ -44,6 +63,8 @@ pub enum Frame {
     Routine(Activation),
     /// The I/O manager, which completes the packet of this number.
     Walk(u64),
+    /// The I/O manager, which cancels a packet.
+    Cancel(Canceller),
 }
 
 impl Default for Frame {
@@ -92,6 +113,14 @@ pub struct Location {
     pub completion: Option<Completion>,
 }
 
+/// What set a packet's cancel routine (IoSetCancelRoutine): the device, and the list of its driver
+/// that has the routine.
+#[derive(Clone, Copy)]
+pub struct Armer {
+    pub device: u8,
+    pub queue: QueueName,
+}
+
 /// A live packet (IRP): one that was issued and has not topped out.
 #[derive(Drop)]
 pub struct Packet {
@@ -108,6 +137,10 @@ pub struct Packet {
     pub completing: bool,
     /// Irp->PendingReturned: the location that completion left last was marked.
     pub pending_returned: bool,
+    /// Irp->Cancel: IoCancelIrp was called.
+    pub cancel: bool,
+    /// The cancel word: whose cancel routine is set, if one is.
+    pub armer: Option<Armer>,
 }
 
 /// The number cells of a device, all 0 at first.

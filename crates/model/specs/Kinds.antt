@@ -1,0 +1,236 @@
+-- What the kind of a register says by itself: what the register may be used for.
+use Rattle.std.specs.Prelude.{ℕ, ◌||◌, ◌&&◌, nat_eq, List, [], not, Bool, true, false, ◌∷◌, Option, None, Some, if◌then◌else◌}
+use Rattle.model.specs.declared.abs.Duty.{Duty}
+use Rattle.model.specs.declared.abs.Duty.TheVariants.{Finished}
+use Rattle.model.specs.declared.abs.Kind.{Kind}
+use Rattle.model.specs.declared.abs.Kind.TheVariants.{Blank, Num, Lower, New, Own, Listed, Armed, Taken, Cancelling, View}
+use Rattle.model.specs.declared.set.QueueName.{QueueName}
+use Rattle.model.specs.declared.set.QueueName.TheVariants.{Declared}
+use Rattle.model.specs.Set.{Set, guard_named}
+
+-- a packet in a register
+abbrev pub is_packet : Kind → Bool
+is_packet Blank = false
+is_packet Num = false
+is_packet Lower = false
+is_packet New = true
+is_packet Own = true
+is_packet (Listed name) = true
+is_packet (Armed name) = true
+is_packet (Taken name) = true
+is_packet (Cancelling name) = true
+is_packet View = true
+
+abbrev pub is_view : Kind → Bool
+is_view Blank = false
+is_view Num = false
+is_view Lower = false
+is_view New = false
+is_view Own = false
+is_view (Listed name) = false
+is_view (Armed name) = false
+is_view (Taken name) = false
+is_view (Cancelling name) = false
+is_view View = true
+
+-- one that the routine has done nothing with
+abbrev pub is_new : Kind → Bool
+is_new Blank = false
+is_new Num = false
+is_new Lower = false
+is_new New = true
+is_new Own = false
+is_new (Listed name) = false
+is_new (Armed name) = false
+is_new (Taken name) = false
+is_new (Cancelling name) = false
+is_new View = false
+
+-- a packet that a routine may not leave behind in a register: any but one on its way up
+abbrev pub is_kept : Kind → Bool
+is_kept kind = is_packet kind && not (is_view kind)
+
+-- a packet that a routine has the right to
+abbrev pub is_right : Kind → Bool
+is_right Blank = false
+is_right Num = false
+is_right Lower = false
+is_right New = true
+is_right Own = true
+is_right (Listed name) = true
+is_right (Armed name) = false
+is_right (Taken name) = false
+is_right (Cancelling name) = true
+is_right View = false
+
+-- `complete` wants a packet that the routine was handed or owns; where the register is blank, it
+-- was completed or handed on before
+abbrev pub is_blank : Kind → Bool
+is_blank Blank = true
+is_blank Num = false
+is_blank Lower = false
+is_blank New = false
+is_blank Own = false
+is_blank (Listed name) = false
+is_blank (Armed name) = false
+is_blank (Taken name) = false
+is_blank (Cancelling name) = false
+is_blank View = false
+
+abbrev pub is_lower : Kind → Bool
+is_lower Blank = false
+is_lower Num = false
+is_lower Lower = true
+is_lower New = false
+is_lower Own = false
+is_lower (Listed name) = false
+is_lower (Armed name) = false
+is_lower (Taken name) = false
+is_lower (Cancelling name) = false
+is_lower View = false
+
+-- the same list
+abbrev pub is_name : QueueName → QueueName → Bool
+is_name (Declared p) (Declared q) = nat_eq p q
+
+-- a packet that is the routine's own, and stands in a list; that may be cancelled there; that was
+-- taken off it, and may be cancelled; that IoCancelIrp handed to its cancel routine
+abbrev pub is_listed : QueueName → Kind → Bool
+is_listed name Blank = false
+is_listed name Num = false
+is_listed name Lower = false
+is_listed name New = false
+is_listed name Own = false
+is_listed name (Listed other) = is_name other name
+is_listed name (Armed other) = false
+is_listed name (Taken other) = false
+is_listed name (Cancelling other) = false
+is_listed name View = false
+
+abbrev pub is_armed : QueueName → Kind → Bool
+is_armed name Blank = false
+is_armed name Num = false
+is_armed name Lower = false
+is_armed name New = false
+is_armed name Own = false
+is_armed name (Listed other) = false
+is_armed name (Armed other) = is_name other name
+is_armed name (Taken other) = false
+is_armed name (Cancelling other) = false
+is_armed name View = false
+
+abbrev pub is_cancelling : QueueName → Kind → Bool
+is_cancelling name Blank = false
+is_cancelling name Num = false
+is_cancelling name Lower = false
+is_cancelling name New = false
+is_cancelling name Own = false
+is_cancelling name (Listed other) = false
+is_cancelling name (Armed other) = false
+is_cancelling name (Taken other) = false
+is_cancelling name (Cancelling other) = is_name other name
+is_cancelling name View = false
+
+abbrev pub is_exchanged : Kind → Bool
+is_exchanged Blank = false
+is_exchanged Num = false
+is_exchanged Lower = false
+is_exchanged New = false
+is_exchanged Own = false
+is_exchanged (Listed name) = false
+is_exchanged (Armed name) = true
+is_exchanged (Taken name) = true
+is_exchanged (Cancelling name) = false
+is_exchanged View = false
+
+-- no packet is removed from a list while a register names one that is or was to be cancelled there:
+-- it could be the same
+abbrev pub names_list : QueueName → Kind → Bool
+names_list name kind = is_listed name kind || (is_armed name kind || is_cancelling name kind)
+
+-- the spin lock guards a list; and a register needs it that holds a packet in the list which no
+-- cancel routine can be called for, or one that was taken off it
+abbrev pub is_guard : Option ℕ → ℕ → Bool
+is_guard None lock = false
+is_guard (Some guard) lock = nat_eq guard lock
+
+abbrev pub needs_guard : Set → ℕ → ℕ → Kind → Bool
+needs_guard set driver lock Blank = false
+needs_guard set driver lock Num = false
+needs_guard set driver lock Lower = false
+needs_guard set driver lock New = false
+needs_guard set driver lock Own = false
+needs_guard set driver lock (Listed name) = is_guard (guard_named set driver name) lock
+needs_guard set driver lock (Armed name) = false
+needs_guard set driver lock (Taken name) = is_guard (guard_named set driver name) lock
+needs_guard set driver lock (Cancelling name) = false
+needs_guard set driver lock View = false
+
+-- a completion ends the duty to a packet that wasn't marked
+abbrev pub duty_completed : Kind → Duty → Duty
+duty_completed Blank duty = duty
+duty_completed Num duty = duty
+duty_completed Lower duty = duty
+duty_completed New duty = Finished
+duty_completed Own duty = duty
+duty_completed (Listed name) duty = duty
+duty_completed (Armed name) duty = duty
+duty_completed (Taken name) duty = duty
+duty_completed (Cancelling name) duty = duty
+duty_completed View duty = duty
+
+-- what is moved away leaves its register blank, unless it is a number
+abbrev pub left_behind : Kind → Kind
+left_behind Blank = Blank
+left_behind Num = Num
+left_behind Lower = Blank
+left_behind New = Blank
+left_behind Own = Blank
+left_behind (Listed name) = Blank
+left_behind (Armed name) = Blank
+left_behind (Taken name) = Blank
+left_behind (Cancelling name) = Blank
+left_behind View = Blank
+
+-- a packet that is put into a queue with a cancel routine stays the routine's own while it holds the
+-- guard; one that is taken off may be cancelled until its cancel routine is exchanged
+abbrev pub kind_inserted : Option ℕ → ℕ → Kind
+kind_inserted None q = Blank
+kind_inserted (Some cancel) q = Listed (Declared q)
+
+abbrev pub kind_removed : Option ℕ → ℕ → Kind
+kind_removed None q = Own
+kind_removed (Some cancel) q = Taken (Declared q)
+
+-- the cancel routine was set, so that IoCancelIrp won't call it any more. Of other kinds nothing is
+-- said, since the instruction breaks a rule
+abbrev pub kind_disarmed : Kind → Kind
+kind_disarmed Blank = Blank
+kind_disarmed Num = Num
+kind_disarmed Lower = Lower
+kind_disarmed New = New
+kind_disarmed Own = Own
+kind_disarmed (Listed name) = Listed name
+kind_disarmed (Armed name) = Listed name
+kind_disarmed (Taken name) = Own
+kind_disarmed (Cancelling name) = Cancelling name
+kind_disarmed View = View
+
+-- once the guard is released, a packet whose cancel routine is set belongs to whoever comes first
+abbrev pub let_go : Set → ℕ → ℕ → Kind → Kind
+let_go set driver lock Blank = Blank
+let_go set driver lock Num = Num
+let_go set driver lock Lower = Lower
+let_go set driver lock New = New
+let_go set driver lock Own = Own
+let_go set driver lock (Listed name) = Listed name
+let_go set driver lock (Armed name) =
+    if is_guard (guard_named set driver name) lock then Blank else Armed name
+let_go set driver lock (Taken name) = Taken name
+let_go set driver lock (Cancelling name) = Cancelling name
+let_go set driver lock View = View
+
+abbrev pub all_let_go : Set → ℕ → ℕ → List Kind → List Kind
+all_let_go set driver lock [] = []
+all_let_go set driver lock (kind ∷ kinds) =
+    let_go set driver lock kind ∷ all_let_go set driver lock kinds
