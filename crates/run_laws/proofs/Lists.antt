@@ -128,6 +128,11 @@ pub each_before : {A : Type 0} (P : A → Type 0) (xs ys : List A) → Each P (x
 each_before P [] ys h = tt
 each_before P (x ∷ xs) ys h = (h.0, each_before P xs ys h.1)
 
+pub each_take : {A : Type 0} (P : A → Type 0) (k : ℕ) (xs : List A) → Each P xs → Each P (take k xs)
+each_take P zero xs h = tt
+each_take P (suc k) [] h = tt
+each_take P (suc k) (x ∷ xs) h = (h.0, each_take P k xs h.1)
+
 pub each_after : {A : Type 0} (P : A → Type 0) (xs ys : List A) → Each P (xs ++ ys) → Each P ys
 each_after P [] ys h = h
 each_after P (x ∷ xs) ys h = each_after P xs ys h.1

@@ -3,6 +3,7 @@ pub mod Told
 pub mod Kinds
 pub mod Along
 pub mod NoViews
+pub mod Unlisted
 pub mod Follows
 pub mod Remaining
 pub mod Known
@@ -15,6 +16,7 @@ pub mod Entering
 pub mod Stacks
 pub mod OnTop
 pub mod Obeyed
+pub mod Never
 pub mod Lacking
 pub mod Fine
 pub mod Roots

@@ -5,3 +5,4 @@ pub mod Faults
 pub mod Below
 pub mod Locking
 pub mod Queues
+pub mod Uncancelled

@@ -62,10 +62,11 @@ doubled =
 -- the rule that `begin` breaks after `take` and `next`
 abbrev pub begin_after_next : Abs → Option Rule
 begin_after_next entry =
-    refuses (handed (handed entry (Take 0 3)) Next) (Begin 0) Dpc doubling_set 0
+    let taken : Abs = handed doubling_set 0 entry (Take 0 3) in
+    refuses (handed doubling_set 0 taken Next) (Begin 0) Dpc doubling_set 0
 
 -- the device has a current packet, and another one to be started
 pub record TokenDoubled : Type 0 where
   pub two : doubled
       ≡ Some (record { start_list = 1 ∷ []; device_queue = []; busy = true; slot = Some 0 })
-  pub refused : option_map begin_after_next (entry_of_sort Dpc) ≡ Some (Some Token)
+  pub refused : option_map begin_after_next (entry_of_sort Dpc None) ≡ Some (Some Token)

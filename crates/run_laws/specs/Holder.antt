@@ -8,13 +8,13 @@ use Rattle.model.specs.declared.limits.TheConstants.{REGISTERS}
 use Rattle.model.specs.declared.set.Routine.{Routine as RoutineOf}
 use Rattle.model.specs.declared.world.Activation.{Activation}
 use Rattle.model.specs.declared.world.Frame.{Frame}
-use Rattle.model.specs.declared.world.Frame.TheVariants.{Routine, Walk}
+use Rattle.model.specs.declared.world.Frame.TheVariants.{Routine, Walk, Cancel as CancelFrame}
 use Rattle.model.specs.declared.world.Packet.{Packet}
 use Rattle.model.specs.declared.world.Thread.{Thread}
 use Rattle.model.specs.declared.world.Value.{Value}
 use Rattle.model.specs.declared.world.Value.TheVariants.{Blank, Num, Ref, Status as StatusValue}
 use Rattle.model.specs.Fault.{topped}
-use Rattle.model.specs.LocalRule.{is_right}
+use Rattle.model.specs.Kinds.{is_right}
 use Rattle.model.specs.Paths.{Arrives}
 use Rattle.model.specs.Queues.{StartState}
 use Rattle.model.specs.Run.{Run, frames_on, run}
@@ -22,6 +22,7 @@ use Rattle.model.specs.Set.{Set, member, routine_of}
 use Rattle.model.specs.Sound.{IsSound}
 use Rattle.model.specs.Typable.{IsTypable}
 use Rattle.model.specs.World.{Shared, packet_of}
+use Rattle.run_laws.specs.CancelsNothing.{CancelsNothing, NoCancels}
 
 -- 1 where a value refers to a packet, else 0
 abbrev pub names : Value → ℕ → ℕ
@@ -43,10 +44,12 @@ rights (k ∷ kinds) (v ∷ values) n = right k v n + rights kinds values n
 abbrev pub frame_rights : (ℕ → ℕ → ℕ → Abs) → Frame → ℕ → ℕ
 frame_rights states (Routine a) n = rights (states a.driver a.routine a.position).kinds a.registers n
 frame_rights states (Walk m) n = 0
+frame_rights states (CancelFrame c) n = 0
 
 abbrev pub frame_walks : Frame → ℕ → ℕ
 frame_walks (Routine a) n = 0
 frame_walks (Walk m) n = if nat_eq m n then 1 else 0
+frame_walks (CancelFrame c) n = 0
 
 abbrev pub stack_sum : (Frame → ℕ) → List Frame → ℕ
 stack_sum count [] = 0
@@ -125,5 +128,6 @@ pub record HasOneHolder (set : Set) (threads : ℕ) (events : List Event) : Type
 
 abbrev pub PacketsHaveOneHolder : Type 0
 PacketsHaveOneHolder =
-    (set : Set) → IsTypable set → IsSound set → (threads : ℕ) (events : List Event)
+    (set : Set) → IsTypable set → IsSound set → CancelsNothing set
+    → (threads : ℕ) (events : List Event) → NoCancels events
     → HasOneHolder set threads events

@@ -1,3 +1,4 @@
+pub mod CancelsNothing
 pub mod NoWrong
 pub mod LockOrder
 pub mod Holder

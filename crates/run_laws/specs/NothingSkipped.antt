@@ -5,7 +5,8 @@ use Rattle.std.specs.Prelude.{ℕ, ⊤, ◌≡◌, ◌≤◌, List, length, Opti
 use Rattle.model.specs.declared.event.Event.{Event}
 use Rattle.model.specs.declared.set.Sort.TheVariants.{Dispatch}
 use Rattle.model.specs.declared.world.Activation.{Activation}
-use Rattle.model.specs.declared.world.Frame.TheVariants.{Routine, Walk}
+use Rattle.model.specs.declared.world.Canceller.{Canceller}
+use Rattle.model.specs.declared.world.Frame.TheVariants.{Routine, Walk, Cancel as CancelFrame}
 use Rattle.model.specs.declared.world.Packet.{Packet}
 use Rattle.model.specs.Action.{Action, Executes, Acquires, Releases, TouchesPaged, Touches, Issues, Calls, Ups, Completes, Continues, Lends, Exchanges, Marks, Leaves, Returns, TopsOut, GoesWrong}
 use Rattle.model.specs.Run.{frames_on, run, tags_on}
@@ -14,6 +15,7 @@ use Rattle.model.specs.Sound.{IsSound}
 use Rattle.model.specs.Trace.{Entry, Serving, Tag, Managing, Activated, uses}
 use Rattle.model.specs.Typable.{IsTypable}
 use Rattle.model.specs.World.{packet_of}
+use Rattle.run_laws.specs.CancelsNothing.{CancelsNothing, NoCancels}
 
 -- a tag is an activation's, and one that serves a use
 abbrev pub IsActivation : Tag → Type 0
@@ -74,11 +76,15 @@ pub record SkipsNothing (set : Set) (threads : ℕ) (events : List Event) : Type
       → RoutineTag set (tags_on (run set threads events) t) k a
   pub managers : (t k n : ℕ) → slice_get (frames_on (run set threads events).world t) k ≡ Some (Walk n)
       → slice_get (tags_on (run set threads events) t) k ≡ Some Managing
+  pub cancellers : (t k : ℕ) (c : Canceller)
+      → slice_get (frames_on (run set threads events).world t) k ≡ Some (CancelFrame c)
+      → slice_get (tags_on (run set threads events) t) k ≡ Some Managing
   pub packets : (n : ℕ) (p : Packet) → packet_of (run set threads events).world.shared n ≡ Some p
       → HasUses (run set threads events).past n p
   pub entries : All (λ (e : Entry). SaysWho e.action e) (run set threads events).past
 
 abbrev pub NothingIsSkipped : Type 0
 NothingIsSkipped =
-    (set : Set) → IsTypable set → IsSound set → (threads : ℕ) (events : List Event)
+    (set : Set) → IsTypable set → IsSound set → CancelsNothing set
+    → (threads : ℕ) (events : List Event) → NoCancels events
     → SkipsNothing set threads events

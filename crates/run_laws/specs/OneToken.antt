@@ -4,7 +4,7 @@ use Rattle.model.specs.declared.abs.Abs.{Abs}
 use Rattle.model.specs.declared.event.Event.{Event}
 use Rattle.model.specs.declared.set.Routine.{Routine as RoutineOf}
 use Rattle.model.specs.declared.world.Frame.{Frame}
-use Rattle.model.specs.declared.world.Frame.TheVariants.{Routine, Walk}
+use Rattle.model.specs.declared.world.Frame.TheVariants.{Routine, Walk, Cancel as CancelFrame}
 use Rattle.model.specs.declared.world.Thread.{Thread}
 use Rattle.model.specs.Paths.{Arrives}
 use Rattle.model.specs.Queues.{StartState}
@@ -14,6 +14,7 @@ use Rattle.model.specs.Sound.{IsSound}
 use Rattle.model.specs.Typable.{IsTypable}
 use Rattle.model.specs.World.{start_of}
 use Rattle.run_laws.specs.Holder.{thread_sum}
+use Rattle.run_laws.specs.CancelsNothing.{CancelsNothing, NoCancels}
 
 -- the tokens of a device that a frame has: one, if it is a routine's for that device, and has it by the
 -- state at its position
@@ -21,6 +22,7 @@ abbrev pub frame_tokens : (ℕ → ℕ → ℕ → Abs) → ℕ → Frame → �
 frame_tokens states d (Routine a) =
     if nat_eq a.device d && (states a.driver a.routine a.position).token then 1 else 0
 frame_tokens states d (Walk n) = 0
+frame_tokens states d (CancelFrame c) = 0
 
 -- those that wait for StartIo to begin, or for a DPC routine to take the current packet
 abbrev pub slot_tokens : Option ℕ → ℕ
@@ -51,5 +53,6 @@ pub record HasOneToken (set : Set) (threads : ℕ) (events : List Event) : Type 
 
 abbrev pub BusyDevicesHaveOneToken : Type 0
 BusyDevicesHaveOneToken =
-    (set : Set) → IsTypable set → IsSound set → (threads : ℕ) (events : List Event)
+    (set : Set) → IsTypable set → IsSound set → CancelsNothing set
+    → (threads : ℕ) (events : List Event) → NoCancels events
     → HasOneToken set threads events

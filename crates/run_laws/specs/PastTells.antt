@@ -1,6 +1,6 @@
 -- What the past of a run tells of its world: of the packets, of the locks, and of the threads'
 -- stacks of frames.
-use Rattle.std.specs.Prelude.{ℕ, ◌≡◌, ◌≤◌, ◌&&◌, false, true, List, length, Some, is_none, nat_lt}
+use Rattle.std.specs.Prelude.{ℕ, ◌≡◌, ◌≤◌, ◌&&◌, false, true, List, length, Some, is_none, is_some, nat_lt}
 use Rattle.model.specs.declared.event.Event.{Event}
 use Rattle.model.specs.declared.event.Lock.{Lock}
 use Rattle.model.specs.declared.limits.TheConstants.{MAX_FRAMES}
@@ -12,11 +12,11 @@ use Rattle.model.specs.Sound.{IsSound}
 use Rattle.model.specs.Trace.{Entry}
 use Rattle.model.specs.World.{owner_of, packet_of}
 
--- of a live packet: whether the I/O manager has it, that it has no cancel routine, how many
+-- of a live packet: whether the I/O manager has it, whether it has a cancel routine, how many
 -- locations it has, and how far down it was sent
 pub record TellsOfPacket (past : List Entry) (n : ℕ) (p : Packet) : Type 0 where
   pub completion : completing past n ≡ p.completing
-  pub disarmed : armed past n ≡ false
+  pub armed : armed past n ≡ is_some p.armer
   pub size : stack_size past n ≡ length p.locations.items
   pub place : depth past n ≡ p.depth
 

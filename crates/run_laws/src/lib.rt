@@ -1,6 +1,6 @@
-//! Laws of runs: what holds of every run of an accepted set, whatever its threads and events; and
-//! what holds of any set's. Nothing runs here: each law is the contract of a function that does
-//! nothing.
+//! Laws of runs: what holds of every run of an accepted set that cancels nothing, whatever its
+//! threads and its events, but for calls of IoCancelIrp; and what holds of any set's. Nothing runs
+//! here: each law is the contract of a function that does nothing.
 #![tactic(auto)]
 
 ghost use Rattle.run_laws.specs.CarriedMark.{CarriedUp};
@@ -19,21 +19,21 @@ ghost use Rattle.run_laws.specs.SharedMark.{SharedByBoth};
 ghost use Rattle.run_laws.specs.TopsOnce.{PacketsTopOutOnce};
 
 /// Of any set, accepted or not, until its run stops: a packet has topped out exactly where it was
-/// issued and isn't live, the live packets are as the trace says and none has a cancel routine, a
-/// thread holds a lock exactly where it is its owner, and no thread has more than 32 frames.
+/// issued and isn't live, the live packets are as the trace says, a thread holds a lock exactly
+/// where it is its owner, and no thread has more than 32 frames.
 pub fn the_past_tells_of_the_world()
     ensures { PastTellsOfTheWorld }
 {}
 
-/// No run of an accepted set goes wrong: no operand is of a wrong kind, no position is outside its
-/// routine, no loop instruction is without its loop, and an activation's device is there with its
-/// locks and cells.
+/// No run of an accepted set that cancels nothing goes wrong: no operand is of a wrong kind, no
+/// position is outside its routine, no loop instruction is without its loop, and an activation's
+/// device is there with its locks and cells.
 pub fn accepted_runs_never_go_wrong()
     ensures { AcceptedRunsNeverGoWrong }
 {}
 
-/// Every activation of an accepted set executes at most as many instructions as the certificate of
-/// its routine.
+/// Every activation of an accepted set that cancels nothing executes at most as many instructions
+/// as the certificate of its routine.
 pub fn activations_keep_their_certificate()
     ensures { ActivationsKeepTheirCertificate }
 {}
@@ -58,8 +58,8 @@ pub fn busy_devices_have_one_token()
     ensures { BusyDevicesHaveOneToken }
 {}
 
-/// No run of an accepted set stops: there is no bug check of any kind, nothing goes wrong, and no
-/// step of a thread is refused.
+/// No run of an accepted set that cancels nothing stops: there is no bug check of any kind,
+/// nothing goes wrong, and no step of a thread is refused.
 pub fn accepted_runs_never_stop()
     ensures { AcceptedRunsNeverStop }
 {}
@@ -77,7 +77,7 @@ pub fn nothing_is_skipped()
     ensures { NothingIsSkipped }
 {}
 
-/// Every run of an accepted set keeps all these rules.
+/// Every run of an accepted set that cancels nothing keeps all these rules.
 pub fn accepted_runs_keep_the_rules()
     ensures { AcceptedRunsKeepTheRules }
 {}

@@ -1,9 +1,9 @@
 -- What every run of an accepted set keeps, a field a family; no event has a bug check, goes wrong
 -- or passes a bound; and each event keeps it.
-use Rattle.std.proofs.Common.{◌≡◌, ℕ, List, [], length, None, refl, ◌∙◌, Bool}
+use Rattle.std.proofs.Common.{◌≡◌, ℕ, List, [], length, None, refl, ◌∙◌, Bool, false}
 use Rattle.std.specs.Prelude.{slice_get}
 use Rattle.std.proofs.lemmas.List.{length-replicate}
-use Rattle.model.specs.Effect.{Change}
+use Rattle.model.specs.Events.{Change}
 use Rattle.model.specs.Run.{begun, root_of}
 use Rattle.model.specs.Set.{Set}
 use Rattle.model.specs.Trace.{Entry, Actor, recorded}
@@ -20,6 +20,7 @@ use Rattle.run_laws.proofs.Uses.Fates.{UsesTell}
 use Rattle.run_laws.proofs.Holders.Sums.{Held}
 use Rattle.run_laws.proofs.Locks.Runs.{LocksAgree, locks_kept, lock_faults_none, locks_begun}
 use Rattle.run_laws.proofs.Past.Runs.{Telling, telling_begun, telling_happens, telling_queued}
+use Rattle.run_laws.proofs.Past.Unarmed.{NoneArmed, unarmed_event}
 use Rattle.run_laws.proofs.Room.Runs.{Roomy, roomy_begun, call_faults_none, roomy_kept}
 use Rattle.run_laws.proofs.Runs.Events.{Happens}
 use Rattle.run_laws.proofs.Runs.Faultless.{recorded_faultless}
@@ -35,6 +36,7 @@ pub record Keeps (set : Set) (states : States) (threads : ℕ) (w : World) (past
     0 where
   pub stands : Standing set states w past
   pub told : Telling w past
+  pub unarmed : NoneArmed past
   pub locks : LocksAgree states w past
   pub held : Held states w
   pub tokens : OneTokenEach states w
@@ -54,6 +56,7 @@ keeps_begun set states threads =
     record {
       stands = standing_begun set states threads;
       told = telling_begun set threads;
+      unarmed = λ n. refl;
       locks = locks_begun set states threads;
       held = held_begun set states threads;
       tokens = tokens_begun set states threads;
@@ -76,7 +79,7 @@ module _ (set : Set) (states : States) (threads : ℕ) (w : World) (past : List 
 
   -- every event of a run goes on
   pub goes_on_by : (actor : Actor) (c : Change) → actor.root ≡ root_of (slice_get w.threads actor.thread)
-      → Happens set w actor.thread c → GoesOnBy set w past actor c
+      → Happens set w actor.thread false c → GoesOnBy set w past actor false c
   goes_on_by actor c root happens =
       let touches : fault_among is_touch past actor c.actions ≡ None =
       touches_none set states w past good keeps.stands keeps.sees actor c keeps.held
@@ -87,7 +90,7 @@ module _ (set : Set) (states : States) (threads : ℕ) (w : World) (past : List 
         calls = call_faults_none set states w past good keeps.stands keeps.held keeps.room
             keeps.tokens actor c happens touches;
         completions =
-            completion_faults_none set states w past good keeps.stands keeps.held keeps.told.unarmed
+            completion_faults_none set states w past good keeps.stands keeps.held keeps.unarmed
             actor c
             happens;
       } in
@@ -99,12 +102,13 @@ module _ (set : Set) (states : States) (threads : ℕ) (w : World) (past : List 
             (falls_event set states w actor.thread keeps.falls past c good keeps.stands happens) happens;
       }
 
-  pub keeps_event : (actor : Actor) (c : Change) → GoesOnBy set w past actor c
+  pub keeps_event : (actor : Actor) (c : Change) → GoesOnBy set w past actor false c
       → Keeps set states threads c.world (recorded past actor c.actions)
   keeps_event actor c on =
       record {
         stands = standing_kept set states w past good keeps.stands actor c on;
-        told = telling_happens set good.sound w past actor c keeps.told on.happens on.quiet on.within;
+        told = telling_happens set good.sound w past actor false c keeps.told on.happens on.quiet on.within;
+        unarmed = unarmed_event set good.quiet past actor keeps.unarmed w false c on.happens;
         locks = locks_kept set states w past good keeps.stands keeps.locks actor c on;
         held = held_kept set states w past good keeps.stands keeps.held keeps.tokens actor c on;
         tokens = tokens_kept set states w past good keeps.stands keeps.tokens actor c on;
@@ -126,6 +130,7 @@ module _ (set : Set) (states : States) (threads : ℕ) (w : World) (past : List 
       record {
         stands = standing_queued set states w past good keeps.stands d queued;
         told = telling_queued w past d queued keeps.told;
+        unarmed = keeps.unarmed;
         locks = keeps.locks;
         held = record { rights = keeps.held.rights; walks = keeps.held.walks };
         tokens = tokens_queued states w d queued keeps.tokens;

@@ -5,12 +5,14 @@ use Rattle.model.specs.declared.event.Event.{Event}
 use Rattle.model.specs.declared.event.Event.TheVariants.{Step}
 use Rattle.model.specs.declared.event.Reply.{Reply}
 use Rattle.model.specs.declared.event.Reply.TheVariants.{Refused}
-use Rattle.model.specs.Effect.{effect}
+use Rattle.model.specs.declared.world.Frame.TheVariants.{Walk, Cancel as CancelFrame}
+use Rattle.model.specs.Events.{effect}
 use Rattle.model.specs.Machine.{reply_to}
 use Rattle.model.specs.Run.{Run, Answered, frames_on, tags_on, step, run}
 use Rattle.model.specs.Set.{Set}
 use Rattle.model.specs.Sound.{IsSound}
 use Rattle.model.specs.Typable.{IsTypable}
+use Rattle.run_laws.specs.CancelsNothing.{CancelsNothing, NoCancels}
 use Rattle.run_laws.specs.Holder.{HasOneHolder, PacketsHaveOneHolder}
 use Rattle.run_laws.specs.Lifetime.{KeepCertificates, ActivationsKeepTheirCertificate}
 use Rattle.run_laws.specs.LockOrder.{LocksAreOrderly}
@@ -43,26 +45,26 @@ lets_go reply right =
       wrong = λ place same. (let no : true ≡ false = sym (ap stops_run same) ∙ right in cc);
     }
 
-module _ (set : Set) (typable : IsTypable set) (sound : IsSound set) (threads : ℕ)
-    (events : List Event) where
+module _ (set : Set) (typable : IsTypable set) (sound : IsSound set) (quiet : CancelsNothing set)
+    (threads : ℕ) (events : List Event) (none : NoCancels events) where
   abbrev states : States
-  states = (led set typable sound).0
+  states = (led set typable sound quiet).0
 
   good : IsGood set states
-  good = record { sound = sound; led = (led set typable sound).1 }
+  good = record { sound = sound; led = (led set typable sound quiet).1; quiet = quiet }
 
   abbrev here : Run
   here = run set threads events
 
   lasting : Lasts set states good threads here
-  lasting = lasts set states good threads events
+  lasting = lasts set states good threads events none
 
   reply_right : (e : Event) → stops_run (reply_to set threads events e) ≡ false
   reply_right e = right_answer set states good threads here lasting e
 
   granted : (t : ℕ) → t < threads → reply_to set threads events (Step t) ≢ Refused
   granted t within same =
-      let on : GoesOn set states good threads here t (effect set here.world (Step t))
+      let on : GoesOn set states good threads here t false (effect set here.world (Step t))
       (step set here (Step t)) =
       goes_on_at set states good threads here lasting t (Step t) refl
       (happens_step set here.world t (slice_get here.world.threads t) refl) in
@@ -128,7 +130,10 @@ module _ (set : Set) (typable : IsTypable set) (sound : IsSound set) (threads : 
             (lasting.keeps.stands.frames t) (λ b first. tt) there;
         managers = λ t k n there. manager_tag set states here.world here.past None
             (frames_on here.world t)
-            (tags_on here t) k n (lasting.attends.serves_all t) there;
+            (tags_on here t) k (Walk n) (λ tag is. is) (lasting.attends.serves_all t) there;
+        cancellers = λ t k c there. manager_tag set states here.world here.past None
+            (frames_on here.world t)
+            (tags_on here t) k (CancelFrame c) (λ tag is. is) (lasting.attends.serves_all t) there;
         packets = has_uses here.world here.past lasting.keeps.«uses»;
         entries = all_say here.past lasting.says;
       }
@@ -153,28 +158,29 @@ accepted_tops = at_most_once
 
 -- no bug check at all is about a lock: a law of its own, as its reader asks for it by itself
 pub accepted_locks : LocksAreOrderly
-accepted_locks set typable sound threads events e bug reply =
-    absurd (((never_stops set typable sound threads events).replies e).bug bug reply)
+accepted_locks set typable sound quiet threads events none e bug reply =
+    absurd (((never_stops set typable sound quiet threads events none).replies e).bug bug reply)
 
 pub accepted_agree : AcceptedRunsAgreeOnPending
-accepted_agree set typable sound threads events =
-    pending_agree (states set typable sound threads events) (run set threads events).world
+accepted_agree set typable sound quiet threads events none =
+    pending_agree (states set typable sound quiet threads events none)
+    (run set threads events).world
     (run set threads events).past
-    (lasting set typable sound threads events).attends.agree
+    (lasting set typable sound quiet threads events none).attends.agree
 
 pub accepted_skip_nothing : NothingIsSkipped
 accepted_skip_nothing = skips_nothing
 
 pub accepted_rules : AcceptedRunsKeepTheRules
-accepted_rules set typable sound threads events =
+accepted_rules set typable sound quiet threads events none =
     record {
-      faultless = (lasting set typable sound threads events).keeps.faultless;
-      right = never_wrong set typable sound threads events;
-      lasting = never_stops set typable sound threads events;
-      certificates = keep_certificates set typable sound threads events;
-      pending = accepted_agree set typable sound threads events;
-      complete = skips_nothing set typable sound threads events;
-      holders = has_one_holder set typable sound threads events;
-      tokens = has_one_token set typable sound threads events;
-      topped = at_most_once set typable sound threads events;
+      faultless = (lasting set typable sound quiet threads events none).keeps.faultless;
+      right = never_wrong set typable sound quiet threads events none;
+      lasting = never_stops set typable sound quiet threads events none;
+      certificates = keep_certificates set typable sound quiet threads events none;
+      pending = accepted_agree set typable sound quiet threads events none;
+      complete = skips_nothing set typable sound quiet threads events none;
+      holders = has_one_holder set typable sound quiet threads events none;
+      tokens = has_one_token set typable sound quiet threads events none;
+      topped = at_most_once set typable sound quiet threads events none;
     }

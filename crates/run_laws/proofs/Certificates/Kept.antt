@@ -5,11 +5,12 @@ use Rattle.std.proofs.lemmas.List.{set-get_or}
 use Rattle.model.specs.declared.event.Reply.{Reply}
 use Rattle.model.specs.declared.world.Activation.{Activation}
 use Rattle.model.specs.declared.world.Frame.{Frame}
-use Rattle.model.specs.declared.world.Frame.TheVariants.{Routine, Walk}
+use Rattle.model.specs.declared.world.Frame.TheVariants.{Routine, Walk, Cancel as CancelFrame}
 use Rattle.model.specs.declared.world.Irql.TheVariants.{Passive, Dispatch as DispatchLevel}
 use Rattle.model.specs.Action.{Action}
 use Rattle.model.specs.Certificate.{certificate_of}
-use Rattle.model.specs.Effect.{Change, unchanged, Outcome, rooted, serves_request, settled, standing, told_to, top_of, with_stack, with_thread, dpc_activation}
+use Rattle.model.specs.Effect.{Outcome, told_to, top_of}
+use Rattle.model.specs.Events.{Change, unchanged, rooted, serves_request, settled, standing, with_stack, with_thread, dpc_activation}
 use Rattle.model.specs.Run.{Run, actor_on, activations_after, frames_on, goes, tags_after, tags_on, top_tag}
 use Rattle.model.specs.Set.{Set}
 use Rattle.model.specs.declared.event.Reply.TheVariants.{Idle}
@@ -25,6 +26,7 @@ use Rattle.run_laws.proofs.Runs.Kept.{with_queued}
 use Rattle.run_laws.proofs.Runs.Threads.{frames_there, frames_put}
 use Rattle.run_laws.proofs.States.Entering.{begins_request, begins_dpc, startio_activation}
 use Rattle.run_laws.proofs.States.Frames.{IsGood, due}
+use Rattle.run_laws.proofs.States.Never.{keeps_below}
 use Rattle.run_laws.proofs.States.Rules.{States}
 use Rattle.run_laws.proofs.States.Standing.{Standing, on_top, startio_enters}
 use Rattle.run_laws.proofs.Steps.Below.{standing_is}
@@ -78,11 +80,16 @@ tags_same set given past number (Walk n ∷ frames) (Managing ∷ row) h =
     ap (λ (tags : List Tag). Managing ∷ tags) (tags_same set given past number frames row h.1)
 tags_same set given past number (Walk n ∷ frames) (Activated g driver routine serving ∷ row) h =
     absurd h.0
+tags_same set given past number (CancelFrame c ∷ frames) (Managing ∷ row) h =
+    ap (λ (tags : List Tag). Managing ∷ tags) (tags_same set given past number frames row h.1)
+tags_same set given past number (CancelFrame c ∷ frames) (Activated g driver routine serving ∷ row) h =
+    absurd h.0
 
 count_same : (number : ℕ) (frames : List Frame) → activations_after number frames frames ≡ number
 count_same number [] = refl
 count_same number (Routine a ∷ frames) = count_same number frames
 count_same number (Walk n ∷ frames) = count_same number frames
+count_same number (CancelFrame c ∷ frames) = count_same number frames
 
 idle_known : (given row : List Tag) → Matched given [] row → IsKnown given (top_tag row)
 idle_known given [] h = tt
@@ -116,7 +123,9 @@ module _ (set : Set) (states : States) (good : IsGood set states) (r : Run) (t :
       let acting : top_tag row ≡ top.tag = top_is row top.tags top.tag top.is in
       let later : List Entry = past_with r t c in
       let after : standing set h.below o ≡ told_to set h.below o.told ++ o.frames =
-      standing_is set r.world.shared t (top_of h.below) h.frame o h.below h.comes in
+      standing_is set r.world.shared t (top_of h.below) h.frame o h.below h.comes
+      (keeps_below set states r.world.shared t (top_of h.below) h.frame o
+      (on_top set states r.world r.past good stands t h) h.comes) in
       let follows : Follows (frame_due set) set tally.given later r.activations
       h.thread.frames.items row (top_tag row)
       (executed_in o.actions) (standing set h.below o) =
@@ -196,7 +205,7 @@ module _ (set : Set) (states : States) (good : IsGood set states) (r : Run) (t :
       ap (λ (new : List Tag). slice_set r.tags t new) row ∙ set-get_or r.tags t [] in
       rw (tags, count_same r.activations (frames_on r.world t)) tally
 
-  pub tally_kept : (c : Change) → Happens set r.world t c
+  pub tally_kept : (c : Change) → Happens set r.world t false c
       → Tallied set (goes set r t (past_with r t c) c).run
   tally_kept c (nothing reply right) = nothing_tally
   tally_kept c (steps h) = steps_tally h

@@ -5,7 +5,7 @@ use Rattle.std.specs.Prelude.{⊤, slice_get, slice_set, if◌then◌else◌}
 use Rattle.std.proofs.lemmas.Bool.Decides.{eqb_tells}
 use Rattle.model.specs.declared.world.Activation.{Activation}
 use Rattle.model.specs.declared.world.Frame.{Frame}
-use Rattle.model.specs.declared.world.Frame.TheVariants.{Routine, Walk}
+use Rattle.model.specs.declared.world.Frame.TheVariants.{Routine, Walk, Cancel as CancelFrame}
 use Rattle.model.specs.declared.world.Thread.{Thread}
 use Rattle.model.specs.Action.{Action}
 use Rattle.model.specs.Certificate.{certificate_of}
@@ -208,8 +208,13 @@ module _ (cost : Frame → ℕ) where
   Alike (Routine a) (Routine b) = (b.driver ≡ a.driver) × (b.routine ≡ a.routine)
       × (cost (Routine b) ≡ cost (Routine a))
   Alike (Walk m) (Walk n) = ⊤
+  Alike (CancelFrame c) (CancelFrame d) = ⊤
   Alike (Routine a) (Walk n) = ⊥
+  Alike (Routine a) (CancelFrame d) = ⊥
   Alike (Walk m) (Routine b) = ⊥
+  Alike (Walk m) (CancelFrame d) = ⊥
+  Alike (CancelFrame c) (Routine b) = ⊥
+  Alike (CancelFrame c) (Walk n) = ⊥
 
   abbrev pub AllAlike : List Frame → List Frame → Type 0
   AllAlike [] [] = ⊤
@@ -220,6 +225,7 @@ module _ (cost : Frame → ℕ) where
   pub self_alike : (f : Frame) → Alike f f
   self_alike (Routine a) = (refl, refl, refl)
   self_alike (Walk n) = tt
+  self_alike (CancelFrame c) = tt
 
   alike_kept : (set : Set) (given : List Tag) (past : List Entry) (number : ℕ) (f g : Frame) (tag : Tag)
       → Alike f g → Fits given tag f → kept_tag set past number f tag g ≡ tag
@@ -229,12 +235,25 @@ module _ (cost : Frame → ℕ) where
       absurd fits
   alike_kept set given past number (Routine a) (Walk n) tag h fits = absurd h
   alike_kept set given past number (Walk m) (Routine b) tag h fits = absurd h
+  alike_kept set given past number (CancelFrame c) (CancelFrame d) Managing h fits = refl
+  alike_kept set given past number (CancelFrame c) (CancelFrame d) (Activated k driver routine serving) h
+      fits =
+      absurd fits
+  alike_kept set given past number (Routine a) (CancelFrame d) tag h fits = absurd h
+  alike_kept set given past number (Walk m) (CancelFrame d) tag h fits = absurd h
+  alike_kept set given past number (CancelFrame c) (Routine b) tag h fits = absurd h
+  alike_kept set given past number (CancelFrame c) (Walk n) tag h fits = absurd h
 
   alike_counted : (f g : Frame) (number : ℕ) → Alike f g → counted_kept f g number ≡ number
   alike_counted (Routine a) (Routine b) number h = refl
   alike_counted (Walk m) (Walk n) number h = refl
   alike_counted (Routine a) (Walk n) number h = absurd h
   alike_counted (Walk m) (Routine b) number h = absurd h
+  alike_counted (CancelFrame c) (CancelFrame d) number h = refl
+  alike_counted (Routine a) (CancelFrame d) number h = absurd h
+  alike_counted (Walk m) (CancelFrame d) number h = absurd h
+  alike_counted (CancelFrame c) (Routine b) number h = absurd h
+  alike_counted (CancelFrame c) (Walk n) number h = absurd h
 
   alike_owes : (g : ℕ) (given : List Tag) (tag : Tag) (f now : Frame) → Alike f now → Fits given tag f
       → if_own g tag (cost now) ≡ if_own g tag (cost f)
@@ -243,6 +262,13 @@ module _ (cost : Frame → ℕ) where
   alike_owes g given (Activated k driver routine serving) (Walk m) (Walk n) h fits = absurd fits
   alike_owes g given tag (Routine a) (Walk n) h fits = absurd h
   alike_owes g given tag (Walk m) (Routine b) h fits = absurd h
+  alike_owes g given Managing (CancelFrame c) (CancelFrame d) h fits = refl
+  alike_owes g given (Activated k driver routine serving) (CancelFrame c) (CancelFrame d) h fits =
+      absurd fits
+  alike_owes g given tag (Routine a) (CancelFrame d) h fits = absurd h
+  alike_owes g given tag (Walk m) (CancelFrame d) h fits = absurd h
+  alike_owes g given tag (CancelFrame c) (Routine b) h fits = absurd h
+  alike_owes g given tag (CancelFrame c) (Walk n) h fits = absurd h
 
   alike_fits : (given : List Tag) (tag : Tag) (f now : Frame) → Alike f now → Fits given tag f
       → Fits given tag now
@@ -251,6 +277,13 @@ module _ (cost : Frame → ℕ) where
   alike_fits given (Activated k driver routine serving) (Walk m) (Walk n) h fits = absurd fits
   alike_fits given tag (Routine a) (Walk n) h fits = absurd h
   alike_fits given tag (Walk m) (Routine b) h fits = absurd h
+  alike_fits given Managing (CancelFrame c) (CancelFrame d) h fits = fits
+  alike_fits given (Activated k driver routine serving) (CancelFrame c) (CancelFrame d) h fits =
+      absurd fits
+  alike_fits given tag (Routine a) (CancelFrame d) h fits = absurd h
+  alike_fits given tag (Walk m) (CancelFrame d) h fits = absurd h
+  alike_fits given tag (CancelFrame c) (Routine b) h fits = absurd h
+  alike_fits given tag (CancelFrame c) (Walk n) h fits = absurd h
 
   owed_alike : (g : ℕ) (given : List Tag) (below now : List Frame) (tags : List Tag) → AllAlike below now
       → Matched given below tags → owed g now tags ≡ owed g below tags
@@ -297,20 +330,23 @@ module _ (cost : Frame → ℕ) where
   abbrev pub IsFresh : Set → Frame → Type 0
   IsFresh set (Routine a) = cost (Routine a) ≤ certificate_of set a.driver a.routine
   IsFresh set (Walk n) = ⊤
+  IsFresh set (CancelFrame c) = ⊤
 
   abbrev pub AllFresh : Set → List Frame → Type 0
   AllFresh set [] = ⊤
   AllFresh set (f ∷ frames) = IsFresh set f × AllFresh set frames
 
   -- what a frame's step executes is paid for by what the frame owed; where its routine goes on it
-  -- owes the rest, and every other routine's frame is a fresh one
+  -- owes the rest, and every other routine's frame is a fresh one. No frame of IoCancelIrp stands
   abbrev pub Pays : Set → Frame → ℕ → List Frame → Type 0
   Pays set f n [] = n ≤ cost f
   Pays set (Routine a) n (Routine b ∷ frames) =
       (n + cost (Routine b) ≤ cost (Routine a)) × (b.driver ≡ a.driver) × (b.routine ≡ a.routine)
       × AllFresh set frames
   Pays set (Routine a) n (Walk m ∷ frames) = (n ≤ cost (Routine a)) × AllFresh set frames
+  Pays set (Routine a) n (CancelFrame c ∷ frames) = ⊥
   Pays set (Walk k) n (g ∷ frames) = AllFresh set (g ∷ frames)
+  Pays set (CancelFrame c) n (g ∷ frames) = ⊥
 
   fresh_owed : (set : Set) (g : ℕ) (past : List Entry) (number : ℕ) (frames : List Frame)
       → AllFresh set frames
@@ -327,6 +363,10 @@ module _ (cost : Frame → ℕ) where
       in
       omega arith
   fresh_owed set g past number (Walk n ∷ frames) h =
+      let others : owed g frames (fresh_tags set past number frames)
+      ≤ allowed set g (fresh_tags set past number frames) = fresh_owed set g past number frames h.1 in
+      omega arith
+  fresh_owed set g past number (CancelFrame c ∷ frames) h =
       let others : owed g frames (fresh_tags set past number frames)
       ≤ allowed set g (fresh_tags set past number frames) = fresh_owed set g past number frames h.1 in
       omega arith
@@ -455,6 +495,10 @@ module _ (cost : Frame → ℕ) where
       beginning set given past number k n (Routine b) frames pays
   follows_top set given past number (Walk k) Managing n (Walk m ∷ frames) fits pays =
       beginning set given past number k n (Walk m) frames pays
+  follows_top set given past number (Walk k) Managing n (CancelFrame c ∷ frames) fits pays =
+      beginning set given past number k n (CancelFrame c) frames pays
+  follows_top set given past number (Routine a) tag n (CancelFrame c ∷ frames) fits pays = absurd pays
+  follows_top set given past number (CancelFrame c) tag n (g ∷ frames) fits pays = absurd pays
 
   -- a step of the top frame, over frames that go on as they were
   pub follows_step : (set : Set) (given : List Tag) (past : List Entry) (number : ℕ)

@@ -11,8 +11,8 @@ use Rattle.model.specs.declared.world.Activation.{Activation}
 use Rattle.model.specs.declared.world.Frame.{Frame}
 use Rattle.model.specs.declared.world.Packet.{Packet}
 use Rattle.model.specs.declared.abs.Abs.{Abs}
-use Rattle.model.specs.declared.instr.Return.TheVariants.{Continue, Void}
-use Rattle.model.specs.declared.world.Frame.TheVariants.{Routine, Walk}
+use Rattle.model.specs.declared.instr.Return.TheVariants.{Continue, Stop, Void}
+use Rattle.model.specs.declared.world.Frame.TheVariants.{Routine, Walk, Cancel as CancelFrame}
 use Rattle.model.specs.declared.world.Value.{Value}
 use Rattle.model.specs.declared.world.Value.TheVariants.{Status as StatusValue}
 use Rattle.model.specs.Effect.{Outcome, answered_in, asks, turned, operand_of, told_to}
@@ -26,11 +26,13 @@ use Rattle.run_laws.proofs.States.Frames.{state_of, due, due_of, due_in, due_is,
 use Rattle.run_laws.proofs.States.Lacking.{never_lacks}
 use Rattle.run_laws.proofs.States.LoopEnds.{moved_loop, moved_end}
 use Rattle.run_laws.proofs.States.Moves.{falls_plain, is_plain, onto, moved, plain_open, plain_left, some_due}
+use Rattle.run_laws.proofs.States.Never.{never_stands}
 use Rattle.run_laws.proofs.States.OnTop.{OnTop, runs}
 use Rattle.run_laws.proofs.States.Remaining.{rest, summed}
 use Rattle.run_laws.proofs.States.Rules.{States}
 use Rattle.run_laws.proofs.States.Told.{told_frame, told_last, told_is}
-use Rattle.run_laws.proofs.Steps.Comes.{Executing, Comes, errs, awaits_lock, computes, opens_loop, turns_loop, pages, touches_gone, looks_at, writes_info, marks_packet, takes_lock, retakes_lock, frees_lock, completes_packet, completes_gone, passes_down, calls_down, returns_status, lets_go, lets_walk, walks_gone, walks_to, walks_up, carries_up, tops_out, ends_dpc, works_on_queues, ends_startio}
+use Rattle.run_laws.proofs.Steps.Comes.{Executing, Comes, errs, awaits_lock, computes, opens_loop, turns_loop, pages, touches_gone, looks_at, writes_info, marks_packet, takes_lock, retakes_lock, frees_lock, completes_packet, completes_gone, passes_down, calls_down, returns_status, lets_go, lets_walk, walks_gone, walks_to, walks_up, carries_up, tops_out, ends_dpc, works_on_queues, ends_startio, exchanges, resumes_walk, resumes_gone, resumes_none, stops_walk, stops_none, ends_cancel, lends_to, cancels}
+use Rattle.run_laws.proofs.Steps.Uncancelled.{never_lends}
 use Rattle.run_laws.proofs.Steps.Words.{lock_taken, lock_freed}
 use Rattle.run_laws.proofs.States.Queueing.{queue_moves, MovedOn}
 use Rattle.run_laws.proofs.Steps.Queues.{queued_touches}
@@ -39,6 +41,7 @@ use Rattle.run_laws.proofs.Steps.Queues.{queued_touches}
 abbrev pub frame_due : Set → Frame → ℕ
 frame_due set (Routine a) = due set a
 frame_due set (Walk n) = 0
+frame_due set (CancelFrame c) = 0
 
 -- registers don't matter to it
 due_with : (o : Option RoutineOf) (a : Activation) (values : List Value)
@@ -64,6 +67,8 @@ module _ (set : Set) where
   frame_alike (Some status) (Routine a) =
       answered_alike a status (operand_of (instruction_at set a.driver a.routine (a.position - 1)))
   frame_alike (Some status) (Walk n) = tt
+  frame_alike None (CancelFrame c) = tt
+  frame_alike (Some status) (CancelFrame c) = tt
 
   last_alike : (told : Option Status) (below : List Frame)
       → AllAlike (frame_due set) below (told_last set told below)
@@ -151,7 +156,7 @@ module _ (set : Set) (states : States) (s : Shared) where
   pays t under f o h (errs a lacks) = absurd (never_lacks set states s a h lacks)
   pays t under f o h (awaits_lock a i lock owner at taken owned apart) = (omega arith, refl, refl, tt)
   pays t under f o h (computes a i b jumped cells at work goes long) =
-      moves_on a b (onto (state_of states a) i jumped) 1 refl
+      moves_on a b (onto set a.driver (state_of states a) i jumped) 1 refl
       (moved set states s a i (runs set states s a i h at) b jumped (rw work refl) goes)
   pays t under f o h (opens_loop a turns at few) =
       moves_on a _ (state_of states a) 1 refl
@@ -160,16 +165,19 @@ module _ (set : Set) (states : States) (s : Shared) where
       moves_on a (turned a l) (state_of states a) 1 refl
       (moved_end set states s a (runs set states s a End h at) l inner)
   pays t under f o h (pages a i b cell cells at work goes long) =
-      moves_on a b (onto (state_of states a) i false) 1 refl
+      moves_on a b (onto set a.driver (state_of states a) i false) 1 refl
       (moved set states s a i (runs set states s a i h at) b false (rw work refl) goes)
   pays t under f o h (touches_gone a i r n at touching on operand reads gone) =
       goes_next_on a i 1 refl h at (falls_plain (flow_of i) on)
   pays t under f o h (looks_at a i b jumped r n p at work goes operand reads there jumps) =
-      moves_on a b (onto (state_of states a) i jumped) 1 refl
+      moves_on a b (onto set a.driver (state_of states a) i jumped) 1 refl
       (moved set states s a i (runs set states s a i h at) b jumped (rw work refl) goes)
   pays t under f o h (writes_info a q r n p info at reads there is) =
       goes_next_on a (Put q r) 1 refl h at refl
   pays t under f o h (marks_packet a r n p at reads there) = goes_next_on a (Mark r) 1 refl h at refl
+  pays t under f o h (exchanges a i b jumped r n p armer at work goes operand reads there how) =
+      moves_on a b (onto set a.driver (state_of states a) i jumped) 1 refl
+      (moved set states s a i (runs set states s a i h at) b jumped (rw work refl) goes)
   pays t under f o h (takes_lock a i lock at taken free) =
       goes_next_on a i 1 refl h at (takes_plain a i lock taken)
   pays t under f o h (retakes_lock a i lock at taken owned) =
@@ -179,10 +187,9 @@ module _ (set : Set) (states : States) (s : Shared) where
   pays t under f o h (works_on_queues a i b queues starts actions full at queued) =
       let on : MovedOn set states s a i b queues starts =
       queue_moves set states s a i (runs set states s a i h at) queued in
-      elim (queued_touches queued) [
-        | inl none ↦ rw none (moves_on a b (onto (state_of states a) i on.jumped) 1 refl on.moved)
-        | inr one ↦ rw one.1 (moves_on a b (onto (state_of states a) i on.jumped) 1 refl on.moved)
-      ]
+      let moves : Pays (frame_due set) set (Routine a) 1 (Routine b ∷ []) =
+      moves_on a b (onto set a.driver (state_of states a) i on.jumped) 1 refl on.moved in
+      elim (queued_touches queued) [ inl none ↦ rw none moves | inr one ↦ rw one.1 moves ]
   pays t under f o h (completes_packet a r status n p at reads there) =
       let here : Pays (frame_due set) set (Routine a) 1 (Routine (next a) ∷ []) =
       goes_next_on a (Complete r status) 1 refl h at refl in
@@ -198,8 +205,17 @@ module _ (set : Set) (states : States) (s : Shared) where
   pays t under f o h (lets_walk a n at sort) = ends a (Ret Continue) 1 refl h at refl
   pays t under f o h (ends_startio a at sort) = ends a (Ret Void) 1 refl h at refl
   pays t under f o h (ends_dpc a at sort) = ends a (Ret Void) 1 refl h at refl
+  pays t under f o h (resumes_walk a n p at sort there) = ends a (Ret Continue) 1 refl h at refl
+  pays t under f o h (resumes_gone a n at sort gone) = ends a (Ret Continue) 1 refl h at refl
+  pays t under f o h (resumes_none a at sort free) = ends a (Ret Continue) 1 refl h at refl
+  pays t under f o h (stops_walk a n at above) = ends a (Ret Stop) 1 refl h at refl
+  pays t under f o h (stops_none a at above free) = ends a (Ret Stop) 1 refl h at refl
+  pays t under f o h (ends_cancel a at sort) = ends a (Ret Void) 1 refl h at refl
+  pays t under f o h (lends_to n p c there set_there sort) = absurd (never_lends h.good.quiet c sort)
+  pays t under f o h (cancels n step made moves) =
+      absurd (never_stands set states s (record { packet = n; next = step }) h)
   pays t under f o h (walks_gone n gone) = omega arith
-  pays t under f o h (walks_to n p c there set_there) =
+  pays t under f o h (walks_to n p c there set_there lends) =
       (tt, ((begins_back set states s h.good h.fits n p c h.stands there set_there).due, tt))
   pays t under f o h (walks_up n p there none more unmarked) = (tt, tt)
   pays t under f o h (carries_up n p there none more marked) = (tt, tt)

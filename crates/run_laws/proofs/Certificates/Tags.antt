@@ -4,7 +4,7 @@ use Rattle.std.proofs.Common.{◌≡◌, ℕ, zero, suc, ◌+◌, ◌≤◌, ◌
 use Rattle.std.specs.Prelude.{⊤, Option, slice_get}
 use Rattle.model.specs.declared.world.Activation.{Activation}
 use Rattle.model.specs.declared.world.Frame.{Frame}
-use Rattle.model.specs.declared.world.Frame.TheVariants.{Routine, Walk}
+use Rattle.model.specs.declared.world.Frame.TheVariants.{Routine, Walk, Cancel as CancelFrame}
 use Rattle.model.specs.Run.{tags_after, activations_after}
 use Rattle.model.specs.Set.{Set}
 use Rattle.model.specs.Trace.{Entry, Serving, Tag, Managing, Activated}
@@ -35,8 +35,10 @@ known_left given more (Activated g driver routine serving) h = among_left _ give
 -- and it is that of a frame
 abbrev pub Fits : List Tag → Tag → Frame → Type 0
 Fits given Managing (Walk n) = ⊤
+Fits given Managing (CancelFrame c) = ⊤
 Fits given Managing (Routine a) = ⊥
 Fits given (Activated g driver routine serving) (Walk n) = ⊥
+Fits given (Activated g driver routine serving) (CancelFrame c) = ⊥
 Fits given (Activated g driver routine serving) (Routine a) =
     (driver ≡ a.driver) × (routine ≡ a.routine) × IsAmong (Activated g driver routine serving) given
 
@@ -49,13 +51,16 @@ Matched given (f ∷ frames) (tag ∷ tags) = Fits given tag f × Matched given 
 pub fits_known : (given : List Tag) (tag : Tag) (f : Frame) → Fits given tag f → IsKnown given tag
 fits_known given Managing f h = tt
 fits_known given (Activated g driver routine serving) (Walk n) h = absurd h
+fits_known given (Activated g driver routine serving) (CancelFrame c) h = absurd h
 fits_known given (Activated g driver routine serving) (Routine a) h = h.2
 
 pub fits_more : (given more : List Tag) (tag : Tag) (f : Frame) → Fits given tag f
     → Fits (given ++ more) tag f
 fits_more given more Managing (Walk n) h = tt
+fits_more given more Managing (CancelFrame c) h = tt
 fits_more given more Managing (Routine a) h = absurd h
 fits_more given more (Activated g driver routine serving) (Walk n) h = absurd h
+fits_more given more (Activated g driver routine serving) (CancelFrame c) h = absurd h
 fits_more given more (Activated g driver routine serving) (Routine a) h =
     (h.0, h.1, among_left _ given more h.2)
 
@@ -150,6 +155,7 @@ pub fresh_numbered : (set : Set) (past : List Entry) (number : ℕ) (frames : Li
 fresh_numbered set past number [] = refl
 fresh_numbered set past number (Routine a ∷ frames) = (refl, fresh_numbered set past (number + 1) frames)
 fresh_numbered set past number (Walk n ∷ frames) = fresh_numbered set past number frames
+fresh_numbered set past number (CancelFrame c ∷ frames) = fresh_numbered set past number frames
 
 pub fresh_matched : (set : Set) (past : List Entry) (number : ℕ) (frames : List Frame) (given : List Tag)
     → ((tag : Tag) → IsAmong tag (fresh_tags set past number frames) → IsAmong tag given)
@@ -160,4 +166,6 @@ fresh_matched set past number (Routine a ∷ frames) given h = (
   fresh_matched set past (number + 1) frames given (λ tag among. h tag (inr among)),
 )
 fresh_matched set past number (Walk n ∷ frames) given h =
+    (tt, fresh_matched set past number frames given (λ tag among. h tag (inr among)))
+fresh_matched set past number (CancelFrame c ∷ frames) given h =
     (tt, fresh_matched set past number frames given (λ tag among. h tag (inr among)))

@@ -8,12 +8,12 @@ use Rattle.model.specs.declared.instr.Instr.{Instr}
 use Rattle.model.specs.declared.instr.Instr.TheVariants.{Pass, Call, Complete}
 use Rattle.model.specs.declared.set.Device.{Device}
 use Rattle.model.specs.declared.set.Sort.{Sort}
-use Rattle.model.specs.declared.set.Sort.TheVariants.{Dispatch, Dpc, Propagate, StartIo}
+use Rattle.model.specs.declared.set.Sort.TheVariants.{Dispatch, Dpc, Propagate, StartIo, Hold, Cancel}
 use Rattle.model.specs.declared.status.Major.{Major}
 use Rattle.model.specs.declared.status.Status.{Status}
 use Rattle.model.specs.declared.world.Activation.{Activation}
 use Rattle.model.specs.declared.world.Frame.{Frame}
-use Rattle.model.specs.declared.world.Frame.TheVariants.{Routine, Walk}
+use Rattle.model.specs.declared.world.Frame.TheVariants.{Routine, Walk, Cancel as CancelFrame}
 use Rattle.model.specs.declared.world.OpenLoop.{OpenLoop}
 use Rattle.model.specs.declared.world.Packet.{Packet}
 use Rattle.model.specs.Effect.{Outcome, answered_in, asks, dispatched, operand_of, told_to, turned}
@@ -25,12 +25,13 @@ use Rattle.run_laws.proofs.Devices.{device_fits}
 use Rattle.run_laws.proofs.States.Entering.{IsOfSort}
 use Rattle.run_laws.proofs.States.Frames.{state_of}
 use Rattle.run_laws.proofs.States.Lacking.{down}
+use Rattle.run_laws.proofs.States.Never.{never_stands}
 use Rattle.run_laws.proofs.States.Obeyed.{completes_one}
 use Rattle.run_laws.proofs.States.OnTop.{OnTop, runs}
 use Rattle.run_laws.proofs.States.Rules.{States}
 use Rattle.run_laws.proofs.States.Stacks.{Stacked}
 use Rattle.run_laws.proofs.States.Told.{told_frame, told_last, told_is}
-use Rattle.run_laws.proofs.Steps.Comes.{GoesTo, onward, jumping, Comes, computes, turns_loop, pages, looks_at, completes_packet, passes_down, calls_down, returns_status, lets_go, lets_walk, ends_dpc, walks_gone, walks_to, walks_up, carries_up, tops_out, works_on_queues, ends_startio}
+use Rattle.run_laws.proofs.Steps.Comes.{GoesTo, onward, jumping, Comes, computes, turns_loop, pages, looks_at, completes_packet, passes_down, calls_down, returns_status, lets_go, lets_walk, ends_dpc, walks_gone, walks_to, walks_up, carries_up, tops_out, works_on_queues, ends_startio, exchanges, resumes_walk, resumes_gone, resumes_none, stops_walk, stops_none, ends_cancel, lends_to, cancels}
 use Rattle.run_laws.proofs.States.Queueing.{queue_moves}
 
 -- frames of a thread, the lowest first: routines for lower and lower devices, all under a first
@@ -39,6 +40,7 @@ abbrev pub Falls : ℕ → List Frame → Type 0
 Falls top [] = ⊤
 Falls top (Routine a ∷ frames) = (a.device < top) × Falls a.device frames
 Falls top (Walk n ∷ frames) = length frames ≤ 1
+Falls top (CancelFrame c ∷ frames) = ⊥
 
 -- they are at most two more than the devices
 pub falls_length : (top : ℕ) (frames : List Frame) → Falls top frames → length frames ≤ top + 2
@@ -48,6 +50,7 @@ falls_length top (Routine a ∷ frames) h =
     let others : length frames ≤ a.device + 2 = falls_length a.device frames h.1 in
     omega arith
 falls_length top (Walk n ∷ frames) h = let few : length frames ≤ 1 = h in omega arith
+falls_length top (CancelFrame c ∷ frames) h = absurd h
 
 module _ (set : Set) where
   -- what a frame's step leaves in its place
@@ -63,6 +66,7 @@ module _ (set : Set) where
   Short (Walk n) (Walk m ∷ []) = ⊤
   Short (Walk n) (Walk m ∷ Routine b ∷ []) = ⊤
   Short (Walk n) _ = ⊥
+  Short (CancelFrame c) _ = ⊥
 
   -- a routine that stands on an I/O manager's frame is a completion routine, and leaves at most one
   -- frame
@@ -71,6 +75,8 @@ module _ (set : Set) where
   not_both StartIo h g = cc
   not_both Dpc h g = cc
   not_both Propagate h g = cc
+  not_both Hold h g = cc
+  not_both Cancel h g = cc
 
   on_walk : (a : Activation) (frames : List Frame) → IsOfSort set a Propagate → Short (Routine a) frames
       → length frames ≤ 1
@@ -81,6 +87,8 @@ module _ (set : Set) where
   on_walk a (Routine b ∷ Walk n ∷ g ∷ frames) is short = absurd short
   on_walk a (Routine b ∷ Routine c ∷ g ∷ frames) is short = absurd short
   on_walk a (Walk n ∷ frames) is short = absurd short
+  on_walk a (CancelFrame c ∷ frames) is short = absurd short
+  on_walk a (Routine b ∷ CancelFrame c ∷ frames) is short = absurd short
 
   -- frames in place of the lowest
   first_falls : (top : ℕ) (f : Frame) (frames : List Frame) → Falls top (f ∷ []) → Short f frames
@@ -100,12 +108,17 @@ module _ (set : Set) where
   first_falls top (Routine a) (Routine b ∷ Walk n ∷ g ∷ frames) h short = absurd short
   first_falls top (Routine a) (Routine b ∷ Routine c ∷ g ∷ frames) h short = absurd short
   first_falls top (Routine a) (Walk n ∷ frames) h short = absurd short
+  first_falls top (Routine a) (CancelFrame c ∷ frames) h short = absurd short
+  first_falls top (Routine a) (Routine b ∷ CancelFrame c ∷ frames) h short = absurd short
+  first_falls top (CancelFrame c) frames h short = absurd h
   first_falls top (Walk n) [] h short = tt
   first_falls top (Walk n) (Walk m ∷ []) h short = omega arith
   first_falls top (Walk n) (Walk m ∷ Routine b ∷ []) h short = omega arith
   first_falls top (Walk n) (Walk m ∷ Walk k ∷ frames) h short = absurd short
   first_falls top (Walk n) (Walk m ∷ Routine b ∷ g ∷ frames) h short = absurd short
   first_falls top (Walk n) (Routine b ∷ frames) h short = absurd short
+  first_falls top (Walk n) (CancelFrame c ∷ frames) h short = absurd short
+  first_falls top (Walk n) (Walk m ∷ CancelFrame c ∷ frames) h short = absurd short
 
   too_many : (below : List Frame) (f e : Frame) → length (e ∷ (below ++ f ∷ [])) ≤ 1 → ⊥
   too_many below f e h =
@@ -126,6 +139,8 @@ module _ (set : Set) where
   falls_on states issued top (Walk m ∷ []) (Routine a) frames stands h short =
       on_walk a frames stands.0.0 short
   falls_on states issued top (Walk m ∷ []) (Walk n) frames stands h short = absurd stands.0
+  falls_on states issued top (Walk m ∷ []) (CancelFrame c) frames stands h short = absurd stands.0
+  falls_on states issued top (CancelFrame c ∷ below) f frames stands h short = absurd h
   falls_on states issued top (Walk m ∷ e ∷ below) f frames stands h short = absurd (too_many below f e h)
 
   -- a frame that is told a status is for the same device
@@ -139,6 +154,7 @@ module _ (set : Set) where
   told_falls top None (Routine a) frames h = h
   told_falls top None (Walk n) frames h = h
   told_falls top (Some status) (Walk n) frames h = h
+  told_falls top told (CancelFrame c) frames h = absurd h
   told_falls top (Some status) (Routine a) frames h =
       subst (λ (d : ℕ). (d < top) × Falls d frames)
       (sym (answered_for a status
@@ -156,6 +172,7 @@ module _ (set : Set) where
   last_falls top told (g ∷ []) frames h = told_falls top told g frames h
   last_falls top told (Routine a ∷ e ∷ below) frames h =
       (h.0, last_falls a.device told (e ∷ below) frames h.1)
+  last_falls top told (CancelFrame c ∷ e ∷ below) frames h = absurd h
   last_falls top told (Walk n ∷ e ∷ below) frames h =
       let same : length (told_last set told (e ∷ below)) ≡ length (e ∷ below) =
       last_length told (e ∷ below) in
@@ -222,6 +239,8 @@ module _ (set : Set) (states : States) (s : Shared) where
   short t under f o h (pages a i b cell cells at work goes long) = goes_for a i b false goes
   short t under f o h (looks_at a i b jumped r n p at work goes operand reads there jumps) =
       goes_for a i b jumped goes
+  short t under f o h (exchanges a i b jumped r n p armer at work goes operand reads there how) =
+      goes_for a i b jumped goes
   short t under f o h (completes_packet a r status n p at reads there) = (
     refl,
     (completes_one (state_of states a) (sort_of set a.driver a.routine) set a.driver r status
@@ -241,8 +260,17 @@ module _ (set : Set) (states : States) (s : Shared) where
   short t under f o h (lets_walk a n at sort) = tt
   short t under f o h (ends_startio a at sort) = tt
   short t under f o h (ends_dpc a at sort) = tt
+  short t under f o h (resumes_walk a n p at sort there) = tt
+  short t under f o h (resumes_gone a n at sort gone) = tt
+  short t under f o h (resumes_none a at sort free) = tt
+  short t under f o h (stops_walk a n at above) = tt
+  short t under f o h (stops_none a at above free) = tt
+  short t under f o h (ends_cancel a at sort) = tt
+  short t under f o h (lends_to n p c there set_there sort) = tt
+  short t under f o h (cancels n step made moves) =
+      absurd (never_stands set states s (record { packet = n; next = step }) h)
   short t under f o h (walks_gone n gone) = tt
-  short t under f o h (walks_to n p c there set_there) = tt
+  short t under f o h (walks_to n p c there set_there lends) = tt
   short t under f o h (walks_up n p there none more unmarked) = tt
   short t under f o h (carries_up n p there none more marked) = tt
   short t under f o h (tops_out n p there none last) = tt

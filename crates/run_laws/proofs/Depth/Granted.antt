@@ -7,13 +7,15 @@ use Rattle.std.proofs.lemmas.Option.{slice_get-get_or}
 use Rattle.model.specs.declared.event.Event.TheVariants.{Step}
 use Rattle.model.specs.declared.event.Reply.{Reply}
 use Rattle.model.specs.declared.event.Reply.TheVariants.{Stepped, Refused}
+use Rattle.model.specs.declared.world.CancelStep.{CancelStep}
 use Rattle.model.specs.declared.world.Frame.{Frame}
 use Rattle.model.specs.declared.world.Thread.{Thread}
-use Rattle.model.specs.Effect.{Change, Outcome, top_of, frame_effect, finished_or, standing, top_effect, step_thread, effect}
+use Rattle.model.specs.Effect.{Outcome, top_of, frame_effect}
+use Rattle.model.specs.Events.{Change, finished_or, standing, top_effect, step_thread, effect}
 use Rattle.model.specs.Set.{Set}
 use Rattle.model.specs.World.{Shared, World, idle_thread}
 use Rattle.run_laws.proofs.Runs.Events.{Happens, nothing, steps, issues, begins, begins_startio}
-use Rattle.run_laws.proofs.Steps.Comes.{Comes, errs}
+use Rattle.run_laws.proofs.Steps.Comes.{Cancels, takes_cancel, Comes, errs, cancels}
 use Rattle.run_laws.proofs.Steps.Walk.{comes}
 
 abbrev pub is_refused : Reply → Bool
@@ -21,10 +23,16 @@ is_refused Refused = true
 is_refused _ = false
 
 -- no step of a frame is refused
+granted_cancel : (set : Set) (s : Shared) (t n : ℕ) (step : CancelStep) (o : Outcome)
+    → Cancels set s t n step o → is_refused o.reply ≡ false
+granted_cancel set s t n step o (takes_cancel free) = refl
+granted_cancel set s t n step o _ = refl
+
 granted : (set : Set) (s : Shared) (t : ℕ) (under : Option Frame) (f : Frame) (o : Outcome)
     → Comes set s t under f o
     → is_refused o.reply ≡ false
 granted set s t under f o (errs a lacks) = refl
+granted set s t under f o (cancels n step made moves) = granted_cancel set s t n step made moves
 granted set s t under f o _ = refl
 
 finished_granted : (frames : List Frame) (reply : Reply) → is_refused reply ≡ false
@@ -56,7 +64,7 @@ pub granted_step : (set : Set) (w : World) (t : ℕ) → t < length w.threads
 granted_step set w t within = granted_thread set w t (slice_get w.threads t) refl within
 
 -- no event makes a thread or ends one
-pub same_count : (set : Set) (w : World) (t : ℕ) (c : Change) → Happens set w t c
+pub same_count : (set : Set) (w : World) (t : ℕ) (c : Change) → Happens set w t false c
     → length c.world.threads ≡ length w.threads
 same_count set w t c (nothing reply right) = refl
 same_count set w t c (steps h) = length-set w.threads t _

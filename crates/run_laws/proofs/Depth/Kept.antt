@@ -8,7 +8,8 @@ use Rattle.model.specs.declared.limits.TheConstants.{MAX_FRAMES}
 use Rattle.model.specs.declared.world.Frame.{Frame}
 use Rattle.model.specs.declared.world.Irql.TheVariants.{Passive, Dispatch as DispatchLevel}
 use Rattle.model.specs.declared.world.Thread.{Thread}
-use Rattle.model.specs.Effect.{Change, Outcome, rooted, dpc_activation, serves_request, standing, top_of, with_stack, with_thread}
+use Rattle.model.specs.Effect.{Outcome, top_of}
+use Rattle.model.specs.Events.{Change, rooted, dpc_activation, serves_request, standing, with_stack, with_thread}
 use Rattle.model.specs.Run.{begun, frames_on}
 use Rattle.model.specs.Set.{Set}
 use Rattle.model.specs.Sound.{IsSound}
@@ -24,9 +25,10 @@ use Rattle.run_laws.proofs.States.Rules.{States}
 use Rattle.run_laws.proofs.States.Standing.{Standing, stands_there, on_top, startio_enters}
 use Rattle.run_laws.proofs.Steps.Below.{standing_is}
 use Rattle.run_laws.proofs.Steps.Comes.{walks_gone, Comes}
-use Rattle.model.specs.declared.world.Frame.TheVariants.{Routine, Walk}
+use Rattle.model.specs.declared.world.Frame.TheVariants.{Routine, Walk, Cancel as CancelFrame}
 use Rattle.run_laws.proofs.Holders.Counts.{Holding}
 use Rattle.run_laws.proofs.Holders.Sums.{Held}
+use Rattle.run_laws.proofs.States.Never.{keeps_below, never_stands}
 use Rattle.run_laws.proofs.States.OnTop.{OnTop}
 use Rattle.run_laws.proofs.Holders.Runs.{top_holding}
 use Rattle.run_laws.proofs.Holders.Full.{never_full}
@@ -63,7 +65,7 @@ module _ (set : Set) (states : States) (w : World) (t : ℕ) (falls : AllFall se
 
   -- an event keeps them
   pub falls_event : (past : List Entry) (c : Change) → IsGood set states → Standing set states w past
-      → Happens set w t c → AllFall set c.world
+      → Happens set w t false c → AllFall set c.world
   falls_event past c good stands (nothing reply right) = falls
   falls_event past c good stands (steps h) =
       let o : Outcome = h.outcome in
@@ -72,7 +74,9 @@ module _ (set : Set) (states : States) (w : World) (t : ℕ) (falls : AllFall se
       (frames_there w t h.thread h.found ∙ h.frames) (falls t) in
       let after : Falls (length set.devices) (standing set h.below o) =
       subst (λ (frames : List Frame). Falls (length set.devices) frames)
-      (sym (standing_is set w.shared t (top_of h.below) h.frame o h.below h.comes))
+      (sym (standing_is set w.shared t (top_of h.below) h.frame o h.below h.comes
+      (keeps_below set states w.shared t (top_of h.below) h.frame o
+      (on_top set states w past good stands t h) h.comes)))
       (falls_after set states w.shared.issued (length set.devices) h.below h.frame o.told o.frames
       (stands_there set states w past good stands t h) before
       (short set states w.shared t (top_of h.below) h.frame o
@@ -107,10 +111,12 @@ module _ (set : Set) (states : States) (w : World) (t : ℕ) (falls : AllFall se
   not_full s past under (Routine a) o holding top c =
       never_full set states s past a holding t under o top c
   not_full s past under (Walk n) o holding top c = walk_full_of set s t under n o c
+  not_full s past under (CancelFrame c) o holding top comes =
+      absurd (never_stands set states s c top)
 
   -- and passes no bound
   pub within_bounds : (past : List Entry) (c : Change) → IsGood set states → Standing set states w past
-      → Held states w → AllFall set c.world → Happens set w t c
+      → Held states w → AllFall set c.world → Happens set w t false c
       → c.over ≡ false
   within_bounds past c good stands held later (nothing reply right) = refl
   within_bounds past c good stands held later (issues h) = refl

@@ -10,7 +10,8 @@ use Rattle.model.specs.declared.world.Frame.TheVariants.{Routine, Walk}
 use Rattle.model.specs.declared.world.Packet.{Packet}
 use Rattle.model.specs.declared.world.Value.{Value}
 use Rattle.model.specs.declared.world.Value.TheVariants.{Blank, Num, Ref, Status as StatusValue}
-use Rattle.model.specs.LocalRule.{is_right, kind_of}
+use Rattle.model.specs.LocalRule.{kind_of}
+use Rattle.model.specs.Kinds.{is_right}
 use Rattle.model.specs.Trace.{Entry}
 use Rattle.model.specs.World.{Shared, place_of, packet_of, packet_in, register}
 use Rattle.run_laws.specs.Holder.{times_waiting, right, rights, frame_rights, frame_walks}

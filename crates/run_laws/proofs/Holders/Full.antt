@@ -15,7 +15,8 @@ use Rattle.model.specs.declared.world.Frame.TheVariants.{Routine}
 use Rattle.model.specs.declared.world.Packet.{Packet}
 use Rattle.model.specs.Action.{Action}
 use Rattle.model.specs.Effect.{Outcome}
-use Rattle.model.specs.LocalRule.{handed, is_right, kind_of}
+use Rattle.model.specs.LocalRule.{handed, kind_of}
+use Rattle.model.specs.Kinds.{is_right}
 use Rattle.model.specs.Queues.{StartState, inserted, is_full, room_for_next}
 use Rattle.model.specs.Set.{Set, flow_of}
 use Rattle.model.specs.Trace.{Entry}
@@ -25,14 +26,14 @@ use Rattle.run_laws.proofs.Holders.Counts.{Holding}
 use Rattle.run_laws.proofs.Holders.Queued.{entries_few, times_le, times_pushed}
 use Rattle.run_laws.proofs.Holders.Started.{started_le}
 use Rattle.run_laws.proofs.Holders.Sums.{own_if, unheld, unheld_one}
-use Rattle.run_laws.proofs.Holders.Waits.{gives_right, kinds_with, rights_given}
+use Rattle.run_laws.proofs.Holders.Waits.{gives_right, inserts_blank, kinds_with, rights_given}
 use Rattle.run_laws.proofs.Past.LivePackets.{find}
 use Rattle.run_laws.proofs.States.Frames.{Runs, state_of}
 use Rattle.run_laws.proofs.States.Moves.{has_next}
 use Rattle.run_laws.proofs.States.OnTop.{OnTop, runs}
 use Rattle.run_laws.proofs.States.Rules.{States}
 use Rattle.run_laws.proofs.Tests.{not_at_most}
-use Rattle.run_laws.proofs.Steps.Comes.{Comes, Queued, Reads, inserts, puts_in, removes, removes_none, starts_next, starts_packet, takes_none, takes_out, works_on_queues}
+use Rattle.run_laws.proofs.Steps.Comes.{Comes, Queued, Reads, inserts, puts_in, removes, removes_none, starts_next, starts_packet, takes_none, takes_out, unlinks, works_on_queues}
 
 -- a list has room for a packet, where that and the entries are different live packets
 room_for : (s : Shared) → length s.packets ≤ MAX_LIVE_PACKETS → (entries : List ℕ) (n : ℕ)
@@ -66,7 +67,8 @@ module _ (set : Set) (states : States) (s : Shared) (past : List Entry) (a : Act
   -- a packet that a routine gives away, to a list of packets that wait
   room_left : (i : Instr) (h : Runs set states s a i) (r n : ℕ) (entries : List ℕ)
       → has_next (flow_of i) ≡ true
-      → (handed (state_of states a) i).kinds ≡ kinds_with set states s a i h r BlankKind
+      → (handed set a.driver (state_of states a) i).kinds
+      ≡ kinds_with set states s a i h r BlankKind
       → is_right (kind_of (state_of states a) r) ≡ true → Reads s a r n
       → ((m : ℕ) → times_in entries m ≤ times_waiting s m) → is_full entries ≡ false
   room_left i h r n entries on kinds own reads among =
@@ -106,7 +108,7 @@ module _ (set : Set) (states : States) (s : Shared) (past : List Entry) (a : Act
       {full : Bool}
       → Queued s a i b queues lists actions full → full ≡ false
   queued_full i h (inserts r q n entries reads there) =
-      room_left (Insert r q) h r n entries refl refl
+      room_left (Insert r q) h r n entries refl (inserts_blank set states s a (Insert r q) h r q)
       (gives_right (kind_of (state_of states a) r) _ h.obeys) reads
       (λ m.
       let le : times_in entries m ≤ times_queued s.queues m =
@@ -114,6 +116,7 @@ module _ (set : Set) (states : States) (s : Shared) (past : List Entry) (a : Act
       omega arith)
   queued_full i h (removes r q label n entries there) = refl
   queued_full i h (removes_none r q label there) = refl
+  queued_full i h (unlinks r q n entries reads there) = refl
   queued_full i h (starts_packet r n start reads there) =
       let room : (entries : List ℕ) → ((m : ℕ) → times_in entries m ≤ times_at start m)
       → not (not (is_full entries)) ≡ false =

@@ -2,8 +2,10 @@
 use Rattle.std.proofs.Common.{◌≡◌, ℕ, ◌≤◌, List, Option, Some, Bool, true, false, refl, subst, inl, inr, arith}
 use Rattle.std.specs.Prelude.{if◌then◌else◌}
 use Rattle.std.proofs.lemmas.Bool.Decides.{eqb_tells}
+use Rattle.model.specs.declared.world.CancelStep.{CancelStep}
 use Rattle.model.specs.declared.world.Frame.{Frame}
-use Rattle.model.specs.Effect.{Change, Outcome, top_of as top_frame}
+use Rattle.model.specs.Effect.{Outcome, top_of as top_frame}
+use Rattle.model.specs.Events.{Change}
 use Rattle.model.specs.Fault.{topped}
 use Rattle.model.specs.Set.{Set}
 use Rattle.model.specs.Trace.{Entry, Actor, recorded}
@@ -11,7 +13,7 @@ use Rattle.model.specs.World.{Shared, World}
 use Rattle.run_laws.specs.TopsOnce.{times_topped}
 use Rattle.run_laws.proofs.Past.Packets.{Tells, found, untopped}
 use Rattle.run_laws.proofs.Runs.Events.{Happens, nothing, steps, issues, begins, begins_startio}
-use Rattle.run_laws.proofs.Steps.Comes.{Comes, tops_out, works_on_queues}
+use Rattle.run_laws.proofs.Steps.Comes.{Cancels, takes_cancel, Comes, tops_out, works_on_queues, cancels}
 use Rattle.run_laws.proofs.Steps.Queues.{queued_touches}
 
 -- a packet that hasn't topped out has done so no time, and one that has, once
@@ -19,6 +21,13 @@ abbrev pub ToppedOnce : List Entry → Type 0
 ToppedOnce past = (n : ℕ) → times_topped past n ≡ (if topped past n then 1 else 0)
 
 module _ (set : Set) (past : List Entry) (actor : Actor) (once : ToppedOnce past) where
+  once_cancel : (s : Shared) (n : ℕ) (step : CancelStep) (o : Outcome)
+      → Cancels set s actor.thread n step o → ToppedOnce (recorded past actor o.actions)
+  once_cancel s n step o (takes_cancel free) m =
+      let before : times_topped past m ≡ (if topped past m then 1 else 0) = once m in omega arith
+  once_cancel s n step o _ m =
+      let before : times_topped past m ≡ (if topped past m then 1 else 0) = once m in omega arith
+
   once_step : (s : Shared) (under : Option Frame) (f : Frame) (o : Outcome) → Tells s past
       → Comes set s actor.thread under f o → ToppedOnce (recorded past actor o.actions)
   once_step s under f o tells (tops_out n p there without first) m =
@@ -36,11 +45,12 @@ module _ (set : Set) (past : List Entry) (actor : Actor) (once : ToppedOnce past
       let before : times_topped past m ≡ (if topped past m then 1 else 0) = once m in
       elim (queued_touches queued)
       [ inl none ↦ rw none (omega arith) | inr one ↦ rw one.1 (omega arith) ]
+  once_step s under f o tells (cancels n step made moves) m = once_cancel s n step made moves m
   once_step s under f o tells _ m =
       let before : times_topped past m ≡ (if topped past m then 1 else 0) = once m in
       omega arith
 
-  pub once_kept : (w : World) (c : Change) → Tells w.shared past → Happens set w actor.thread c
+  pub once_kept : (w : World) (c : Change) → Tells w.shared past → Happens set w actor.thread false c
       → ToppedOnce (recorded past actor c.actions)
   once_kept w c tells (nothing reply right) = once
   once_kept w c tells (steps h) = once_step w.shared (top_frame h.below) h.frame h.outcome tells h.comes

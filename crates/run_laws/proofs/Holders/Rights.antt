@@ -6,15 +6,16 @@ use Rattle.std.proofs.lemmas.Bool.{eq-eqb}
 use Rattle.model.specs.declared.limits.TheConstants.{REGISTERS}
 use Rattle.model.specs.declared.abs.Abs.{Abs}
 use Rattle.model.specs.declared.abs.Kind.{Kind}
-use Rattle.model.specs.declared.abs.Kind.TheVariants.{Blank as BlankKind, New, Own}
+use Rattle.model.specs.declared.abs.Kind.TheVariants.{Blank as BlankKind, New, Own, Listed, Cancelling}
 use Rattle.model.specs.declared.set.Sort.{Sort}
-use Rattle.model.specs.declared.set.Sort.TheVariants.{Dispatch, Dpc, Propagate, StartIo}
+use Rattle.model.specs.declared.set.Sort.TheVariants.{Dispatch, Dpc, Propagate, StartIo, Hold, Cancel}
 use Rattle.model.specs.declared.status.Status.{Status}
 use Rattle.model.specs.declared.world.Activation.{Activation}
 use Rattle.model.specs.declared.world.Frame.TheVariants.{Routine}
 use Rattle.model.specs.declared.world.Value.{Value}
 use Rattle.model.specs.declared.world.Value.TheVariants.{Blank, Ref, Status as StatusValue}
-use Rattle.model.specs.LocalRule.{is_packet, is_kept, is_right, left_behind}
+use Rattle.model.specs.LocalRule.{is_dropped}
+use Rattle.model.specs.Kinds.{is_packet, is_right, left_behind}
 use Rattle.model.specs.Set.{Set}
 use Rattle.run_laws.specs.Holder.{right, rights, frame_rights}
 use Rattle.run_laws.proofs.Lists.{copied}
@@ -142,6 +143,8 @@ not_told : (issued : ℕ) (k : Kind) (status : Status) → Suits issued k (Statu
     → is_right k ≡ false
 not_told issued New status h = let no : StatusValue status ≡ Ref h.0 = h.1 in cc
 not_told issued Own status h = let no : StatusValue status ≡ Ref h.0 = h.1 in cc
+not_told issued (Listed name) status h = let no : StatusValue status ≡ Ref h.0 = h.1 in cc
+not_told issued (Cancelling name) status h = let no : StatusValue status ≡ Ref h.0 = h.1 in cc
 not_told issued _ status h = refl
 
 pub rights_told : (issued : ℕ) (kinds : List Kind) (values : List Value) (r : ℕ) (status : Status) (n : ℕ)
@@ -157,22 +160,28 @@ rights_told issued (k ∷ kinds) (v ∷ values) (suc r) status n h =
 pub not_right : (k : Kind) → is_packet k ≡ false → is_right k ≡ false
 not_right New h = cc
 not_right Own h = cc
+not_right (Listed name) h = cc
+not_right (Cancelling name) h = cc
 not_right _ h = refl
 
-not_left : (k : Kind) → is_kept k ≡ false → is_right k ≡ false
+not_left : (k : Kind) → is_dropped false k ≡ false → is_right k ≡ false
 not_left New h = cc
 not_left Own h = cc
+not_left (Listed name) h = cc
+not_left (Cancelling name) h = cc
 not_left _ h = refl
 
-pub no_rights : (kinds : List Kind) (values : List Value) (n : ℕ) → list_any is_kept kinds ≡ false
-    → rights kinds values n ≡ 0
+pub no_rights : (kinds : List Kind) (values : List Value) (n : ℕ)
+    → list_any (is_dropped false) kinds ≡ false → rights kinds values n ≡ 0
 no_rights [] values n h = refl
 no_rights (k ∷ kinds) [] n h = refl
 no_rights (k ∷ kinds) (v ∷ values) n h =
     let one : right k v n ≡ 0 =
-    no_right k v n (not_left k (or_left (is_kept k) (list_any is_kept kinds) h)) in
+    no_right k v n
+    (not_left k (or_left (is_dropped false k) (list_any (is_dropped false) kinds) h)) in
     let others : rights kinds values n ≡ 0 =
-    no_rights kinds values n (or_right (is_kept k) (list_any is_kept kinds) h) in
+    no_rights kinds values n
+    (or_right (is_dropped false k) (list_any (is_dropped false) kinds) h) in
     omega arith
 
 -- a routine begins with a right to the packet that it is handed, if it is to serve it
@@ -188,6 +197,8 @@ handed_over Dispatch m n = if nat_eq m n then 1 else 0
 handed_over StartIo m n = if nat_eq m n then 1 else 0
 handed_over Dpc m n = 0
 handed_over Propagate m n = 0
+handed_over Hold m n = if nat_eq m n then 1 else 0
+handed_over Cancel m n = 0
 
 first_rights : (sort : Sort) (m n : ℕ)
     → rights (first_state sort).kinds (Ref m ∷ replicate (REGISTERS - 1) Blank) n ≡ handed_over sort m n
@@ -204,6 +215,14 @@ first_rights Dpc m n =
     ≡ 0 = blank_rights (REGISTERS - 1) n in
     omega arith
 first_rights Propagate m n =
+    let others : rights (replicate (REGISTERS - 1) BlankKind) (replicate (REGISTERS - 1) Blank) n
+    ≡ 0 = blank_rights (REGISTERS - 1) n in
+    omega arith
+first_rights Hold m n =
+    let others : rights (replicate (REGISTERS - 1) BlankKind) (replicate (REGISTERS - 1) Blank) n
+    ≡ 0 = blank_rights (REGISTERS - 1) n in
+    omega arith
+first_rights Cancel m n =
     let others : rights (replicate (REGISTERS - 1) BlankKind) (replicate (REGISTERS - 1) Blank) n
     ≡ 0 = blank_rights (REGISTERS - 1) n in
     omega arith

@@ -6,11 +6,12 @@ use Rattle.model.specs.declared.set.Sort.TheVariants.{Dispatch, StartIo}
 use Rattle.model.specs.declared.status.Status.{Status}
 use Rattle.model.specs.declared.world.Activation.{Activation}
 use Rattle.model.specs.declared.world.Frame.{Frame}
-use Rattle.model.specs.declared.world.Frame.TheVariants.{Routine, Walk}
+use Rattle.model.specs.declared.world.Frame.TheVariants.{Routine, Walk, Cancel as CancelFrame}
 use Rattle.model.specs.declared.world.Irql.TheVariants.{Passive, Dispatch as DispatchLevel}
 use Rattle.model.specs.declared.world.Packet.{Packet}
 use Rattle.model.specs.declared.world.Thread.{Thread}
-use Rattle.model.specs.Effect.{Change, Outcome, operand_of, answered_in, top_of, standing, with_stack, rooted, serves_request, dpc_activation}
+use Rattle.model.specs.Effect.{Outcome, operand_of, answered_in, top_of}
+use Rattle.model.specs.Events.{Change, standing, with_stack, rooted, serves_request, dpc_activation}
 use Rattle.model.specs.Fault.{armed, first_fault, topped}
 use Rattle.model.specs.Run.{Run, begun}
 use Rattle.model.specs.Set.{Set, instruction_at}
@@ -28,6 +29,7 @@ use Rattle.run_laws.proofs.Runs.Kept.{GoesOnBy}
 use Rattle.run_laws.proofs.States.Entering.{begins_request, begins_dpc, startio_activation}
 use Rattle.run_laws.proofs.States.Fine.{StepLeaves, leaves_fine}
 use Rattle.run_laws.proofs.States.Frames.{IsGood, Ready, state_of}
+use Rattle.run_laws.proofs.States.Never.{keeps_below}
 use Rattle.run_laws.proofs.States.Rules.{States}
 use Rattle.run_laws.proofs.States.Stacks.{Stands, Stacked, Replaces}
 use Rattle.run_laws.proofs.States.Standing.{Standing, stands_there, on_top, startio_enters}
@@ -55,6 +57,8 @@ module _ (set : Set) (states : States) (issued n : ℕ) where
   frame_told_rights None (Routine a) h = refl
   frame_told_rights None (Walk m) h = refl
   frame_told_rights (Some status) (Walk m) h = refl
+  frame_told_rights None (CancelFrame c) h = refl
+  frame_told_rights (Some status) (CancelFrame c) h = refl
   frame_told_rights (Some status) (Routine a) h =
       answered_rights a status (operand_of (instruction_at set a.driver a.routine (a.position - 1))) h
 
@@ -76,6 +80,8 @@ module _ (set : Set) (states : States) (issued n : ℕ) where
   frame_told_walks None (Routine a) = refl
   frame_told_walks None (Walk m) = refl
   frame_told_walks (Some status) (Walk m) = refl
+  frame_told_walks None (CancelFrame c) = refl
+  frame_told_walks (Some status) (CancelFrame c) = refl
   frame_told_walks (Some status) (Routine a) = refl
 
   last_walks : (below : List Frame) (told : Option Status)
@@ -166,6 +172,7 @@ frees_slot set states w tokens t h = frees_of h.frame refl
     frees_of (Routine a) is =
         λ start has there. (token_slot set states w tokens t h a is has start there).0
     frees_of (Walk n) is = tt
+    frees_of (CancelFrame c) is = tt
 
 -- what an event does to the rights
 module _ (set : Set) (states : States) (w : World) (past : List Entry) (good : IsGood set states)
@@ -183,7 +190,7 @@ module _ (set : Set) (states : States) (w : World) (past : List Entry) (good : I
       omega arith
 
   held_happens : OneTokenEach states w → (actor : Actor) (c : Change)
-      → Happens set w actor.thread c
+      → Happens set w actor.thread false c
       → first_fault past actor c.actions ≡ None → Held states c.world
   held_happens tokens actor c (nothing reply right) quiet = kept
   held_happens tokens actor c (steps h) quiet =
@@ -203,7 +210,9 @@ module _ (set : Set) (states : States) (w : World) (past : List Entry) (good : I
       let after : Thread = with_stack h.thread (standing set h.below o) in
       let lower : List Frame = told_last set o.told h.below in
       let new : standing set h.below o ≡ lower ++ o.frames =
-      standing_last set w.shared t under h.frame o h.below h.comes in
+      standing_last set w.shared t under h.frame o h.below h.comes
+      (keeps_below set states w.shared t under h.frame o (on_top set states w past good stands t h)
+      h.comes) in
       record {
         rights = λ n.
             let before : thread_sum (λ f. frame_rights states f n) w.threads
@@ -310,12 +319,12 @@ module _ (set : Set) (states : States) (w : World) (past : List Entry) (good : I
       }
 
   pub held_kept : OneTokenEach states w → (actor : Actor) (c : Change)
-      → GoesOnBy set w past actor c
+      → GoesOnBy set w past actor false c
       → Held states c.world
   held_kept tokens actor c on = held_happens tokens actor c on.happens on.quiet
 
   pub completion_faults_none : ((n : ℕ) → armed past n ≡ false) → (actor : Actor) (c : Change)
-      → Happens set w actor.thread c → fault_among is_completion past actor c.actions ≡ None
+      → Happens set w actor.thread false c → fault_among is_completion past actor c.actions ≡ None
   completion_faults_none unarmed actor c (nothing reply right) = refl
   completion_faults_none unarmed actor c (steps h) =
       completion_faults set states w.shared past actor (top_of h.below) h.frame h.outcome unarmed

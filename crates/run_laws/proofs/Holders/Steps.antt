@@ -2,6 +2,7 @@
 -- frame, or the packet tops out. So no packet is completed that its routine has no right to.
 use Rattle.std.proofs.Common.{inr, inl, ◌≡◌, ℕ, ◌+◌, ◌<◌, ◌≤◌, List, [], ◌∷◌, ◌++◌, length, Option, None, Some, Bool, true, false, refl, ap, sym, ◌∙◌, arith}
 use Rattle.std.specs.Prelude.{nat_eq, nat_lt, slice_get, slice_set, slice_index_or, if◌then◌else◌}
+use Rattle.std.specs.List.{list_any}
 use Rattle.std.proofs.lemmas.Bool.{cond_both}
 use Rattle.model.specs.declared.limits.TheConstants.{REGISTERS}
 use Rattle.model.specs.declared.abs.Abs.{Abs}
@@ -13,9 +14,9 @@ use Rattle.model.specs.declared.event.Subject.TheVariants.{Packet as PacketSubje
 use Rattle.model.specs.declared.instr.Instr.{Instr}
 use Rattle.model.specs.declared.instr.Instr.TheVariants.{Const, Move, Add, Subtract, Loop, End, Load, LoadPaged, Get, Put, Mark, Pass, Call, Complete, Ret}
 use Rattle.model.specs.declared.instr.Return.{Return}
-use Rattle.model.specs.declared.instr.Return.TheVariants.{Continue, Void}
+use Rattle.model.specs.declared.instr.Return.TheVariants.{Continue, Stop, Void}
 use Rattle.model.specs.declared.set.Sort.{Sort}
-use Rattle.model.specs.declared.set.Sort.TheVariants.{Dispatch, Propagate}
+use Rattle.model.specs.declared.set.Sort.TheVariants.{Dispatch, Propagate, Hold}
 use Rattle.model.specs.declared.status.Status.{Status}
 use Rattle.model.specs.declared.world.Activation.{Activation}
 use Rattle.model.specs.declared.world.Frame.{Frame}
@@ -26,7 +27,8 @@ use Rattle.model.specs.declared.world.Value.{Value}
 use Rattle.model.specs.declared.world.Value.TheVariants.{Blank, Num, Ref}
 use Rattle.model.specs.Effect.{Outcome, turned, dispatched, completes_with, set_by}
 use Rattle.model.specs.Fault.{topped, completing, armed, bug_if, first_or, completion_fault}
-use Rattle.model.specs.LocalRule.{kind_of, handed, marked, given_down, is_right, number_kind, refuses}
+use Rattle.model.specs.LocalRule.{kind_of, gives_back, is_dropped, handed, marked, given_down, number_kind, refuses}
+use Rattle.model.specs.Kinds.{is_right}
 use Rattle.model.specs.Set.{Set, flow_of, sort_of, lower_of}
 use Rattle.model.specs.Sound.{OperandFits}
 use Rattle.model.specs.Trace.{Entry, Actor}
@@ -35,6 +37,7 @@ use Rattle.run_laws.specs.Holder.{times_waiting, right, rights, frame_rights, fr
 use Rattle.run_laws.proofs.Holders.Counts.{Holding, unheld_set, held_set, unheld_taken, held_taken, unheld_removed, held_removed, reads_ref, right_free, right_lives, walk_taken, walk_lives}
 use Rattle.run_laws.proofs.Holders.Rights.{rights_write, rights_turn, rights_move, no_rights, not_right, begun_rights}
 use Rattle.run_laws.proofs.Holders.Sums.{unheld, held}
+use Rattle.run_laws.proofs.States.Never.{never_exchanges}
 use Rattle.run_laws.proofs.Lists.{all_at}
 use Rattle.run_laws.proofs.Past.LivePackets.{find}
 use Rattle.run_laws.proofs.Past.Packets.{found, named, numbered, untopped, gone_topped}
@@ -43,12 +46,15 @@ use Rattle.run_laws.proofs.States.Frames.{state_of, Moved, Runs}
 use Rattle.run_laws.proofs.States.Kinds.{HasKinds, kinds_get, kinds_set, label_kinds, number_kinds, still_kinds}
 use Rattle.run_laws.proofs.States.LoopEnds.{moved_end}
 use Rattle.run_laws.proofs.States.Moves.{has_next, falls_next, arrives, arrives_next}
+use Rattle.run_laws.proofs.States.Never.{never_stands}
+use Rattle.run_laws.proofs.States.NoViews.{is_queued}
 use Rattle.run_laws.proofs.States.Obeyed.{SendsDown, sends_down, completes_one, returns_by}
-use Rattle.run_laws.proofs.States.OnTop.{OnTop, runs}
+use Rattle.run_laws.proofs.States.OnTop.{OnTop, none_listed, runs}
 use Rattle.run_laws.proofs.States.Rules.{States, first_none, second_none, unbroken}
-use Rattle.run_laws.proofs.Steps.Comes.{queued_to, Queued, Written, keeps_all, makes_number, moves_over, makes_blank, GoesTo, onward, jumping, Reads, Comes, errs, awaits_lock, computes, opens_loop, turns_loop, pages, touches_gone, looks_at, writes_info, marks_packet, takes_lock, retakes_lock, frees_lock, completes_packet, completes_gone, passes_down, calls_down, returns_status, lets_go, lets_walk, walks_gone, walks_to, walks_up, carries_up, tops_out, ends_dpc, works_on_queues, ends_startio}
+use Rattle.run_laws.proofs.Steps.Comes.{queued_to, Queued, Written, keeps_all, makes_number, moves_over, makes_blank, GoesTo, onward, jumping, Reads, Comes, errs, awaits_lock, computes, opens_loop, turns_loop, pages, touches_gone, looks_at, writes_info, marks_packet, exchanges, takes_lock, retakes_lock, frees_lock, completes_packet, completes_gone, passes_down, calls_down, returns_status, lets_go, lets_walk, resumes_walk, resumes_gone, resumes_none, stops_walk, stops_none, walks_gone, walks_to, lends_to, walks_up, carries_up, tops_out, ends_dpc, ends_cancel, works_on_queues, ends_startio, cancels}
 use Rattle.run_laws.proofs.Steps.Faults.{is_touch, is_completion, fault_among}
 use Rattle.run_laws.proofs.Steps.Locking.{LockWord, taken_word, freed_word}
+use Rattle.run_laws.proofs.Steps.Uncancelled.{never_holds, never_lends}
 use Rattle.run_laws.proofs.Steps.Words.{is_giving, Forwarding, work_of, packet_operand, keeps_registers, numbered_by}
 use Rattle.model.specs.Queues.{StartState}
 use Rattle.run_laws.proofs.Steps.Queues.{queued_touches}
@@ -104,20 +110,20 @@ mark_rights issued s values r _ m h is = refl
 
 given_rights : (issued : ℕ) (s : Abs) (values : List Value) (r : ℕ) (k : Kind) (m : ℕ)
     → HasKinds issued s.kinds values
-    → is_right k ≡ true
+    → is_right k ≡ true → is_queued k ≡ false
     → rights (given_down s r k).kinds values m + right (kind_of s r) (slice_index_or values r Blank) m
     ≡ rights s.kinds values m
-given_rights issued s values r New m h is =
+given_rights issued s values r New m h is unlisted =
     let turn : rights (slice_set s.kinds r LowerKind) values m + right (kind_of s r)
     (slice_index_or values r Blank) m
     ≡ rights s.kinds values m + 0 = rights_turn issued s.kinds values r LowerKind m h in
     omega arith
-given_rights issued s values r Own m h is =
+given_rights issued s values r Own m h is unlisted =
     let turn : rights (slice_set s.kinds r BlankKind) values m + right (kind_of s r)
     (slice_index_or values r Blank) m
     ≡ rights s.kinds values m + 0 = rights_turn issued s.kinds values r BlankKind m h in
     omega arith
-given_rights issued s values r _ m h is = cc
+given_rights issued s values r _ m h is unlisted = cc
 
 pub named_right : (k : Kind) (v : Value) (n m : ℕ) → is_right k ≡ true → v ≡ Ref n
     → right k v m ≡ (if nat_eq n m then 1 else 0)
@@ -132,9 +138,11 @@ turned_registers a l =
 written_rights : (set : Set) (states : States) (s : Shared) (a : Activation) (i : Instr)
     (registers : List Value)
     → Runs set states s a i → is_giving (work_of i) ≡ false → Written a i registers → (n : ℕ)
-    → rights (handed (state_of states a) i).kinds registers n ≡ frame_rights states (Routine a) n
+    → rights (handed set a.driver (state_of states a) i).kinds registers n
+    ≡ frame_rights states (Routine a) n
 written_rights set states s a i registers h quiet (keeps_all _ same) n =
-    ap (λ (kinds : List Kind). rights kinds a.registers n) (still_kinds (state_of states a) i same quiet)
+    ap (λ (kinds : List Kind). rights kinds a.registers n)
+    (still_kinds set a.driver (state_of states a) i (none_listed set states s a i h) same quiet)
 written_rights set states s a i registers h quiet (makes_number _ r m is) n =
     ap (λ (kinds : List Kind). rights kinds (slice_set a.registers r (Num m)) n)
     (number_kinds (state_of states a) (sort_of set a.driver a.routine) set a.driver i r h.obeys is)
@@ -172,8 +180,8 @@ module _ (set : Set) (states : States) (s : Shared) (a : Activation) (i : Instr)
       (label_kinds (state_of states a) i quiet)
 
   next_state_rights : has_next (flow_of i) ≡ true → (n : ℕ)
-      → frame_rights states (Routine (next a)) n ≡ rights (handed (state_of states a) i).kinds
-      a.registers n
+      → frame_rights states (Routine (next a)) n
+      ≡ rights (handed set a.driver (state_of states a) i).kinds a.registers n
   next_state_rights on n =
       ap (λ (state : Abs). rights state.kinds a.registers n) (arrives_next set states s a i h on)
 
@@ -182,10 +190,15 @@ module _ (set : Set) (states : States) (s : Shared) (a : Activation) (i : Instr)
   still_rights same quiet on n =
       next_state_rights on n
       ∙ ap (λ (kinds : List Kind). rights kinds a.registers n)
-      (still_kinds (state_of states a) i same quiet)
+      (still_kinds set a.driver (state_of states a) i (none_listed set states s a i h) same quiet)
 
   lock_rights : LockWord i → KeepsRights (next a)
   lock_rights word = still_rights word.keeps (rw word.work refl) (falls_next (flow_of i) word.on)
+
+-- a completion routine that stops the completion gives nothing back
+stop_keeps : (sort : Sort) → gives_back sort Stop ≡ false
+stop_keeps Hold = refl
+stop_keeps _ = refl
 
 -- every step
 module _ (set : Set) (states : States) (s : Shared) (past : List Entry) (actor : Actor) where
@@ -241,7 +254,8 @@ module _ (set : Set) (states : States) (s : Shared) (past : List Entry) (actor :
       let given : rights (given_down (state_of states a) r k).kinds a.registers m + right k
       (register a r) m
       ≡ rights (state_of states a).kinds a.registers m =
-      given_rights s.issued (state_of states a) a.registers r k m h.stays.kinds down.right in
+      given_rights s.issued (state_of states a) a.registers r k m h.stays.kinds down.right
+      down.unqueued in
       let gone : right k (register a r) m ≡ (if nat_eq n m then 1 else 0) =
       named_right k (register a r) n m down.right (reads_ref s (register a r) n reads) in
       let now : frame_rights states (Routine (next a)) m
@@ -258,13 +272,17 @@ module _ (set : Set) (states : States) (s : Shared) (past : List Entry) (actor :
       (λ m. rw shared (held_set s n p at q its same m))
 
   -- a routine returns: it has no right any more
-  returns : (a : Activation) (form : Return) (o : Outcome) → Runs set states s a (Ret form) → o.shared ≡ s
+  returns : (a : Activation) (form : Return) (o : Outcome)
+      → gives_back (sort_of set a.driver a.routine) form ≡ false → Runs set states s a (Ret form)
+      → o.shared ≡ s
       → o.frames ≡ [] → HoldStep states s (Routine a) o
-  returns a form o h shared frames =
+  returns a form o keeps h shared frames =
+      let left : list_any (is_dropped false) (state_of states a).kinds ≡ false =
+      ap (λ (back : Bool). list_any (is_dropped back) (state_of states a).kinds) (sym keeps)
+      ∙ (returns_by (state_of states a) (sort_of set a.driver a.routine) set a.driver form
+      h.obeys).nothing_left in
       even (Routine a) o (λ m. rw shared refl)
-      (λ n. rw frames (sym (no_rights (state_of states a).kinds a.registers n
-      (returns_by (state_of states a) (sort_of set a.driver a.routine) set a.driver form
-      h.obeys).nothing_left)))
+      (λ n. rw frames (sym (no_rights (state_of states a).kinds a.registers n left)))
       (λ n. rw frames refl) (λ n. rw shared refl) (λ n. rw shared refl)
 
   -- the I/O manager's frame goes up with its packet, under a routine that has no right or under
@@ -401,6 +419,9 @@ module _ (set : Set) (states : States) (s : Shared) (past : List Entry) (actor :
       h.stays.kinds refl)
       (unheld_set s n p found_there (mark_current p) (numbered s n p there) refl)
       (held_set s n p found_there (mark_current p) (numbered s n p there) refl)
+  hold under f o top holding slot
+      (exchanges a i b jumped r n p armer at is goes operand reads there how) quiet =
+      absurd (never_exchanges set states s a i (runs set states s a i top at) is)
   hold under f o top holding slot (takes_lock a i lock at takes free) quiet =
       kept a (next a) o (λ n. refl) refl
       (lock_rights set states s a i (runs set states s a i top at) (taken_word a i lock takes))
@@ -433,24 +454,48 @@ module _ (set : Set) (states : States) (s : Shared) (past : List Entry) (actor :
       (sent_down p lower (set_by a g)) o
       refl refl refl reads there below refl refl refl refl
   hold under f o top holding slot (returns_status a form status at is told) quiet =
-      returns a form o (runs set states s a (Ret form) top at) refl refl
+      returns a form o (ap (λ (sort : Sort). gives_back sort form) is)
+      (runs set states s a (Ret form) top at) refl refl
   hold under f o top holding slot (lets_go a at is walk) quiet =
-      returns a Continue o (runs set states s a (Ret Continue) top at) refl refl
+      returns a Continue o (ap (λ (sort : Sort). gives_back sort Continue) is)
+      (runs set states s a (Ret Continue) top at) refl refl
   hold under f o top holding slot (lets_walk a n at is) quiet =
-      returns a Continue o (runs set states s a (Ret Continue) top at) refl refl
+      returns a Continue o (ap (λ (sort : Sort). gives_back sort Continue) is)
+      (runs set states s a (Ret Continue) top at) refl refl
+  hold under f o top holding slot (resumes_walk a n p at is there) quiet =
+      absurd (never_holds top.good.quiet a.driver a.routine is)
+  hold under f o top holding slot (resumes_gone a n at is gone) quiet =
+      absurd (never_holds top.good.quiet a.driver a.routine is)
+  hold under f o top holding slot (resumes_none a at is walk) quiet =
+      absurd (never_holds top.good.quiet a.driver a.routine is)
+  hold under f o top holding slot (stops_walk a n at is) quiet =
+      returns a Stop o (stop_keeps (sort_of set a.driver a.routine))
+      (runs set states s a (Ret Stop) top at) refl refl
+  hold under f o top holding slot (stops_none a at is walk) quiet =
+      returns a Stop o (stop_keeps (sort_of set a.driver a.routine))
+      (runs set states s a (Ret Stop) top at) refl refl
+  hold under f o top holding slot (ends_cancel a at is) quiet =
+      returns a Void o (ap (λ (sort : Sort). gives_back sort Void) is)
+      (runs set states s a (Ret Void) top at) refl refl
   hold under f o top holding slot (ends_startio a at is) quiet =
-      returns a Void o (runs set states s a (Ret Void) top at) refl refl
+      returns a Void o (ap (λ (sort : Sort). gives_back sort Void) is)
+      (runs set states s a (Ret Void) top at) refl refl
   hold under f o top holding slot (ends_dpc a at is) quiet =
-      returns a Void o (runs set states s a (Ret Void) top at) refl refl
+      returns a Void o (ap (λ (sort : Sort). gives_back sort Void) is)
+      (runs set states s a (Ret Void) top at) refl refl
   hold under f o top holding slot (walks_gone n gone) quiet =
       absurd (walk_lives states s past n holding gone)
-  hold under f o top holding slot (walks_to n p c there set_there) quiet =
+  hold under f o top holding slot (walks_to n p c there set_there lends) quiet =
       let b : Activation = completes_with set c n in
       goes_up n p (moved_up (left_location p)) (Routine b ∷ []) o there refl refl refl refl
       (λ m. let new : frame_rights states (Routine b) m ≡ 0 =
       begun_rights set states s.issued b Propagate n m
       (begins_back set states s top.good top.fits n p c top.stands there set_there) in omega arith)
       (λ m. refl)
+  hold under f o top holding slot (lends_to n p c there set_there lends) quiet =
+      absurd (never_lends top.good.quiet c lends)
+  hold under f o top holding slot (cancels n step made moves) quiet =
+      absurd (never_stands set states s _ top)
   hold under f o top holding slot (walks_up n p there without deep unmarked) quiet =
       goes_up n p (moved_up (left_location p)) [] o there refl refl refl refl (λ m. refl) (λ m. refl)
   hold under f o top holding slot (carries_up n p there without deep marked) quiet =
@@ -507,4 +552,6 @@ module _ (set : Set) (states : States) (s : Shared) (past : List Entry) (actor :
   completion_faults under f o unarmed top holding
       (works_on_queues a i b queues starts actions full at queued) =
       elim (queued_touches queued) [ inl none ↦ rw none refl | inr one ↦ rw one.1 refl ]
+  completion_faults under f o unarmed top holding (cancels n step made moves) =
+      absurd (never_stands set states s _ top)
   completion_faults under f o unarmed top holding _ = refl

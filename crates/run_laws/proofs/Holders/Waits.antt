@@ -12,10 +12,11 @@ use Rattle.model.specs.declared.instr.Instr.TheVariants.{Begin, Insert, Next, Re
 use Rattle.model.specs.declared.limits.TheConstants.{REGISTERS}
 use Rattle.model.specs.declared.world.Activation.{Activation}
 use Rattle.model.specs.declared.world.Frame.{Frame}
-use Rattle.model.specs.declared.world.Frame.TheVariants.{Routine, Walk}
+use Rattle.model.specs.declared.world.Frame.TheVariants.{Routine, Walk, Cancel as CancelFrame}
 use Rattle.model.specs.declared.world.Value.TheVariants.{Ref}
 use Rattle.model.specs.Action.{Action}
-use Rattle.model.specs.LocalRule.{an_owned_one, demanded, free_kind, handed, handed_at_label, is_packet, is_right, kind_of, least_of, unless}
+use Rattle.model.specs.LocalRule.{an_owned_one, demanded, free_kind, handed, handed_at_label, kind_of, least_of, unless}
+use Rattle.model.specs.Kinds.{is_packet, is_right, kind_inserted, kind_removed}
 use Rattle.model.specs.Queues.{StartState, inserted, next_started, started, with_slot}
 use Rattle.model.specs.Set.{Set, flow_of, label_of}
 use Rattle.model.specs.Sound.{OperandFits}
@@ -25,12 +26,13 @@ use Rattle.run_laws.proofs.Holders.Counts.{reads_ref}
 use Rattle.run_laws.proofs.Holders.Queued.{times_pushed, times_put}
 use Rattle.run_laws.proofs.Holders.Rights.{no_right, not_right, rights_both, rights_turn}
 use Rattle.run_laws.proofs.Holders.Started.{started_put, times_given, times_next, times_slot}
+use Rattle.run_laws.proofs.States.Never.{never_unlinks}
 use Rattle.run_laws.proofs.Lists.{all_at}
 use Rattle.run_laws.proofs.States.Frames.{Runs, state_of}
 use Rattle.run_laws.proofs.States.Moves.{arrives, arrives_next, has_next}
 use Rattle.run_laws.proofs.States.Obeyed.{inserts_right}
 use Rattle.run_laws.proofs.States.Rules.{States, first_none, granted, second_none, unbroken}
-use Rattle.run_laws.proofs.Steps.Comes.{Queued, Reads, inserts, jumping, puts_in, removes, removes_none, starts_next, starts_packet, takes_none, takes_out}
+use Rattle.run_laws.proofs.Steps.Comes.{Queued, Reads, inserts, jumping, puts_in, removes, removes_none, starts_next, starts_packet, takes_none, takes_out, unlinks}
 
 -- a routine's frame that has the token of its device finds the current slot empty
 abbrev pub FreesSlot : States → Shared → Frame → Type 0
@@ -38,6 +40,7 @@ FreesSlot states s (Routine a) =
     (start : StartState) → (state_of states a).token ≡ true → start_of s a.device ≡ Some start
     → start.slot ≡ None
 FreesSlot states s (Walk n) = ⊤
+FreesSlot states s (CancelFrame c) = ⊤
 
 -- a register whose packet is given away had the right to it
 pub gives_right : (k : Kind) (fault : Option Rule)
@@ -52,11 +55,17 @@ pub free_before : (fault : Option Rule) (k : Kind) → least_of fault (free_kind
 free_before fault k rule =
     not_right k (unbroken (is_packet k) Dropped (second_none fault (free_kind k) rule))
 
+pub free_removed : (fault other : Option Rule) (k : Kind)
+    → least_of fault (least_of (free_kind k) other) ≡ None → is_right k ≡ false
+free_removed fault other k rule =
+    not_right k (unbroken (is_packet k) Dropped
+    (first_none (free_kind k) other (second_none fault (least_of (free_kind k) other) rule)))
+
 module _ (set : Set) (states : States) (s : Shared) (a : Activation) (i : Instr)
     (h : Runs set states s a i) where
   -- the registers are as they were
   pub rights_kept : has_next (flow_of i) ≡ true
-      → (handed (state_of states a) i).kinds ≡ (state_of states a).kinds → (n : ℕ)
+      → (handed set a.driver (state_of states a) i).kinds ≡ (state_of states a).kinds → (n : ℕ)
       → frame_rights states (Routine (next a)) n ≡ frame_rights states (Routine a) n
   rights_kept on kinds n =
       ap (λ (state : Abs). rights state.kinds a.registers n) (arrives_next set states s a i h on)
@@ -67,9 +76,22 @@ module _ (set : Set) (states : States) (s : Shared) (a : Activation) (i : Instr)
   abbrev pub kinds_with : Kind → List Kind
   kinds_with k = slice_set (state_of states a).kinds r k
 
+  -- a queue without a cancel routine takes the packet out of its register, and gives it back whole
+  pub inserts_blank : (q : ℕ)
+      → (handed set a.driver (state_of states a) (Insert r q)).kinds ≡ kinds_with BlankKind
+  inserts_blank q =
+      ap (λ (cancel : Option ℕ). kinds_with (kind_inserted cancel q))
+      (h.good.quiet.queues a.driver q)
+
+  pub removes_own : (q label : ℕ)
+      → (handed set a.driver (state_of states a) (Remove r q label)).kinds ≡ kinds_with Own
+  removes_own q label =
+      ap (λ (cancel : Option ℕ). kinds_with (kind_removed cancel q))
+      (h.good.quiet.queues a.driver q)
+
   -- a register's right goes
   pub rights_given : (m : ℕ) → has_next (flow_of i) ≡ true
-      → (handed (state_of states a) i).kinds ≡ kinds_with BlankKind
+      → (handed set a.driver (state_of states a) i).kinds ≡ kinds_with BlankKind
       → is_right (kind_of (state_of states a) r) ≡ true → Reads s a r m → (n : ℕ)
       → frame_rights states (Routine (next a)) n + (if nat_eq m n then 1 else 0)
       ≡ frame_rights states (Routine a) n
@@ -89,7 +111,7 @@ module _ (set : Set) (states : States) (s : Shared) (a : Activation) (i : Instr)
 
   -- a register gets one
   pub rights_taken : (m : ℕ) → has_next (flow_of i) ≡ true
-      → (handed (state_of states a) i).kinds ≡ kinds_with Own
+      → (handed set a.driver (state_of states a) i).kinds ≡ kinds_with Own
       → is_right (kind_of (state_of states a) r) ≡ false → r < REGISTERS → (n : ℕ)
       → frame_rights states (Routine (next (with_register a r (Ref m)))) n
       ≡ frame_rights states (Routine a) n + (if nat_eq m n then 1 else 0)
@@ -140,7 +162,8 @@ pub queued_rights : (set : Set) (states : States) (s : Shared) (a : Activation) 
 queued_rights set states s a i h frees (inserts r q m entries reads there) n =
     let gone : frame_rights states (Routine (next a)) n + (if nat_eq m n then 1 else 0)
     ≡ frame_rights states (Routine a) n =
-    rights_given set states s a (Insert r q) h r m refl refl
+    rights_given set states s a (Insert r q) h r m refl
+    (inserts_blank set states s a (Insert r q) h r q)
     (gives_right (kind_of (state_of states a) r) _ h.obeys) reads n in
     let put : times_queued (with_queue s a.device q (inserted entries m)).queues n
     + times_in entries n
@@ -152,8 +175,9 @@ queued_rights set states s a i h frees (inserts r q m entries reads there) n =
 queued_rights set states s a i h frees (removes r q label m entries there) n =
     let won : frame_rights states (Routine (next (with_register a r (Ref m)))) n
     ≡ frame_rights states (Routine a) n + (if nat_eq m n then 1 else 0) =
-    rights_taken set states s a (Remove r q label) h r m refl refl
-    (free_before _ (kind_of (state_of states a) r) h.obeys)
+    rights_taken set states s a (Remove r q label) h r m refl
+    (removes_own set states s a (Remove r q label) h r q label)
+    (free_removed _ _ (kind_of (state_of states a) r) h.obeys)
     (all_at OperandFits h.routine.code a.position (Remove r q label) h.known.operands h.here) n in
     let put : times_queued (with_queue s a.device q entries).queues n + times_in (m ∷ entries) n
     ≡ times_queued s.queues n + times_in entries n =
@@ -165,8 +189,10 @@ queued_rights set states s a i h frees (removes_none r q label there) n =
     let same : frame_rights states (Routine (at_label a label)) n
     ≡ frame_rights states (Routine a) n =
     rights_missed set states s a (Remove r q label) h r label refl refl
-    (free_before _ (kind_of (state_of states a) r) h.obeys) n in
+    (free_removed _ _ (kind_of (state_of states a) r) h.obeys) n in
     omega arith
+queued_rights set states s a i h frees (unlinks r q m entries reads there) n =
+    absurd (never_unlinks set states s a r q h)
 queued_rights set states s a i h frees (starts_packet r m start reads there) n =
     let gone : frame_rights states (Routine (next a)) n + (if nat_eq m n then 1 else 0)
     ≡ frame_rights states (Routine a) n =

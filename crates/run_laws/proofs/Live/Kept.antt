@@ -1,17 +1,19 @@
 -- In every run of an accepted set frames see what they should, and no packet is touched after it
 -- has topped out.
-use Rattle.std.proofs.Common.{◌≡◌, ℕ, suc, ◌+◌, ◌-◌, ◌≤◌, ◌⊎◌, inl, inr, List, [], ◌∷◌, ◌++◌, length, take, Option, None, Some, refl, ap, sym, ◌∙◌, subst, arith}
+use Rattle.std.proofs.Common.{◌≡◌, ℕ, suc, ◌+◌, ◌-◌, ◌≤◌, ◌⊎◌, inl, inr, List, [], ◌∷◌, ◌++◌, length, take, Option, None, Some, refl, ap, sym, ◌∙◌, subst, arith, false}
 use Rattle.std.specs.Prelude.{slice_get}
 use Rattle.std.proofs.lemmas.Bool.{eq-eqb}
 use Rattle.model.specs.declared.set.Sort.TheVariants.{Dpc, StartIo}
 use Rattle.model.specs.declared.status.Status.{Status}
 use Rattle.model.specs.declared.world.Activation.{Activation}
+use Rattle.model.specs.declared.world.CancelStep.{CancelStep}
 use Rattle.model.specs.declared.world.Frame.{Frame}
-use Rattle.model.specs.declared.world.Frame.TheVariants.{Routine, Walk}
+use Rattle.model.specs.declared.world.Frame.TheVariants.{Routine, Walk, Cancel as CancelFrame}
 use Rattle.model.specs.declared.world.Irql.TheVariants.{Passive, Dispatch as DispatchLevel}
 use Rattle.model.specs.declared.world.Packet.{Packet}
 use Rattle.model.specs.declared.world.Thread.{Thread}
-use Rattle.model.specs.Effect.{Change, Outcome, rooted, serves_request, standing, told_to, top_of, with_stack, with_thread, dpc_activation}
+use Rattle.model.specs.Effect.{Outcome, told_to, top_of}
+use Rattle.model.specs.Events.{Change, rooted, serves_request, standing, with_stack, with_thread, dpc_activation}
 use Rattle.model.specs.Run.{begun, frames_on}
 use Rattle.model.specs.Set.{Set}
 use Rattle.model.specs.Trace.{Entry, Actor}
@@ -28,10 +30,11 @@ use Rattle.run_laws.proofs.Runs.Events.{StepsFrame, Happens, nothing, steps, iss
 use Rattle.run_laws.proofs.Runs.Threads.{frames_there, each_frames, idle_frames}
 use Rattle.run_laws.proofs.States.Entering.{begins_request, begins_dpc, startio_activation}
 use Rattle.run_laws.proofs.States.Frames.{IsGood}
+use Rattle.run_laws.proofs.States.Never.{keeps_below}
 use Rattle.run_laws.proofs.States.Rules.{States}
 use Rattle.run_laws.proofs.States.Standing.{Standing, on_top, startio_enters}
 use Rattle.run_laws.proofs.States.Told.{last_under}
-use Rattle.run_laws.proofs.Steps.Comes.{Comes, returns_status}
+use Rattle.run_laws.proofs.Steps.Comes.{Cancels, takes_cancel, Comes, returns_status, cancels}
 use Rattle.run_laws.proofs.Steps.Below.{standing_is}
 use Rattle.run_laws.proofs.Steps.Faults.{fault_among, is_touch}
 
@@ -77,6 +80,7 @@ under_lives : (states : States) (w : World) (t : ℕ) (thread : Thread) (below :
     → thread.frames.items ≡ below ++ f ∷ [] → top_of below ≡ o → UnderLives w.shared o
 under_lives states w t thread below f None kept there frames top = tt
 under_lives states w t thread below f (Some (Routine b)) kept there frames top = tt
+under_lives states w t thread below f (Some (CancelFrame c)) kept there frames top = tt
 under_lives states w t thread below f (Some (Walk n)) kept there frames top =
     λ gone.
     let some : 1 ≤ thread_sum (λ g. frame_walks g n) w.threads =
@@ -88,11 +92,18 @@ under_lives states w t thread below f (Some (Walk n)) kept there frames top =
     let no : None ≡ Some its.0 = sym (found w.shared n None gone) ∙ its.1 in
     cc
 
--- where something is told no frame stands in place of the one that ran
+-- where something is told, no frame stands in place of the one that ran; IoCancelIrp tells nothing
+cancel_tells : (set : Set) (s : Shared) (t n : ℕ) (step : CancelStep) (o : Outcome)
+    → Cancels set s t n step o → o.told ≡ None
+cancel_tells set s t n step o (takes_cancel free) = refl
+cancel_tells set s t n step o _ = refl
+
 told_or_on : (set : Set) (s : Shared) (t : ℕ) (under : Option Frame) (f : Frame) (o : Outcome)
     → Comes set s t under f o
     → (o.told ≡ None) ⊎ (o.frames ≡ [])
 told_or_on set s t under f o (returns_status a form status at sort is) = inr refl
+told_or_on set s t under f o (cancels n step made moves) =
+    inl (cancel_tells set s t n step made moves)
 told_or_on set s t under f o _ = inl refl
 
 frames_seen : (set : Set) (states : States) (below : List Frame) (told : Option Status) (frames : List Frame)
@@ -116,7 +127,7 @@ module _ (set : Set) (states : States) (w : World) (past : List Entry) (good : I
       each_frames w t s after (λ k frames. AllSeen set states None frames) thread there new (λ k apart. sees k)
 
   -- an event keeps it
-  pub sees_event : (t : ℕ) (c : Change) → Happens set w t c → Sees set states c.world
+  pub sees_event : (t : ℕ) (c : Change) → Happens set w t false c → Sees set states c.world
   sees_event t c (nothing reply right) = sees
   sees_event t c (steps h) =
       let o : Outcome = h.outcome in
@@ -127,7 +138,9 @@ module _ (set : Set) (states : States) (w : World) (past : List Entry) (good : I
       h.comes in
       sees_put t o.shared h.thread (with_stack h.thread (standing set h.below o)) h.found
       (subst (λ (frames : List Frame). AllSeen set states None frames)
-      (sym (standing_is set w.shared t (top_of h.below) h.frame o h.below h.comes))
+      (sym (standing_is set w.shared t (top_of h.below) h.frame o h.below h.comes
+      (keeps_below set states w.shared t (top_of h.below) h.frame o
+      (on_top set states w past good stands t h) h.comes)))
       (frames_seen set states h.below o.told o.frames
       (told_or_on set w.shared t (top_of h.below) h.frame o h.comes)
       (seen_below set states None h.below (h.frame ∷ []) here) new))
@@ -158,7 +171,7 @@ module _ (set : Set) (states : States) (w : World) (past : List Entry) (good : I
   -- and touches live packets alone
   pub touches_none : (actor : Actor) (c : Change) → Held states w
       → ((h : StepsFrame set w actor.thread) → Holding states w.shared past h.frame)
-      → Happens set w actor.thread c → fault_among is_touch past actor c.actions ≡ None
+      → Happens set w actor.thread false c → fault_among is_touch past actor c.actions ≡ None
   touches_none actor c kept holding (nothing reply right) = refl
   touches_none actor c kept holding (issues h) = refl
   touches_none actor c kept holding (begins h) = refl

@@ -9,7 +9,7 @@ use Rattle.model.specs.declared.set.Sort.TheVariants.{Propagate, Dispatch}
 use Rattle.model.specs.declared.status.Status.{Status}
 use Rattle.model.specs.declared.world.Activation.{Activation}
 use Rattle.model.specs.declared.world.Frame.{Frame}
-use Rattle.model.specs.declared.world.Frame.TheVariants.{Routine, Walk}
+use Rattle.model.specs.declared.world.Frame.TheVariants.{Routine, Walk, Cancel as CancelFrame}
 use Rattle.model.specs.declared.world.Value.{Value}
 use Rattle.model.specs.declared.world.Value.TheVariants.{Blank, Num, Ref, Status as StatusValue}
 use Rattle.model.specs.Effect.{operand_of, answered_in, told_to}
@@ -21,7 +21,8 @@ use Rattle.run_laws.proofs.States.Told.{last_under, told_frame, told_last, told_
 use Rattle.run_laws.proofs.Steps.Comes.{Reads}
 use Rattle.run_laws.proofs.States.Rules.{States}
 use Rattle.run_laws.proofs.States.HandedOver.{hold_get, hold_none, hold_told, HoldOf}
-use Rattle.model.specs.LocalRule.{kind_of, is_view}
+use Rattle.model.specs.LocalRule.{kind_of}
+use Rattle.model.specs.Kinds.{is_view}
 use Rattle.run_laws.proofs.States.Frames.{state_of}
 use Rattle.run_laws.proofs.States.NoViews.{handed_views, is_deferred}
 use Rattle.model.specs.declared.abs.Kind.TheVariants.{Blank as BlankKind}
@@ -86,6 +87,9 @@ module _ (set : Set) (states : States) where
   Seen (Some (Routine b)) (Walk n) = ⊤
   Seen (Some (Walk m)) (Routine a) = Views states m a
   Seen (Some (Walk m)) (Walk n) = ⊤
+  Seen (Some (CancelFrame c)) (Routine a) = ⊥
+  Seen (Some (CancelFrame c)) (Walk n) = ⊤
+  Seen under (CancelFrame c) = ⊤
 
   -- frames on another one, or on none, the lowest first
   abbrev pub AllSeen : Option Frame → List Frame → Type 0
@@ -120,6 +124,9 @@ module _ (set : Set) (states : States) where
   frame_seen under None (Routine a) h = h
   frame_seen under None (Walk n) h = h
   frame_seen under (Some status) (Walk n) h = h
+  frame_seen under None (CancelFrame c) h = h
+  frame_seen under (Some status) (CancelFrame c) h = h
+  frame_seen (Some (CancelFrame c)) (Some status) (Routine a) h = h
   frame_seen None (Some status) (Routine a) h =
       let r : Option ℕ = operand_of (instruction_at set a.driver a.routine (a.position - 1)) in
       elim h [

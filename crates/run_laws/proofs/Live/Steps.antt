@@ -5,12 +5,12 @@ use Rattle.std.proofs.Common.{◌+◌, ◌≤◌, ◌≡◌, ℕ, ◌-◌, ◌<�
 use Rattle.std.specs.Prelude.{⊤, nat_lt}
 use Rattle.std.proofs.lemmas.Bool.{eq-eqb, cond_both}
 use Rattle.model.specs.declared.abs.Kind.{Kind}
-use Rattle.model.specs.declared.abs.Kind.TheVariants.{Blank as BlankKind, Num as NumKind, Lower as LowerKind, New, Own, View}
+use Rattle.model.specs.declared.abs.Kind.TheVariants.{Blank as BlankKind, Num as NumKind, Lower as LowerKind, New, Own, Listed, Armed, Taken, Cancelling, View}
 use Rattle.model.specs.declared.instr.Instr.{Instr}
 use Rattle.model.specs.declared.set.Sort.TheVariants.{Dispatch}
 use Rattle.model.specs.declared.world.Activation.{Activation}
 use Rattle.model.specs.declared.world.Frame.{Frame}
-use Rattle.model.specs.declared.world.Frame.TheVariants.{Routine, Walk}
+use Rattle.model.specs.declared.world.Frame.TheVariants.{Routine, Walk, Cancel as CancelFrame}
 use Rattle.model.specs.declared.world.OpenLoop.{OpenLoop}
 use Rattle.model.specs.declared.world.Packet.{Packet}
 use Rattle.model.specs.declared.world.Value.{Value}
@@ -21,22 +21,25 @@ use Rattle.model.specs.declared.event.Subject.TheVariants.{Packet as PacketSubje
 use Rattle.model.specs.Action.{Executes, Action, Touches}
 use Rattle.model.specs.Effect.{completes_with, Outcome, asks, turned}
 use Rattle.model.specs.Fault.{bug_if, fault_of, first_or}
-use Rattle.model.specs.LocalRule.{is_packet, is_right, is_view, kind_of}
+use Rattle.model.specs.LocalRule.{kind_of}
+use Rattle.model.specs.Kinds.{is_packet, is_right, is_view}
 use Rattle.model.specs.Set.{flow_of, Set, lower_of, member, sort_of}
 use Rattle.model.specs.Trace.{Entry, Actor}
 use Rattle.model.specs.World.{Shared, asked_of, at_label, current_location, next, outer_loops, packet_of, packet_in, register, with_loops}
 use Rattle.run_laws.proofs.Holders.Counts.{Holding, right_lives, walk_lives}
 use Rattle.run_laws.proofs.Live.Sees.{begins_views, view_refers, Views, RefersTo, Seen, AllSeen, IsDeferred}
-use Rattle.run_laws.proofs.States.NoViews.{deferred_no_view, handed_views, HasNoView, no_view_at, dispatch_no_view}
+use Rattle.run_laws.proofs.States.Never.{never_stands}
+use Rattle.run_laws.proofs.States.NoViews.{deferred_no_view, handed_views, is_queued, HasNoView, no_view_at, dispatch_no_view}
 use Rattle.run_laws.proofs.Past.Packets.{Tells, found, named, untopped}
 use Rattle.run_laws.proofs.States.Entering.{begins_back, IsOfSort, begins_lower, sort_there}
 use Rattle.run_laws.proofs.States.Frames.{Runs, state_of}
 use Rattle.run_laws.proofs.States.Kinds.{packet_ref, packet_wanted}
 use Rattle.run_laws.proofs.States.Lacking.{never_lacks}
-use Rattle.run_laws.proofs.States.OnTop.{OnTop, runs, value_suits}
+use Rattle.run_laws.proofs.States.OnTop.{OnTop, never_listed, runs, value_suits}
 use Rattle.run_laws.proofs.States.Rules.{States}
-use Rattle.run_laws.proofs.Steps.Comes.{removes_none, removes, inserts, starts_packet, takes_out, takes_none, puts_in, starts_next, Queued, GoesTo, onward, jumping, Executing, Reads, Comes, errs, awaits_lock, computes, opens_loop, turns_loop, pages, touches_gone, looks_at, writes_info, marks_packet, takes_lock, retakes_lock, frees_lock, completes_packet, completes_gone, passes_down, calls_down, returns_status, lets_go, lets_walk, walks_gone, walks_to, walks_up, carries_up, tops_out, ends_dpc, works_on_queues, ends_startio}
+use Rattle.run_laws.proofs.Steps.Comes.{removes_none, removes, inserts, starts_packet, takes_out, takes_none, puts_in, starts_next, unlinks, Queued, GoesTo, onward, jumping, Executing, Reads, Comes, errs, awaits_lock, computes, opens_loop, turns_loop, pages, touches_gone, looks_at, writes_info, marks_packet, exchanges, takes_lock, retakes_lock, frees_lock, completes_packet, completes_gone, passes_down, calls_down, returns_status, lets_go, lets_walk, resumes_walk, resumes_gone, resumes_none, stops_walk, stops_none, walks_gone, walks_to, lends_to, walks_up, carries_up, tops_out, ends_dpc, ends_cancel, works_on_queues, ends_startio, cancels}
 use Rattle.run_laws.proofs.Steps.Faults.{fault_among, is_touch}
+use Rattle.run_laws.proofs.Steps.Uncancelled.{never_lends}
 use Rattle.run_laws.proofs.Steps.Words.{packet_operand}
 use Rattle.run_laws.proofs.States.Moves.{falls_next, has_next}
 use Rattle.run_laws.proofs.States.HandedOver.{queued_hold, touching_copies, next_hold, keeps_copies, copies, goes_hold}
@@ -44,7 +47,7 @@ use Rattle.run_laws.proofs.Steps.Locking.{freed_word, taken_word, LockWord}
 use Rattle.run_laws.proofs.States.LoopEnds.{moved_end, moved_loop}
 use Rattle.model.specs.declared.set.Sort.{Sort}
 use Rattle.model.specs.Queues.{StartState}
-use Rattle.model.specs.declared.instr.Instr.TheVariants.{Begin, Call, Pass, Complete, Mark, Insert, Put, End, Loop, Start}
+use Rattle.model.specs.declared.instr.Instr.TheVariants.{Begin, Call, Pass, Complete, Mark, Insert, Put, End, Loop, Start, Unlink}
 use Rattle.run_laws.proofs.Holders.Sums.{own_if, unheld}
 use Rattle.run_laws.proofs.Past.LivePackets.{find}
 use Rattle.run_laws.specs.Holder.{frame_rights, times_queued, times_waiting, times_in}
@@ -60,11 +63,13 @@ goes_seen set states None a b driver routine views h =
     elim h [ inl is ↦ inl (rw (driver, routine) is) | inr is ↦ inr (rw (driver, routine) is) ]
 goes_seen set states (Some (Routine c)) a b driver routine views h = rw (driver, routine) h
 goes_seen set states (Some (Walk m)) a b driver routine views h = views m h
+goes_seen set states (Some (CancelFrame c)) a b driver routine views h = h
 
 walk_seen : (set : Set) (states : States) (under : Option Frame) (n : ℕ) → Seen set states under (Walk n)
 walk_seen set states None n = tt
 walk_seen set states (Some (Routine a)) n = tt
 walk_seen set states (Some (Walk m)) n = tt
+walk_seen set states (Some (CancelFrame c)) n = tt
 
 goes_same : (a : Activation) (i : Instr) (b : Activation) (jumped : Bool) → GoesTo a i b jumped
     → (b.driver ≡ a.driver) × (b.routine ≡ a.routine)
@@ -162,6 +167,9 @@ module _ (set : Set) (states : States) (s : Shared) where
       (next_seen under a (Put q r) (runs set states s a (Put q r) h at) refl refl sees, tt)
   seen t under top f o h sees (marks_packet a r n p at reads there) =
       (next_seen under a (Mark r) (runs set states s a (Mark r) h at) refl refl sees, tt)
+  seen t under top f o h sees
+      (exchanges a i b jumped r n p armer at work goes operand reads there how) =
+      (moves_seen under a i b jumped (runs set states s a i h at) goes sees, tt)
   seen t under top f o h sees (takes_lock a i lock at taken free) =
       (lock_seen under a i h at (taken_word a i lock taken) sees, tt)
   seen t under top f o h sees (retakes_lock a i lock at taken owned) =
@@ -191,10 +199,16 @@ module _ (set : Set) (states : States) (s : Shared) where
   seen t under top f o h sees (returns_status a form status at sort is) = tt
   seen t under top f o h sees (lets_go a at sort free) = tt
   seen t under top f o h sees (lets_walk a n at sort) = tt
+  seen t under top f o h sees (resumes_walk a n p at sort there) = tt
+  seen t under top f o h sees (resumes_gone a n at sort gone) = tt
+  seen t under top f o h sees (resumes_none a at sort free) = tt
+  seen t under top f o h sees (stops_walk a n at sort) = tt
+  seen t under top f o h sees (stops_none a at sort free) = tt
+  seen t under top f o h sees (ends_cancel a at sort) = tt
   seen t under top f o h sees (ends_startio a at sort) = tt
   seen t under top f o h sees (ends_dpc a at sort) = tt
   seen t under top f o h sees (walks_gone n gone) = tt
-  seen t under top f o h sees (walks_to n p c there set_there) = (
+  seen t under top f o h sees (walks_to n p c there set_there lends) = (
     walk_seen set states under n,
     (
       begins_views set states s.issued (completes_with set c n) n
@@ -202,24 +216,33 @@ module _ (set : Set) (states : States) (s : Shared) where
       tt,
     ),
   )
+  seen t under top f o h sees (lends_to n p c there set_there lends) =
+      absurd (never_lends h.good.quiet c lends)
+  seen t under top f o h sees (cancels n step made moves) = absurd (never_stands set states s _ h)
   seen t under top f o h sees (walks_up n p there none more unmarked) = (walk_seen set states under n, tt)
   seen t under top f o h sees (carries_up n p there none more marked) = (walk_seen set states under n, tt)
   seen t under top f o h sees (tops_out n p there none last) = tt
 
 -- a packet in a register that has no right to it is on its way up
-only_view : (k : Kind) → is_packet k ≡ true → is_right k ≡ false → is_view k ≡ true
-only_view View is free = refl
-only_view New is free = cc
-only_view Own is free = cc
-only_view BlankKind is free = cc
-only_view NumKind is free = cc
-only_view LowerKind is free = cc
+only_view : (k : Kind) → is_queued k ≡ false → is_packet k ≡ true → is_right k ≡ false
+    → is_view k ≡ true
+only_view View unlisted is free = refl
+only_view New unlisted is free = cc
+only_view Own unlisted is free = cc
+only_view BlankKind unlisted is free = cc
+only_view NumKind unlisted is free = cc
+only_view LowerKind unlisted is free = cc
+only_view (Listed name) unlisted is free = cc
+only_view (Armed name) unlisted is free = cc
+only_view (Taken name) unlisted is free = cc
+only_view (Cancelling name) unlisted is free = cc
 
 -- the packet of the I/O manager's frame below, if it is one, is live
 abbrev pub UnderLives : Shared → Option Frame → Type 0
 UnderLives s None = ⊤
 UnderLives s (Some (Routine b)) = ⊤
 UnderLives s (Some (Walk n)) = packet_of s n ≡ None → ⊥
+UnderLives s (Some (CancelFrame c)) = ⊤
 
 module _ (set : Set) (states : States) (s : Shared) (past : List Entry) where
   none_views : (a : Activation) (i : Instr) (r : ℕ) → Runs set states s a i
@@ -263,6 +286,7 @@ module _ (set : Set) (states : States) (s : Shared) (past : List Entry) where
       let same : n ≡ m =
       refers_same m n (register a r) refers (view_refers states m a seen r view) in
       live (ap (packet_of s) (sym same) ∙ gone)
+  view_lives (Some (CancelFrame c)) a i r n h seen live view refers gone = seen
 
   -- the packet that an instruction works on
   operand_lives : (under : Option Frame) (a : Activation) (i : Instr) (r n : ℕ) (b : Bool)
@@ -280,7 +304,9 @@ module _ (set : Set) (states : States) (s : Shared) (past : List Entry) where
       (value_suits set states s a i r run) in
       let both : Some ref.0 ≡ Some n = sym ref.2 ∙ reads in
       let same : ref.0 ≡ n = cc in
-      view_lives under a i r n run seen live (only_view (kind_of (state_of states a) r) packet right)
+      view_lives under a i r n run seen live
+      (only_view (kind_of (state_of states a) r) (never_listed set states s a i run r) packet
+      right)
       (ref.1 ∙ ap (λ (m : ℕ). Ref m) same) gone
 
   -- a packet that is there hasn't topped out
@@ -324,6 +350,9 @@ module _ (set : Set) (states : States) (s : Shared) (past : List Entry) where
       holding.waiting n in
       first_only _ (queued_lives n holding.tells (omega arith) actor)
   queued_faults actor under a i h holding seen live at (removes_none r q label there) = refl
+  queued_faults actor under a i h holding seen live at (unlinks r q n entries reads there) =
+      first_only _ (under_one actor n (packet_of s n) holding.tells refl
+      (operand_lives under a (Unlink r q) r n _ h holding at seen live refl reads refl))
   queued_faults actor under a i h holding seen live at (starts_packet r n start reads there) =
       first_only _ (under_one actor n (packet_of s n) holding.tells refl
       (operand_lives under a (Start r) r n _ h holding at seen live refl reads refl))
@@ -349,6 +378,17 @@ module _ (set : Set) (states : States) (s : Shared) (past : List Entry) where
   touch_faults actor under f o tells h holding seen live (marks_packet a r n p at reads there) =
       first_only _ (touched_one actor n p tells there)
   touch_faults actor under f o tells h holding seen live
+      (exchanges a i b jumped r n p armer at work goes operand reads there how) =
+      first_only _ (touched_one actor n p tells there)
+  touch_faults actor under f o tells h holding seen live (resumes_walk a n p at sort there) =
+      first_only _ (touched_one actor n p tells there)
+  touch_faults actor under f o tells h holding seen live (resumes_gone a n at sort gone) =
+      absurd (live gone)
+  touch_faults actor under f o tells h holding seen live (lends_to n p c there set_there lends) =
+      first_only _ (touched_one actor n p tells there)
+  touch_faults actor under f o tells h holding seen live (cancels n step made moves) =
+      absurd (never_stands set states s _ h)
+  touch_faults actor under f o tells h holding seen live
       (passes_down a r n p lower at reads there below) =
       first_only _ (touched_one actor n p tells there)
   touch_faults actor under f o tells h holding seen live
@@ -358,7 +398,7 @@ module _ (set : Set) (states : States) (s : Shared) (past : List Entry) where
       first_only _ (under_one actor n (packet_of s n) tells refl live)
   touch_faults actor under f o tells h holding seen live (walks_gone n gone) =
       absurd (walk_lives states s past n holding gone)
-  touch_faults actor under f o tells h holding seen live (walks_to n p c there set_there) =
+  touch_faults actor under f o tells h holding seen live (walks_to n p c there set_there lends) =
       first_only _ (touched_one actor n p tells there)
   touch_faults actor under f o tells h holding seen live (walks_up n p there none more unmarked) =
       first_only _ (touched_one actor n p tells there)

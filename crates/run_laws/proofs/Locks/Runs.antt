@@ -9,13 +9,14 @@ use Rattle.model.specs.declared.status.Status.{Status}
 use Rattle.model.specs.declared.set.Sort.TheVariants.{Dispatch, Dpc, StartIo}
 use Rattle.model.specs.declared.world.Activation.{Activation}
 use Rattle.model.specs.declared.world.Frame.{Frame}
-use Rattle.model.specs.declared.world.Frame.TheVariants.{Routine, Walk}
+use Rattle.model.specs.declared.world.Frame.TheVariants.{Routine, Walk, Cancel as CancelFrame}
 use Rattle.model.specs.declared.world.Irql.{Irql}
 use Rattle.model.specs.declared.world.Irql.TheVariants.{Passive, Dispatch as DispatchLevel}
 use Rattle.model.specs.declared.world.Thread.{Thread}
 use Rattle.model.specs.declared.world.Value.TheVariants.{Blank, Ref}
 use Rattle.model.specs.Action.{Action, Acquires, Releases, Issues}
-use Rattle.model.specs.Effect.{Change, Outcome, operand_of, answered_in, top_of, standing, with_thread, with_stack, rooted, with_new_packet, serves_request, dpc_activation}
+use Rattle.model.specs.Effect.{Outcome, operand_of, answered_in, top_of}
+use Rattle.model.specs.Events.{Change, standing, with_thread, with_stack, rooted, with_new_packet, serves_request, dpc_activation}
 use Rattle.model.specs.Fault.{holds_after, holds}
 use Rattle.model.specs.Run.{begun, root_of, frames_on}
 use Rattle.model.specs.Set.{Set, instruction_at}
@@ -29,6 +30,7 @@ use Rattle.run_laws.proofs.Runs.Kept.{GoesOnBy}
 use Rattle.run_laws.proofs.Runs.Threads.{frames_there, each_frames, idle_frames}
 use Rattle.run_laws.proofs.States.Entering.{begins_request, begins_dpc, startio_activation}
 use Rattle.run_laws.proofs.States.Frames.{state_of, IsGood}
+use Rattle.run_laws.proofs.States.Never.{keeps_below}
 use Rattle.run_laws.proofs.States.Roots.{Low}
 use Rattle.run_laws.proofs.States.Rules.{States}
 use Rattle.run_laws.proofs.States.Stacks.{Stands, Stacked}
@@ -68,6 +70,9 @@ module _ (set : Set) (states : States) (issued : ℕ) (l : Lock) where
   below_says (Routine b) (Routine a) h = free_says (state_of states a) a.device l h.1
   below_says (Routine b) (Walk m) h = refl
   below_says (Walk n) (Walk m) h = absurd h
+  below_says (Walk n) (CancelFrame c) h = absurd h
+  below_says (Routine b) (CancelFrame c) h = absurd h
+  below_says (CancelFrame c) g h = absurd h
 
   says_below : (below : List Frame) (f : Frame) → Stacked set states issued (below ++ f ∷ [])
       → top_says states below l ≡ false
@@ -86,6 +91,8 @@ module _ (set : Set) (states : States) (issued : ℕ) (l : Lock) where
   frame_told None (Routine a) = refl
   frame_told None (Walk n) = refl
   frame_told (Some status) (Walk n) = refl
+  frame_told None (CancelFrame c) = refl
+  frame_told (Some status) (CancelFrame c) = refl
   frame_told (Some status) (Routine a) =
       answered_says a status (operand_of (instruction_at set a.driver a.routine (a.position - 1)))
 
@@ -124,7 +131,7 @@ module _ (set : Set) (states : States) (w : World) (past : List Entry) (good : I
       thread found own
       (λ k apart l. other_threads past actor k actions l apart ∙ agree k l)
 
-  locks_happen : (actor : Actor) (c : Change) → Happens set w actor.thread c
+  locks_happen : (actor : Actor) (c : Change) → Happens set w actor.thread false c
       → LocksAgree states c.world (recorded past actor c.actions)
   locks_happen actor c (nothing reply right) = agree
   locks_happen actor c (steps h) =
@@ -137,7 +144,9 @@ module _ (set : Set) (states : States) (w : World) (past : List Entry) (good : I
       ∙ sym (says_after set states w.shared.issued l h.below h.frame o.told o.frames
       (stands_there set states w past good stands actor.thread h))
       ∙ ap (λ (frames : List Frame). top_says states frames l)
-      (sym (standing_last set w.shared actor.thread under h.frame o h.below h.comes)))
+      (sym (standing_last set w.shared actor.thread under h.frame o h.below h.comes
+      (keeps_below set states w.shared actor.thread under h.frame o
+      (on_top set states w past good stands actor.thread h) h.comes))))
   locks_happen actor c (issues h) =
       let n : ℕ = w.shared.issued in
       let a : Activation = serves_request set h.d h.device h.major n in
@@ -168,13 +177,13 @@ module _ (set : Set) (states : States) (w : World) (past : List Entry) (good : I
       ∙ sym (begun_says set states w.shared.issued a StartIo (Ref h.n) l
       (startio_enters set states w past good stands actor.thread h)))
 
-  pub locks_kept : (actor : Actor) (c : Change) → GoesOnBy set w past actor c
+  pub locks_kept : (actor : Actor) (c : Change) → GoesOnBy set w past actor false c
       → LocksAgree states c.world (recorded past actor c.actions)
   locks_kept actor c on = locks_happen actor c on.happens
 
   pub lock_faults_none : (actor : Actor) (c : Change)
       → actor.root ≡ root_of (slice_get w.threads actor.thread)
-      → Happens set w actor.thread c → fault_among is_of_locks past actor c.actions ≡ None
+      → Happens set w actor.thread false c → fault_among is_of_locks past actor c.actions ≡ None
   lock_faults_none actor c root (nothing reply right) = refl
   lock_faults_none actor c root (steps h) =
       lock_faults set states w.shared past actor (top_of h.below) h.frame h.outcome

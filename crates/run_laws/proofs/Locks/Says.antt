@@ -16,13 +16,13 @@ use Rattle.model.specs.declared.instr.Instr.TheVariants.{Mark, Acquire, Release,
 use Rattle.model.specs.declared.set.Sort.{Sort}
 use Rattle.model.specs.declared.world.Activation.{Activation}
 use Rattle.model.specs.declared.world.Frame.{Frame}
-use Rattle.model.specs.declared.world.Frame.TheVariants.{Routine, Walk}
+use Rattle.model.specs.declared.world.Frame.TheVariants.{Routine, Walk, Cancel as CancelFrame}
 use Rattle.model.specs.Effect.{spin_lock}
 use Rattle.model.specs.Fault.{is_lock}
-use Rattle.model.specs.LocalRule.{is_held, with_lock, with_cancel, holds_spin_lock, holds_lock, kind_of, marked, given_down, handed, handed_at_label, refuses}
+use Rattle.model.specs.LocalRule.{is_held, with_lock, with_cancel, holds_spin_lock, holds_lock, kind_of, marked, given_down, handed, handed_at_label, refuses, released}
 use Rattle.model.specs.Set.{Set}
 use Rattle.model.specs.Sound.{OperandFits}
-use Rattle.run_laws.proofs.States.Rules.{States, unbroken}
+use Rattle.run_laws.proofs.States.Rules.{States, first_none, unbroken}
 use Rattle.run_laws.proofs.Steps.Words.{Work, Locking, work_of, lock_taken, lock_freed}
 use Rattle.run_laws.proofs.Tests.{or_left, or_right, and_false, not_false}
 
@@ -34,6 +34,7 @@ state_says s d (Spin l) = nat_eq d l.device && is_held s l.number
 abbrev pub frame_says : States → Frame → Lock → Bool
 frame_says states (Routine a) l = state_says (states a.driver a.routine a.position) a.device l
 frame_says states (Walk n) l = false
+frame_says states (CancelFrame c) l = false
 
 -- of a thread's frames the top one says it
 abbrev pub top_says : States → List Frame → Lock → Bool
@@ -70,16 +71,16 @@ given_says : (s : Abs) (r d : ℕ) (l : Lock) (k : Kind)
 given_says s r d l New = refl
 given_says s r d l _ = refl
 
-pub handed_says : (s : Abs) (i : Instr) (d : ℕ) (l : Lock) → is_locking (work_of i) ≡ false
-    → state_says (handed s i) d l ≡ state_says s d l
-handed_says s (Acquire lock) d l h = cc
-handed_says s (Release lock) d l h = cc
-handed_says s AcquireCancel d l h = cc
-handed_says s ReleaseCancel d l h = cc
-handed_says s (Mark r) d l h = marked_says s r d l (kind_of s r)
-handed_says s (Pass r) d l h = given_says s r d l (kind_of s r)
-handed_says s (Call r f) d l h = given_says s r d l (kind_of s r)
-handed_says s _ d l h = refl
+pub handed_says : (set : Set) (driver : ℕ) (s : Abs) (i : Instr) (d : ℕ) (l : Lock)
+    → is_locking (work_of i) ≡ false → state_says (handed set driver s i) d l ≡ state_says s d l
+handed_says set driver s (Acquire lock) d l h = cc
+handed_says set driver s (Release lock) d l h = cc
+handed_says set driver s AcquireCancel d l h = cc
+handed_says set driver s ReleaseCancel d l h = cc
+handed_says set driver s (Mark r) d l h = marked_says s r d l (kind_of s r)
+handed_says set driver s (Pass r) d l h = given_says s r d l (kind_of s r)
+handed_says set driver s (Call r f) d l h = given_says s r d l (kind_of s r)
+handed_says set driver s _ d l h = refl
 
 pub label_says : (s : Abs) (i : Instr) (d : ℕ) (l : Lock)
     → state_says (handed_at_label s i) d l ≡ state_says s d l
@@ -112,6 +113,12 @@ spin_says s d m b within (Spin l) =
     (is_held (with_lock s m b) l.number)
     (held_set s.locks m l.number b within)
 
+-- the release of a guard
+released_says : (s : Abs) (set : Set) (driver d m : ℕ) → m < length s.locks
+    → SaysNow s (released s set driver m) d (Spin (record { device = d; number = m })) false
+released_says s set driver d m within SystemCancel = spin_says s d m false within SystemCancel
+released_says s set driver d m within (Spin l) = spin_says s d m false within (Spin l)
+
 cancel_says : (s : Abs) (d : ℕ) (b : Bool) → SaysNow s (with_cancel s b) d SystemCancel b
 cancel_says s d b SystemCancel = refl
 cancel_says s d b (Spin l) = refl
@@ -127,7 +134,7 @@ pub record Locks (s to : Abs) (d : ℕ) (lock : Lock) (held : Bool) : Type 0 whe
 
 module _ (s : Abs) (a : Activation) (sort : Sort) (set : Set) (eight : length s.locks ≡ SPIN_LOCKS) where
   pub taken : (i : Instr) (lock : Lock) → lock_taken a i ≡ Some lock → OperandFits i
-      → refuses s i sort set a.driver ≡ None → Locks s (handed s i) a.device lock false
+      → refuses s i sort set a.driver ≡ None → Locks s (handed set a.driver s i) a.device lock false
   taken (Acquire m) lock is small rule =
       let same : spin_lock a m ≡ lock = cc in
       let low : m < SPIN_LOCKS = small in
@@ -141,13 +148,14 @@ module _ (s : Abs) (a : Activation) (sort : Sort) (set : Set) (eight : length s.
   taken _ lock is small rule = cc
 
   pub freed : (i : Instr) (lock : Lock) → lock_freed a i ≡ Some lock → OperandFits i
-      → refuses s i sort set a.driver ≡ None → Locks s (handed s i) a.device lock true
+      → refuses s i sort set a.driver ≡ None → Locks s (handed set a.driver s i) a.device lock true
   freed (Release m) lock is small rule =
       let same : spin_lock a m ≡ lock = cc in
       let low : m < SPIN_LOCKS = small in
       rw (← same) (record {
-        before = own_device a.device (is_held s m) true (not_false _ (unbroken _ _ rule));
-        now = spin_says s a.device m false (rw eight low);
+        before = own_device a.device (is_held s m) true
+            (not_false _ (unbroken _ _ (first_none _ _ rule)));
+        now = released_says s set a.driver a.device m (rw eight low);
       })
   freed ReleaseCancel lock is small rule =
       let same : SystemCancel ≡ lock = cc in

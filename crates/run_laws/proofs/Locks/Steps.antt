@@ -13,9 +13,9 @@ use Rattle.model.specs.declared.event.Subject.TheVariants.{Lock as LockSubject, 
 use Rattle.model.specs.declared.instr.Instr.{Instr}
 use Rattle.model.specs.declared.instr.Instr.TheVariants.{Loop, End, LoadPaged, StorePaged, Put, Mark, Pass, Call, Complete, Ret}
 use Rattle.model.specs.declared.instr.Return.{Return}
-use Rattle.model.specs.declared.instr.Return.TheVariants.{Continue, Void}
+use Rattle.model.specs.declared.instr.Return.TheVariants.{Continue, Stop, Void}
 use Rattle.model.specs.declared.set.Sort.{Sort}
-use Rattle.model.specs.declared.set.Sort.TheVariants.{Dispatch, Dpc, Propagate, StartIo}
+use Rattle.model.specs.declared.set.Sort.TheVariants.{Dispatch, Dpc, Propagate, StartIo, Hold, Cancel}
 use Rattle.model.specs.declared.world.Activation.{Activation}
 use Rattle.model.specs.declared.world.Frame.{Frame}
 use Rattle.model.specs.declared.world.Frame.TheVariants.{Routine}
@@ -36,13 +36,15 @@ use Rattle.run_laws.proofs.States.Entering.{first_state, Enters, begins_lower, b
 use Rattle.run_laws.proofs.States.Frames.{state_of, Moved, Runs}
 use Rattle.run_laws.proofs.States.LoopEnds.{moved_end}
 use Rattle.run_laws.proofs.States.Moves.{onto, has_next, falls_next, arrives, arrives_next}
+use Rattle.run_laws.proofs.States.Never.{never_stands}
 use Rattle.run_laws.proofs.States.Obeyed.{sends_down, completes_one, returns_by}
 use Rattle.run_laws.proofs.States.OnTop.{OnTop, runs}
 use Rattle.run_laws.proofs.States.Roots.{Low}
 use Rattle.run_laws.proofs.States.Rules.{States, first_none, second_none, unbroken}
-use Rattle.run_laws.proofs.Steps.Comes.{Queued, Reads, GoesTo, onward, jumping, Comes, computes, opens_loop, turns_loop, pages, touches_gone, looks_at, writes_info, marks_packet, takes_lock, retakes_lock, frees_lock, completes_packet, completes_gone, passes_down, calls_down, returns_status, lets_go, lets_walk, ends_dpc, walks_to, works_on_queues, ends_startio}
+use Rattle.run_laws.proofs.Steps.Comes.{Queued, Reads, GoesTo, onward, jumping, Comes, computes, opens_loop, turns_loop, pages, touches_gone, looks_at, writes_info, marks_packet, takes_lock, retakes_lock, frees_lock, completes_packet, completes_gone, passes_down, calls_down, returns_status, lets_go, lets_walk, ends_dpc, walks_to, works_on_queues, ends_startio, exchanges, resumes_walk, resumes_gone, resumes_none, stops_walk, stops_none, ends_cancel, lends_to, cancels}
 use Rattle.run_laws.proofs.Steps.Faults.{is_of_locks, fault_among}
 use Rattle.run_laws.proofs.Steps.Locking.{taken_word, freed_word}
+use Rattle.run_laws.proofs.Steps.Uncancelled.{never_lends}
 use Rattle.run_laws.proofs.Steps.Words.{Work, Locking, Paging, Forwarding, work_of, is_touching, packet_operand, lock_taken, lock_freed}
 use Rattle.model.specs.Queues.{StartState}
 use Rattle.run_laws.proofs.States.Queueing.{queue_moves, MovedOn}
@@ -60,7 +62,7 @@ module _ (set : Set) (states : States) (s : Shared) (a : Activation) (i : Instr)
   quiet_goes b jumped quiet (onward registers on written) l =
       ap (λ state. state_says state a.device l)
       (arrives set states s a i h _ false (onward registers on written))
-      ∙ handed_says (state_of states a) i a.device l quiet
+      ∙ handed_says set a.driver (state_of states a) i a.device l quiet
   quiet_goes b jumped quiet (jumping label labelled) l =
       ap (λ state. state_says state a.device l)
       (arrives set states s a i h _ true (jumping label labelled))
@@ -69,12 +71,12 @@ module _ (set : Set) (states : States) (s : Shared) (a : Activation) (i : Instr)
   quiet_next : is_locking (work_of i) ≡ false → has_next (flow_of i) ≡ true → Quiet (next a)
   quiet_next quiet on l =
       ap (λ state. state_says state a.device l) (arrives_next set states s a i h on)
-      ∙ handed_says (state_of states a) i a.device l quiet
+      ∙ handed_says set a.driver (state_of states a) i a.device l quiet
 
-onto_says : (s : Abs) (i : Instr) (jumped : Bool) (d : ℕ) (l : Lock) → is_locking (work_of i) ≡ false
-    → state_says (onto s i jumped) d l ≡ state_says s d l
-onto_says s i false d l quiet = handed_says s i d l quiet
-onto_says s i true d l quiet = label_says s i d l
+onto_says : (set : Set) (driver : ℕ) (s : Abs) (i : Instr) (jumped : Bool) (d : ℕ) (l : Lock)
+    → is_locking (work_of i) ≡ false → state_says (onto set driver s i jumped) d l ≡ state_says s d l
+onto_says set driver s i false d l quiet = handed_says set driver s i d l quiet
+onto_says set driver s i true d l quiet = label_says s i d l
 
 queued_quiet : {s : Shared} {a b : Activation} {i : Instr} {queues : List (List (List ℕ))}
     {lists : List StartState} {actions : List Action} {full : Bool}
@@ -88,6 +90,8 @@ module _ (set : Set) (states : States) where
   first_says StartIo d l = free_says (first_state StartIo) d l refl
   first_says Dpc d l = free_says (first_state Dpc) d l refl
   first_says Propagate d l = free_says (first_state Propagate) d l refl
+  first_says Hold d l = free_says (first_state Hold) d l refl
+  first_says Cancel d l = free_says (first_state Cancel) d l refl
 
   pub begun_says : (issued : ℕ) (a : Activation) (sort : Sort) (first : Value) (l : Lock)
       → Enters set states issued a sort first
@@ -104,6 +108,8 @@ level_free s Dispatch rule = (refl, unbroken _ _ rule)
 level_free s StartIo rule = cc
 level_free s Dpc rule = cc
 level_free s Propagate rule = cc
+level_free s Hold rule = cc
+level_free s Cancel rule = cc
 
 paged_free : (s : Abs) (i : Instr) (sort : Sort) (set : Set) (driver : ℕ) → work_of i ≡ Paging
     → refuses s i sort set driver ≡ None → LevelFree s sort
@@ -156,19 +162,19 @@ module _ (set : Set) (states : States) (s : Shared) (past : List Entry) (actor :
 
   module _ (a : Activation) (i : Instr) (h : Runs set states s a i) (agrees : Agrees (Routine a)) where
     locks_taken : (lock : Lock) → lock_taken a i ≡ Some lock
-        → Locks (state_of states a) (handed (state_of states a) i) a.device lock false
+        → Locks (state_of states a) (handed set a.driver (state_of states a) i) a.device lock false
     locks_taken lock takes =
         taken (state_of states a) a (sort_of set a.driver a.routine) set h.stays.eight i lock takes
         (operand set states s a i h) h.obeys
 
     locks_freed : (lock : Lock) → lock_freed a i ≡ Some lock
-        → Locks (state_of states a) (handed (state_of states a) i) a.device lock true
+        → Locks (state_of states a) (handed set a.driver (state_of states a) i) a.device lock true
     locks_freed lock frees =
         freed (state_of states a) a (sort_of set a.driver a.routine) set h.stays.eight i lock frees
         (operand set states s a i h) h.obeys
 
     own_now : (lock : Lock) (held b : Bool) → has_next (flow_of i) ≡ true
-        → ((l : Lock) → state_says (handed (state_of states a) i) a.device l
+        → ((l : Lock) → state_says (handed set a.driver (state_of states a) i) a.device l
         ≡ (if is_lock lock l then b else state_says (state_of states a) a.device l)) → (l : Lock)
         → (if nat_eq actor.thread actor.thread && is_lock lock l then b else holds past actor.thread l)
         ≡ frame_says states (Routine (next a)) l
@@ -211,6 +217,9 @@ module _ (set : Set) (states : States) (s : Shared) (past : List Entry) (actor :
   own under f o top agrees (marks_packet a r n p at reads there) l =
       agrees l ∙ sym
       (quiet_next set states s a (Mark r) (runs set states s a (Mark r) top at) refl refl l)
+  own under f o top agrees (exchanges a i b jumped r n p armer at is goes operand reads there how) l =
+      agrees l ∙ sym
+      (quiet_goes set states s a i (runs set states s a i top at) b jumped (rw is refl) goes l)
   own under f o top agrees (takes_lock a i lock at takes free) l =
       let h : Runs set states s a i = runs set states s a i top at in
       own_now a i h agrees lock false true (falls_next (flow_of i) (taken_word a i lock takes).on)
@@ -229,7 +238,7 @@ module _ (set : Set) (states : States) (s : Shared) (past : List Entry) (actor :
       let says : frame_says states (Routine b) l ≡ frame_says states (Routine a) l =
       ap (λ d. state_says (state_of states b) d l) on.moved.device
       ∙ ap (λ state. state_says state a.device l) on.moved.arrives
-      ∙ onto_says (state_of states a) i on.jumped a.device l (queued_quiet queued) in
+      ∙ onto_says set a.driver (state_of states a) i on.jumped a.device l (queued_quiet queued) in
       elim (queued_touches queued) [
         | inl none ↦ rw none (agrees l ∙ sym says)
         | inr one ↦ rw one.1 (agrees l ∙ sym says)
@@ -260,7 +269,23 @@ module _ (set : Set) (states : States) (s : Shared) (past : List Entry) (actor :
       agrees l ∙ returns set states s a Void (runs set states s a (Ret Void) top at) l
   own under f o top agrees (ends_dpc a at is) l =
       agrees l ∙ returns set states s a Void (runs set states s a (Ret Void) top at) l
-  own under f o top agrees (walks_to n p c there set_there) l =
+  own under f o top agrees (resumes_walk a n p at is there) l =
+      agrees l ∙ returns set states s a Continue (runs set states s a (Ret Continue) top at) l
+  own under f o top agrees (resumes_gone a n at is gone) l =
+      agrees l ∙ returns set states s a Continue (runs set states s a (Ret Continue) top at) l
+  own under f o top agrees (resumes_none a at is walk) l =
+      agrees l ∙ returns set states s a Continue (runs set states s a (Ret Continue) top at) l
+  own under f o top agrees (stops_walk a n at above) l =
+      agrees l ∙ returns set states s a Stop (runs set states s a (Ret Stop) top at) l
+  own under f o top agrees (stops_none a at above walk) l =
+      agrees l ∙ returns set states s a Stop (runs set states s a (Ret Stop) top at) l
+  own under f o top agrees (ends_cancel a at is) l =
+      agrees l ∙ returns set states s a Void (runs set states s a (Ret Void) top at) l
+  own under f o top agrees (lends_to n p c there set_there sort) l =
+      absurd (never_lends top.good.quiet c sort)
+  own under f o top agrees (cancels n step made moves) l =
+      absurd (never_stands set states s (record { packet = n; next = step }) top)
+  own under f o top agrees (walks_to n p c there set_there lends) l =
       agrees l ∙ sym (begun_says set states s.issued (completes_with set c n) Propagate (Ref n) l
       (begins_back set states s top.good top.fits n p c top.stands there set_there))
   own under f o top agrees _ l = agrees l
@@ -307,4 +332,6 @@ module _ (set : Set) (states : States) (s : Shared) (past : List Entry) (actor :
   lock_faults under f o low top agrees
       (works_on_queues a i b queues starts actions full at queued) =
       elim (queued_touches queued) [ inl none ↦ rw none refl | inr one ↦ rw one.1 refl ]
+  lock_faults under f o low top agrees (cancels n step made moves) =
+      absurd (never_stands set states s (record { packet = n; next = step }) top)
   lock_faults under f o low top agrees _ = refl

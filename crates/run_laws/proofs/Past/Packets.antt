@@ -1,7 +1,8 @@
 -- The live packets tell what the past tells: which packets have topped out, and of each live one
--- whether it was completed, how many locations it has and how far down it was sent.
+-- whether the I/O manager has it, whether it has a cancel routine, how many locations it has and how
+-- far down it was sent.
 use Rattle.std.proofs.Common.{◌≡◌, ◌≢◌, ◌≤◌, ◌<◌, ◌+◌, ℕ, suc, List, [], ◌∷◌, ◌++◌, Option, None, Some, Bool, true, false, refl, ap, sym, ◌∙◌, inl, inr, arith, subst}
-use Rattle.std.specs.Prelude.{◌||◌, ◌&&◌, nat_eq, nat_lt, is_none, if◌then◌else◌}
+use Rattle.std.specs.Prelude.{◌||◌, ◌&&◌, nat_eq, nat_lt, is_none, is_some, if◌then◌else◌}
 use Rattle.std.proofs.lemmas.Bool.Decides.{eqb_tells, leb_tells}
 use Rattle.std.proofs.lemmas.Bool.{cases_lt, eq-eqb}
 use Rattle.model.specs.declared.world.Packet.{Packet}
@@ -10,7 +11,7 @@ use Rattle.model.specs.declared.world.Value.TheVariants.{Blank, Num, Ref, Status
 use Rattle.model.specs.declared.status.Major.{Major}
 use Rattle.model.specs.World.{Shared, packet_in, packet_of, with_packet, without_packet, new_packet}
 use Rattle.model.specs.Trace.{Entry}
-use Rattle.model.specs.Fault.{topped, completing, stack_size, depth}
+use Rattle.model.specs.Fault.{topped, completing, armed, stack_size, depth}
 use Rattle.run_laws.proofs.Past.LivePackets.{find, Rises, find_place, find_number, find_above, find_set, rises_set, find_remove, rises_remove, find_push, rises_push}
 use Rattle.run_laws.proofs.Past.Stacks.{Measured, Changed, measured_new}
 use Rattle.run_laws.proofs.Tests.{and_false}
@@ -19,17 +20,20 @@ use Rattle.run_laws.proofs.Tests.{and_false}
 abbrev pub absent : List Packet → ℕ → ℕ → Bool
 absent packets issued n = nat_lt n issued && is_none (find packets n)
 
--- what the live packets tell, of as many as were issued: those that topped out, those that were
--- completed, and the stacks of the live ones
-pub record Told (packets : List Packet) (issued : ℕ) (tops ends : ℕ → Bool) (sizes deeps : ℕ → ℕ)
-    : Type 0 where
+-- what the live packets tell, of as many as were issued: those that topped out, those that the I/O
+-- manager has, those that have a cancel routine, and the stacks of the live ones
+pub record Told (packets : List Packet) (issued : ℕ) (tops ends arms : ℕ → Bool)
+    (sizes deeps : ℕ → ℕ) : Type 0 where
   pub rises : Rises 0 packets issued
   pub gone : (n : ℕ) → tops n ≡ absent packets issued n
-  pub live : (n : ℕ) (p : Packet) → find packets n ≡ Some p → Measured p (ends n) (sizes n) (deeps n)
-  pub fresh : (n : ℕ) → issued ≤ n → ends n ≡ false
+  pub live : (n : ℕ) (p : Packet) → find packets n ≡ Some p
+      → Measured p (ends n) (arms n) (sizes n) (deeps n)
+  pub fresh : (n : ℕ) → issued ≤ n → (ends n ≡ false) × (arms n ≡ false)
 
 abbrev pub Tells : Shared → List Entry → Type 0
-Tells s past = Told s.packets s.issued (topped past) (completing past) (stack_size past) (depth past)
+Tells s past =
+    Told s.packets s.issued (topped past) (completing past) (armed past) (stack_size past)
+    (depth past)
 
 pub found : (s : Shared) (n : ℕ) (o : Option Packet) → packet_of s n ≡ o → find s.packets n ≡ o
 found s n o h = sym (find_place s.packets n) ∙ h
@@ -90,24 +94,25 @@ gone_topped s past n tells low none =
     tells.gone n ∙ (rw (found s n None none, lt_true n s.issued low) refl)
 
 -- what is told of one packet
-record ToldOf (o : Option Packet) (n issued : ℕ) (top end : Bool) (size deep : ℕ) : Type 0 where
+record ToldOf (o : Option Packet) (n issued : ℕ) (top end arm : Bool) (size deep : ℕ) : Type 0 where
   gone : top ≡ (nat_lt n issued && is_none o)
-  live : (p : Packet) → o ≡ Some p → Measured p end size deep
-  fresh : issued ≤ n → end ≡ false
+  live : (p : Packet) → o ≡ Some p → Measured p end arm size deep
+  fresh : issued ≤ n → (end ≡ false) × (arm ≡ false)
 
 told_of : (s : Shared) (past : List Entry) → Tells s past → (n : ℕ)
-    → ToldOf (find s.packets n) n s.issued (topped past n) (completing past n) (stack_size past n)
-    (depth past n)
+    → ToldOf (find s.packets n) n s.issued (topped past n) (completing past n) (armed past n)
+    (stack_size past n) (depth past n)
 told_of s past tells n = record { gone = tells.gone n; live = tells.live n; fresh = tells.fresh n }
 
 -- one packet changes
-module _ (after : List Packet) (issued : ℕ) (tops ends : ℕ → Bool) (sizes deeps : ℕ → ℕ) where
+module _ (after : List Packet) (issued : ℕ) (tops ends arms : ℕ → Bool) (sizes deeps : ℕ → ℕ) where
   abbrev Of : Option Packet → ℕ → Type 0
-  Of o n = ToldOf o n issued (tops n) (ends n) (sizes n) (deeps n)
+  Of o n = ToldOf o n issued (tops n) (ends n) (arms n) (sizes n) (deeps n)
 
   told_where : (before : ℕ → Option Packet) (n : ℕ) (o : Option Packet)
       → ((m : ℕ) → find after m ≡ (if nat_eq n m then o else before m)) → Rises 0 after issued → Of o n
-      → ((m : ℕ) → nat_eq n m ≡ false → n ≢ m → Of (before m) m) → Told after issued tops ends sizes deeps
+      → ((m : ℕ) → nat_eq n m ≡ false → n ≢ m → Of (before m) m)
+      → Told after issued tops ends arms sizes deeps
   told_where before n o finds rises here others =
       let every : (m : ℕ) → Of (find after m) m =
       λ m. rw (finds m) (elim (eqb_tells n m) [
@@ -121,72 +126,111 @@ module _ (after : List Packet) (issued : ℕ) (tops ends : ℕ → Bool) (sizes 
         fresh = λ m. (every m).fresh;
       }
 
--- a packet changes, and with it whether it was completed, and its depth
+-- a packet changes, and with it whether the I/O manager has it, whether it has a cancel routine, and
+-- its depth
 module _ (s : Shared) (past : List Entry) (tells : Tells s past) (n : ℕ) (p q : Packet)
     (there : packet_of s n ≡ Some p) where
-  tells_set : (ends : ℕ → Bool) (deeps : ℕ → ℕ) → q.number ≡ p.number
-      → (Measured p (completing past n) (stack_size past n) (depth past n)
-      → Measured q (ends n) (stack_size past n) (deeps n))
-      → ((m : ℕ) → nat_eq n m ≡ false → (ends m ≡ completing past m) × (deeps m ≡ depth past m))
-      → Told (with_packet s n q).packets s.issued (topped past) ends (stack_size past) deeps
-  tells_set ends deeps number here others =
+  tells_set : (ends arms : ℕ → Bool) (deeps : ℕ → ℕ) → q.number ≡ p.number
+      → (Measured p (completing past n) (armed past n) (stack_size past n) (depth past n)
+      → Measured q (ends n) (arms n) (stack_size past n) (deeps n))
+      → ((m : ℕ) → nat_eq n m ≡ false
+      → (ends m ≡ completing past m) × (arms m ≡ armed past m) × (deeps m ≡ depth past m))
+      → Told (with_packet s n q).packets s.issued (topped past) ends arms (stack_size past) deeps
+  tells_set ends arms deeps number here others =
       let at : find s.packets n ≡ Some p = found s n (Some p) there in
       let same : q.number ≡ n = number ∙ numbered s n p there in
       let low : n < s.issued = found_lt s n p tells.rises at in
-      told_where (with_packet s n q).packets s.issued (topped past) ends (stack_size past) deeps
+      told_where (with_packet s n q).packets s.issued (topped past) ends arms (stack_size past) deeps
       (find s.packets) n
       (Some q) (find_set s.packets n p q at same)
       (rises_set 0 s.packets s.issued n p q at same tells.rises)
       (record {
         gone = rw at at (tells.gone n);
         live = λ r is. let one : q ≡ r = cc in
-            subst (λ (x : Packet). Measured x (ends n) (stack_size past n) (deeps n)) one
+            subst (λ (x : Packet). Measured x (ends n) (arms n) (stack_size past n) (deeps n)) one
             (here (tells.live n p at));
         fresh = λ high. absurd (omega arith);
       })
-      (λ m other apart. rw ((others m other).0, (others m other).1) (told_of s past tells m))
+      (λ m other apart. rw ((others m other).0, (others m other).1, (others m other).2)
+      (told_of s past tells m))
 
-  pub tells_kept : Changed p q p.completing p.depth → Tells (with_packet s n q) past
+  pub tells_kept : Changed p q p.completing (is_some p.armer) p.depth → Tells (with_packet s n q) past
   tells_kept changed =
-      tells_set (completing past) (depth past) changed.number
+      tells_set (completing past) (armed past) (depth past) changed.number
       (λ before. record {
         taken = before.taken ∙ sym changed.taken;
+        armed = before.armed ∙ sym changed.armed;
         count = before.count ∙ sym changed.count;
         place = before.place ∙ sym changed.place;
       })
-      (λ m other. (refl, refl))
+      (λ m other. (refl, refl, refl))
 
-  pub tells_moved : (moves : ℕ → ℕ) → Changed p q p.completing (moves p.depth)
-      → Told (with_packet s n q).packets s.issued (topped past) (completing past) (stack_size past)
-      (λ m. if nat_eq n m then moves (depth past m) else depth past m)
+  pub tells_moved : (moves : ℕ → ℕ) → Changed p q p.completing (is_some p.armer) (moves p.depth)
+      → Told (with_packet s n q).packets s.issued (topped past) (completing past) (armed past)
+      (stack_size past) (λ m. if nat_eq n m then moves (depth past m) else depth past m)
   tells_moved moves changed =
-      tells_set (completing past) (λ m. if nat_eq n m then moves (depth past m) else depth past m)
+      tells_set (completing past) (armed past)
+      (λ m. if nat_eq n m then moves (depth past m) else depth past m)
       changed.number
       (λ before. record {
         taken = before.taken ∙ sym changed.taken;
+        armed = before.armed ∙ sym changed.armed;
         count = before.count ∙ sym changed.count;
         place = rw (eq-eqb n n refl) (ap moves before.place ∙ sym changed.place);
       })
-      (λ m other. (refl, rw other refl))
+      (λ m other. (refl, refl, rw other refl))
 
-  pub tells_taken : Changed p q true p.depth
+  pub tells_taken : Changed p q true (is_some p.armer) p.depth
       → Told (with_packet s n q).packets s.issued (topped past)
-      (λ m. if nat_eq n m then true else completing past m)
+      (λ m. if nat_eq n m then true else completing past m) (armed past)
       (stack_size past) (depth past)
   tells_taken changed =
-      tells_set (λ m. if nat_eq n m then true else completing past m) (depth past) changed.number
+      tells_set (λ m. if nat_eq n m then true else completing past m) (armed past) (depth past)
+      changed.number
       (λ before. record {
         taken = rw (eq-eqb n n refl) (sym changed.taken);
+        armed = before.armed ∙ sym changed.armed;
         count = before.count ∙ sym changed.count;
         place = before.place ∙ sym changed.place;
       })
-      (λ m other. (rw other refl, refl))
+      (λ m other. (rw other refl, refl, refl))
+
+  -- it is lent where completion leaves a location
+  pub tells_lent : (moves : ℕ → ℕ) → Changed p q false (is_some p.armer) (moves p.depth)
+      → Told (with_packet s n q).packets s.issued (topped past)
+      (λ m. if nat_eq n m then false else completing past m) (armed past)
+      (stack_size past) (λ m. if nat_eq n m then moves (depth past m) else depth past m)
+  tells_lent moves changed =
+      tells_set (λ m. if nat_eq n m then false else completing past m) (armed past)
+      (λ m. if nat_eq n m then moves (depth past m) else depth past m) changed.number
+      (λ before. record {
+        taken = rw (eq-eqb n n refl) (sym changed.taken);
+        armed = before.armed ∙ sym changed.armed;
+        count = before.count ∙ sym changed.count;
+        place = rw (eq-eqb n n refl) (ap moves before.place ∙ sym changed.place);
+      })
+      (λ m other. (rw other refl, refl, rw other refl))
+
+  -- its cancel routine is exchanged, for one or for none
+  pub tells_exchanged : (stores : Bool) → Changed p q p.completing stores p.depth
+      → Told (with_packet s n q).packets s.issued (topped past) (completing past)
+      (λ m. if nat_eq n m then stores else armed past m) (stack_size past) (depth past)
+  tells_exchanged stores changed =
+      tells_set (completing past) (λ m. if nat_eq n m then stores else armed past m) (depth past)
+      changed.number
+      (λ before. record {
+        taken = before.taken ∙ sym changed.taken;
+        armed = rw (eq-eqb n n refl) (sym changed.armed);
+        count = before.count ∙ sym changed.count;
+        place = before.place ∙ sym changed.place;
+      })
+      (λ m other. (refl, rw other refl, refl))
 
 module _ (s : Shared) (past : List Entry) (tells : Tells s past) where
-  -- a packet is completed that has topped out
+  -- a packet is completed, or its completion goes on, that has topped out
   pub tells_late : (n : ℕ) → n < s.issued → packet_of s n ≡ None
       → Told s.packets s.issued (topped past) (λ m. if nat_eq n m then true else completing past m)
-      (stack_size past) (depth past)
+      (armed past) (stack_size past) (depth past)
   tells_late n low none =
       let at : find s.packets n ≡ None = found s n None none in
       record {
@@ -205,11 +249,11 @@ module _ (s : Shared) (past : List Entry) (tells : Tells s past) where
   -- a packet tops out
   pub tells_top : (n : ℕ) (p : Packet) → packet_of s n ≡ Some p
       → Told (without_packet s n).packets s.issued (λ m. nat_eq n m || topped past m) (completing past)
-      (stack_size past) (depth past)
+      (armed past) (stack_size past) (depth past)
   tells_top n p there =
       let low : n < s.issued = found_lt s n p tells.rises (found s n (Some p) there) in
       told_where (without_packet s n).packets s.issued (λ m. nat_eq n m || topped past m)
-      (completing past)
+      (completing past) (armed past)
       (stack_size past) (depth past) (find s.packets) n None
       (find_remove 0 s.packets s.issued n tells.rises)
       (rises_remove 0 s.packets s.issued n tells.rises)
@@ -230,21 +274,22 @@ module _ (s : Shared) (past : List Entry) (tells : Tells s past) where
 
   pub tells_issue : (d : ℕ) (major : Major) (argument stack : ℕ) → 1 ≤ stack
       → Told (s.packets ++ new_packet s.issued d major argument stack ∷ []) (s.issued + 1) (topped past)
-      (completing past) (λ m. if nat_eq s.issued m then stack else stack_size past m)
+      (completing past) (armed past) (λ m. if nat_eq s.issued m then stack else stack_size past m)
       (λ m. if nat_eq s.issued m then 1 else depth past m)
   tells_issue d major argument stack low =
       let n : ℕ = s.issued in
       let p : Packet = new_packet n d major argument stack in
-      let new : completing past n ≡ false = tells.fresh n (omega arith) in
+      let new : (completing past n ≡ false) × (armed past n ≡ false) = tells.fresh n (omega arith) in
       let unseen : topped past n ≡ false = tells.gone n ∙ (rw (lt_false n n (omega arith)) refl) in
       told_where (s.packets ++ p ∷ []) (n + 1) (topped past) (completing past)
-      (λ m. if nat_eq n m then stack else stack_size past m) (λ m. if nat_eq n m then 1 else depth past m)
+      (armed past) (λ m. if nat_eq n m then stack else stack_size past m)
+      (λ m. if nat_eq n m then 1 else depth past m)
       (find s.packets) n (Some p) (find_push 0 s.packets n p tells.rises refl)
       (rises_push 0 s.packets n p tells.rises refl)
       (record {
         gone = unseen ∙ sym (and_false (nat_lt n (n + 1)));
         live = λ q is. let one : p ≡ q = cc in
-            rw (eq-eqb n n refl, ← one, new) (measured_new n d major argument stack low);
+            rw (eq-eqb n n refl, ← one, new.0, new.1) (measured_new n d major argument stack low);
         fresh = λ high. absurd (omega arith);
       })
       (λ m other apart. rw other (record {
@@ -254,11 +299,11 @@ module _ (s : Shared) (past : List Entry) (tells : Tells s past) where
       }))
 
 -- before the first event
-pub tells_nothing : Told [] 0 (topped []) (completing []) (stack_size []) (depth [])
+pub tells_nothing : Told [] 0 (topped []) (completing []) (armed []) (stack_size []) (depth [])
 tells_nothing =
     record {
       rises = omega arith;
       gone = λ n. rw (lt_false n 0 (omega arith)) refl;
       live = λ n p there. cc;
-      fresh = λ n high. refl;
+      fresh = λ n high. (refl, refl);
     }

@@ -1,40 +1,44 @@
 -- In every run of a sound set, until it stops, the past tells what the world has.
-use Rattle.std.proofs.Common.{◌≡◌, ◌≤◌, ℕ, inl, inr, List, [], length, Option, None, Some, Bool, true, false, refl, sym, ◌∙◌, arith}
-use Rattle.std.specs.Prelude.{nat_lt, slice_get}
+use Rattle.std.proofs.Common.{◌≡◌, ◌≤◌, ℕ, inl, inr, List, [], ◌∷◌, ◌++◌, length, Option, None, Some, Bool, true, false, sym, subst, ◌∙◌, arith}
+use Rattle.std.specs.Prelude.{◌||◌, nat_lt, slice_get}
 use Rattle.std.proofs.lemmas.Bool.{cases_lt}
 use Rattle.model.specs.declared.event.Lock.{Lock}
 use Rattle.model.specs.declared.limits.TheConstants.{MAX_FRAMES}
 use Rattle.model.specs.declared.world.Frame.{Frame}
 use Rattle.model.specs.declared.world.Irql.TheVariants.{Passive, Dispatch as DispatchLevel}
 use Rattle.model.specs.declared.world.Packet.{Packet}
+use Rattle.model.specs.declared.world.Thread.{Thread}
 use Rattle.model.specs.declared.world.Value.TheVariants.{Ref}
-use Rattle.model.specs.Effect.{Change, rooted, dpc_activation, serves_request, with_new_packet, with_stack, top_of, standing, routine_of_device}
+use Rattle.model.specs.Effect.{top_of, routine_of_device}
+use Rattle.model.specs.Events.{Change, cancelling, rooted, settled, with_thread, dpc_activation, serves_request, with_new_packet, with_stack, standing}
 use Rattle.model.specs.Fault.{first_fault, holds, armed, stack_size, completing, depth}
 use Rattle.model.specs.Queues.{without_first_to_start}
 use Rattle.model.specs.Run.{begun, Run, frames_on, run}
 use Rattle.model.specs.Set.{Set}
 use Rattle.model.specs.Sound.{IsSound, DeviceFits}
 use Rattle.model.specs.Trace.{Entry, Actor, recorded}
-use Rattle.model.specs.World.{World, packet_of, with_dpc, with_start, entered}
+use Rattle.model.specs.World.{Shared, World, packet_of, with_dpc, with_start, entered}
 use Rattle.run_laws.specs.PastTells.{PastTells, TellsOfPacket, PastTellsOfTheWorld}
 use Rattle.run_laws.proofs.Devices.{device_fits}
+use Rattle.run_laws.proofs.Lists.{Each, each_after, each_before}
 use Rattle.run_laws.proofs.Past.LivePackets.{find_place}
 use Rattle.run_laws.proofs.Past.Levels.{holds_some, lock_held}
 use Rattle.run_laws.proofs.Past.Owners.{Owned, owned_free, held_owned, owned_held}
 use Rattle.run_laws.proofs.Past.Packets.{Tells, found, lt_true, tells_issue, tells_nothing}
 use Rattle.run_laws.proofs.Past.Stacks.{Measured}
-use Rattle.run_laws.proofs.Past.Steps.{told_arms, told_locks, told_packets}
-use Rattle.run_laws.proofs.Runs.Events.{Happens, nothing, steps, issues, begins, begins_startio}
+use Rattle.run_laws.proofs.Past.Steps.{told_locks, told_packets}
+use Rattle.run_laws.proofs.Past.Walks.{WalkIssued, WalksIssued, step_issued, standing_issued, under_issued, walks_later}
+use Rattle.run_laws.proofs.Runs.Events.{Happens, StepsFrame, nothing, steps, issues, begins, begins_startio, begins_cancel}
 use Rattle.run_laws.proofs.Runs.Kept.{GoesOnBy, with_queued, kept_until}
-use Rattle.run_laws.proofs.Runs.Threads.{each_frames, idle_frames}
+use Rattle.run_laws.proofs.Runs.Threads.{each_frames, frames_there, idle_frames}
 use Rattle.run_laws.proofs.Tests.{or_right}
 
--- what the threads share tells what the past tells, no cancel routine was stored, and no thread has
--- more than 32 frames
+-- what the threads share tells what the past tells, the I/O manager completes packets that were
+-- issued, and no thread has more than 32 frames
 pub record Telling (w : World) (past : List Entry) : Type 0 where
   pub packets : Tells w.shared past
   pub locks : Owned w.shared.locks past
-  pub unarmed : (n : ℕ) → armed past n ≡ false
+  pub walks : WalksIssued w
   pub few : (t : ℕ) → length (frames_on w t) ≤ MAX_FRAMES
 
 not_over : (n : ℕ) → nat_lt MAX_FRAMES n ≡ false → n ≤ MAX_FRAMES
@@ -44,55 +48,115 @@ not_over n h =
       | inr few ↦ few
     ]
 
+-- a thread has other frames, where as many packets were issued as before, or more
+walks_put : (w : World) (t : ℕ) (s : Shared) (thread after : Thread)
+    → slice_get w.threads t ≡ Some thread → w.shared.issued ≤ s.issued → WalksIssued w
+    → Each (WalkIssued s.issued) after.frames.items
+    → WalksIssued (with_thread w t s after)
+walks_put w t s thread after found more walks new =
+    each_frames w t s after (λ k frames. Each (WalkIssued s.issued) frames) thread found new
+    (λ k apart. walks_later w.shared.issued s.issued more (frames_on w k) (walks k))
+
+-- a step of a thread's top frame
+module _ (set : Set) (w : World) (past : List Entry) (actor : Actor) (tells : Telling w past)
+    (h : StepsFrame set w actor.thread) where
+  frames_issued : Each (WalkIssued w.shared.issued) (h.below ++ h.frame ∷ [])
+  frames_issued =
+      subst (λ (frames : List Frame). Each (WalkIssued w.shared.issued) frames)
+      (frames_there w actor.thread h.thread h.found ∙ h.frames) (tells.walks actor.thread)
+
+  below_issued : Each (WalkIssued w.shared.issued) h.below
+  below_issued = each_before (WalkIssued w.shared.issued) h.below (h.frame ∷ []) frames_issued
+
+  walks_stepped : WalksIssued
+      (with_thread w actor.thread h.outcome.shared
+      (with_stack h.thread (standing set h.below h.outcome)))
+  walks_stepped =
+      let top : WalkIssued w.shared.issued h.frame =
+      (each_after (WalkIssued w.shared.issued) h.below (h.frame ∷ []) frames_issued).0 in
+      let step : (h.outcome.shared.issued ≡ w.shared.issued)
+      × Each (WalkIssued w.shared.issued) h.outcome.frames =
+      step_issued set w.shared actor.thread (top_of h.below) h.frame h.outcome h.comes top in
+      walks_put w actor.thread h.outcome.shared h.thread
+      (with_stack h.thread (standing set h.below h.outcome)) h.found (rw step.0 (omega arith))
+      tells.walks
+      (rw step.0 (standing_issued set w.shared.issued h.below h.outcome below_issued step.1))
+
+  telling_step : first_fault past actor h.outcome.actions ≡ None
+      → (h.outcome.full || nat_lt MAX_FRAMES (length (standing set h.below h.outcome))) ≡ false
+      → Telling (settled set w actor.thread h.thread h.below h.outcome).world
+      (recorded past actor h.outcome.actions)
+  telling_step quiet within =
+      let below : Option Frame = top_of h.below in
+      record {
+        packets = told_packets set w.shared past actor below h.frame h.outcome tells.packets
+            (under_issued w.shared.issued h.below below_issued) h.comes;
+        locks = told_locks set w.shared past actor below h.frame h.outcome tells.locks h.comes quiet;
+        walks = walks_stepped;
+        few = each_frames w actor.thread h.outcome.shared
+            (with_stack h.thread (standing set h.below h.outcome))
+            (λ k frames. length frames ≤ MAX_FRAMES) h.thread h.found
+            (not_over (length (standing set h.below h.outcome)) (or_right h.outcome.full _ within))
+            (λ k apart. tells.few k);
+      }
+
 pub telling_happens : (set : Set) → IsSound set
-    → (w : World) (past : List Entry) (actor : Actor) (c : Change)
-    → Telling w past → Happens set w actor.thread c → first_fault past actor c.actions ≡ None
+    → (w : World) (past : List Entry) (actor : Actor) (of_cancel : Bool) (c : Change)
+    → Telling w past → Happens set w actor.thread of_cancel c → first_fault past actor c.actions ≡ None
     → c.over ≡ false
     → Telling c.world (recorded past actor c.actions)
-telling_happens set sound w past actor c tells (nothing reply right) quiet within = tells
-telling_happens set sound w past actor c tells (steps h) quiet within =
-    let below : Option Frame = top_of h.below in
-    record {
-      packets = told_packets set w.shared past actor below h.frame h.outcome tells.packets h.comes;
-      locks = told_locks set w.shared past actor below h.frame h.outcome tells.locks h.comes quiet;
-      unarmed = λ n. told_arms set w.shared past actor below h.frame h.outcome h.comes n
-          ∙ tells.unarmed n;
-      few = each_frames w actor.thread h.outcome.shared
-          (with_stack h.thread (standing set h.below h.outcome))
-          (λ k frames. length frames ≤ MAX_FRAMES) h.thread h.found
-          (not_over (length (standing set h.below h.outcome)) (or_right h.outcome.full _ within))
-          (λ k apart. tells.few k);
-    }
-telling_happens set sound w past actor c tells (issues h) quiet within =
+telling_happens set sound w past actor of_cancel c tells (nothing reply right) quiet within = tells
+telling_happens set sound w past actor of_cancel c tells (steps h) quiet within =
+    telling_step set w past actor tells h quiet within
+telling_happens set sound w past actor of_cancel c tells (issues h) quiet within =
     let fits : DeviceFits (length set.drivers) h.d h.device =
     device_fits set h.d h.device sound h.there in
     record {
       packets = tells_issue w.shared past tells.packets h.d h.major h.argument h.device.stack fits.low;
       locks = tells.locks;
-      unarmed = tells.unarmed;
+      walks = walks_put w actor.thread (with_new_packet w.shared h.d h.device h.major h.argument)
+          h.thread
+          (rooted h.thread Passive (serves_request set h.d h.device h.major w.shared.issued)) h.found
+          (omega arith) tells.walks (tt, tt);
       few = each_frames w actor.thread (with_new_packet w.shared h.d h.device h.major h.argument)
           (rooted h.thread Passive (serves_request set h.d h.device h.major w.shared.issued))
           (λ k frames. length frames ≤ MAX_FRAMES) h.thread h.found (omega arith)
           (λ k apart. tells.few k);
     }
-telling_happens set sound w past actor c tells (begins h) quiet within =
+telling_happens set sound w past actor of_cancel c tells (begins h) quiet within =
     record {
       packets = tells.packets;
       locks = tells.locks;
-      unarmed = tells.unarmed;
+      walks = walks_put w actor.thread (with_dpc w.shared h.d false) h.thread
+          (rooted h.thread DispatchLevel (dpc_activation set h.d h.routine)) h.found (omega arith)
+          tells.walks (tt, tt);
       few = each_frames w actor.thread (with_dpc w.shared h.d false)
           (rooted h.thread DispatchLevel (dpc_activation set h.d h.routine))
           (λ k frames. length frames ≤ MAX_FRAMES) h.thread h.found (omega arith)
           (λ k apart. tells.few k);
     }
-telling_happens set sound w past actor c tells (begins_startio h) quiet within =
+telling_happens set sound w past actor of_cancel c tells (begins_startio h) quiet within =
     record {
       packets = tells.packets;
       locks = tells.locks;
-      unarmed = tells.unarmed;
+      walks = walks_put w actor.thread (with_start w.shared h.d (without_first_to_start h.start))
+          h.thread
+          (rooted h.thread DispatchLevel
+          (entered (routine_of_device (slice_get set.devices h.d)) h.routine h.d (Ref h.n)))
+          h.found (omega arith) tells.walks (tt, tt);
       few = each_frames w actor.thread (with_start w.shared h.d (without_first_to_start h.start))
           (rooted h.thread DispatchLevel
           (entered (routine_of_device (slice_get set.devices h.d)) h.routine h.d (Ref h.n)))
+          (λ k frames. length frames ≤ MAX_FRAMES) h.thread h.found (omega arith)
+          (λ k apart. tells.few k);
+    }
+telling_happens set sound w past actor of_cancel c tells (begins_cancel h) quiet within =
+    record {
+      packets = tells.packets;
+      locks = tells.locks;
+      walks = walks_put w actor.thread w.shared h.thread (cancelling h.thread h.level h.n) h.found
+          (omega arith) tells.walks (tt, tt);
+      few = each_frames w actor.thread w.shared (cancelling h.thread h.level h.n)
           (λ k frames. length frames ≤ MAX_FRAMES) h.thread h.found (omega arith)
           (λ k apart. tells.few k);
     }
@@ -103,7 +167,7 @@ telling_queued w past d queued tells =
     record {
       packets = tells.packets;
       locks = tells.locks;
-      unarmed = tells.unarmed;
+      walks = tells.walks;
       few = tells.few;
     }
 
@@ -113,22 +177,24 @@ telling_begun set threads =
     record {
       packets = tells_nothing;
       locks = owned_free (length set.devices);
-      unarmed = λ n. refl;
+      walks = λ t. rw (idle_frames threads t) tt;
       few = λ t. rw (idle_frames threads t) (omega arith);
     }
 
-telling_event : (set : Set) → IsSound set → (w : World) (past : List Entry) (actor : Actor) (c : Change)
-    → Telling w past → GoesOnBy set w past actor c → Telling c.world (recorded past actor c.actions)
-telling_event set sound w past actor c tells on =
-    telling_happens set sound w past actor c tells on.happens on.quiet on.within
+telling_event : (set : Set) → IsSound set
+    → (w : World) (past : List Entry) (actor : Actor) (of_cancel : Bool) (c : Change)
+    → Telling w past → GoesOnBy set w past actor of_cancel c
+    → Telling c.world (recorded past actor c.actions)
+telling_event set sound w past actor of_cancel c tells on =
+    telling_happens set sound w past actor of_cancel c tells on.happens on.quiet on.within
 
--- a live packet has not topped out, so it was completed exactly where the I/O manager has it
+-- what is measured of a live packet
 of_packet : (r : Run) (n : ℕ) (p : Packet) → Telling r.world r.past → packet_of r.world.shared n ≡ Some p
     → TellsOfPacket r.past n p
 of_packet r n p tells there =
-    let its : Measured p (completing r.past n) (stack_size r.past n) (depth r.past n) =
+    let its : Measured p (completing r.past n) (armed r.past n) (stack_size r.past n) (depth r.past n) =
     tells.packets.live n p (found r.world.shared n (Some p) there) in
-    record { completion = its.taken; disarmed = tells.unarmed n; size = its.count; place = its.place }
+    record { completion = its.taken; armed = its.armed; size = its.count; place = its.place }
 
 past_tells : (r : Run) → Telling r.world r.past → PastTells r
 past_tells r tells =

@@ -11,13 +11,14 @@ use Rattle.model.specs.declared.abs.Abs.{Abs}
 use Rattle.model.specs.declared.instr.Instr.{Instr}
 use Rattle.model.specs.declared.instr.Instr.TheVariants.{Mark, Call, Complete, Pass}
 use Rattle.model.specs.declared.set.Sort.{Sort}
-use Rattle.model.specs.declared.set.Sort.TheVariants.{Dispatch, Propagate, Dpc, StartIo}
+use Rattle.model.specs.declared.set.Sort.TheVariants.{Dispatch, Propagate}
 use Rattle.model.specs.declared.status.Status.{Status}
 use Rattle.model.specs.declared.world.Activation.{Activation}
 use Rattle.model.specs.declared.world.Frame.{Frame}
 use Rattle.model.specs.declared.world.Frame.TheVariants.{Routine, Walk}
 use Rattle.model.specs.Effect.{Outcome}
-use Rattle.model.specs.LocalRule.{is_view, kind_of, completion_fault, completion_sort_fault, forward_fault, refuses, forward_sort_fault}
+use Rattle.model.specs.LocalRule.{kind_of, completion_fault, completion_sort_fault, forward_fault, refuses, forward_sort_fault}
+use Rattle.model.specs.Kinds.{is_new, is_view}
 use Rattle.model.specs.Set.{Set, sort_of}
 use Rattle.model.specs.World.{Shared}
 use Rattle.run_laws.proofs.Pending.Returned.{is_telling, tells_beyond}
@@ -25,8 +26,8 @@ use Rattle.run_laws.proofs.Live.Sees.{IsDeferred}
 use Rattle.run_laws.proofs.States.Entering.{IsOfSort}
 use Rattle.run_laws.proofs.States.Frames.{state_of}
 use Rattle.run_laws.proofs.States.Rules.{States, first_none, second_none}
-use Rattle.run_laws.proofs.Steps.Comes.{Queued, Comes, Executing, GoesTo, Reads, calls_down, completes_packet, computes, jumping, lets_go, lets_walk, looks_at, marks_packet, onward, pages, passes_down, returns_status, turns_loop, walks_gone, ends_dpc, works_on_queues, ends_startio}
-use Rattle.run_laws.proofs.States.NoViews.{is_deferred, handed_news, none_at, is_new, HasNone}
+use Rattle.run_laws.proofs.Steps.Comes.{Queued, Comes, Executing, GoesTo, Reads, calls_down, completes_packet, computes, ends_cancel, exchanges, jumping, lets_go, lets_walk, looks_at, marks_packet, onward, pages, passes_down, resumes_gone, resumes_none, resumes_walk, returns_status, stops_none, stops_walk, turns_loop, walks_gone, ends_dpc, works_on_queues, ends_startio}
+use Rattle.run_laws.proofs.States.NoViews.{is_deferred, handed_news, none_at, HasNone}
 use Rattle.model.specs.Queues.{StartState}
 use Rattle.model.specs.Action.{Executes, Action}
 use Rattle.model.specs.declared.abs.Kind.TheVariants.{New}
@@ -62,15 +63,11 @@ pub record Looks (m : ℕ) (a : Activation) (o : Outcome) : Type 0 where
 -- it neither forwards nor completes
 never_completes : (sort : Sort) → sort ≡ Propagate → completion_sort_fault sort ≡ None → ⊥
 never_completes Propagate is rule = cc
-never_completes StartIo is rule = cc
-never_completes Dpc is rule = cc
-never_completes Dispatch is rule = cc
+never_completes _ is rule = cc
 
 never_forwards : (sort : Sort) → sort ≡ Propagate → forward_sort_fault sort ≡ None → ⊥
 never_forwards Propagate is rule = cc
-never_forwards StartIo is rule = cc
-never_forwards Dpc is rule = cc
-never_forwards Dispatch is rule = cc
+never_forwards _ is rule = cc
 
 forwards_never : (s : Abs) (sort : Sort) (set : Set) (driver locations : ℕ) → sort ≡ Propagate
     → forward_fault s sort set driver locations ≡ None → ⊥
@@ -126,7 +123,7 @@ completion_looks m set states s t below a o kept is none own
 completion_looks m set states s t below a o kept is none own
     (calls_down b r f n p lower at reads there under) =
     absurd (forwards_never (state_of states a) (sort_of set a.driver a.routine) set a.driver 1 is
-    (second_none _ _ (kept (Call r f) at)))
+    (first_none _ _ (second_none _ _ (kept (Call r f) at))))
 completion_looks m set states s t below a o kept is none own
     (returns_status b form status at sort there) =
     let no : Propagate ≡ Dispatch = sym is ∙ sort in cc
@@ -152,6 +149,21 @@ completion_looks m set states s t below a o kept is none own (ends_startio b at 
     record { told = refl; alone = tt; silent = refl }
 completion_looks m set states s t below a o kept is none own (ends_dpc b at sort) =
     record { told = refl; alone = tt; silent = refl }
+completion_looks m set states s t below a o kept is none own (ends_cancel b at sort) =
+    record { told = refl; alone = tt; silent = refl }
+completion_looks m set states s t below a o kept is none own (resumes_walk b n p at sort there) =
+    record { told = refl; alone = tt; silent = refl }
+completion_looks m set states s t below a o kept is none own (resumes_gone b n at sort gone) =
+    record { told = refl; alone = tt; silent = refl }
+completion_looks m set states s t below a o kept is none own (resumes_none b at sort bare) =
+    record { told = refl; alone = tt; silent = refl }
+completion_looks m set states s t below a o kept is none own (stops_walk b n at sort) =
+    record { told = refl; alone = tt; silent = refl }
+completion_looks m set states s t below a o kept is none own (stops_none b at sort bare) =
+    record { told = refl; alone = tt; silent = refl }
+completion_looks m set states s t below a o kept is none own
+    (exchanges b i c jumped r n p armer at work goes operand reads there how) =
+    record { told = refl; alone = goes_same a i c jumped goes; silent = refl }
 completion_looks m set states s t below a o kept is none own _ =
     record { told = refl; alone = (refl, refl); silent = refl }
 
@@ -168,10 +180,8 @@ pub record Works (a : Activation) (o : Outcome) : Type 0 where
   pub silent : list_any is_telling o.actions ≡ false
 
 deferred_never : (sort : Sort) → is_deferred sort ≡ true → forward_sort_fault sort ≡ None → ⊥
-deferred_never Propagate is rule = cc
-deferred_never StartIo is rule = cc
-deferred_never Dpc is rule = cc
 deferred_never Dispatch is rule = cc
+deferred_never _ is rule = cc
 
 deferred_forwards : (s : Abs) (sort : Sort) (set : Set) (driver locations : ℕ)
     → is_deferred sort ≡ true → forward_fault s sort set driver locations ≡ None → ⊥
@@ -196,7 +206,7 @@ deferred_works set states s t below a o kept is none unseen
 deferred_works set states s t below a o kept is none unseen
     (calls_down b r f n p lower at reads there under) =
     absurd (deferred_forwards (state_of states a) (sort_of set a.driver a.routine) set a.driver 1 is
-    (second_none _ _ (kept (Call r f) at)))
+    (first_none _ _ (second_none _ _ (kept (Call r f) at))))
 deferred_works set states s t below a o kept is none unseen
     (returns_status b form status at sort there) =
     let no : true ≡ false = sym is ∙ ap is_deferred sort in cc
@@ -226,6 +236,21 @@ deferred_works set states s t below a o kept is none unseen (ends_startio b at s
     record { told = refl; over = tt; silent = refl }
 deferred_works set states s t below a o kept is none unseen (ends_dpc b at sort) =
     record { told = refl; over = tt; silent = refl }
+deferred_works set states s t below a o kept is none unseen (ends_cancel b at sort) =
+    record { told = refl; over = tt; silent = refl }
+deferred_works set states s t below a o kept is none unseen (resumes_walk b n p at sort there) =
+    record { told = refl; over = tt; silent = refl }
+deferred_works set states s t below a o kept is none unseen (resumes_gone b n at sort gone) =
+    record { told = refl; over = tt; silent = refl }
+deferred_works set states s t below a o kept is none unseen (resumes_none b at sort bare) =
+    record { told = refl; over = tt; silent = refl }
+deferred_works set states s t below a o kept is none unseen (stops_walk b n at sort) =
+    record { told = refl; over = tt; silent = refl }
+deferred_works set states s t below a o kept is none unseen (stops_none b at sort bare) =
+    record { told = refl; over = tt; silent = refl }
+deferred_works set states s t below a o kept is none unseen
+    (exchanges b i c jumped r n p armer at work goes operand reads there how) =
+    record { told = refl; over = goes_same a i c jumped goes; silent = refl }
 deferred_works set states s t below a o kept is none unseen _ =
     record { told = refl; over = (refl, refl); silent = refl }
 

@@ -12,12 +12,13 @@ use Rattle.model.specs.declared.event.Reply.{Reply}
 use Rattle.model.specs.declared.status.Status.{Status}
 use Rattle.model.specs.declared.world.Activation.{Activation}
 use Rattle.model.specs.declared.world.Frame.{Frame}
-use Rattle.model.specs.declared.world.Frame.TheVariants.{Routine, Walk}
+use Rattle.model.specs.declared.world.Frame.TheVariants.{Routine, Walk, Cancel as CancelFrame}
 use Rattle.model.specs.declared.world.Packet.{Packet}
 use Rattle.model.specs.declared.world.Value.{Value}
 use Rattle.model.specs.Action.{Action, Calls, Completes, Executes, Marks, Touches}
 use Rattle.model.specs.Effect.{Outcome, goes_on, leaves, returned}
 use Rattle.model.specs.LocalRule.{is_pending}
+use Rattle.model.specs.Kinds.{is_new}
 use Rattle.model.specs.Run.{new_tag, tags_after}
 use Rattle.model.specs.Set.{Set}
 use Rattle.model.specs.Trace.{Activated, Actor, Entry, Serving, Tag, recorded, uses_opened}
@@ -33,7 +34,6 @@ use Rattle.run_laws.proofs.States.Rules.{States}
 use Rattle.run_laws.proofs.Uses.Fates.{Agreed, late_marks}
 use Rattle.run_laws.proofs.Uses.Traced.{SameUses, is_about, same_recorded}
 use Rattle.run_laws.proofs.States.HandedOver.{HoldOf}
-use Rattle.run_laws.proofs.States.NoViews.{is_new}
 use Rattle.run_laws.proofs.Live.Sees.{RefersTo}
 
 -- it returns a status as its duty says
@@ -100,11 +100,12 @@ does_spare set states a o (calls_own after m p c there begins owned gives) n non
     let apart : nat_eq m n ≡ false = owned_apart states a m n owned none in rw apart refl
 does_spare set states a o _ n none = refl
 
--- a frame that isn't a completion routine's
+-- on a frame that is a routine's, or on none
 abbrev pub OnRoutine : Option Frame → Type 0
 OnRoutine None = ⊤
 OnRoutine (Some (Routine b)) = ⊤
 OnRoutine (Some (Walk m)) = ⊥
+OnRoutine (Some (CancelFrame c)) = ⊥
 
 -- what is agreed on is returned
 returned_agreed : (set : Set) (states : States) (w : World) (past : List Entry) (v : Serving)
@@ -170,6 +171,7 @@ module _ (set : Set) (states : States) (w later_w : World) (past : List Entry) (
       under_put None on = inl h
       under_put (Some (Routine c)) on = h
       under_put (Some (Walk m)) on = absurd on
+      under_put (Some (CancelFrame d)) on = absurd on
 
   silent_uses : (o : Outcome) → list_any is_telling o.actions ≡ false → (n : ℕ)
       → SameUses past (recorded past actor o.actions) n

@@ -1,33 +1,36 @@
 -- Every step of a dispatch routine, by what it does with the packet that it serves.
 use Rattle.std.proofs.Common.{◌≤◌, ◌≡◌, Bool, List, None, Option, Some, [], ap, arith, false, inl, inr, refl, subst, sym, true, ℕ, ◌+◌, ◌<◌, ◌∙◌, ◌∷◌, ◌++◌, ◌⊎◌}
-use Rattle.std.specs.Prelude.{nat_eq, slice_get, slice_index_or, slice_set}
+use Rattle.std.specs.Prelude.{is_some, nat_eq, slice_get, slice_index_or, slice_set}
 use Rattle.std.specs.List.{list_any}
 use Rattle.model.specs.declared.abs.Abs.{Abs}
 use Rattle.model.specs.declared.abs.Duty.{Duty}
 use Rattle.model.specs.declared.abs.Duty.TheVariants.{Finished, Fresh, GivenDown, NoDuty, Pending}
 use Rattle.model.specs.declared.abs.Kind.{Kind}
-use Rattle.model.specs.declared.abs.Kind.TheVariants.{Blank as BlankKind, Num as NumKind, Lower as LowerKind, New, Own, View}
+use Rattle.model.specs.declared.abs.Kind.TheVariants.{Blank as BlankKind, Num as NumKind, Lower as LowerKind, New, Own, Armed}
 use Rattle.model.specs.declared.abs.Settled.{Settled}
 use Rattle.model.specs.declared.event.Reply.TheVariants.{Stepped, Waited}
 use Rattle.model.specs.declared.instr.Instr.{Instr}
-use Rattle.model.specs.declared.instr.Instr.TheVariants.{Begin, Next, Remove, Insert, Start, Take, Call, Complete, Loop, Mark, Pass, Put, Ret}
+use Rattle.model.specs.declared.instr.Instr.TheVariants.{Arm, Begin, Disarm, Next, Remove, Insert, Unlink, Start, Take, Call, Complete, Loop, Mark, Pass, Put, Ret}
 use Rattle.model.specs.declared.instr.Return.{Return}
-use Rattle.model.specs.declared.instr.Return.TheVariants.{Continue, Lower as LowerStatus, WithStatus, Void}
-use Rattle.model.specs.declared.set.Sort.TheVariants.{Dispatch, Propagate, Dpc, StartIo}
+use Rattle.model.specs.declared.instr.Return.TheVariants.{Continue, Lower as LowerStatus, Stop, WithStatus, Void}
+use Rattle.model.specs.declared.set.QueueName.TheVariants.{Declared}
+use Rattle.model.specs.declared.set.Sort.TheVariants.{Cancel, Dispatch, Dpc, StartIo}
 use Rattle.model.specs.declared.status.Status.{Status}
 use Rattle.model.specs.declared.world.Activation.{Activation}
+use Rattle.model.specs.declared.world.Armer.{Armer}
 use Rattle.model.specs.declared.world.Frame.{Frame}
 use Rattle.model.specs.declared.world.Frame.TheVariants.{Routine}
 use Rattle.model.specs.declared.world.Packet.{Packet}
 use Rattle.model.specs.declared.world.Value.{Value}
 use Rattle.model.specs.declared.world.Value.TheVariants.{Blank, Num, Ref, Status as StatusValue}
-use Rattle.model.specs.Action.{Action, Acquires, Executes, Releases, Touches, TouchesPaged}
+use Rattle.model.specs.Action.{Action, Acquires, Exchanges, Executes, Releases, Touches, TouchesPaged}
 use Rattle.model.specs.Effect.{Outcome, answered, dispatched, operand_of, set_by, turned}
 use Rattle.model.specs.Fault.{first_fault}
-use Rattle.model.specs.LocalRule.{handed_at_label, complete_kind, demanded, duty_completed, given_down, handed, is_given_down, is_kept, is_lower, is_pending, is_right, is_view, kind_of, mark_fault, marked, one_handed_or_owned, status_fault, with_kind}
-use Rattle.model.specs.Set.{Set, flow_of, label_of, lower_of, sort_of}
+use Rattle.model.specs.LocalRule.{handed_at_label, complete_kind, demanded, given_down, handed, is_completion, is_given_down, is_hold, is_pending, kind_of, mark_fault, marked, one_handed_or_owned, queued_kind, status_fault, with_kind}
+use Rattle.model.specs.Kinds.{duty_completed, is_exchanged, is_kept, is_lower, is_new, is_right, is_view, kind_disarmed, kind_inserted, kind_removed}
+use Rattle.model.specs.Set.{Set, cancel_routine_of, flow_of, label_of, lower_of, sort_of}
 use Rattle.model.specs.Trace.{Actor, Entry}
-use Rattle.model.specs.World.{at_label, with_register, Shared, asked_of, completed, current_location, mark_current, next, packet_of, register, sent_down, shared_with, status_in, with_info, with_locks, with_loops, with_owner, with_packet}
+use Rattle.model.specs.World.{at_label, with_register, Shared, asked_of, completed, current_location, mark_current, next, packet_of, register, sent_down, shared_with, status_in, with_armer, with_info, with_locks, with_loops, with_owner, with_packet}
 use Rattle.model.specs.LocalRule.{handed_at_label}
 use Rattle.std.specs.Prelude.{if◌then◌else◌, nat_eq}
 use Rattle.run_laws.proofs.Holders.Steps.{named_right}
@@ -37,23 +40,24 @@ use Rattle.run_laws.proofs.Past.Packets.{found, named, numbered}
 use Rattle.run_laws.proofs.Pending.CompletionSteps.{goes_same, turned_same}
 use Rattle.run_laws.proofs.Pending.DispatchServes.{AsDuty, Does, calls_own, completes_own, marks_own, passes_own, returns_own, stays_quiet}
 use Rattle.run_laws.proofs.Pending.Duties.{owned_up, fresh_rights, Arrived, Dutied, Dutiful, counted, kinds_that, new_fresh, passes_new}
-use Rattle.run_laws.proofs.Pending.LowerStatuses.{lowers_turn, LowerIs, Lowers, lowers_get, lowers_move, lowers_none, lowers_set}
+use Rattle.run_laws.proofs.Pending.LowerStatuses.{lower_ref, lowers_turn, LowerIs, Lowers, lowers_get, lowers_move, lowers_none, lowers_set}
 use Rattle.run_laws.proofs.Pending.UsesServed.{IsHandedOver, GoesOnAs, BeginsServing, Called, Completed, GivesDown}
 use Rattle.run_laws.proofs.States.Fine.{completion_top, not_gone, touch_top}
 use Rattle.run_laws.proofs.States.Frames.{Runs, state_of}
 use Rattle.run_laws.proofs.States.Kinds.{kinds_turn, still_kinds, label_kinds, number_kinds}
 use Rattle.run_laws.proofs.States.Lacking.{down}
 use Rattle.run_laws.proofs.States.Moves.{arrives, arrives_next, falls_next, has_next, onto}
-use Rattle.run_laws.proofs.States.Obeyed.{ReturnsBy, completes_one, returns_by}
+use Rattle.run_laws.proofs.States.Obeyed.{ReturnsBy, completes_one, nothing_kept, returns_by}
+use Rattle.run_laws.proofs.States.OnTop.{none_listed}
 use Rattle.run_laws.proofs.Steps.Locking.{LockWord, freed_word, taken_word}
 use Rattle.run_laws.proofs.States.Rules.{States, first_none, second_none, unbroken}
-use Rattle.run_laws.proofs.Steps.Comes.{removes_none, removes, inserts, puts_in, starts_next, starts_packet, takes_none, takes_out, Queued, Reads, Comes, Executing, GoesTo, Lacks, Written, awaits_lock, calls_down, completes_gone, completes_packet, computes, errs, frees_lock, jumping, lets_go, lets_walk, looks_at, keeps_all, makes_blank, makes_number, marks_packet, moves_over, onward, opens_loop, pages, passes_down, retakes_lock, returns_status, takes_lock, touches_gone, turns_loop, writes_info, ends_dpc, works_on_queues, ends_startio}
-use Rattle.run_laws.proofs.Steps.Words.{is_giving, keeps_registers, status_returned, work_of}
+use Rattle.run_laws.proofs.Steps.Comes.{Exchanged, arms_for, disarms, exchanges, resumes_walk, resumes_gone, resumes_none, stops_walk, stops_none, ends_cancel, unlinks, removes_none, removes, inserts, puts_in, starts_next, starts_packet, takes_none, takes_out, Queued, Reads, Comes, Executing, GoesTo, Lacks, Written, awaits_lock, calls_down, completes_gone, completes_packet, computes, errs, frees_lock, jumping, lets_go, lets_walk, looks_at, keeps_all, makes_blank, makes_number, marks_packet, moves_over, onward, opens_loop, pages, passes_down, retakes_lock, returns_status, takes_lock, touches_gone, turns_loop, writes_info, ends_dpc, works_on_queues, ends_startio}
+use Rattle.run_laws.proofs.Steps.Words.{goes_next, is_giving, keeps_registers, status_returned, work_of}
 use Rattle.run_laws.proofs.Tests.{not_false, or_left, or_right}
 use Rattle.run_laws.proofs.Uses.Steps.{found_put}
 use Rattle.run_laws.proofs.Uses.RoutineSteps.{StepsRoutine}
-use Rattle.run_laws.proofs.States.NoViews.{handed_news, is_new}
-use Rattle.run_laws.proofs.States.HandedOver.{hold_turn, queued_hold, next_hold, hold_get, keeps_copies, handed_hold, copies, HoldOf, goes_hold}
+use Rattle.run_laws.proofs.States.NoViews.{handed_news}
+use Rattle.run_laws.proofs.States.HandedOver.{hold_turn, queued_hold, hold_get, keeps_copies, handed_hold, HoldOf, goes_hold}
 use Rattle.model.specs.Queues.{StartState}
 use Rattle.run_laws.proofs.Steps.Queues.{queued_touches}
 use Rattle.run_laws.proofs.Live.Sees.{reads_to, RefersTo}
@@ -63,23 +67,19 @@ use Rattle.run_laws.proofs.Holders.Sums.{unheld_one, unheld}
 use Rattle.std.proofs.lemmas.Bool.Decides.{eqb_tells}
 
 -- what leaves the packets with who has them leaves the duty
-onto_duty : (s : Abs) (i : Instr) (jumped : Bool) → is_giving (work_of i) ≡ false
-    → (onto s i jumped).duty ≡ s.duty
-onto_duty s (Mark r) jumped h = cc
-onto_duty s (Pass r) jumped h = cc
-onto_duty s (Call r f) jumped h = cc
-onto_duty s (Complete r status) jumped h = cc
-onto_duty s _ true h = refl
-onto_duty s _ false h = refl
+onto_duty : (set : Set) (driver : ℕ) (s : Abs) (i : Instr) (jumped : Bool)
+    → is_giving (work_of i) ≡ false → (onto set driver s i jumped).duty ≡ s.duty
+onto_duty set driver s (Mark r) jumped h = cc
+onto_duty set driver s (Pass r) jumped h = cc
+onto_duty set driver s (Call r f) jumped h = cc
+onto_duty set driver s (Complete r status) jumped h = cc
+onto_duty set driver s _ true h = refl
+onto_duty set driver s _ false h = refl
 
 -- kinds of packets that a dispatch routine marks, completes and sends down
 mark_new : (carried : Settled) (k : Kind) → mark_fault carried k ≡ None → is_view k ≡ false → k ≡ New
 mark_new carried New h seen = refl
-mark_new carried View h seen = cc
-mark_new carried Own h seen = cc
-mark_new carried BlankKind h seen = cc
-mark_new carried NumKind h seen = cc
-mark_new carried LowerKind h seen = cc
+mark_new carried _ h seen = cc
 
 marked_pending : (s : Abs) (r : ℕ) (k : Kind) → k ≡ New → (marked s r k).duty ≡ Pending
 marked_pending s r New is = refl
@@ -88,18 +88,12 @@ marked_pending s r _ is = cc
 completes_kind : (k : Kind) → complete_kind k ≡ None → (k ≡ New) ⊎ (k ≡ Own)
 completes_kind New rule = inl refl
 completes_kind Own rule = inr refl
-completes_kind View rule = cc
-completes_kind BlankKind rule = cc
-completes_kind NumKind rule = cc
-completes_kind LowerKind rule = cc
+completes_kind _ rule = cc
 
 call_owned : (k : Kind) → demanded one_handed_or_owned k ≡ None → (k ≡ New) ⊎ (k ≡ Own)
 call_owned New h = inl refl
 call_owned Own h = inr refl
-call_owned View h = cc
-call_owned BlankKind h = cc
-call_owned NumKind h = cc
-call_owned LowerKind h = cc
+call_owned _ h = cc
 
 given_new : (s : Abs) (r : ℕ) (k : Kind) → k ≡ New
     → given_down s r k ≡ record (with_kind s r LowerKind) { duty = GivenDown }
@@ -120,11 +114,7 @@ no_lowers s r h is =
 new_kept : (k : Kind) (b : Bool) → is_new k ≡ b → is_kept k ≡ false → counted is_new k ≡ 0
 new_kept k false is none = rw is refl
 new_kept New true is none = cc
-new_kept View true is none = cc
-new_kept Own true is none = cc
-new_kept BlankKind true is none = cc
-new_kept NumKind true is none = cc
-new_kept LowerKind true is none = cc
+new_kept _ true is none = cc
 
 no_new : (kinds : List Kind) → list_any is_kept kinds ≡ false → kinds_that is_new kinds ≡ 0
 no_new [] none = refl
@@ -174,6 +164,17 @@ with_lower GivenDown kinds values r status is kind value =
     (lowers_get x kinds values r lowers)
 with_lower _ kinds values r status is kind value = cc
 
+-- what goes into a queue or out of one, or was taken back, is no status
+inserted_lower : (x : Bool) (cancel : Option ℕ) (q : ℕ) (v : Value)
+    → LowerIs x (kind_inserted cancel q) v
+inserted_lower x None q v = tt
+inserted_lower x (Some routine) q v = tt
+
+disarmed_lower : (x : Bool) (k : Kind) (v : Value) → queued_kind (is_exchanged k) k ≡ None
+    → LowerIs x (kind_disarmed k) v
+disarmed_lower x LowerKind v rule = cc
+disarmed_lower x _ v rule = tt
+
 -- what is known of a dispatch routine's frame that steps
 pub record StepsDispatch (set : Set) (states : States) (s : Shared) (past : List Entry)
     (under : Option Frame)
@@ -197,9 +198,10 @@ module _ (set : Set) (states : States) (s : Shared) (past : List Entry) (actor :
   -- the statuses of lower drivers that are left
   lowers_on : (x : Bool) (i : Instr) (registers : List Value) → Runs set states s a i
       → is_giving (work_of i) ≡ false → Written a i registers → Lowers x now.kinds a.registers
-      → Lowers x (handed now i).kinds registers
+      → Lowers x (handed set a.driver now i).kinds registers
   lowers_on x i registers run duty (keeps_all _ same) left =
-      subst (λ (kinds : List Kind). Lowers x kinds a.registers) (sym (still_kinds now i same duty)) left
+      subst (λ (kinds : List Kind). Lowers x kinds a.registers)
+      (sym (still_kinds set a.driver now i (none_listed set states s a i run) same duty)) left
   lowers_on x i registers run duty (makes_number _ r n is) left =
       subst (λ (kinds : List Kind). Lowers x kinds (slice_set a.registers r (Num n)))
       (sym (number_kinds now (sort_of set a.driver a.routine) set a.driver i r run.obeys is))
@@ -210,7 +212,7 @@ module _ (set : Set) (states : States) (s : Shared) (past : List Entry) (actor :
 
   lowers_to : (x : Bool) (i : Instr) (b : Activation) (jumped : Bool) → Runs set states s a i
       → is_giving (work_of i) ≡ false → GoesTo a i b jumped → Lowers x now.kinds a.registers
-      → Lowers x (onto now i jumped).kinds b.registers
+      → Lowers x (onto set a.driver now i jumped).kinds b.registers
   lowers_to x i b jumped run duty (onward registers on written) left =
       lowers_on x i registers run duty written left
   lowers_to x i b jumped run duty (jumping label labelled) left =
@@ -222,11 +224,12 @@ module _ (set : Set) (states : States) (s : Shared) (past : List Entry) (actor :
       → GoesTo a i b jumped → GoesOnAs states a b
   goes_as i b jumped at duty goes =
       let run : Runs set states s a i = h.routine.runs i at in
-      let there : state_of states b ≡ onto now i jumped = arrives set states s a i run b jumped goes in
+      let there : state_of states b ≡ onto set a.driver now i jumped =
+      arrives set states s a i run b jumped goes in
       record {
         driver = (goes_same a i b jumped goes).0;
         routine = (goes_same a i b jumped goes).1;
-        duty = ap (λ (state : Abs). state.duty) there ∙ onto_duty now i jumped duty;
+        duty = ap (λ (state : Abs). state.duty) there ∙ onto_duty set a.driver now i jumped duty;
         lowers = λ x left. subst (λ (state : Abs). Lowers x state.kinds b.registers) (sym there)
             (lowers_to x i b jumped run duty goes left);
         news = λ m refers.
@@ -239,23 +242,25 @@ module _ (set : Set) (states : States) (s : Shared) (past : List Entry) (actor :
       → b.routine ≡ a.routine → b.registers ≡ a.registers
       → state_of states b ≡ states a.driver a.routine (a.position + 1) → GoesOnAs states a b
   next_as i b at leads duty keeps driver routine registers position =
-      let there : state_of states b ≡ handed now i =
-      position ∙ arrives_next set states s a i (h.routine.runs i at) leads in
+      let run : Runs set states s a i = h.routine.runs i at in
+      let there : state_of states b ≡ handed set a.driver now i =
+      position ∙ arrives_next set states s a i run leads in
       record {
         driver = driver;
         routine = routine;
-        duty = ap (λ (state : Abs). state.duty) there ∙ onto_duty now i false duty;
+        duty = ap (λ (state : Abs). state.duty) there ∙ onto_duty set a.driver now i false duty;
         lowers = λ x left.
             subst (λ (values : List Value). Lowers x (state_of states b).kinds values)
             (sym registers)
             (subst (λ (kinds : List Kind). Lowers x kinds a.registers)
-            (sym (ap (λ (state : Abs). state.kinds) there ∙ still_kinds now i keeps duty)) left);
+            (sym (ap (λ (state : Abs). state.kinds) there
+            ∙ still_kinds set a.driver now i (none_listed set states s a i run) keeps duty)) left);
         news = λ m refers.
             subst (λ (values : List Value). HoldOf is_new (RefersTo m) (state_of states b).kinds values)
             (sym registers)
             (subst (λ (state : Abs). HoldOf is_new (RefersTo m) state.kinds a.registers) (sym there)
-            (handed_hold is_new handed_news (RefersTo m) now i a.registers (keeps_copies i keeps)
-            refers));
+            (handed_hold is_new handed_news (RefersTo m) set a.driver now i a.registers
+            (keeps_copies i keeps) refers));
       }
 
   locks_as : (i : Instr) → Executing set a i → LockWord i → GoesOnAs states a (next a)
@@ -278,34 +283,51 @@ module _ (set : Set) (states : States) (s : Shared) (past : List Entry) (actor :
             reads;
       }
 
-  -- a packet that it owns is given up
-  gives_own : (i : Instr) (r : ℕ) → Executing set a i → has_next (flow_of i) ≡ true → copies i ≡ false
-      → (handed now i).kinds ≡ slice_set now.kinds r BlankKind → (handed now i).duty ≡ now.duty
-      → GoesOnAs states a (next a)
-  gives_own i r at leads plain kinds duty =
+  -- one register's kind becomes another, and the duty stays: a packet is given up or exchanged, or
+  -- there was none to take
+  turns_as : (i : Instr) (r : ℕ) (k : Kind) (b : Activation) (jumped : Bool) → Executing set a i
+      → GoesTo a i b jumped → b.registers ≡ a.registers
+      → (onto set a.driver now i jumped).kinds ≡ slice_set now.kinds r k
+      → (onto set a.driver now i jumped).duty ≡ now.duty → ((x : Bool) → LowerIs x k (register a r))
+      → GoesOnAs states a b
+  turns_as i r k b jumped at goes registers kinds duty lower =
       let run : Runs set states s a i = h.routine.runs i at in
-      let there : state_of states (next a) ≡ handed now i = arrives_next set states s a i run leads in
+      let there : state_of states b ≡ onto set a.driver now i jumped =
+      arrives set states s a i run b jumped goes in
       record {
-        driver = refl;
-        routine = refl;
+        driver = (goes_same a i b jumped goes).0;
+        routine = (goes_same a i b jumped goes).1;
         duty = ap (λ (state : Abs). state.duty) there ∙ duty;
         lowers = λ x left.
-            subst (λ (ks : List Kind). Lowers x ks a.registers)
+            subst (λ (values : List Value). Lowers x (state_of states b).kinds values)
+            (sym registers)
+            (subst (λ (ks : List Kind). Lowers x ks a.registers)
             (sym (ap (λ (state : Abs). state.kinds) there ∙ kinds))
-            (lowers_turn x now.kinds a.registers r BlankKind left tt);
+            (lowers_turn x now.kinds a.registers r k left (lower x)));
         news = λ m refers.
-            next_hold is_new handed_news (RefersTo m) set states s a tt i run leads plain refers;
+            goes_hold is_new handed_news (RefersTo m) set states s a tt i b jumped run goes refers;
       }
 
+  -- with the next position, and the same registers
+  next_turns : (i : Instr) (r : ℕ) (k : Kind) → Executing set a i → goes_next i ≡ true
+      → keeps_registers i ≡ true → (handed set a.driver now i).kinds ≡ slice_set now.kinds r k
+      → (handed set a.driver now i).duty ≡ now.duty → ((x : Bool) → LowerIs x k (register a r))
+      → GoesOnAs states a (next a)
+  next_turns i r k at on keeps kinds duty lower =
+      turns_as i r k (next a) false at (onward a.registers on (keeps_all i keeps)) refl kinds duty
+      lower
+
   -- a packet that it then owns is taken off a queue or out of the current slot, or none was there
-  takes_own : (i : Instr) (r n : ℕ) {queues : List (List (List ℕ))} {lists : List StartState}
+  takes_own : (i : Instr) (r n : ℕ) (k : Kind) {queues : List (List (List ℕ))}
+      {lists : List StartState}
       {actions : List Action} {full : Bool} → Executing set a i
       → Queued s a i (next (with_register a r (Ref n))) queues lists actions full
-      → has_next (flow_of i) ≡ true → (handed now i).kinds ≡ slice_set now.kinds r Own
-      → (handed now i).duty ≡ now.duty → GoesOnAs states a (next (with_register a r (Ref n)))
-  takes_own i r n at queued leads kinds duty =
+      → has_next (flow_of i) ≡ true → (handed set a.driver now i).kinds ≡ slice_set now.kinds r k
+      → (handed set a.driver now i).duty ≡ now.duty
+      → GoesOnAs states a (next (with_register a r (Ref n)))
+  takes_own i r n k at queued leads kinds duty =
       let run : Runs set states s a i = h.routine.runs i at in
-      let on : state_of states (next (with_register a r (Ref n))) ≡ handed now i =
+      let on : state_of states (next (with_register a r (Ref n))) ≡ handed set a.driver now i =
       arrives_next set states s a i run leads in
       record {
         driver = refl;
@@ -314,52 +336,42 @@ module _ (set : Set) (states : States) (s : Shared) (past : List Entry) (actor :
         lowers = λ x left.
             subst (λ (ks : List Kind). Lowers x ks (slice_set a.registers r (Ref n)))
             (sym (ap (λ (state : Abs). state.kinds) on ∙ kinds))
-            (lowers_set x now.kinds a.registers r Own (Ref n) left tt);
+            (lowers_set x now.kinds a.registers r k (Ref n) left (lower_ref x k n));
         news = λ m refers.
             queued_hold is_new handed_news (RefersTo m) set states s a i tt run queued refers;
       }
 
-  takes_nothing : (i : Instr) (r label : ℕ) {queues : List (List (List ℕ))}
-      {lists : List StartState} {actions : List Action} {full : Bool} → Executing set a i
-      → Queued s a i (at_label a label) queues lists actions full → label_of i ≡ Some label
+  takes_nothing : (i : Instr) (r label : ℕ) → Executing set a i → label_of i ≡ Some label
       → (handed_at_label now i).kinds ≡ slice_set now.kinds r BlankKind
       → (handed_at_label now i).duty ≡ now.duty → GoesOnAs states a (at_label a label)
-  takes_nothing i r label at queued labelled kinds duty =
-      let run : Runs set states s a i = h.routine.runs i at in
-      let on : state_of states (at_label a label) ≡ handed_at_label now i =
-      arrives set states s a i run _ true (jumping label labelled) in
-      record {
-        driver = refl;
-        routine = refl;
-        duty = ap (λ (state : Abs). state.duty) on ∙ duty;
-        lowers = λ x left.
-            subst (λ (ks : List Kind). Lowers x ks a.registers)
-            (sym (ap (λ (state : Abs). state.kinds) on ∙ kinds))
-            (lowers_turn x now.kinds a.registers r BlankKind left tt);
-        news = λ m refers.
-            queued_hold is_new handed_news (RefersTo m) set states s a i tt run queued refers;
-      }
+  takes_nothing i r label at labelled kinds duty =
+      turns_as i r BlankKind (at_label a label) true at (jumping label labelled) refl kinds duty
+      (λ x. tt)
 
   queued_as : (i : Instr) (b : Activation) (queues : List (List (List ℕ)))
       (lists : List StartState) (actions : List Action) (full : Bool) → Executing set a i
       → Queued s a i b queues lists actions full → GoesOnAs states a b
   queued_as i b queues lists actions full at (inserts r q n entries reads there) =
-      gives_own (Insert r q) r at refl refl refl refl
+      next_turns (Insert r q) r (kind_inserted (cancel_routine_of set a.driver q) q) at refl refl
+      refl refl (λ x. inserted_lower x (cancel_routine_of set a.driver q) q (register a r))
   queued_as i b queues lists actions full at (removes r q label n entries there) =
-      takes_own (Remove r q label) r n at (removes r q label n entries there) refl refl refl
+      takes_own (Remove r q label) r n (kind_removed (cancel_routine_of set a.driver q) q) at
+      (removes r q label n entries there) refl refl refl
   queued_as i b queues lists actions full at (removes_none r q label there) =
-      takes_nothing (Remove r q label) r label at (removes_none r q label there) refl refl refl
+      takes_nothing (Remove r q label) r label at refl refl refl
+  queued_as i b queues lists actions full at (unlinks r q n entries reads there) =
+      next_turns (Unlink r q) r Own at refl refl refl refl (λ x. tt)
   queued_as i b queues lists actions full at (starts_packet r n start reads there) =
-      gives_own (Start r) r at refl refl refl refl
+      next_turns (Start r) r BlankKind at refl refl refl refl (λ x. tt)
   queued_as i b queues lists actions full at (takes_out r label n start there slot) =
-      takes_own (Take r label) r n at (takes_out r label n start there slot) refl refl refl
+      takes_own (Take r label) r n Own at (takes_out r label n start there slot) refl refl refl
   queued_as i b queues lists actions full at (takes_none r label start there slot) =
-      takes_nothing (Take r label) r label at (takes_none r label start there slot) refl refl refl
+      takes_nothing (Take r label) r label at refl refl refl
   queued_as i b queues lists actions full at (puts_in r n start reads there) =
-      gives_own (Begin r) r at refl refl refl refl
+      next_turns (Begin r) r BlankKind at refl refl refl refl (λ x. tt)
   queued_as i b queues lists actions full at (starts_next start there) =
       let run : Runs set states s a Next = h.routine.runs Next at in
-      let on : state_of states (next a) ≡ handed now Next =
+      let on : state_of states (next a) ≡ handed set a.driver now Next =
       arrives_next set states s a Next run refl in
       record {
         driver = refl;
@@ -371,10 +383,43 @@ module _ (set : Set) (states : States) (s : Shared) (past : List Entry) (actor :
             (starts_next start there) refers;
       }
 
+  -- a packet's cancel routine is exchanged
+  arm_same : (r q : ℕ) (registers : List Value) → Written a (Arm r q) registers
+      → registers ≡ a.registers
+  arm_same r q registers (keeps_all _ same) = refl
+  arm_same r q registers (makes_number _ k n is) = cc
+
+  disarm_same : (r label : ℕ) (registers : List Value) → Written a (Disarm r label) registers
+      → registers ≡ a.registers
+  disarm_same r label registers (keeps_all _ same) = refl
+  disarm_same r label registers (makes_number _ k n is) = cc
+
+  armed_as : (r q : ℕ) (b : Activation) → Executing set a (Arm r q) → GoesTo a (Arm r q) b false
+      → GoesOnAs states a b
+  armed_as r q b at (onward registers on written) =
+      turns_as (Arm r q) r (Armed (Declared q)) b false at (onward registers on written)
+      (arm_same r q registers written) refl refl (λ x. tt)
+
+  disarmed_as : (r label : ℕ) (b : Activation) (jumped : Bool) → Executing set a (Disarm r label)
+      → GoesTo a (Disarm r label) b jumped → GoesOnAs states a b
+  disarmed_as r label b false at (onward registers on written) =
+      turns_as (Disarm r label) r (kind_disarmed (kind_of now r)) b false at
+      (onward registers on written) (disarm_same r label registers written) refl refl
+      (λ x. disarmed_lower x (kind_of now r) (register a r)
+      (h.routine.runs (Disarm r label) at).obeys)
+  disarmed_as r label b true at (jumping to labelled) =
+      turns_as (Disarm r label) r BlankKind b true at (jumping to labelled) refl refl refl (λ x. tt)
+
+  exchanged_as : (i : Instr) (b : Activation) (jumped : Bool) (p : Packet) (armer : Option Armer)
+      → Executing set a i → GoesTo a i b jumped → Exchanged set a p i jumped armer
+      → GoesOnAs states a b
+  exchanged_as i b jumped p armer at goes (arms_for r q routine there) = armed_as r q b at goes
+  exchanged_as i b jumped p armer at goes (disarms r label) = disarmed_as r label b jumped at goes
+
   -- a packet is given down
   gives_down : (i : Instr) (r n : ℕ) → Executing set a i → Reads s a r n → has_next (flow_of i) ≡ true
       → operand_of (Some i) ≡ Some r
-      → handed now i ≡ given_down now r (kind_of now r) → kind_of now r ≡ New
+      → handed set a.driver now i ≡ given_down now r (kind_of now r) → kind_of now r ≡ New
       → GivesDown set states a (next a) n
   gives_down i r n at reads leads operand given is =
       let there : state_of states (next a) ≡ record (with_kind now r LowerKind) { duty = GivenDown } =
@@ -429,7 +474,8 @@ module _ (set : Set) (states : States) (s : Shared) (past : List Entry) (actor :
       let kinds : (given_down now r (kind_of now r)).kinds ≡ slice_set now.kinds r BlankKind =
       ap (λ (k : Kind). (given_down now r k).kinds) is in
       inr (record {
-        on = gives_own (Call r f) r at refl refl kinds (given_own now r (kind_of now r) is);
+        on = next_turns (Call r f) r BlankKind at refl refl kinds
+            (given_own now r (kind_of now r) is) (λ x. tt);
         answer = λ x status left.
             subst (λ (values : List Value). Lowers x (state_of states (next a)).kinds values)
             (sym (h.answers r (Call r f) status at refl))
@@ -450,8 +496,8 @@ module _ (set : Set) (states : States) (s : Shared) (past : List Entry) (actor :
             ∙ ap (λ (k : Kind). duty_completed k now.duty) is,
       )
   completed_by r status n at reads (inr is) =
-      inr (gives_own (Complete r status) r at refl refl refl
-      (ap (λ (k : Kind). duty_completed k now.duty) is))
+      inr (next_turns (Complete r status) r BlankKind at refl refl refl
+      (ap (λ (k : Kind). duty_completed k now.duty) is) (λ x. tt))
 
   -- a return
   returns_as : (form : Return) (status : Status)
@@ -461,17 +507,19 @@ module _ (set : Set) (states : States) (s : Shared) (past : List Entry) (actor :
       let same : own ≡ status = cc in
       subst (λ (x : Status). AsDuty now.duty (is_pending x) now.kinds a.registers) same
       (with_status now.duty now.kinds a.registers own h.arrived.dutiful by.duty
-      (no_new now.kinds by.nothing_left))
+      (no_new now.kinds (nothing_kept (sort_of set a.driver a.routine) (WithStatus own) now.kinds
+      (ap is_hold h.is) by.nothing_left)))
   returns_as (LowerStatus r) status by there =
       with_lower now.duty now.kinds a.registers r status
       (given_is now.duty (not_false _ (unbroken _ _ (second_none _ _ by.duty))))
       (lower_is (kind_of now r) (not_false _ (unbroken _ _ (first_none _ _ by.duty))))
       (status_value (register a r) status there)
   returns_as Continue status by there = cc
+  returns_as Stop status by there = cc
   returns_as Void status by there = cc
 
-  never_propagates : sort_of set a.driver a.routine ≡ Propagate → ⊥
-  never_propagates is = let no : Dispatch ≡ Propagate = sym h.is ∙ is in cc
+  no_completion : is_completion (sort_of set a.driver a.routine) ≡ true → ⊥
+  no_completion is = let no : true ≡ false = sym is ∙ ap is_completion h.is in cc
 
   -- every step
   pub dispatch_does : (below : Option Frame) (o : Outcome) → Comes set s t below (Routine a) o
@@ -529,6 +577,11 @@ module _ (set : Set) (states : States) (s : Shared) (past : List Entry) (actor :
       (h.routine.owns r n (ap is_right is) reads) (handed_over r n is reads)
       (ap (λ (state : Abs). state.duty) (arrives_next set states s a (Mark r) run refl)
       ∙ marked_pending now r (kind_of now r) is)
+  dispatch_does below o (exchanges b i c jumped r n p armer at work goes operand reads there how)
+      quiet =
+      stays_quiet (with_packet s n (with_armer p armer)) c
+      (Executes ∷ Touches n ∷ Exchanges n (is_some armer) ∷ []) Stepped false
+      (exchanged_as i c jumped p armer at goes how) refl
   dispatch_does below o (takes_lock b i lock at taken free) quiet =
       stays_quiet (with_locks s (with_owner s.locks lock (Some t))) (next a)
       (Executes ∷ Acquires lock ∷ []) Stepped false
@@ -578,8 +631,20 @@ module _ (set : Set) (states : States) (s : Shared) (past : List Entry) (actor :
       (returns_as form status
       (returns_by now (sort_of set a.driver a.routine) set a.driver form
       (h.routine.runs (Ret form) at).obeys) there)
-  dispatch_does below o (lets_go b at sort bare) quiet = absurd (never_propagates sort)
-  dispatch_does below o (lets_walk b n at sort) quiet = absurd (never_propagates sort)
+  dispatch_does below o (lets_go b at sort bare) quiet =
+      absurd (no_completion (ap is_completion sort))
+  dispatch_does below o (lets_walk b n at sort) quiet =
+      absurd (no_completion (ap is_completion sort))
+  dispatch_does below o (resumes_walk b n p at sort there) quiet =
+      absurd (no_completion (ap is_completion sort))
+  dispatch_does below o (resumes_gone b n at sort gone) quiet =
+      absurd (no_completion (ap is_completion sort))
+  dispatch_does below o (resumes_none b at sort bare) quiet =
+      absurd (no_completion (ap is_completion sort))
+  dispatch_does below o (stops_walk b n at above) quiet = absurd (no_completion above)
+  dispatch_does below o (stops_none b at above bare) quiet = absurd (no_completion above)
   dispatch_does below o (ends_startio b at sort) quiet =
       let no : Dispatch ≡ StartIo = sym h.is ∙ sort in cc
   dispatch_does below o (ends_dpc b at sort) quiet = let no : Dispatch ≡ Dpc = sym h.is ∙ sort in cc
+  dispatch_does below o (ends_cancel b at sort) quiet =
+      let no : Dispatch ≡ Cancel = sym h.is ∙ sort in cc

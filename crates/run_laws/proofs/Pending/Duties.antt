@@ -2,21 +2,24 @@
 -- positions: a packet that it was handed goes with no duty done yet, and a lower driver's status with a
 -- packet that was given down. A packet that it owns, which it marked or removed from a queue, goes with
 -- any duty.
-use Rattle.std.proofs.Common.{◌≡◌, ℕ, zero, suc, ◌+◌, ◌<◌, ◌≤◌, Bool, true, false, List, [], ◌∷◌, length, None, Some, refl, ap, sym, ◌∙◌, subst, arith}
+use Rattle.std.proofs.Common.{◌≡◌, ℕ, zero, suc, ◌+◌, ◌<◌, ◌≤◌, Bool, true, false, List, [], ◌∷◌, length, Option, None, Some, refl, ap, sym, ◌∙◌, subst, arith}
 use Rattle.std.specs.Prelude.{slice_set, slice_index_or, if◌then◌else◌, All}
 use Rattle.model.specs.declared.abs.Abs.{Abs}
 use Rattle.model.specs.declared.abs.Duty.{Duty}
 use Rattle.model.specs.declared.abs.Duty.TheVariants.{Fresh, Pending, Finished, GivenDown, NoDuty}
 use Rattle.model.specs.declared.abs.Kind.{Kind}
-use Rattle.model.specs.declared.abs.Kind.TheVariants.{Blank, Num, Lower, New, Own, View}
+use Rattle.model.specs.declared.abs.Kind.TheVariants.{Blank, Num, Lower, New, Own, Armed, View}
 use Rattle.model.specs.declared.abs.Settled.TheVariants.{Settled as SettledMark}
 use Rattle.model.specs.declared.instr.Instr.{Instr}
-use Rattle.model.specs.declared.instr.Instr.TheVariants.{Const, Move, Clear, Load, LoadPaged, Get, Mark, Pass, Call, Complete, IfPending, Insert, Remove, Start, Take, Begin}
+use Rattle.model.specs.declared.instr.Instr.TheVariants.{Const, Move, Clear, Load, LoadPaged, Get, Mark, Pass, Call, Complete, IfPending, Insert, Release, Remove, Unlink, Arm, Disarm, Start, Take, Begin}
+use Rattle.model.specs.declared.set.QueueName.{QueueName}
+use Rattle.model.specs.declared.set.QueueName.TheVariants.{Declared}
 use Rattle.model.specs.declared.set.Sort.{Sort}
 use Rattle.model.specs.declared.set.Sort.TheVariants.{Dispatch}
-use Rattle.model.specs.LocalRule.{with_kind, a_new_one, complete_kind, demanded, duty_completed, entered_with, entry_of_sort, given_down, handed, handed_at_label, is_lower, is_packet, kind_of, left_behind, mark_fault, marked, one_handed_or_owned, refuses}
+use Rattle.model.specs.LocalRule.{with_kind, a_new_one, complete_kind, demanded, entered_with, entry_of_sort, given_down, handed, handed_at_label, kind_of, mark_fault, marked, one_handed_or_owned, queued_kind, refuses}
+use Rattle.model.specs.Kinds.{all_let_go, duty_completed, is_guard, is_lower, is_new, is_packet, kind_disarmed, kind_inserted, kind_removed, left_behind, let_go}
 use Rattle.model.specs.Paths.{Arrives}
-use Rattle.model.specs.Set.{Set, Member}
+use Rattle.model.specs.Set.{Set, Member, cancel_routine_of, cancels_for, guard_named}
 use Rattle.model.specs.Sound.{OperandFits}
 use Rattle.run_laws.specs.Holder.{right, rights}
 use Rattle.run_laws.proofs.Lists.{all_at, copied}
@@ -26,11 +29,11 @@ use Rattle.run_laws.proofs.States.Kinds.{HasKinds, Suits}
 use Rattle.run_laws.proofs.States.Obeyed.{inserts_right}
 use Rattle.run_laws.proofs.States.Along.{arrives_keep}
 use Rattle.run_laws.proofs.States.Kinds.{handed_long}
-use Rattle.run_laws.proofs.States.NoViews.{is_new}
+use Rattle.run_laws.proofs.States.NoViews.{left_none}
 use Rattle.run_laws.proofs.States.Rules.{first_none, second_none, unbroken}
 use Rattle.model.specs.declared.world.Value.{Value}
 use Rattle.std.proofs.lemmas.List.{length-set}
-use Rattle.std.proofs.lemmas.Bool.{eq-eqb}
+use Rattle.std.proofs.lemmas.Bool.{cond_both, eq-eqb}
 
 -- how many registers are so
 abbrev pub counted : (Kind → Bool) → Kind → ℕ
@@ -84,14 +87,6 @@ count_one f (j ∷ kinds) (suc r) blank =
     count_one f kinds r blank in
     omega arith
 
-left_none : (f : Kind → Bool) (k : Kind) → f Blank ≡ false → f Num ≡ false → f (left_behind k) ≡ false
-left_none f Num blank number = number
-left_none f Blank blank number = blank
-left_none f Lower blank number = blank
-left_none f New blank number = blank
-left_none f Own blank number = blank
-left_none f View blank number = blank
-
 -- one that is moved
 count_move : (f : Kind → Bool) (kinds : List Kind) (r q : ℕ) → f Blank ≡ false → f Num ≡ false
     → r < length kinds
@@ -105,7 +100,7 @@ count_move f kinds r q blank number within =
     ≡ kinds_that f kinds + counted f k =
     count_set f kinds r k within
     in
-    let left : f (left_behind k) ≡ false = left_none f k blank number in
+    let left : f (left_behind k) ≡ false = left_none f blank number k in
     let two : kinds_that f (slice_set ks q (left_behind k)) + counted f (slice_index_or ks q Blank)
     ≡ kinds_that f ks =
     count_gone f ks q (left_behind k) blank left
@@ -129,12 +124,8 @@ uncounted : (f : Kind → Bool) (k : Kind) → f k ≡ false → counted f k ≡
 uncounted f k h = rw h refl
 
 not_new : (k : Kind) → is_packet k ≡ false → is_new k ≡ false
-not_new Blank h = refl
-not_new Num h = refl
-not_new Lower h = refl
-not_new View h = refl
 not_new New h = cc
-not_new Own h = cc
+not_new _ h = refl
 
 -- a register with no packet that was handed over gets another kind
 dutied_written : (d : Duty) (kinds : List Kind) (r : ℕ) (k : Kind)
@@ -201,43 +192,64 @@ marked_dutiful : (s : Abs) (r : ℕ) (k : Kind) → mark_fault s.settled k ≡ N
     → Dutiful (marked s r k)
 marked_dutiful s r New rule is h = handed_up s r Own h is refl
 marked_dutiful s r View rule is h = h
-marked_dutiful s r Own rule is h = cc
-marked_dutiful s r Blank rule is h = cc
-marked_dutiful s r Num rule is h = cc
-marked_dutiful s r Lower rule is h = cc
+marked_dutiful s r _ rule is h = cc
 
 given_dutiful : (s : Abs) (r : ℕ) (k : Kind) → demanded one_handed_or_owned k ≡ None
     → kind_of s r ≡ k → Dutiful s
     → Dutiful (given_down s r k)
 given_dutiful s r New rule is h = handed_up s r Lower h is refl
 given_dutiful s r Own rule is h = owned_up s r h is
-given_dutiful s r View rule is h = cc
-given_dutiful s r Blank rule is h = cc
-given_dutiful s r Num rule is h = cc
-given_dutiful s r Lower rule is h = cc
+given_dutiful s r _ rule is h = cc
 
 completed_dutiful : (s : Abs) (r : ℕ) (k : Kind) → complete_kind k ≡ None → kind_of s r ≡ k
     → Dutiful s → Dutied (duty_completed k s.duty) (slice_set s.kinds r Blank)
 completed_dutiful s r New rule is h = handed_up s r Blank h is refl
 completed_dutiful s r Own rule is h = owned_up s r h is
-completed_dutiful s r View rule is h = cc
-completed_dutiful s r Blank rule is h = cc
-completed_dutiful s r Num rule is h = cc
-completed_dutiful s r Lower rule is h = cc
+completed_dutiful s r _ rule is h = cc
 
 -- a packet that is passed on could be sent down in a location of its own as well
 pub passes_new : (k : Kind) → demanded a_new_one k ≡ None → k ≡ New
 passes_new New h = refl
-passes_new View h = cc
-passes_new Own h = cc
-passes_new Blank h = cc
-passes_new Num h = cc
-passes_new Lower h = cc
+passes_new _ h = cc
+
+-- what goes into a queue, out of one, or is let go with its guard isn't handed over, nor a status
+inserted_plain : (cancel : Option ℕ) (q : ℕ) → (is_new (kind_inserted cancel q) ≡ false)
+    × (is_lower (kind_inserted cancel q) ≡ false)
+inserted_plain None q = (refl, refl)
+inserted_plain (Some routine) q = (refl, refl)
+
+removed_plain : (cancel : Option ℕ) (q : ℕ) → (is_new (kind_removed cancel q) ≡ false)
+    × (is_lower (kind_removed cancel q) ≡ false)
+removed_plain None q = (refl, refl)
+removed_plain (Some routine) q = (refl, refl)
+
+queued_plain : (fits : Bool) (k : Kind) → queued_kind fits k ≡ None → is_new k ≡ false
+queued_plain fits New rule = cc
+queued_plain fits _ rule = refl
+
+disarmed_plain : (fits : Bool) (k : Kind) → queued_kind fits k ≡ None
+    → (is_new (kind_disarmed k) ≡ false) × (is_lower (kind_disarmed k) ≡ false)
+disarmed_plain fits New rule = cc
+disarmed_plain fits Lower rule = cc
+disarmed_plain fits _ rule = (refl, refl)
+
+module _ (set : Set) (driver lock : ℕ) (f : Kind → Bool) (blank : f Blank ≡ false)
+    (armed : (name : QueueName) → f (Armed name) ≡ false) where
+  let_go_same : (k : Kind) → f (let_go set driver lock k) ≡ f k
+  let_go_same (Armed name) =
+      cond_both (is_guard (guard_named set driver name) lock) Blank (Armed name)
+      (λ k. f k ≡ f (Armed name)) (λ guards. blank ∙ sym (armed name)) (λ other. refl)
+  let_go_same _ = refl
+
+  count_let_go : (kinds : List Kind)
+      → kinds_that f (all_let_go set driver lock kinds) ≡ kinds_that f kinds
+  count_let_go [] = refl
+  count_let_go (k ∷ kinds) = rw (let_go_same k, count_let_go kinds) refl
 
 -- every instruction that breaks no rule
 handed_dutiful : (s : Abs) (i : Instr) (set : Set) (driver : ℕ)
     → refuses s i Dispatch set driver ≡ None → OperandFits i
-    → length s.kinds ≡ 16 → Dutiful s → Dutiful (handed s i)
+    → length s.kinds ≡ 16 → Dutiful s → Dutiful (handed set driver s i)
 handed_dutiful s (Const r n) set driver rule fits long h =
     dutied_written s.duty s.kinds r Num (not_new _ (unbroken _ _ rule)) refl refl h
 handed_dutiful s (Move r q) set driver rule fits long h =
@@ -253,9 +265,29 @@ handed_dutiful s (Get r q field) set driver rule fits long h =
     dutied_written s.duty s.kinds r Num (not_new _ (unbroken _ _ (second_none _ _ rule))) refl refl h
 handed_dutiful s (Mark r) set driver rule fits long h = marked_dutiful s r (kind_of s r) rule refl h
 handed_dutiful s (Insert r q) set driver rule fits long h =
-    owned_up s r h (inserts_right (kind_of s r) (first_none _ _ rule))
+    let plain = inserted_plain (cancel_routine_of set driver q) q in
+    dutied_written s.duty s.kinds r (kind_inserted (cancel_routine_of set driver q) q)
+    (ap is_new (inserts_right (kind_of s r) (first_none _ _ rule))) plain.0 plain.1 h
 handed_dutiful s (Remove r q label) set driver rule fits long h =
-    dutied_written s.duty s.kinds r Own (not_new _ (unbroken _ _ (second_none _ _ rule))) refl refl h
+    let plain = removed_plain (cancel_routine_of set driver q) q in
+    dutied_written s.duty s.kinds r (kind_removed (cancel_routine_of set driver q) q)
+    (not_new _ (unbroken _ _ (first_none _ _ (second_none _ _ rule)))) plain.0 plain.1 h
+handed_dutiful s (Unlink r q) set driver rule fits long h =
+    dutied_written s.duty s.kinds r Own (queued_plain _ (kind_of s r) (first_none _ _ rule)) refl
+    refl h
+handed_dutiful s (Arm r q) set driver rule fits long h =
+    dutied_written s.duty s.kinds r (Armed (Declared q))
+    (queued_plain _ (kind_of s r) (first_none _ _ rule)) refl refl h
+handed_dutiful s (Disarm r label) set driver rule fits long h =
+    let plain = disarmed_plain _ (kind_of s r) rule in
+    dutied_written s.duty s.kinds r (kind_disarmed (kind_of s r))
+    (queued_plain _ (kind_of s r) rule) plain.0 plain.1 h
+handed_dutiful s (Release lock) set driver rule fits long h =
+    let lowers : kinds_that is_lower (all_let_go set driver lock s.kinds)
+    ≡ kinds_that is_lower s.kinds =
+    count_let_go set driver lock is_lower refl (λ name. refl) s.kinds in
+    dutied_less s.duty s.kinds (all_let_go set driver lock s.kinds)
+    (count_let_go set driver lock is_new refl (λ name. refl) s.kinds) (omega arith) h
 handed_dutiful s (Start r) set driver rule fits long h =
     owned_up s r h (inserts_right (kind_of s r) (first_none _ _ rule))
 handed_dutiful s (Take r label) set driver rule fits long h =
@@ -276,20 +308,23 @@ pub record Arrived (s : Abs) : Type 0 where
   pub long : length s.kinds ≡ 16
   pub dutiful : Dutiful s
 
--- a jump where there was no packet to take
-emptied : (s : Abs) (r : ℕ) → is_packet (kind_of s r) ≡ false → Arrived s
+-- a jump where there was no packet to take, or none to take back
+emptied : (s : Abs) (r : ℕ) → is_new (kind_of s r) ≡ false → Arrived s
     → Arrived (with_kind s r Blank)
 emptied s r free h =
     record {
       long = length-set s.kinds r Blank ∙ h.long;
-      dutiful = dutied_written s.duty s.kinds r Blank (not_new _ free) refl refl h.dutiful;
+      dutiful = dutied_written s.duty s.kinds r Blank free refl refl h.dutiful;
     }
 
 label_arrived : (s : Abs) (i : Instr) (set : Set) (driver : ℕ) → refuses s i Dispatch set driver ≡ None
     → Arrived s → Arrived (handed_at_label s i)
 label_arrived s (Remove r q label) set driver rule h =
-    emptied s r (unbroken _ _ (second_none _ _ rule)) h
-label_arrived s (Take r label) set driver rule h = emptied s r (unbroken _ _ (second_none _ _ rule)) h
+    emptied s r (not_new _ (unbroken _ _ (first_none _ _ (second_none _ _ rule)))) h
+label_arrived s (Take r label) set driver rule h =
+    emptied s r (not_new _ (unbroken _ _ (second_none _ _ rule))) h
+label_arrived s (Disarm r label) set driver rule h =
+    emptied s r (queued_plain _ (kind_of s r) rule) h
 label_arrived s (IfPending r label) set driver rule h = record { long = h.long; dutiful = h.dutiful }
 label_arrived s _ set driver rule h = h
 
@@ -298,13 +333,14 @@ pub dispatch_arrived : (m : Member) (p : ℕ) (s : Abs) → m.routine.sort ≡ D
 dispatch_arrived m p s is fit arrives =
     arrives_keep Arrived m
     (λ first there.
-    let start : Some (entered_with New Fresh SettledMark false) ≡ Some first = sym (ap entry_of_sort is)
+    let start : Some (entered_with New Fresh SettledMark false) ≡ Some first =
+    sym (ap (λ (sort : Sort). entry_of_sort sort (cancels_for m.set m.driver m.number)) is)
     ∙ there in
     let same : entered_with New Fresh SettledMark false ≡ first = cc in
     subst Arrived same (record { long = refl; dutiful = (refl, refl) }))
     (λ before i q at rule h.
     record {
-      long = handed_long before i ∙ h.long;
+      long = handed_long m.set m.driver before i ∙ h.long;
       dutiful = handed_dutiful before i m.set m.driver
           (ap (λ (sort : Sort). refuses before i sort m.set m.driver) (sym is) ∙ rule)
           (all_at OperandFits m.routine.code q i fit at) h.long h.dutiful;
@@ -320,11 +356,7 @@ handed_right k v issued m false is suits refers = rw is (omega arith)
 handed_right New v issued m true is suits refers =
     let same : suits.0 ≡ m = subst (λ (x : Value). RefersTo m x) suits.1 (refers refl) in
     rw (suits.1, eq-eqb suits.0 m same) (omega arith)
-handed_right Own v issued m true is suits refers = cc
-handed_right Blank v issued m true is suits refers = cc
-handed_right Num v issued m true is suits refers = cc
-handed_right Lower v issued m true is suits refers = cc
-handed_right View v issued m true is suits refers = cc
+handed_right _ v issued m true is suits refers = cc
 
 handed_rights : (kinds : List Kind) (values : List Value) (issued m : ℕ) → HasKinds issued kinds values
     → HoldOf is_new (RefersTo m) kinds values → kinds_that is_new kinds ≤ rights kinds values m

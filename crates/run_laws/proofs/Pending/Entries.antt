@@ -5,10 +5,12 @@ use Rattle.std.specs.Prelude.{All, nat_eq, nat_lt, slice_get, slice_index_or, if
 use Rattle.std.proofs.lemmas.Bool.{eq-eqb, ltb-true}
 use Rattle.model.specs.declared.set.Sort.TheVariants.{Dispatch, Propagate}
 use Rattle.model.specs.declared.world.Activation.{Activation}
+use Rattle.model.specs.declared.world.CancelStep.{CancelStep}
 use Rattle.model.specs.declared.world.Frame.{Frame}
-use Rattle.model.specs.declared.world.Frame.TheVariants.{Routine, Walk}
+use Rattle.model.specs.declared.world.Frame.TheVariants.{Routine, Walk, Cancel as CancelFrame}
 use Rattle.model.specs.declared.world.Packet.{Packet}
-use Rattle.model.specs.Effect.{Change, Outcome, top_of}
+use Rattle.model.specs.Effect.{Outcome, top_of}
+use Rattle.model.specs.Events.{Change}
 use Rattle.model.specs.Run.{top_tag}
 use Rattle.model.specs.Set.{Set, sort_of}
 use Rattle.model.specs.Trace.{Activated, Actor, Entry, Managing, Serving, Tag, current_use, recorded, uses}
@@ -18,14 +20,14 @@ use Rattle.run_laws.proofs.Lists.{Each}
 use Rattle.run_laws.proofs.Past.Packets.{found}
 use Rattle.run_laws.proofs.Pending.Events.{Attends}
 use Rattle.run_laws.proofs.Pending.Serving.{AllServe, FrameServes, MustServe, TagNames, UnderServes, first_served, served}
-use Rattle.run_laws.proofs.Pending.Threads.{TopServes, top_serves}
+use Rattle.run_laws.proofs.Pending.Threads.{TagOf, Tagged, TopServes, tagged_all, top_serves}
 use Rattle.run_laws.proofs.Runs.Events.{Happens, issues, nothing, steps, begins, begins_startio}
 use Rattle.run_laws.proofs.Runs.Threads.{frames_there}
 use Rattle.run_laws.proofs.States.NoViews.{is_deferred}
 use Rattle.run_laws.proofs.States.Rules.{States}
 use Rattle.run_laws.proofs.States.Stacks.{Stacked, Stands}
 use Rattle.run_laws.proofs.States.Told.{last_under}
-use Rattle.run_laws.proofs.Steps.Comes.{Comes, awaits_lock, calls_down, carries_up, computes, errs, lets_go, marks_packet, opens_loop, returns_status, tops_out, turns_loop, walks_gone, walks_to, walks_up, ends_dpc, works_on_queues, ends_startio}
+use Rattle.run_laws.proofs.Steps.Comes.{Cancels, awaits_cancel, finds_empty, finds_none, sets_flag, cancels, Comes, awaits_lock, calls_down, carries_up, computes, ends_cancel, errs, exchanges, lends_to, lets_go, marks_packet, opens_loop, resumes_gone, resumes_none, resumes_walk, returns_status, stops_none, stops_walk, tops_out, turns_loop, walks_gone, walks_to, walks_up, ends_dpc, works_on_queues, ends_startio}
 use Rattle.run_laws.proofs.Steps.Queues.{queued_touches}
 use Rattle.run_laws.proofs.Uses.Events.{KnownWorld, known_top}
 use Rattle.run_laws.proofs.Uses.Fates.{PacketUses, UsesTell}
@@ -66,6 +68,7 @@ dispatch_serves_use set states w past (Some (Routine b)) a over tag on h is =
     must_serve set states w past a over tag h
 dispatch_serves_use set states w past (Some (Walk m)) a over tag on h is =
     let no : Propagate ≡ Dispatch = sym on ∙ is in cc
+dispatch_serves_use set states w past (Some (CancelFrame c)) a over tag on h is = absurd h
 
 -- uses of a live packet
 first_there : (used : List ℕ) → 1 ≤ length used → HasLocation (slice_get used 0)
@@ -124,8 +127,23 @@ module _ (set : Set) (states : States) (w : World) (past : List Entry) (actor : 
       (names_activation a.driver a.routine actor.tag serves.0, h)
   routine_says under below a o on serves (ends_dpc b at sort) h =
       (names_activation a.driver a.routine actor.tag serves.0, h)
+  routine_says under below a o on serves (ends_cancel b at sort) h =
+      (names_activation a.driver a.routine actor.tag serves.0, h)
   routine_says under below a o on serves (lets_go b at sort bare) h =
       (names_activation a.driver a.routine actor.tag serves.0, h)
+  routine_says under below a o on serves (resumes_none b at sort bare) h =
+      (names_activation a.driver a.routine actor.tag serves.0, h)
+  routine_says under below a o on serves (stops_walk b n at sort) h =
+      (names_activation a.driver a.routine actor.tag serves.0, h)
+  routine_says under below a o on serves (stops_none b at sort bare) h =
+      (names_activation a.driver a.routine actor.tag serves.0, h)
+  routine_says under below a o on serves
+      (exchanges b i c jumped r n p armer at work goes operand reads there how) h =
+      (tt, (tt, (names_activation a.driver a.routine actor.tag serves.0, h)))
+  routine_says under below a o on serves (resumes_walk b n p at sort there) h =
+      (tt, (tt, (names_activation a.driver a.routine actor.tag serves.0, h)))
+  routine_says under below a o on serves (resumes_gone b n at sort gone) h =
+      (tt, (tt, (names_activation a.driver a.routine actor.tag serves.0, h)))
   routine_says under below a o on serves _ h =
       (tt, (names_activation a.driver a.routine actor.tag serves.0, h))
 
@@ -134,22 +152,36 @@ module _ (set : Set) (states : States) (w : World) (past : List Entry) (actor : 
       → Comes set w.shared actor.thread below (Walk n) o
       → EntriesSay past → EntriesSay (recorded past actor o.actions)
   walk_says below n o (walks_gone m gone) h = (tt, h)
-  walk_says below n o (walks_to m p c there routed) h = (tt, (used_there n p there, (tt, h)))
+  walk_says below n o (walks_to m p c there routed lends) h = (tt, (used_there n p there, (tt, h)))
+  walk_says below n o (lends_to m p c there routed lends) h =
+      (tt, (tt, (used_there n p there, (tt, h))))
   walk_says below n o (walks_up m p there unrouted deep unmarked) h =
       (tt, (used_there n p there, (tt, h)))
   walk_says below n o (carries_up m p there unrouted deep marked) h =
       (above_there n p there deep, (tt, (used_there n p there, (tt, h))))
   walk_says below n o (tops_out m p there unrouted last) h = (tt, (used_there n p there, (tt, h)))
 
+  -- IoCancelIrp's
+  cancel_says : (n : ℕ) (step : CancelStep) (o : Outcome)
+      → Cancels set w.shared actor.thread n step o
+      → EntriesSay past → EntriesSay (recorded past actor o.actions)
+  cancel_says n step o (awaits_cancel owner owned other) h = h
+  cancel_says n step o (sets_flag p there) h = h
+  cancel_says n step o (finds_empty p there none) h = (tt, (tt, h))
+  cancel_says n step o (finds_none p armer there is none) h = (tt, (tt, h))
+  cancel_says n step o _ h = (tt, h)
+
   frame_says : (under below : Option Frame) (f : Frame) (o : Outcome) → FrameOn set under f
       → FrameServes set states w past under None f actor.tag → Comes set w.shared actor.thread below f o
       → EntriesSay past → EntriesSay (recorded past actor o.actions)
   frame_says under below (Routine a) o on serves comes h = routine_says under below a o on serves comes h
   frame_says under below (Walk n) o on serves comes h = walk_says below n o comes h
+  frame_says under below (CancelFrame c) o on serves (cancels n step made moves) h =
+      cancel_says n step made moves h
 
   -- an event's
   pub entries_event : (tags : List (List Tag)) (c : Change) → KnownWorld set states w past
-      → Attends set states w past tags → Happens set w actor.thread c
+      → Attends set states w past tags → Happens set w actor.thread false c
       → actor.tag ≡ top_tag (slice_index_or tags actor.thread []) → EntriesSay past
       → EntriesSay (recorded past actor c.actions)
   entries_event tags c known attends (nothing reply right) acts h = h
@@ -216,20 +248,28 @@ module _ (set : Set) (states : States) (w : World) (past : List Entry) where
           let same : c ≡ b =
           cc in subst (λ (x : Activation). sort_of set x.driver x.routine ≡ Propagate) same
           stands.0
-      on_next (Walk n) (Walk m) stands b is = cc
+      on_next (Walk n) _ stands b is = cc
+      on_next (CancelFrame c) g stands b is = tt
 
-  pub manager_tag : (under : Option Frame) (frames : List Frame) (tags : List Tag) (k n : ℕ)
-      → AllServe set states w past under frames tags → slice_get frames k ≡ Some (Walk n)
+  -- a frame that isn't a routine's
+  pub manager_tag : (under : Option Frame) (frames : List Frame) (tags : List Tag) (k : ℕ)
+      (g : Frame)
+      → ((tag : Tag) → TagOf g tag → tag ≡ Managing)
+      → AllServe set states w past under frames tags → slice_get frames k ≡ Some g
       → slice_get tags k ≡ Some Managing
-  manager_tag under [] tags k n h there = cc
-  manager_tag under (f ∷ frames) [] k n h there = absurd h
-  manager_tag under (f ∷ frames) (tag ∷ tags) zero n h there =
-      let is : f ≡ Walk n = cc in
-      let managing : tag ≡ Managing =
-      subst (λ (g : Frame). FrameServes set states w past under (first_served tags) g tag) is h.0 in
-      ap (λ (x : Tag). Some x) managing
-  manager_tag under (f ∷ frames) (tag ∷ tags) (suc k) n h there =
-      manager_tag (Some f) frames tags k n h.1 there
+  manager_tag under frames tags k g manages h there =
+      tag_there frames tags k g manages (tagged_all set states w past under frames tags h) there
+    where
+      tag_there : (frames : List Frame) (tags : List Tag) (k : ℕ) (g : Frame)
+          → ((tag : Tag) → TagOf g tag → tag ≡ Managing)
+          → Tagged frames tags → slice_get frames k ≡ Some g → slice_get tags k ≡ Some Managing
+      tag_there [] tags k g manages h there = cc
+      tag_there (f ∷ frames) [] k g manages h there = absurd h
+      tag_there (f ∷ frames) (tag ∷ tags) zero g manages h there =
+          let is : f ≡ g = cc in
+          ap (λ (x : Tag). Some x) (manages tag (subst (λ (x : Frame). TagOf x tag) is h.0))
+      tag_there (f ∷ frames) (tag ∷ tags) (suc k) g manages h there =
+          tag_there frames tags k g manages h.1 there
 
 -- a live packet has as many uses as it is deep
 pub has_uses : (w : World) (past : List Entry) → UsesTell w past → (n : ℕ) (p : Packet)

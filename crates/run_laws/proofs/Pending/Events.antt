@@ -15,7 +15,8 @@ use Rattle.model.specs.declared.world.Irql.TheVariants.{Passive, Dispatch as Dis
 use Rattle.model.specs.declared.world.Packet.{Packet}
 use Rattle.model.specs.declared.world.Thread.{Thread}
 use Rattle.model.specs.Action.{Issues}
-use Rattle.model.specs.Effect.{Change, Outcome, issued, rooted, serves_request, standing, told_to, top_of, with_stack, with_thread, dpc_activation, unchanged}
+use Rattle.model.specs.Effect.{Outcome, told_to, top_of}
+use Rattle.model.specs.Events.{Change, issued, rooted, serves_request, standing, with_stack, with_thread, dpc_activation, unchanged}
 use Rattle.model.specs.Fault.{first_fault}
 use Rattle.model.specs.PendingAgreement.{was_marked}
 use Rattle.model.specs.Run.{begun, frames_on, new_tag, tags_after, top_tag}
@@ -43,11 +44,12 @@ use Rattle.run_laws.proofs.Runs.Kept.{with_queued}
 use Rattle.run_laws.proofs.Runs.Threads.{frames_put, frames_there, idle_frames, others_put, thread_put}
 use Rattle.run_laws.proofs.States.Entering.{begins_request, begins_dpc, startio_activation}
 use Rattle.run_laws.proofs.States.Fine.{StepLeaves, leaves_fine}
+use Rattle.run_laws.proofs.States.Never.{keeps_below}
 use Rattle.run_laws.proofs.States.Rules.{States}
 use Rattle.run_laws.proofs.States.Stacks.{Replaces, Stacked, Stands}
 use Rattle.run_laws.proofs.States.Standing.{on_top, stands_there, startio_enters}
 use Rattle.run_laws.proofs.States.Told.{last_same, last_under, standing_last, told_last}
-use Rattle.run_laws.proofs.Steps.Below.{standing_is}
+use Rattle.run_laws.proofs.Steps.Below.{standing_is, takes_below}
 use Rattle.run_laws.proofs.Uses.CurrentUses.{Others, agreed_finished, agreed_marked, current_others, linked_agrees, linked_waits}
 use Rattle.run_laws.proofs.Uses.Events.{KnownWorld, agreed_by, event_turns, known_top, linked_by}
 use Rattle.run_laws.proofs.Uses.Fates.{MarksTell, PacketUses, UsesTell}
@@ -194,6 +196,16 @@ module _ (set : Set) (states : States) (w : World) (past : List Entry) (tags : L
           leaves_fine set states w.shared past actor known.stands.tells (top_of h.below) h.frame o
           (on_top set states w past known.good known.stands actor.thread h) quiet h.comes
 
+      kept_frames : takes_below set w.shared actor.thread (top_of h.below) h.frame o h.comes ≡ false
+      kept_frames =
+          keeps_below set states w.shared actor.thread (top_of h.below) h.frame o
+          (on_top set states w past known.good known.stands actor.thread h) h.comes
+
+      standing_told : standing set h.below o ≡ told_last set o.told h.below ++ o.frames
+      standing_told =
+          standing_last set w.shared actor.thread (top_of h.below) h.frame o h.below h.comes
+          kept_frames
+
       stacked : Stacked set states w.shared.issued (h.below ++ h.frame ∷ [])
       stacked = stands_there set states w past known.good known.stands actor.thread h
 
@@ -225,6 +237,7 @@ module _ (set : Set) (states : States) (w : World) (past : List Entry) (tags : L
                 (told_to set h.below o.told ++ Routine b ∷ []) returned
                 kept_later (thread_put w actor.thread o.shared after h.thread h.found)
                 (standing_is set w.shared actor.thread (top_of h.below) h.frame o h.below h.comes
+                kept_frames
                 ∙ ap (λ (frames : List Frame). told_to set h.below o.told ++ frames) is
                 ∙ sym (append_assoc (told_to set h.below o.told) (Routine b ∷ []) (Walk n ∷ [])));
           })
@@ -300,7 +313,7 @@ module _ (set : Set) (states : States) (w : World) (past : List Entry) (tags : L
           (sym tag_is) top.top) in
           let now : frames_on later_w actor.thread ≡ told_last set o.told h.below ++ o.frames =
           frames_put w actor.thread o.shared after h.thread h.found
-          ∙ standing_last set w.shared actor.thread (top_of h.below) h.frame o h.below h.comes in
+          ∙ standing_told in
           let kept : tags_after set later number (frames_on w actor.thread) row
           (frames_on later_w actor.thread)
           ≡ top.tags ++ tags_after set later number (h.frame ∷ []) (actor.tag ∷ []) o.frames =
@@ -325,7 +338,7 @@ module _ (set : Set) (states : States) (w : World) (past : List Entry) (tags : L
           ts) (sym kept)
           (subst (λ (frames : List Frame). AllServe set states later_w later None frames
           (top.tags ++ tags_after set later number (h.frame ∷ []) (actor.tag ∷ []) o.frames))
-          (sym (standing_last set w.shared actor.thread (top_of h.below) h.frame o h.below h.comes))
+          (sym standing_told)
           (thread_serves top.tags top.tagged serves turn)))
           (λ k apart n some.
           let other : IsApart states w.shared h.frame n =
@@ -425,7 +438,7 @@ module _ (set : Set) (states : States) (w : World) (past : List Entry) (tags : L
       }
 
   -- every event
-  pub attend_event : (c : Change) → Happens set w actor.thread c → actor.tag ≡ top_tag row
+  pub attend_event : (c : Change) → Happens set w actor.thread false c → actor.tag ≡ top_tag row
       → first_fault past actor c.actions ≡ None → Held states c.world → UsesTell w past
       → UsesTell c.world (recorded past actor c.actions)
       → Attends set states c.world (recorded past actor c.actions) (tags_by c)
@@ -439,7 +452,7 @@ module _ (set : Set) (states : States) (w : World) (past : List Entry) (tags : L
             (event_turns set states w past known actor c happens quiet);
       }) told told_later)
     where
-      attends_by : (c : Change) → Happens set w actor.thread c → first_fault past actor c.actions ≡ None
+      attends_by : (c : Change) → Happens set w actor.thread false c → first_fault past actor c.actions ≡ None
           → Held states c.world → Settles states w past c.world (recorded past actor c.actions)
           → Attends set states c.world (recorded past actor c.actions) (tags_by c)
       attends_by c (nothing reply right) quiet kept settles =

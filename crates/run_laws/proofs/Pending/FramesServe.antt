@@ -6,7 +6,7 @@ use Rattle.std.proofs.lemmas.Bool.Decides.{eqb_tells}
 use Rattle.model.specs.declared.status.Status.{Status}
 use Rattle.model.specs.declared.world.Activation.{Activation}
 use Rattle.model.specs.declared.world.Frame.{Frame}
-use Rattle.model.specs.declared.world.Frame.TheVariants.{Routine, Walk}
+use Rattle.model.specs.declared.world.Frame.TheVariants.{Routine, Walk, Cancel as CancelFrame}
 use Rattle.model.specs.Effect.{Outcome}
 use Rattle.model.specs.Fault.{first_fault}
 use Rattle.model.specs.Run.{tags_after}
@@ -24,6 +24,7 @@ use Rattle.run_laws.proofs.Pending.Serving.{Agreeing, AllServe, FrameServes, Mus
 use Rattle.run_laws.proofs.Pending.Threads.{SameOver}
 use Rattle.run_laws.proofs.Pending.TopDispatch.{steps_dispatch}
 use Rattle.run_laws.proofs.Pending.UsesServed.{Settles}
+use Rattle.run_laws.proofs.States.Never.{never_stands}
 use Rattle.run_laws.proofs.States.OnTop.{runs}
 use Rattle.run_laws.proofs.States.Rules.{States}
 use Rattle.run_laws.proofs.Steps.Comes.{Comes}
@@ -40,6 +41,7 @@ same_over : (under : Option Frame) (x y : Option Serving) → x ≡ y → SameOv
 same_over None x y h = tt
 same_over (Some (Routine b)) x y h = h
 same_over (Some (Walk m)) x y h = tt
+same_over (Some (CancelFrame c)) x y h = tt
 
 module _ (set : Set) (states : States) (w later_w : World) (past : List Entry) (actor : Actor)
     (number : ℕ)
@@ -93,15 +95,13 @@ module _ (set : Set) (states : States) (w later_w : World) (past : List Entry) (
   managing_serves n [] h = tt
   managing_serves n (Walk m ∷ []) h = (refl, tt)
   managing_serves n (Walk m ∷ Routine b ∷ []) h = (refl, (((refl, refl), tt), tt))
-  managing_serves n (Walk m ∷ Walk k ∷ frames) h = cc
-  managing_serves n (Walk m ∷ Routine b ∷ f ∷ frames) h = cc
-  managing_serves n (Routine b ∷ frames) h = cc
+  managing_serves n _ h = cc
 
   managing_over : (n : ℕ) (frames : List Frame) → is_managing frames ≡ true
       → None ≡ first_served (tags_after set later number (Walk n ∷ []) (actor.tag ∷ []) frames)
   managing_over n [] h = refl
   managing_over n (Walk m ∷ frames) h = refl
-  managing_over n (Routine b ∷ frames) h = cc
+  managing_over n _ h = cc
 
   walk_turned : (n : ℕ) → actor.tag ≡ Managing → Manages n o → Turning (Walk n) → Turned (Walk n)
   walk_turned n tag manages h =
@@ -124,8 +124,7 @@ module _ (set : Set) (states : States) (w later_w : World) (past : List Entry) (
       (tags_after set later number (Routine a ∷ []) (actor.tag ∷ []) frames)
   alone_serves m a [] same names = tt
   alone_serves m a (Routine b ∷ []) same names = ((rw (same.0, same.1) names, tt), tt)
-  alone_serves m a (Routine b ∷ f ∷ frames) same names = absurd same
-  alone_serves m a (Walk n ∷ frames) same names = absurd same
+  alone_serves m a _ same names = absurd same
 
   completion_turned : (m : ℕ) (a : Activation) → under ≡ Some (Walk m)
       → TagNames a.driver a.routine actor.tag
@@ -156,9 +155,7 @@ module _ (set : Set) (states : States) (w later_w : World) (past : List Entry) (
       ((rw (same.0, same.1) names, inr (rw (same.0, same.1) is)), tt)
   deferred_serves a (Routine b ∷ Walk n ∷ []) same names is =
       ((rw (same.0, same.1) names, inr (rw (same.0, same.1) is)), (refl, tt))
-  deferred_serves a (Routine b ∷ Walk n ∷ f ∷ frames) same names is = absurd same
-  deferred_serves a (Routine b ∷ Routine c ∷ frames) same names is = absurd same
-  deferred_serves a (Walk n ∷ frames) same names is = absurd same
+  deferred_serves a _ same names is = absurd same
 
   deferred_turned : (a : Activation) → under ≡ None → TagNames a.driver a.routine actor.tag
       → IsDeferred set a → Works a o → Turning (Routine a) → Turned (Routine a)
@@ -204,6 +201,7 @@ module _ (set : Set) (states : States) (w later_w : World) (past : List Entry) (
             returns.agreed,
       )
   dispatch_goes (Some (Walk m)) v a on tagged (inr returns) = absurd on
+  dispatch_goes (Some (CancelFrame c)) v a on tagged (inr returns) = absurd on
 
   dispatch_turned : (a : Activation) (x : Option Serving) → served actor.tag ≡ x → OnRoutine under
       → TagNames a.driver a.routine actor.tag → MustServe set states w past a None x → Does set states a o
@@ -270,6 +268,7 @@ module _ (set : Set) (states : States) (w later_w : World) (past : List Entry) (
       (propagate_news set states w.shared past under a h.known on)
       (reads_view states m w.shared a seen)
       comes) h
+  routine_turned (Some (CancelFrame c)) below a is seen on serves names comes h = absurd serves
 
   -- every frame
   pub frame_turned : (below : Option Frame) (f : Frame)
@@ -279,3 +278,5 @@ module _ (set : Set) (states : States) (w later_w : World) (past : List Entry) (
       routine_turned under below a refl h.known.seen h.known.on serves.1 serves.0 comes h
   frame_turned below (Walk n) serves comes h =
       walk_turned n serves (walk_manages set w.shared actor.thread below n o comes) h
+  frame_turned below (CancelFrame c) serves comes h =
+      absurd (never_stands set states w.shared c h.known.top)

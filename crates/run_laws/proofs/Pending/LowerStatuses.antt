@@ -2,10 +2,11 @@
 use Rattle.std.proofs.Common.{◌≡◌, ℕ, zero, suc, Bool, List, [], ◌∷◌, arith}
 use Rattle.std.specs.Prelude.{⊤, slice_set, slice_index_or}
 use Rattle.model.specs.declared.abs.Kind.{Kind}
-use Rattle.model.specs.declared.abs.Kind.TheVariants.{Blank as BlankKind, Num as NumKind, Lower, New, Own, View}
+use Rattle.model.specs.declared.abs.Kind.TheVariants.{Blank as BlankKind, Num as NumKind, Lower}
 use Rattle.model.specs.declared.world.Value.{Value}
-use Rattle.model.specs.declared.world.Value.TheVariants.{Blank, Status as StatusValue}
-use Rattle.model.specs.LocalRule.{is_lower, is_pending, left_behind}
+use Rattle.model.specs.declared.world.Value.TheVariants.{Blank, Ref, Status as StatusValue}
+use Rattle.model.specs.LocalRule.{is_pending}
+use Rattle.model.specs.Kinds.{is_lower, left_behind}
 use Rattle.run_laws.proofs.Pending.Duties.{counted, kinds_that}
 
 -- a status is STATUS_PENDING, or it isn't
@@ -26,6 +27,10 @@ Lowers b (k ∷ kinds) (v ∷ values) = LowerIs b k v × Lowers b kinds values
 pub lower_blank : (b : Bool) (k : Kind) → LowerIs b k Blank
 lower_blank b Lower = tt
 lower_blank b _ = tt
+
+pub lower_ref : (b : Bool) (k : Kind) (n : ℕ) → LowerIs b k (Ref n)
+lower_ref b Lower n = tt
+lower_ref b _ n = tt
 
 -- one register
 pub lowers_get : (b : Bool) (kinds : List Kind) (values : List Value) (r : ℕ) → Lowers b kinds values
@@ -53,12 +58,8 @@ lowers_turn b (j ∷ kinds) (w ∷ values) zero k h is = (is, h.1)
 lowers_turn b (j ∷ kinds) (w ∷ values) (suc r) k h is = (h.0, lowers_turn b kinds values r k h.1 is)
 
 left_lower : (b : Bool) (k : Kind) (v : Value) → LowerIs b (left_behind k) v
-left_lower b BlankKind v = tt
 left_lower b NumKind v = tt
-left_lower b Lower v = tt
-left_lower b New v = tt
-left_lower b Own v = tt
-left_lower b View v = tt
+left_lower b _ v = tt
 
 pub lowers_move : (b : Bool) (kinds : List Kind) (values : List Value) (r q : ℕ) → Lowers b kinds values
     → Lowers b
@@ -76,11 +77,7 @@ lowers_move b kinds values r q h =
 
 none_here : (b : Bool) (k : Kind) (v : Value) → counted is_lower k ≡ 0 → LowerIs b k v
 none_here b Lower v h = cc
-none_here b BlankKind v h = tt
-none_here b NumKind v h = tt
-none_here b New v h = tt
-none_here b Own v h = tt
-none_here b View v h = tt
+none_here b _ v h = tt
 
 -- where no register holds one
 pub lowers_none : (b : Bool) (kinds : List Kind) (values : List Value) → kinds_that is_lower kinds ≡ 0

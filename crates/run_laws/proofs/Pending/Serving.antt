@@ -8,9 +8,10 @@ use Rattle.model.specs.declared.abs.Duty.TheVariants.{Finished, Fresh, GivenDown
 use Rattle.model.specs.declared.status.Status.{Status}
 use Rattle.model.specs.declared.world.Activation.{Activation}
 use Rattle.model.specs.declared.world.Frame.{Frame}
-use Rattle.model.specs.declared.world.Frame.TheVariants.{Routine, Walk}
+use Rattle.model.specs.declared.world.Frame.TheVariants.{Routine, Walk, Cancel as CancelFrame}
 use Rattle.model.specs.Effect.{answered, answered_in, operand_of}
 use Rattle.model.specs.LocalRule.{is_pending}
+use Rattle.model.specs.Kinds.{is_new}
 use Rattle.model.specs.PendingAgreement.{was_marked}
 use Rattle.model.specs.Set.{Set, instruction_at}
 use Rattle.model.specs.Trace.{Serving, Activated, Entry, Managing, Tag, current_use}
@@ -23,7 +24,7 @@ use Rattle.run_laws.proofs.States.Told.{told_frame}
 use Rattle.run_laws.proofs.Uses.Fates.{Agreed, Linked}
 use Rattle.run_laws.proofs.Uses.Traced.{SameUses}
 use Rattle.run_laws.proofs.States.HandedOver.{hold_told, HoldOf}
-use Rattle.run_laws.proofs.States.NoViews.{handed_news, is_new}
+use Rattle.run_laws.proofs.States.NoViews.{handed_news}
 use Rattle.run_laws.proofs.Live.Sees.{IsDeferred, RefersTo, answered_in_deferred}
 use Rattle.model.specs.declared.world.Value.TheVariants.{Status as StatusValue}
 
@@ -91,11 +92,12 @@ module _ (set : Set) (states : States) where
     MustServe a over (Some v) = ServesUse v a over
 
     -- a dispatch routine serves a use; a deferred routine and completion routines, which stand on
-    -- the I/O manager's frames, serve none
+    -- the I/O manager's frames, serve none; nothing stands on a frame of IoCancelIrp
     abbrev pub UnderServes : Option Frame → Activation → Option Serving → Option Serving → Type 0
     UnderServes None a over v = MustServe a over v ⊎ IsDeferred set a
     UnderServes (Some (Routine b)) a over v = MustServe a over v
     UnderServes (Some (Walk m)) a over v = ⊤
+    UnderServes (Some (CancelFrame c)) a over v = ⊥
 
     -- a frame on another one, or on none, has a tag that names its routine and the use that it
     -- serves
@@ -103,6 +105,7 @@ module _ (set : Set) (states : States) where
     FrameServes under over (Routine a) tag = TagNames a.driver a.routine tag
         × UnderServes under a over (served tag)
     FrameServes under over (Walk n) tag = tag ≡ Managing
+    FrameServes under over (CancelFrame c) tag = tag ≡ Managing
 
     -- frames on another one, or on none, the lowest first, with their tags
     abbrev pub AllServe : Option Frame → List Frame → List Tag → Type 0
@@ -164,6 +167,7 @@ module _ (set : Set) (states : States) (w later_w : World) (past later : List En
       elim h [ inl must ↦ inl (must_kept a over v same must) | inr is ↦ inr is ]
   under_kept (Some (Routine b)) a over v same h = must_kept a over v same h
   under_kept (Some (Walk m)) a over v same h = tt
+  under_kept (Some (CancelFrame c)) a over v same h = absurd h
 
   pub frame_kept : (under : Option Frame) (over : Option Serving) (f : Frame) (tag : Tag)
       → ((n : ℕ) → 1 ≤ frame_rights states f n → SameUses past later n)
@@ -171,6 +175,7 @@ module _ (set : Set) (states : States) (w later_w : World) (past later : List En
       → FrameServes set states later_w later under over f tag
   frame_kept under over (Routine a) tag same h = (h.0, under_kept under a over (served tag) same h.1)
   frame_kept under over (Walk n) tag same h = h
+  frame_kept under over (CancelFrame c) tag same h = h
 
   pub all_kept : (under : Option Frame) (frames : List Frame) (tags : List Tag)
       → ((n : ℕ) → 1 ≤ stack_sum (λ f. frame_rights states f n) frames → SameUses past later n)
@@ -206,6 +211,7 @@ Agreeing states w past (Some (Routine b)) (Some lower) status =
     Agreed states w past lower (is_pending status)
 Agreeing states w past (Some (Routine b)) None status = ⊥
 Agreeing states w past (Some (Walk m)) over status = ⊤
+Agreeing states w past (Some (CancelFrame c)) over status = ⊤
 Agreeing states w past None over status = ⊤
 
 answered_hold : (states : States) (m : ℕ) (a : Activation) (status : Status) (r : Option ℕ)
@@ -286,12 +292,14 @@ module _ (set : Set) (states : States) (w : World) (past : List Entry)
       ]
   under_told (Some (Routine b)) a lower v rights h agreed = must_told a lower v rights h agreed
   under_told (Some (Walk m)) a lower v rights h agreed = tt
+  under_told (Some (CancelFrame c)) a lower v rights h agreed = absurd h
 
   pub frame_told : (under : Option Frame) (g : Frame) (over : Option Serving) (tag : Tag)
       → ((n : ℕ) → frame_rights states (told_frame set (Some status) g) n ≡ frame_rights states g n)
       → FrameServes set states w past under over g tag → Agreeing states w past (Some g) over status
       → FrameServes set states w past under None (told_frame set (Some status) g) tag
   frame_told under (Walk n) over tag rights h agreed = h
+  frame_told under (CancelFrame c) over tag rights h agreed = h
   frame_told under (Routine a) None tag rights h agreed = absurd agreed
   frame_told under (Routine a) (Some lower) tag rights h agreed = (
     answered_names a status (operand_of (instruction_at set a.driver a.routine (a.position - 1))) tag h.0,

@@ -4,7 +4,7 @@ use Rattle.std.proofs.Common.{◌≡◌, List, None, Option, Some, [], ap, arith
 use Rattle.std.specs.Prelude.{⊤}
 use Rattle.model.specs.declared.status.Status.{Status}
 use Rattle.model.specs.declared.world.Frame.{Frame}
-use Rattle.model.specs.declared.world.Frame.TheVariants.{Routine, Walk}
+use Rattle.model.specs.declared.world.Frame.TheVariants.{Routine, Walk, Cancel as CancelFrame}
 use Rattle.model.specs.Run.{counted_kept, kept_tag, tags_after}
 use Rattle.model.specs.Set.{Set}
 use Rattle.model.specs.Trace.{Entry, Managing, Serving, Tag}
@@ -19,6 +19,7 @@ use Rattle.run_laws.proofs.Uses.Traced.{SameUses}
 abbrev pub TagOf : Frame → Tag → Type 0
 TagOf (Routine a) tag = ⊤
 TagOf (Walk n) tag = tag ≡ Managing
+TagOf (CancelFrame c) tag = tag ≡ Managing
 
 abbrev pub Tagged : List Frame → List Tag → Type 0
 Tagged [] [] = ⊤
@@ -31,24 +32,30 @@ module _ (set : Set) (later : List Entry) (number : ℕ) where
   kept_self : (f : Frame) (tag : Tag) → TagOf f tag → kept_tag set later number f tag f ≡ tag
   kept_self (Routine a) tag h = refl
   kept_self (Walk n) tag h = sym h
+  kept_self (CancelFrame c) tag h = sym h
 
   counted_self : (f : Frame) → counted_kept f f number ≡ number
   counted_self (Routine a) = refl
   counted_self (Walk n) = refl
+  counted_self (CancelFrame c) = refl
 
   kept_told : (told : Option Status) (f : Frame) (tag : Tag) → TagOf f tag
       → kept_tag set later number f tag (told_frame set told f) ≡ tag
   kept_told None (Routine a) tag h = refl
   kept_told (Some status) (Routine a) tag h = refl
   kept_told None (Walk n) tag h = sym h
+  kept_told None (CancelFrame c) tag h = sym h
   kept_told (Some status) (Walk n) tag h = sym h
+  kept_told (Some status) (CancelFrame c) tag h = sym h
 
   counted_told : (told : Option Status) (f : Frame) → counted_kept f (told_frame set told f) number
       ≡ number
   counted_told None (Routine a) = refl
   counted_told (Some status) (Routine a) = refl
   counted_told None (Walk n) = refl
+  counted_told None (CancelFrame c) = refl
   counted_told (Some status) (Walk n) = refl
+  counted_told (Some status) (CancelFrame c) = refl
 
   pub row_same : (frames : List Frame) (row : List Tag) → Tagged frames row
       → tags_after set later number frames row frames ≡ row
@@ -78,6 +85,7 @@ abbrev pub SameOver : Option Frame → Option Serving → Option Serving → Typ
 SameOver None x y = ⊤
 SameOver (Some (Routine b)) x y = x ≡ y
 SameOver (Some (Walk m)) x y = ⊤
+SameOver (Some (CancelFrame c)) x y = ⊤
 
 module _ (set : Set) (states : States) (w : World) (past : List Entry) where
   pub tagged_all : (under : Option Frame) (frames : List Frame) (tags : List Tag)
@@ -88,6 +96,8 @@ module _ (set : Set) (states : States) (w : World) (past : List Entry) where
   tagged_all under (Routine a ∷ frames) (tag ∷ tags) h =
       (tt, tagged_all (Some (Routine a)) frames tags h.1)
   tagged_all under (Walk n ∷ frames) (tag ∷ tags) h = (h.0, tagged_all (Some (Walk n)) frames tags h.1)
+  tagged_all under (CancelFrame c ∷ frames) (tag ∷ tags) h =
+      (h.0, tagged_all (Some (CancelFrame c)) frames tags h.1)
 
   -- the tags of a thread whose top frame is known, and what that one serves
   pub record TopServes (under : Option Frame) (below : List Frame) (f : Frame) (row : List Tag)
@@ -117,6 +127,7 @@ module _ (set : Set) (states : States) (w : World) (past : List Entry) where
       tag_of : (e : Frame) → FrameServes set states w past under (first_served row) e tag → TagOf e tag
       tag_of (Routine a) serves = tt
       tag_of (Walk n) serves = serves
+      tag_of (CancelFrame c) serves = serves
 
   over_changed : (under : Option Frame) (x y : Option Serving) (g : Frame) (tag : Tag)
       → SameOver (Some g) x y
@@ -124,6 +135,7 @@ module _ (set : Set) (states : States) (w : World) (past : List Entry) where
   over_changed under x y (Routine a) tag same h =
       subst (λ (over : Option Serving). FrameServes set states w past under over (Routine a) tag) same h
   over_changed under x y (Walk n) tag same h = h
+  over_changed under x y (CancelFrame c) tag same h = h
 
 -- frames below the one that ran serve on, and so do those that stand on them
 module _ (set : Set) (states : States) (w later_w : World) (past later : List Entry)

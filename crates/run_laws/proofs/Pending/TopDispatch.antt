@@ -28,7 +28,8 @@ use Rattle.run_laws.proofs.Steps.Words.{Forwarding, packet_operand, work_of}
 use Rattle.run_laws.proofs.Pending.DispatchSteps.{StepsDispatch}
 use Rattle.run_laws.proofs.Uses.TopFrames.{KnownTop, known, sort_is, stays, steps_routine, unseen}
 use Rattle.run_laws.proofs.States.HandedOver.{hold_none}
-use Rattle.run_laws.proofs.States.NoViews.{handed_news, is_new}
+use Rattle.run_laws.proofs.States.NoViews.{handed_news}
+use Rattle.model.specs.Kinds.{is_new}
 use Rattle.run_laws.proofs.Live.Sees.{RefersTo}
 use Rattle.model.specs.declared.abs.Kind.TheVariants.{Blank as BlankKind}
 

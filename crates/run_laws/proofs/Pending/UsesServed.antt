@@ -17,6 +17,7 @@ use Rattle.model.specs.declared.world.Value.TheVariants.{Ref}
 use Rattle.model.specs.Action.{Calls, Executes, Marks, Touches}
 use Rattle.model.specs.Effect.{answered}
 use Rattle.model.specs.LocalRule.{is_pending}
+use Rattle.model.specs.Kinds.{is_new}
 use Rattle.model.specs.PendingAgreement.{is_use, was_marked}
 use Rattle.model.specs.Run.{new_tag, serving_by, serving_in, serving_with}
 use Rattle.model.specs.Set.{Set, sort_of}
@@ -31,7 +32,6 @@ use Rattle.run_laws.proofs.States.Rules.{States}
 use Rattle.run_laws.proofs.Uses.Fates.{Agreed, Linked, late_marks}
 use Rattle.run_laws.proofs.Uses.Traced.{SameUses}
 use Rattle.run_laws.proofs.States.HandedOver.{HoldOf}
-use Rattle.run_laws.proofs.States.NoViews.{is_new}
 use Rattle.run_laws.proofs.Live.Sees.{RefersTo}
 
 -- what an event does to uses: what was agreed on stays, the marks of current locations say what

@@ -10,11 +10,12 @@ use Rattle.model.specs.declared.status.Major.{Major}
 use Rattle.model.specs.declared.status.Status.{Status}
 use Rattle.model.specs.declared.world.Activation.{Activation}
 use Rattle.model.specs.declared.world.Frame.{Frame}
-use Rattle.model.specs.declared.world.Frame.TheVariants.{Routine, Walk}
+use Rattle.model.specs.declared.world.Frame.TheVariants.{Routine, Walk, Cancel as CancelFrame}
 use Rattle.model.specs.declared.world.Irql.TheVariants.{Passive, Dispatch as DispatchLevel}
 use Rattle.model.specs.declared.world.Packet.{Packet}
 use Rattle.model.specs.declared.world.Thread.{Thread}
-use Rattle.model.specs.Effect.{Change, Outcome, operand_of, answered_in, answered, top_of, told_to, standing, with_thread, with_stack, with_new_packet, rooted, serves_request, dpc_activation}
+use Rattle.model.specs.Effect.{Outcome, operand_of, answered_in, answered, top_of, told_to}
+use Rattle.model.specs.Events.{Change, standing, with_thread, with_stack, with_new_packet, rooted, serves_request, dpc_activation}
 use Rattle.model.specs.Fault.{first_fault}
 use Rattle.model.specs.Run.{begun, frames_on}
 use Rattle.model.specs.Set.{Set, instruction_at}
@@ -37,6 +38,7 @@ use Rattle.run_laws.proofs.Runs.Threads.{frames_there, each_frames, idle_frames}
 use Rattle.run_laws.proofs.States.Entering.{Begins, begins_request, begins_dpc, startio_activation}
 use Rattle.run_laws.proofs.States.Fine.{StepLeaves, leaves_fine}
 use Rattle.run_laws.proofs.States.Frames.{IsGood}
+use Rattle.run_laws.proofs.States.Never.{keeps_below}
 use Rattle.run_laws.proofs.States.Rules.{States}
 use Rattle.run_laws.proofs.States.Stacks.{Stands, Stacked, Replaces}
 use Rattle.run_laws.proofs.States.Standing.{Standing, stands_there, on_top, startio_enters}
@@ -98,6 +100,8 @@ module _ (set : Set) (states : States) where
   )
   others_room s after (Walk m ∷ frames) same h =
       (tt, others_room s after frames (λ n some. same n (omega arith)) h.1)
+  others_room s after (CancelFrame c ∷ frames) same h =
+      (tt, others_room s after frames (λ n some. same n (omega arith)) h.1)
 
   module _ (issued : ℕ) (s : Shared) where
     -- a frame that is told a status has as much room
@@ -106,6 +110,8 @@ module _ (set : Set) (states : States) where
     told_room None (Routine a) stands h = h
     told_room None (Walk n) stands h = tt
     told_room (Some status) (Walk n) stands h = tt
+    told_room None (CancelFrame c) stands h = tt
+    told_room (Some status) (CancelFrame c) stands h = tt
     told_room (Some status) (Routine a) stands h =
         λ n x there some.
         let same : frame_rights states (Routine (answered set a status)) n ≡ frame_rights states
@@ -170,7 +176,7 @@ module _ (set : Set) (states : States) (w : World) (past : List Entry) (good : I
 
   -- where nothing is touched that has topped out, nothing is sent down past its last location
   pub call_faults_none : OneTokenEach states w → (actor : Actor) (c : Change)
-      → Happens set w actor.thread c
+      → Happens set w actor.thread false c
       → fault_among is_touch past actor c.actions ≡ None → fault_among is_call past actor c.actions ≡ None
   call_faults_none tokens actor c (nothing reply right) touches = refl
   call_faults_none tokens actor c (steps h) touches =
@@ -293,7 +299,9 @@ module _ (set : Set) (states : States) (w : World) (past : List Entry) (good : I
       (λ n some. others_kept h.frame o n room (apart_below set states w past stands holds t h n some))
       (each_before (HasRoom set states w.shared) h.below (h.frame ∷ []) (room_there t h)) in
       threads_room t o.shared h.thread (with_stack h.thread (standing set h.below o)) h.found
-      (rw (standing_is set w.shared t (top_of h.below) h.frame o h.below h.comes)
+      (rw (standing_is set w.shared t (top_of h.below) h.frame o h.below h.comes
+      (keeps_below set states w.shared t (top_of h.below) h.frame o
+      (on_top set states w past good stands t h) h.comes))
       (all_room set states w.shared.issued o.shared h.below h.frame o.told o.frames
       (stands_there set states w past good stands t h) leaves.stands below room.frames))
       (λ k apart n some. others_kept h.frame o n room
@@ -321,11 +329,11 @@ module _ (set : Set) (states : States) (w : World) (past : List Entry) (good : I
       roomy.waiting.starts h.d n h.start h.has (omega arith) x is
 
   pub roomy_kept : OneTokenEach states w → (actor : Actor) (c : Change)
-      → GoesOnBy set w past actor c
+      → GoesOnBy set w past actor false c
       → Roomy set states c.world
   roomy_kept tokens actor c on = kept c on.happens on.quiet
     where
-      kept : (c : Change) → Happens set w actor.thread c → first_fault past actor c.actions ≡ None
+      kept : (c : Change) → Happens set w actor.thread false c → first_fault past actor c.actions ≡ None
           → Roomy set states c.world
       kept c (nothing reply right) quiet = roomy
       kept c (steps h) quiet = step_room tokens actor h quiet

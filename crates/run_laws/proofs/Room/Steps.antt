@@ -9,14 +9,15 @@ use Rattle.model.specs.declared.instr.Instr.TheVariants.{Pass, Call}
 use Rattle.model.specs.declared.set.Sort.TheVariants.{Dispatch}
 use Rattle.model.specs.declared.world.Activation.{Activation}
 use Rattle.model.specs.declared.world.Frame.{Frame}
-use Rattle.model.specs.declared.world.Frame.TheVariants.{Routine, Walk}
+use Rattle.model.specs.declared.world.Frame.TheVariants.{Routine, Walk, Cancel as CancelFrame}
 use Rattle.model.specs.declared.world.Packet.{Packet}
 use Rattle.model.specs.Action.{Executes, Touches, Calls}
 use Rattle.model.specs.Effect.{Outcome, leaves, asks, dispatched, set_by}
 use Rattle.model.specs.Fault.{stack_size, depth}
 use Rattle.model.specs.Set.{Set, lower_of}
 use Rattle.model.specs.Trace.{Entry, Actor}
-use Rattle.model.specs.World.{Shared, packet_of, with_packet, register, next, with_info, mark_current, current_location, asked_of, completed, sent_down, shared_with, left_location, moved_up}
+use Rattle.model.specs.World.{Shared, packet_of, with_packet, register, next, with_info, mark_current, with_armer, current_location, asked_of, completed, sent_down, shared_with, left_location, moved_up}
+use Rattle.run_laws.specs.CancelsNothing.{CancelsNothing}
 use Rattle.run_laws.specs.Holder.{times_queued, times_started, times_waiting, frame_rights, frame_walks, stack_sum}
 use Rattle.run_laws.proofs.Holders.Counts.{Holding}
 use Rattle.run_laws.proofs.Holders.Rights.{begun_rights}
@@ -29,11 +30,13 @@ use Rattle.run_laws.proofs.Room.Extents.{Extent, extent_of, extent, stack_at, ma
 use Rattle.run_laws.proofs.States.Entering.{Begins, LowerThere, begins_lower}
 use Rattle.run_laws.proofs.States.Frames.{Runs}
 use Rattle.run_laws.proofs.States.Lacking.{down, lower_device}
+use Rattle.run_laws.proofs.States.Never.{never_stands}
 use Rattle.run_laws.proofs.States.Obeyed.{locations_wanted}
 use Rattle.run_laws.proofs.States.OnTop.{OnTop, runs}
 use Rattle.run_laws.proofs.States.Rules.{States}
-use Rattle.run_laws.proofs.Steps.Comes.{Comes, computes, turns_loop, pages, looks_at, writes_info, marks_packet, completes_packet, passes_down, calls_down, returns_status, lets_go, lets_walk, walks_gone, walks_to, walks_up, carries_up, tops_out, ends_dpc, works_on_queues, ends_startio}
+use Rattle.run_laws.proofs.Steps.Comes.{Comes, computes, turns_loop, pages, looks_at, writes_info, marks_packet, exchanges, completes_packet, passes_down, calls_down, returns_status, lets_go, lets_walk, resumes_walk, resumes_gone, resumes_none, stops_walk, stops_none, walks_gone, walks_to, lends_to, walks_up, carries_up, tops_out, ends_dpc, ends_cancel, works_on_queues, ends_startio, cancels}
 use Rattle.run_laws.proofs.Steps.Faults.{is_call, fault_among}
+use Rattle.run_laws.proofs.Steps.Uncancelled.{never_lends}
 use Rattle.run_laws.proofs.Steps.Words.{Forwarding, work_of, packet_operand}
 use Rattle.run_laws.proofs.States.Queueing.{queue_moves}
 use Rattle.model.specs.Queues.{StartState}
@@ -82,6 +85,7 @@ plain_even states s f o same even n =
 abbrev Smaller : Set → ℕ → Frame → Type 0
 Smaller set d (Routine b) = stack_at set b.device ≤ stack_at set d
 Smaller set d (Walk n) = ⊤
+Smaller set d (CancelFrame c) = ⊤
 
 same_stack : (set : Set) (d e : ℕ) → d ≡ e → stack_at set d ≤ stack_at set e
 same_stack set d e same = let equal : stack_at set d ≡ stack_at set e =
@@ -120,6 +124,8 @@ module _ (set : Set) (states : States) (s : Shared) where
         (same_stack set c.device a.device (goes_device a c i false to), tt)
     devices a under o h (looks_at b i c jumped r n p at work to operand reads there branch) =
         (same_stack set c.device a.device (goes_device a c i jumped to), tt)
+    devices a under o h (exchanges b i c jumped r n p armer at work to operand reads there how) =
+        (same_stack set c.device a.device (goes_device a c i jumped to), tt)
     devices a under o h (completes_packet b r status n p at reads there) = (omega arith, (tt, tt))
     devices a under o h (passes_down b r n p lower at reads there below) =
         let small : (stack_at set lower + 0 ≤ stack_at set a.device) × (1 ≤ stack_at set lower) =
@@ -153,6 +159,12 @@ module _ (set : Set) (states : States) (s : Shared) where
     devices a under o h (returns_status b form status at sort is) = tt
     devices a under o h (lets_go b at sort isnt) = tt
     devices a under o h (lets_walk b n at sort) = tt
+    devices a under o h (resumes_walk b n p at sort there) = tt
+    devices a under o h (resumes_gone b n at sort gone) = tt
+    devices a under o h (resumes_none b at sort isnt) = tt
+    devices a under o h (stops_walk b n at sort) = tt
+    devices a under o h (stops_none b at sort isnt) = tt
+    devices a under o h (ends_cancel b at sort) = tt
     devices a under o h (ends_startio b at sort) = tt
     devices a under o h (ends_dpc b at sort) = tt
     devices a under o h _ = (omega arith, tt)
@@ -162,37 +174,36 @@ module _ (set : Set) (states : States) (s : Shared) where
     is_queueing (works_on_queues a i b queues starts actions full at queued) = true
     is_queueing _ = false
 
-    same_waiting : (under : Option Frame) (f : Frame) (o : Outcome) (c : Comes set s t under f o)
+    same_waiting : (a : Activation) (under : Option Frame) (o : Outcome)
+        (c : Comes set s t under (Routine a) o)
         → is_queueing c ≡ false → SameWaiting s o.shared
-    same_waiting under f o (works_on_queues a i b queues starts actions full at queued) isnt = cc
-    same_waiting under f o _ isnt = (refl, refl)
+    same_waiting a under o (works_on_queues b i c queues starts actions full at queued) isnt = cc
+    same_waiting a under o _ isnt = (refl, refl)
 
-    -- steps that send no packet down and take none up
-    abbrev is_moving : {under : Option Frame} {f : Frame} {o : Outcome} → Comes set s t under f o → Bool
-    is_moving (calls_down a r g n p lower at reads there below) = true
-    is_moving (walks_to n p c there with) = true
-    is_moving (walks_up n p there without deep unmarked) = true
-    is_moving (carries_up n p there without deep marked) = true
-    is_moving (tops_out n p there without first) = true
-    is_moving _ = false
+    -- steps of routines that call no lower driver
+    abbrev is_calling : {under : Option Frame} {f : Frame} {o : Outcome}
+        → Comes set s t under f o → Bool
+    is_calling (calls_down a r g n p lower at reads there below) = true
+    is_calling _ = false
 
-    still : (under : Option Frame) (f : Frame) (o : Outcome) (c : Comes set s t under f o)
-        → is_moving c ≡ false
+    still : (a : Activation) (under : Option Frame) (o : Outcome)
+        (c : Comes set s t under (Routine a) o)
+        → is_calling c ≡ false
         → Still s o.shared
-    still under f o (writes_info a q r n p info at reads there number) isnt =
+    still a under o (writes_info b q r n p info at reads there number) isnt =
         still_set s n p (with_info p info) there refl refl (omega arith)
-    still under f o (marks_packet a r n p at reads there) isnt =
+    still a under o (marks_packet b r n p at reads there) isnt =
         still_set s n p (mark_current p) there refl (mark_extent p) (omega arith)
-    still under f o (completes_packet a r status n p at reads there) isnt =
+    still a under o (exchanges b i c jumped r n p armer at work to operand reads there how) isnt =
+        still_set s n p (with_armer p armer) there refl refl (omega arith)
+    still a under o (completes_packet b r status n p at reads there) isnt =
         still_set s n p (completed p status) there refl refl (omega arith)
-    still under f o (passes_down a r n p lower at reads there below) isnt =
+    still a under o (passes_down b r n p lower at reads there below) isnt =
         still_set s n p (shared_with p lower) there refl (shared_extent p lower) (omega arith)
-    still under f o (calls_down a r g n p lower at reads there below) isnt = cc
-    still under f o (walks_to n p c there with) isnt = cc
-    still under f o (walks_up n p there without deep unmarked) isnt = cc
-    still under f o (carries_up n p there without deep marked) isnt = cc
-    still under f o (tops_out n p there without first) isnt = cc
-    still under f o _ isnt = record { extents = λ m. refl; fewer = λ m. omega arith }
+    still a under o (calls_down b r g n p lower at reads there below) isnt = cc
+    still a under o (resumes_walk b n p at sort there) isnt =
+        still_set s n p (record p { completing = true }) there refl refl (omega arith)
+    still a under o _ isnt = record { extents = λ m. refl; fewer = λ m. omega arith }
 
   -- frames of such devices have room where all who have the right to a packet had it
   frames_room : (after : Shared) (d : ℕ) (frames : List Frame) → Each (Smaller set d) frames
@@ -208,6 +219,8 @@ module _ (set : Set) (states : States) (s : Shared) where
     frames_room after d frames small.1 (λ n x there some. room n x there (omega arith)),
   )
   frames_room after d (Walk m ∷ frames) small room =
+      (tt, frames_room after d frames small.1 (λ n x there some. room n x there (omega arith)))
+  frames_room after d (CancelFrame c ∷ frames) small room =
       (tt, frames_room after d frames small.1 (λ n x there some. room n x there (omega arith)))
 
   still_room : (a : Activation) (o : Outcome) → SameWaiting s o.shared
@@ -272,7 +285,7 @@ module _ (set : Set) (states : States) (s : Shared) where
     -- so the call doesn't send the packet past its last location
     call_fits : Even states s (Routine a) called → nat_le (stack_size past n) (depth past n) ≡ false
     call_fits even =
-        let measured : Measured p _ (stack_size past n) (depth past n) =
+        let measured : Measured p _ _ (stack_size past n) (depth past n) =
         holding.tells.live n p (found s n (Some p) there) in
         let size : stack_size past n ≡ length p.locations.items = measured.count in
         let place : depth past n ≡ p.depth = measured.place in
@@ -353,6 +366,8 @@ module _ (set : Set) (states : States) (s : Shared) where
     call_faults under f o h holding room even
         (works_on_queues a i b queues starts actions full at queued) =
         elim (queued_touches queued) [ inl none ↦ rw none refl | inr one ↦ rw one.1 refl ]
+    call_faults under f o h holding room even (cancels n step made moves) =
+        absurd (never_stands set states s _ h)
     call_faults under f o h holding room even _ = refl
 
     routine_room : (a : Activation) (under : Option Frame) (o : Outcome) → OnTop set states s (Routine a)
@@ -374,17 +389,17 @@ module _ (set : Set) (states : States) (s : Shared) where
               inr (waiting_room set states s a room waiting i run queued);
         }
     routine_room a under o h holding room waiting even c =
-        still_room a o (same_waiting actor.thread under (Routine a) o c refl) room
-        (plain_even states s (Routine a) o (same_waiting actor.thread under (Routine a) o c refl)
-        even)
-        (still actor.thread under (Routine a) o c refl)
+        still_room a o (same_waiting actor.thread a under o c refl) room
+        (plain_even states s (Routine a) o (same_waiting actor.thread a under o c refl) even)
+        (still actor.thread a under o c refl)
         (devices actor.thread a under o h c)
 
-    walk_room : (m : ℕ) (under : Option Frame) (o : Outcome) → Tells s past → EvenStep states s (Walk m) o
+    walk_room : (m : ℕ) (under : Option Frame) (o : Outcome) → CancelsNothing set → Tells s past
+        → EvenStep states s (Walk m) o
         → Comes set s actor.thread under (Walk m) o → LeavesRoom set states s (Walk m) o
-    walk_room m under o tells even (walks_gone n gone) =
+    walk_room m under o quiet tells even (walks_gone n gone) =
         record { frames = tt; others = λ k right walk. refl; waiting = inl (refl, refl) }
-    walk_room m under o tells even (walks_to n p c there with) =
+    walk_room m under o quiet tells even (walks_to n p c there with lends) =
         let moved_on : Packet = moved_up (left_location p) in
         record {
           frames = (
@@ -406,14 +421,16 @@ module _ (set : Set) (states : States) (s : Shared) where
           others = λ k right walk. other_extent s n p moved_on there refl k (apart_of n k walk);
           waiting = inl (refl, refl);
         }
-    walk_room m under o tells even (walks_up n p there without deep unmarked) =
+    walk_room m under o quiet tells even (lends_to n p c there with lends) =
+        absurd (never_lends quiet c lends)
+    walk_room m under o quiet tells even (walks_up n p there without deep unmarked) =
         record {
           frames = (tt, tt);
           others = λ k right walk. other_extent s n p (moved_up (left_location p)) there refl k
               (apart_of n k walk);
           waiting = inl (refl, refl);
         }
-    walk_room m under o tells even (carries_up n p there without deep marked) =
+    walk_room m under o quiet tells even (carries_up n p there without deep marked) =
         record {
           frames = (tt, tt);
           others = λ k right walk.
@@ -421,7 +438,7 @@ module _ (set : Set) (states : States) (s : Shared) where
               (apart_of n k walk);
           waiting = inl (refl, refl);
         }
-    walk_room m under o tells even (tops_out n p there without first) =
+    walk_room m under o quiet tells even (tops_out n p there without first) =
         record {
           frames = tt;
           others = λ k right walk. removed_other s n k tells.rises (apart_of n k walk);
@@ -435,4 +452,6 @@ module _ (set : Set) (states : States) (s : Shared) where
     room_step under (Routine a) o h holding room waiting even c =
         routine_room a under o h holding room waiting even c
     room_step under (Walk m) o h holding room waiting even c =
-        walk_room m under o holding.tells even c
+        walk_room m under o h.good.quiet holding.tells even c
+    room_step under (CancelFrame c) o h holding room waiting even made =
+        absurd (never_stands set states s _ h)

@@ -9,10 +9,11 @@ use Rattle.model.specs.declared.instr.Instr.{Instr}
 use Rattle.model.specs.declared.instr.Instr.TheVariants.{Begin, Insert, Next, Remove, Start, Take}
 use Rattle.model.specs.declared.world.Activation.{Activation}
 use Rattle.model.specs.declared.world.Frame.{Frame}
-use Rattle.model.specs.declared.world.Frame.TheVariants.{Routine, Walk}
+use Rattle.model.specs.declared.world.Frame.TheVariants.{Routine, Walk, Cancel as CancelFrame}
 use Rattle.model.specs.declared.world.Value.TheVariants.{Ref}
 use Rattle.model.specs.Action.{Action}
-use Rattle.model.specs.LocalRule.{handed, is_right, kind_of}
+use Rattle.model.specs.LocalRule.{handed, kind_of}
+use Rattle.model.specs.Kinds.{is_right}
 use Rattle.model.specs.Queues.{StartState, inserted, next_started, started, with_slot}
 use Rattle.model.specs.Set.{Set, flow_of}
 use Rattle.model.specs.Sound.{OperandFits}
@@ -20,14 +21,15 @@ use Rattle.model.specs.World.{Shared, at_label, next, queue_of, start_of, with_q
 use Rattle.run_laws.specs.Holder.{frame_rights, times_at, times_in, times_in_slot}
 use Rattle.run_laws.proofs.Holders.Queued.{queue_after, times_pushed}
 use Rattle.run_laws.proofs.Holders.Started.{start_after, times_given, times_next}
-use Rattle.run_laws.proofs.Holders.Waits.{free_before, gives_right, kinds_with, rights_given, rights_kept, rights_missed, rights_taken}
+use Rattle.run_laws.proofs.Holders.Waits.{free_before, free_removed, gives_right, inserts_blank, kinds_with, removes_own, rights_given, rights_kept, rights_missed, rights_taken}
+use Rattle.run_laws.proofs.States.Never.{never_unlinks}
 use Rattle.run_laws.proofs.Lists.{all_at}
 use Rattle.run_laws.proofs.Past.LivePackets.{find}
 use Rattle.run_laws.proofs.Room.Extents.{Extent, extent, stack_at}
 use Rattle.run_laws.proofs.States.Frames.{Runs, state_of}
 use Rattle.run_laws.proofs.States.Moves.{has_next}
 use Rattle.run_laws.proofs.States.Rules.{States}
-use Rattle.run_laws.proofs.Steps.Comes.{Queued, Reads, inserts, puts_in, removes, removes_none, starts_next, starts_packet, takes_none, takes_out}
+use Rattle.run_laws.proofs.Steps.Comes.{Queued, Reads, inserts, puts_in, removes, removes_none, starts_next, starts_packet, takes_none, takes_out, unlinks}
 
 -- a frame that has the right to a live packet has room for its device
 abbrev pub HasRoom : Set → States → Shared → Frame → Type 0
@@ -36,6 +38,7 @@ HasRoom set states s (Routine a) =
     → 1 ≤ frame_rights states (Routine a) n
     → x.down + stack_at set a.device ≤ x.size + 1
 HasRoom set states s (Walk n) = ⊤
+HasRoom set states s (CancelFrame c) = ⊤
 
 -- a packet that waits at a device has room for it
 abbrev pub HasPlace : Set → Shared → ℕ → ℕ → Type 0
@@ -124,13 +127,15 @@ module _ (set : Set) (states : States) (s : Shared) (a : Activation)
   frame_room i h (inserts r q n entries reads there) m x is some =
       let gone : frame_rights states (Routine (next a)) m + (if nat_eq n m then 1 else 0)
       ≡ frame_rights states (Routine a) m =
-      rights_given set states s a (Insert r q) h r n refl refl
+      rights_given set states s a (Insert r q) h r n refl
+      (inserts_blank set states s a (Insert r q) h r q)
       (gives_right (kind_of (state_of states a) r) _ h.obeys) reads m in
       room m x is (omega arith)
   frame_room i h (removes r q label n entries there) m x is some =
       taken_room (next (with_register a r (Ref n))) n refl
-      (rights_taken set states s a (Remove r q label) h r n refl refl
-      (free_before _ (kind_of (state_of states a) r) h.obeys)
+      (rights_taken set states s a (Remove r q label) h r n refl
+      (removes_own set states s a (Remove r q label) h r q label)
+      (free_removed _ _ (kind_of (state_of states a) r) h.obeys)
       (all_at OperandFits h.routine.code a.position (Remove r q label) h.known.operands h.here))
       (waiting.queues a.device q n (n ∷ entries) there (rw (eq-eqb n n refl) (omega arith)))
       m x is some
@@ -138,8 +143,10 @@ module _ (set : Set) (states : States) (s : Shared) (a : Activation)
       let same : frame_rights states (Routine (at_label a label)) m
       ≡ frame_rights states (Routine a) m =
       rights_missed set states s a (Remove r q label) h r label refl refl
-      (free_before _ (kind_of (state_of states a) r) h.obeys) m in
+      (free_removed _ _ (kind_of (state_of states a) r) h.obeys) m in
       room m x is (omega arith)
+  frame_room i h (unlinks r q n entries reads there) m x is some =
+      absurd (never_unlinks set states s a r q h)
   frame_room i h (starts_packet r n start reads there) m x is some =
       let gone : frame_rights states (Routine (next a)) m + (if nat_eq n m then 1 else 0)
       ≡ frame_rights states (Routine a) m =
@@ -172,7 +179,8 @@ module _ (set : Set) (states : States) (s : Shared) (a : Activation)
 
   -- what the frame gives away was its own
   had : (i : Instr) (h : Runs set states s a i) (r n : ℕ) → has_next (flow_of i) ≡ true
-      → (handed (state_of states a) i).kinds ≡ kinds_with set states s a i h r BlankKind
+      → (handed set a.driver (state_of states a) i).kinds
+      ≡ kinds_with set states s a i h r BlankKind
       → is_right (kind_of (state_of states a) r) ≡ true → Reads s a r n
       → 1 ≤ frame_rights states (Routine a) n
   had i h r n on kinds own reads =
@@ -195,7 +203,7 @@ module _ (set : Set) (states : States) (s : Shared) (a : Activation)
             let pushed : times_in (inserted entries n) m
             ≡ times_in entries m + (if nat_eq n m then 1 else 0) = times_pushed entries n m in
             given_room n m (times_in entries m)
-            (had (Insert r q) h r n refl refl
+            (had (Insert r q) h r n refl (inserts_blank set states s a (Insert r q) h r q)
             (gives_right (kind_of (state_of states a) r) _ h.obeys) reads)
             (waiting.queues a.device q m entries there) (omega arith));
         starts = waiting.starts;
@@ -208,6 +216,8 @@ module _ (set : Set) (states : States) (s : Shared) (a : Activation)
       }
   waiting_room i h (removes_none r q label there) =
       record { queues = waiting.queues; starts = waiting.starts }
+  waiting_room i h (unlinks r q n entries reads there) =
+      absurd (never_unlinks set states s a r q h)
   waiting_room i h (starts_packet r n start reads there) =
       record {
         queues = waiting.queues;

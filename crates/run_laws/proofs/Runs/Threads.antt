@@ -4,7 +4,7 @@ use Rattle.std.specs.Prelude.{replicate, slice_get}
 use Rattle.std.proofs.lemmas.Bool.{cases_eq}
 use Rattle.model.specs.declared.world.Frame.{Frame}
 use Rattle.model.specs.declared.world.Thread.{Thread}
-use Rattle.model.specs.Effect.{with_thread}
+use Rattle.model.specs.Events.{with_thread}
 use Rattle.model.specs.Run.{frames_of, frames_on}
 use Rattle.model.specs.World.{Shared, World, idle_thread}
 use Rattle.run_laws.proofs.Lists.{set_same, set_other}

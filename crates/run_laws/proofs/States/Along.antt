@@ -11,7 +11,7 @@ use Rattle.model.specs.Set.{Branches, Closes, Flow, Jumps, Leaves, Member, Onwar
 
 module _ (P : Abs → Type 0) (m : Member) (begins : (s : Abs) → entry_state m ≡ Some s → P s)
     (next : (s : Abs) (i : Instr) (q : ℕ) → slice_get m.routine.code q ≡ Some i
-    → refuses s i m.routine.sort m.set m.driver ≡ None → P s → P (handed s i))
+    → refuses s i m.routine.sort m.set m.driver ≡ None → P s → P (handed m.set m.driver s i))
     (label : (s : Abs) (i : Instr) (q : ℕ) → slice_get m.routine.code q ≡ Some i
     → refuses s i m.routine.sort m.set m.driver ≡ None → P s → P (handed_at_label s i)) where
   outs_keep : (flow : Flow) (s after here : Abs) → P after → P here
@@ -32,10 +32,11 @@ module _ (P : Abs → Type 0) (m : Member) (begins : (s : Abs) → entry_state m
   hands_keep : (rule : Option Rule) (i : Instr) (q p : ℕ) (before s : Abs)
       → slice_get m.routine.code q ≡ Some i
       → refuses before i m.routine.sort m.set m.driver ≡ rule
-      → HandsOn (rule_or rule (outs before i)) (label_of i) q p s → P before → P s
+      → HandsOn (rule_or rule (outs m.set m.driver before i)) (label_of i) q p s → P before → P s
   hands_keep (Some rule) i q p before s at is hands h = absurd hands
   hands_keep None i q p before s at is hands h =
-      outs_keep (flow_of i) s (handed before i) (handed_at_label before i) (next before i q at is h)
+      outs_keep (flow_of i) s (handed m.set m.driver before i) (handed_at_label before i)
+      (next before i q at is h)
       (label before i q at is h)
       (elim hands [ inl onwards ↦ inl onwards.1 | inr jump ↦ inr jump.1 ])
 

@@ -12,9 +12,10 @@ use Rattle.model.specs.declared.abs.Settled.TheVariants.{Open, Settled as Settle
 use Rattle.model.specs.declared.limits.TheConstants.{MAX_ROUTINES, REGISTERS, SPIN_LOCKS}
 use Rattle.model.specs.declared.set.Device.{Device}
 use Rattle.model.specs.declared.set.Driver.{Driver}
+use Rattle.model.specs.declared.set.QueueName.{QueueName}
 use Rattle.model.specs.declared.set.Routine.{Routine as RoutineOf}
 use Rattle.model.specs.declared.set.Sort.{Sort}
-use Rattle.model.specs.declared.set.Sort.TheVariants.{Dispatch, Dpc, Propagate, StartIo}
+use Rattle.model.specs.declared.set.Sort.TheVariants.{Dispatch, Dpc, Propagate, StartIo, Hold, Cancel}
 use Rattle.model.specs.declared.status.Major.{Major}
 use Rattle.model.specs.declared.status.Major.TheVariants.{Read, Write, Control}
 use Rattle.model.specs.declared.world.Activation.{Activation}
@@ -23,10 +24,11 @@ use Rattle.model.specs.declared.world.Packet.{Packet}
 use Rattle.model.specs.declared.world.Value.{Value}
 use Rattle.model.specs.declared.world.Value.TheVariants.{Blank, Ref}
 use Rattle.model.specs.Certificate.{certificate, certificate_in, certificate_of}
-use Rattle.model.specs.Effect.{serving_for, dispatched, routine_of_device, completes_with, serves_request, dpc_activation}
+use Rattle.model.specs.Effect.{serving_for, dispatched, routine_of_device, completes_with}
+use Rattle.model.specs.Events.{serves_request, dpc_activation}
 use Rattle.model.specs.Forwarding.{lacks_lower}
 use Rattle.model.specs.LocalRule.{entered_with, entry_of_sort}
-use Rattle.model.specs.Set.{Set, member, handler_of, serving, dpc_of, startio_of, routine_of, sort_in, sort_of, lower_of, default_number, default_routine}
+use Rattle.model.specs.Set.{Set, cancels_for, member, handler_of, serving, dpc_of, startio_of, routine_of, sort_in, sort_of, lower_of, default_number, default_routine}
 use Rattle.model.specs.Sound.{IsSound, DriverFits, DeviceFits, HandlerFits, HasSort, IsDispatch, IsDpc, IsStartIo, DpcFits, StartIoFits}
 use Rattle.model.specs.World.{Shared, completion_of, current_location, packet_of, entered}
 use Rattle.run_laws.proofs.Devices.{device_fits}
@@ -37,6 +39,7 @@ use Rattle.run_laws.proofs.States.Kinds.{HasKinds}
 use Rattle.run_laws.proofs.States.Known.{IsKnown, routine_found}
 use Rattle.run_laws.proofs.States.Remaining.{rest, certified}
 use Rattle.run_laws.proofs.States.Rules.{States}
+use Rattle.run_laws.proofs.States.Unlisted.{never_cancels}
 use Rattle.run_laws.proofs.Tests.{or_left, or_right}
 
 -- a routine of a sort
@@ -53,18 +56,24 @@ dispatch_sort Dispatch h = refl
 dispatch_sort StartIo h = absurd h
 dispatch_sort Dpc h = absurd h
 dispatch_sort Propagate h = absurd h
+dispatch_sort Hold h = absurd h
+dispatch_sort Cancel h = absurd h
 
 dpc_sort : (sort : Sort) → IsDpc sort → sort ≡ Dpc
 dpc_sort Dispatch h = absurd h
 dpc_sort StartIo h = absurd h
 dpc_sort Dpc h = refl
 dpc_sort Propagate h = absurd h
+dpc_sort Hold h = absurd h
+dpc_sort Cancel h = absurd h
 
 startio_sort : (sort : Sort) → IsStartIo sort → sort ≡ StartIo
 startio_sort Dispatch h = absurd h
 startio_sort StartIo h = refl
 startio_sort Dpc h = absurd h
 startio_sort Propagate h = absurd h
+startio_sort Hold h = absurd h
+startio_sort Cancel h = absurd h
 
 handler_fits : (driver : Driver) (major : Major) → DriverFits driver
     → HandlerFits driver.routines (handler_of driver major)
@@ -101,18 +110,24 @@ module _ (set : Set) (sound : IsSound set) (driver : ℕ) where
   serves_for None = (default_routine, refl, refl)
   serves_for (Some major) = serves major
 
--- a routine begins in the state of its sort
+-- a routine begins in the state of its sort; a cancel routine that no list names can't be entered
 abbrev pub first_state : Sort → Abs
 first_state Dispatch = entered_with New Fresh SettledMark false
 first_state StartIo = entered_with Own NoDuty SettledMark true
 first_state Dpc = entered_with BlankKind NoDuty SettledMark false
 first_state Propagate = entered_with View NoDuty Open false
+first_state Hold = entered_with New Fresh SettledMark false
+first_state Cancel = entered_with BlankKind NoDuty SettledMark false
 
-started : (sort : Sort) (s : Abs) → entry_of_sort sort ≡ Some s → s ≡ first_state sort
-started Dispatch s h = cc
-started StartIo s h = cc
-started Dpc s h = cc
-started Propagate s h = cc
+started : (sort : Sort) (name : Option QueueName) (s : Abs) → name ≡ None
+    → entry_of_sort sort name ≡ Some s → s ≡ first_state sort
+started Dispatch name s none h = cc
+started StartIo name s none h = cc
+started Dpc name s none h = cc
+started Propagate name s none h = cc
+started Hold name s none h = cc
+started Cancel None s none h = cc
+started Cancel (Some list) s none h = cc
 
 blank_kinds : (issued count : ℕ) → HasKinds issued (replicate count BlankKind) (replicate count Blank)
 blank_kinds issued zero = tt
@@ -124,18 +139,24 @@ first_kinds issued n Dispatch l = ((n, refl, l), blank_kinds issued (REGISTERS -
 first_kinds issued n StartIo l = ((n, refl, l), blank_kinds issued (REGISTERS - 1))
 first_kinds issued n Dpc l = (tt, blank_kinds issued (REGISTERS - 1))
 first_kinds issued n Propagate l = ((n, refl, l), blank_kinds issued (REGISTERS - 1))
+first_kinds issued n Hold l = ((n, refl, l), blank_kinds issued (REGISTERS - 1))
+first_kinds issued n Cancel l = (tt, blank_kinds issued (REGISTERS - 1))
 
 first_sixteen : (sort : Sort) → length (first_state sort).kinds ≡ REGISTERS
 first_sixteen Dispatch = refl
 first_sixteen StartIo = refl
 first_sixteen Dpc = refl
 first_sixteen Propagate = refl
+first_sixteen Hold = refl
+first_sixteen Cancel = refl
 
 first_eight : (sort : Sort) → length (first_state sort).locks ≡ SPIN_LOCKS
 first_eight Dispatch = refl
 first_eight StartIo = refl
 first_eight Dpc = refl
 first_eight Propagate = refl
+first_eight Hold = refl
+first_eight Cancel = refl
 
 pub sort_there : (set : Set) (driver number : ℕ) (routine : RoutineOf)
     → routine_of set driver number ≡ Some routine
@@ -170,7 +191,10 @@ module _ (set : Set) (states : States) (good : IsGood set states) (issued : ℕ)
       let known : IsKnown (member set driver number routine) (states driver number) =
       good.led.known driver number routine there in
       let start : states driver number 0 ≡ first_state sort =
-      started sort (states driver number 0) (ap entry_of_sort (sym is) ∙ known.follows.start) in
+      started sort (cancels_for set driver number) (states driver number 0)
+      (never_cancels good.quiet driver number)
+      (ap (λ (x : Sort). entry_of_sort x (cancels_for set driver number)) (sym is)
+      ∙ known.follows.start) in
       let left : due set a ≡ due_in routine.code a = due_is set routine a there in
       let whole : rest routine.code 0 ≡ certificate routine.code =
       certified routine.code known.follows.formed in

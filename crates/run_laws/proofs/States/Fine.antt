@@ -1,7 +1,7 @@
 -- A step of a frame that stands as it should, and touches no packet that has topped out: it isn't
 -- wrong, and what it leaves stands as it should.
 use Rattle.std.proofs.Common.{inr, inl, ◌≤◌, length, ◌≡◌, ℕ, ◌+◌, ◌-◌, ◌<◌, Bool, true, false, List, [], ◌∷◌, Option, None, Some, refl, arith, sym, subst, ◌∙◌, ap}
-use Rattle.std.specs.Prelude.{remove, slice_get, slice_set, nat_lt, ◌||◌}
+use Rattle.std.specs.Prelude.{is_some, remove, slice_get, slice_set, nat_lt, ◌||◌}
 use Rattle.std.specs.List.{list_any}
 use Rattle.model.specs.declared.abs.Abs.{Abs}
 use Rattle.model.specs.declared.abs.Kind.{Kind}
@@ -17,16 +17,16 @@ use Rattle.model.specs.declared.set.Sort.TheVariants.{Dispatch, Dpc, Propagate, 
 use Rattle.model.specs.declared.status.Status.{Status}
 use Rattle.model.specs.declared.world.Activation.{Activation}
 use Rattle.model.specs.declared.world.Frame.{Frame}
-use Rattle.model.specs.declared.world.Frame.TheVariants.{Routine, Walk}
+use Rattle.model.specs.declared.world.Frame.TheVariants.{Routine, Walk, Cancel as CancelFrame}
 use Rattle.model.specs.declared.world.Packet.{Packet}
 use Rattle.model.specs.declared.world.Value.TheVariants.{Status as StatusValue}
-use Rattle.model.specs.Action.{Action, Executes, Acquires, Releases, TouchesPaged, Touches, Completes, Marks, GoesWrong}
+use Rattle.model.specs.Action.{Action, Executes, Acquires, Releases, TouchesPaged, Touches, Completes, Exchanges, Marks, GoesWrong}
 use Rattle.model.specs.Effect.{Outcome, told_in, operand_of, answered_in, answered, goes_on, dispatched, set_by, completes_with, asks}
 use Rattle.model.specs.Fault.{bug_if, first_fault, topped, completing}
 use Rattle.model.specs.LocalRule.{holds_lock, kind_of, given_down, handed}
 use Rattle.model.specs.Set.{Set, instruction_at, sort_of, lower_of, flow_of}
 use Rattle.model.specs.Trace.{Entry, Actor}
-use Rattle.model.specs.World.{Shared, with_info, mark_current, current_location, sent_down, shared_with, left_location, moved_up, asked_of, with_locks, with_owner, completed, place_of, packet_of, with_packet, register, next}
+use Rattle.model.specs.World.{Shared, with_armer, with_info, mark_current, current_location, sent_down, shared_with, left_location, moved_up, asked_of, with_locks, with_owner, completed, place_of, packet_of, with_packet, register, next}
 use Rattle.run_laws.proofs.Lists.{length_removed, all_at, each_remove}
 use Rattle.run_laws.proofs.Past.LivePackets.{find}
 use Rattle.run_laws.proofs.Past.Packets.{Tells, found, named, lt_true}
@@ -39,14 +39,16 @@ use Rattle.run_laws.proofs.States.Known.{Continues, SetBy, CallLeads}
 use Rattle.run_laws.proofs.States.Lacking.{never_lacks, taken_there, freed_there, down}
 use Rattle.run_laws.proofs.States.LoopEnds.{moved_loop, moved_end}
 use Rattle.run_laws.proofs.States.Moves.{moved_on, falls_next, moved, moved_next, arrives_next}
+use Rattle.run_laws.proofs.States.Never.{never_ends_cancel, never_stands, never_stops}
 use Rattle.run_laws.proofs.States.Obeyed.{SendsDown, CompletesOne, completes_one}
 use Rattle.run_laws.proofs.States.OnTop.{OnTop, at_routine, runs}
 use Rattle.run_laws.proofs.States.Rules.{States}
 use Rattle.run_laws.proofs.States.Stacks.{Stands, Replaces}
 use Rattle.run_laws.proofs.States.Told.{told_frame}
-use Rattle.run_laws.proofs.Steps.Comes.{Comes, errs, awaits_lock, computes, opens_loop, turns_loop, pages, touches_gone, looks_at, writes_info, marks_packet, takes_lock, retakes_lock, frees_lock, completes_packet, completes_gone, passes_down, calls_down, returns_status, lets_go, lets_walk, ends_dpc, walks_gone, walks_to, walks_up, carries_up, tops_out, works_on_queues, ends_startio}
+use Rattle.run_laws.proofs.Steps.Comes.{Comes, errs, awaits_lock, computes, opens_loop, turns_loop, pages, touches_gone, looks_at, writes_info, marks_packet, takes_lock, retakes_lock, frees_lock, completes_packet, completes_gone, passes_down, calls_down, returns_status, lets_go, lets_walk, ends_dpc, walks_gone, walks_to, walks_up, carries_up, tops_out, works_on_queues, ends_startio, exchanges, resumes_walk, resumes_gone, resumes_none, stops_walk, stops_none, ends_cancel, lends_to, cancels}
 use Rattle.run_laws.proofs.Steps.Locking.{freed_word, taken_word}
 use Rattle.run_laws.proofs.Steps.Faults.{none_first}
+use Rattle.run_laws.proofs.Steps.Uncancelled.{never_holds, never_lends}
 use Rattle.run_laws.proofs.Steps.Words.{Forwarding, is_forwarding, work_of, goes_next, packet_operand}
 use Rattle.run_laws.proofs.Tests.{or_left}
 use Rattle.model.specs.declared.limits.TheConstants.{MAX_LIVE_PACKETS}
@@ -66,6 +68,8 @@ pub is_right_step : (set : Set) (states : States) (s : Shared) (t : ℕ) (under 
     (f : Frame) (o : Outcome)
     → OnTop set states s f → Comes set s t under f o → IsRight o
 is_right_step set states s t under f o h (errs a lacks) = absurd (never_lacks set states s a h lacks)
+is_right_step set states s t under f o h (cancels n step made moves) =
+    absurd (never_stands set states s (record { packet = n; next = step }) h)
 is_right_step set states s t under f o h (works_on_queues a i b queues starts actions full at queued) =
     elim (queued_touches queued) [
       | inl none ↦ rw none (record { silent = refl; right = refl })
@@ -94,36 +98,42 @@ module _ (set : Set) (states : States) (issued : ℕ) where
   pub same_above : (a b : Activation) (g : Frame) → b.driver ≡ a.driver → b.routine ≡ a.routine
       → Stands set states issued (Some (Routine a)) g → Stands set states issued (Some (Routine b)) g
   same_above a b (Routine c) driver routine h = (same_sort set a b Dispatch driver routine h.0, h.1, h.2)
+  same_above a b (CancelFrame c) driver routine h = absurd h
   same_above a b (Walk n) driver routine h = (same_sort set a b Propagate driver routine h.0, h.1)
 
   below_dispatch : (a : Activation) (status : Status) (g : Frame)
       → Stands set states issued (Some (Routine a)) g
       → Stands set states issued None (told_frame set (Some status) g)
   below_dispatch a status (Routine b) h = h.2 status
+  below_dispatch a status (CancelFrame c) h = absurd h
   below_dispatch a status (Walk n) h = h.1
 
   below_propagate : (a : Activation) → IsOfSort set a Propagate → (g : Frame)
       → Stands set states issued (Some (Routine a)) g
       → Stands set states issued None (told_frame set None g)
   below_propagate a sort (Routine b) h = let no : Propagate ≡ Dispatch = sym sort ∙ h.0 in cc
+  below_propagate a sort (CancelFrame c) h = absurd h
   below_propagate a sort (Walk n) h = h.1
 
   below_startio : (a : Activation) → IsOfSort set a StartIo → (g : Frame)
       → Stands set states issued (Some (Routine a)) g
       → Stands set states issued None (told_frame set None g)
   below_startio a sort (Routine b) h = let no : StartIo ≡ Dispatch = sym sort ∙ h.0 in cc
+  below_startio a sort (CancelFrame c) h = absurd h
   below_startio a sort (Walk n) h = let no : StartIo ≡ Propagate = sym sort ∙ h.0 in cc
 
   below_dpc : (a : Activation) → IsOfSort set a Dpc → (g : Frame)
       → Stands set states issued (Some (Routine a)) g
       → Stands set states issued None (told_frame set None g)
   below_dpc a sort (Routine b) h = let no : Dpc ≡ Dispatch = sym sort ∙ h.0 in cc
+  below_dpc a sort (CancelFrame c) h = absurd h
   below_dpc a sort (Walk n) h = let no : Dpc ≡ Propagate = sym sort ∙ h.0 in cc
 
   below_walk : (n : ℕ) (g : Frame) → Stands set states issued (Some (Walk n)) g
       → Stands set states issued None (told_frame set None g)
   below_walk n (Routine a) h = h.0
   below_walk n (Walk m) h = absurd h
+  below_walk n (CancelFrame c) h = absurd h
 
 -- what a frame's step leaves
 pub record StepLeaves (set : Set) (states : States) (s : Shared) (f : Frame) (o : Outcome) : Type 0 where
@@ -175,7 +185,7 @@ module _ (set : Set) (states : States) (s : Shared) (a : Activation) (i : Instr)
   pub moved_told : (r : ℕ) → work_of i ≡ Forwarding → packet_operand i ≡ Some r → (status : Status)
       → Moved set states s.issued a
       (record a { position = a.position + 1; registers = slice_set a.registers r (StatusValue status) })
-      (handed (state_of states a) i)
+      (handed set a.driver (state_of states a) i)
   moved_told r is operand status =
       let rule : SendsDown (state_of states a) (sort_of set a.driver a.routine) set a.driver i r =
       down set states s a i r h is operand in
@@ -183,7 +193,7 @@ module _ (set : Set) (states : States) (s : Shared) (a : Activation) (i : Instr)
       (rw rule.after
       (given_kinds (state_of states a) (sort_of set a.driver a.routine) set a.driver s.issued
       a.registers r
-      (kind_of (state_of states a) r) status rule.right h.stays.kinds))
+      (kind_of (state_of states a) r) status rule.right rule.unqueued h.stays.kinds))
 
   pub answered_is : (r : ℕ) → work_of i ≡ Forwarding → packet_operand i ≡ Some r → (status : Status)
       → answered set (next a) status
@@ -282,6 +292,11 @@ module _ (set : Set) (states : States) (s : Shared) (past : List Entry) (actor :
       (moved_on set states s a (Mark r) (runs set states s a (Mark r) h at) refl refl refl)
       (with_packet_fits set s h.fits n (mark_current p)
       (mark_leads set p (packet_leads set s h.fits n p there))) refl
+  leaves_fine under f o h quiet (exchanges a i b jumped r n p armer at work to operand reads there how) =
+      same_fine a b _ (with_packet s n (with_armer p armer))
+      (Touches n ∷ Exchanges n (is_some armer) ∷ [])
+      (moved set states s a i (runs set states s a i h at) b jumped (rw work refl) to)
+      (with_packet_fits set s h.fits n (with_armer p armer) (packet_leads set s h.fits n p there)) refl
   leaves_fine under f o h quiet (takes_lock a i lock at takes free) =
       let run : Runs set states s a i = runs set states s a i h at in
       same_fine a (next a) _ (with_locks s (with_owner s.locks lock (Some actor.thread)))
@@ -315,7 +330,7 @@ module _ (set : Set) (states : States) (s : Shared) (past : List Entry) (actor :
       }
   leaves_fine under f o h quiet (completes_packet a r status n p at reads there) =
       let run : Runs set states s a (Complete r status) = runs set states s a (Complete r status) h at in
-      let m : Moved set states s.issued a (next a) (handed (state_of states a) (Complete r status)) =
+      let m : Moved set states s.issued a (next a) (handed set a.driver (state_of states a) (Complete r status)) =
       moved_on set states s a (Complete r status) run refl refl refl in
       let rule : CompletesOne (state_of states a) (sort_of set a.driver a.routine) set a.driver r status =
       completes_one (state_of states a) (sort_of set a.driver a.routine) set a.driver r status
@@ -364,9 +379,25 @@ module _ (set : Set) (states : States) (s : Shared) (past : List Entry) (actor :
       record { fits = h.fits; issued = refl; stands = below_startio set states s.issued a sort }
   leaves_fine under f o h quiet (ends_dpc a at sort) =
       record { fits = h.fits; issued = refl; stands = below_dpc set states s.issued a sort }
+  leaves_fine under f o h quiet (resumes_walk a n p at sort there) =
+      absurd (never_holds h.good.quiet a.driver a.routine sort)
+  leaves_fine under f o h quiet (resumes_gone a n at sort gone) =
+      absurd (never_holds h.good.quiet a.driver a.routine sort)
+  leaves_fine under f o h quiet (resumes_none a at sort free) =
+      absurd (never_holds h.good.quiet a.driver a.routine sort)
+  leaves_fine under f o h quiet (stops_walk a n at above) =
+      absurd (never_stops set states s a h at above)
+  leaves_fine under f o h quiet (stops_none a at above free) =
+      absurd (never_stops set states s a h at above)
+  leaves_fine under f o h quiet (ends_cancel a at sort) =
+      absurd (never_ends_cancel set states s a h sort)
+  leaves_fine under f o h quiet (lends_to n p c there with sort) =
+      absurd (never_lends h.good.quiet c sort)
+  leaves_fine under f o h quiet (cancels n step made moves) =
+      absurd (never_stands set states s (record { packet = n; next = step }) h)
   leaves_fine under f o h quiet (walks_gone n gone) =
       record { fits = h.fits; issued = refl; stands = below_walk set states s.issued n }
-  leaves_fine under f o h quiet (walks_to n p c there with) =
+  leaves_fine under f o h quiet (walks_to n p c there with lends) =
       let begins : Begins set states s.issued (completes_with set c n) Propagate n =
       begins_back set states s h.good h.fits n p c h.stands there with in
       record {

@@ -4,14 +4,13 @@ use Rattle.std.proofs.Common.{◌≡◌, ◌≢◌, ℕ, zero, suc, ◌+◌, ◌
 use Rattle.std.specs.Prelude.{slice_get, ◌&&◌}
 use Rattle.std.proofs.lemmas.Bool.{cases_lt}
 use Rattle.model.specs.declared.abs.Abs.{Abs}
-use Rattle.model.specs.declared.abs.Duty.TheVariants.{Fresh, NoDuty}
+use Rattle.model.specs.declared.abs.Duty.TheVariants.{Finished, Fresh, NoDuty}
 use Rattle.model.specs.declared.abs.Kind.TheVariants.{Blank, New}
 use Rattle.model.specs.declared.abs.Rule.{Rule}
 use Rattle.model.specs.declared.abs.Settled.TheVariants.{Open, Settled as SettledMark}
 use Rattle.model.specs.declared.instr.Instr.{Instr}
-use Rattle.model.specs.declared.instr.Instr.TheVariants.{End, Complete}
-use Rattle.model.specs.declared.status.Status.TheVariants.{InvalidDeviceRequest}
-use Rattle.model.specs.LocalRule.{entered_with, entry_state, outs, outs_by, handed, rule_or}
+use Rattle.model.specs.declared.instr.Instr.TheVariants.{End}
+use Rattle.model.specs.LocalRule.{entered_with, entry_state, outs, outs_by, rule_or, with_kind}
 use Rattle.model.specs.Loops.{open_at}
 use Rattle.model.specs.Paths.{HandsOn, LeadsFrom, Along, Arrives, is_malformed, is_misplaced, is_misplaced_by, goes_forward, goes_on_by, isnt_return}
 use Rattle.model.specs.Set.{Set, Member, member, Flow, Branches, Jumps, Leaves, flow_of, label_in, label_of, default_number, default_routine, default_code}
@@ -19,13 +18,13 @@ use Rattle.model.specs.Typable.{ArrivesAlone, ReachesLoop, ClosesAlike, ClosesAl
 use Rattle.run_laws.proofs.Tests.{or_left, or_right, and_left, and_right, not_false, lt_of}
 
 -- what the local rule hands on from a position, and the label of the instruction there
-abbrev pub next_state : Abs → Option Instr → Option Abs
-next_state s None = None
-next_state s (Some i) = (outs s i).next
+abbrev pub next_state : Set → ℕ → Abs → Option Instr → Option Abs
+next_state set driver s None = None
+next_state set driver s (Some i) = (outs set driver s i).next
 
-abbrev pub jump_state : Abs → Option Instr → Option Abs
-jump_state s None = None
-jump_state s (Some i) = (outs s i).jump
+abbrev pub jump_state : Set → ℕ → Abs → Option Instr → Option Abs
+jump_state set driver s None = None
+jump_state set driver s (Some i) = (outs set driver s i).jump
 
 abbrev pub label_at : Option Instr → Option ℕ
 label_at None = None
@@ -40,12 +39,12 @@ pub record Follows (m : Member) (state : ℕ → Abs) : Type 0 where
   pub keeps : (p : ℕ) → p < length m.routine.code
       → fault_in m (state p) (slice_get m.routine.code p) ≡ None
   pub next : (p : ℕ) (s : Abs) → p < length m.routine.code
-      → next_state (state p) (slice_get m.routine.code p) ≡ Some s
+      → next_state m.set m.driver (state p) (slice_get m.routine.code p) ≡ Some s
       → (p + 1 < length m.routine.code) × (state (p + 1) ≡ s)
   pub jump : (p label : ℕ) (s : Abs) → p < length m.routine.code
       → label_at (slice_get m.routine.code p) ≡ Some label
-      → jump_state (state p) (slice_get m.routine.code p) ≡ Some s → (label < length m.routine.code)
-      × (state label ≡ s)
+      → jump_state m.set m.driver (state p) (slice_get m.routine.code p) ≡ Some s
+      → (label < length m.routine.code) × (state label ≡ s)
   pub closes : (p q : ℕ) → p < length m.routine.code → slice_get m.routine.code p ≡ Some End
       → slice_get (open_at m.routine.code p) 0 ≡ Some q → state q ≡ state p
 
@@ -61,20 +60,20 @@ next_goes_on : (f : Flow) (next jump after : Abs) → (outs_by f next jump).next
 next_goes_on Leaves next jump after h = cc
 next_goes_on _ next jump after h = refl
 
-next_isnt_return : (s : Abs) (i : Option Instr) (after : Abs) → next_state s i ≡ Some after
-    → isnt_return i ≡ true
-next_isnt_return s None after h = refl
-next_isnt_return s (Some i) after h = next_goes_on (flow_of i) _ _ after h
+next_isnt_return : (set : Set) (driver : ℕ) (s : Abs) (i : Option Instr) (after : Abs)
+    → next_state set driver s i ≡ Some after → isnt_return i ≡ true
+next_isnt_return set driver s None after h = refl
+next_isnt_return set driver s (Some i) after h = next_goes_on (flow_of i) _ _ after h
 
-pub next_within : (code : List Instr) (p : ℕ) (s after : Abs) → p < length code
-    → is_malformed code p ≡ false
-    → next_state s (slice_get code p) ≡ Some after → p + 1 < length code
-next_within code p s after within formed h =
+pub next_within : (set : Set) (driver : ℕ) (code : List Instr) (p : ℕ) (s after : Abs)
+    → p < length code → is_malformed code p ≡ false
+    → next_state set driver s (slice_get code p) ≡ Some after → p + 1 < length code
+next_within set driver code p s after within formed h =
     let last : (nat_eq (p + 1) (length code) && isnt_return (slice_get code p)) ≡ false =
     or_left _ _ (or_right (nat_eq (length code) 0) _ formed) in
     let differs : p + 1 ≢ length code =
     λ same. not_last (nat_eq (p + 1) (length code)) (isnt_return (slice_get code p))
-    (eq-eqb (p + 1) (length code) same) (next_isnt_return s (slice_get code p) after h) last
+    (eq-eqb (p + 1) (length code) same) (next_isnt_return set driver s (slice_get code p) after h) last
     in
     omega arith
 
@@ -116,21 +115,23 @@ record FineIn (m : Member) (p : ℕ) (state : Abs) : Type 0 where
   keeps : fault_in m state (slice_get m.routine.code p) ≡ None
 
 hands_next : (m : Member) (i : Option Instr) (q : ℕ) (before s : Abs) → fault_in m before i ≡ None
-    → next_state before i ≡ Some s
+    → next_state m.set m.driver before i ≡ Some s
     → LeadsFrom m i q before (q + 1) s
 hands_next m None q before s keeps h = cc
 hands_next m (Some i) q before s keeps h =
-    let on : HandsOn (Ok (outs before i)) (label_of i) q (q + 1) s = inl (refl, h) in
-    subst (λ (rule : Option Rule). HandsOn (rule_or rule (outs before i)) (label_of i) q (q + 1) s)
+    let on : HandsOn (Ok (outs m.set m.driver before i)) (label_of i) q (q + 1) s = inl (refl, h) in
+    subst (λ (rule : Option Rule).
+    HandsOn (rule_or rule (outs m.set m.driver before i)) (label_of i) q (q + 1) s)
     (sym keeps) on
 
 hands_jump : (m : Member) (i : Option Instr) (q label : ℕ) (before s : Abs) → fault_in m before i ≡ None
     → label_at i ≡ Some label
-    → jump_state before i ≡ Some s → LeadsFrom m i q before label s
+    → jump_state m.set m.driver before i ≡ Some s → LeadsFrom m i q before label s
 hands_jump m None q label before s keeps there h = cc
 hands_jump m (Some i) q label before s keeps there h =
-    let on : HandsOn (Ok (outs before i)) (label_of i) q label s = inr (there, h) in
-    subst (λ (rule : Option Rule). HandsOn (rule_or rule (outs before i)) (label_of i) q label s)
+    let on : HandsOn (Ok (outs m.set m.driver before i)) (label_of i) q label s = inr (there, h) in
+    subst (λ (rule : Option Rule).
+    HandsOn (rule_or rule (outs m.set m.driver before i)) (label_of i) q label s)
     (sym keeps) on
 
 -- the loops of a routine are before a position, which the caller shows
@@ -205,7 +206,7 @@ module _ (m : Member) (typable : IsTypableRoutine m) where
       next = λ p s h leads.
           let fine : FineIn m p (state_at p) = fine_at p h in
           let within : p + 1 < length m.routine.code =
-          next_within m.routine.code p (state_at p) s h fine.formed leads in (
+          next_within m.set m.driver m.routine.code p (state_at p) s h fine.formed leads in (
             within,
             leads_same p (p + 1) s h within
                 (hands_next m (slice_get m.routine.code p) p (state_at p) s fine.keeps leads),
@@ -230,9 +231,12 @@ module _ (m : Member) (typable : IsTypableRoutine m) where
 abbrev default_entry : Abs
 default_entry = entered_with New Fresh SettledMark false
 
+abbrev default_completed : Abs
+default_completed = record (with_kind default_entry 0 Blank) { duty = Finished }
+
 abbrev default_state : ℕ → Abs
 default_state zero = default_entry
-default_state (suc p) = handed default_entry (Complete 0 InvalidDeviceRequest)
+default_state (suc p) = default_completed
 
 module _ (set : Set) (driver : ℕ) where
   abbrev default_member : Member
@@ -254,8 +258,8 @@ module _ (set : Set) (driver : ℕ) where
   default_keeps (suc zero) h = refl
   default_keeps (suc (suc p)) h = absurd (omega arith)
 
-  default_next : (p : ℕ) (s : Abs) → p < 2 → next_state (default_state p) (slice_get default_code p)
-      ≡ Some s
+  default_next : (p : ℕ) (s : Abs) → p < 2
+      → next_state set driver (default_state p) (slice_get default_code p) ≡ Some s
       → (p + 1 < 2) × (default_state (p + 1) ≡ s)
   default_next zero s h leads = (omega arith, cc)
   default_next (suc zero) s h leads = cc

@@ -15,6 +15,7 @@ use Rattle.model.specs.Loops.{open_at}
 use Rattle.model.specs.Set.{Set, member, routine_of, sort_of}
 use Rattle.model.specs.Sound.{IsSound}
 use Rattle.model.specs.World.{Shared}
+use Rattle.run_laws.specs.CancelsNothing.{CancelsNothing}
 use Rattle.run_laws.proofs.States.Fits.{Fits}
 use Rattle.run_laws.proofs.States.Kinds.{HasKinds}
 use Rattle.run_laws.proofs.States.Known.{IsKnown, IsLed}
@@ -99,10 +100,11 @@ pub record Moved (set : Set) (states : States) (issued : ℕ) (a b : Activation)
   pub arrives : state_of states b ≡ to
   pub less : 1 + due set b ≤ due set a
 
--- an accepted set with its states
+-- an accepted set that cancels nothing, with its states
 pub record IsGood (set : Set) (states : States) : Type 0 where
   pub sound : IsSound set
   pub led : IsLed set states
+  pub quiet : CancelsNothing set
 
 -- a routine's frame of an accepted set is about to execute an instruction
 pub record Runs (set : Set) (states : States) (s : Shared) (a : Activation) (i : Instr) : Type 0 where

@@ -3,25 +3,28 @@
 use Rattle.std.proofs.Common.{◌≡◌, ℕ, zero, suc, Bool, true, false, List, [], ◌∷◌, sym, subst, ◌∙◌, refl}
 use Rattle.std.specs.Prelude.{⊤, slice_index_or, slice_set}
 use Rattle.std.specs.List.{list_any}
+use Rattle.std.proofs.lemmas.Bool.{cond_both}
 use Rattle.model.specs.declared.abs.Abs.{Abs}
 use Rattle.model.specs.declared.abs.Kind.{Kind}
-use Rattle.model.specs.declared.abs.Kind.TheVariants.{Blank as BlankKind, Num as NumKind, Lower, New, Own}
+use Rattle.model.specs.declared.abs.Kind.TheVariants.{Blank as BlankKind, Num as NumKind, Lower, New, Own, Listed, Armed, Taken}
 use Rattle.model.specs.declared.instr.Instr.{Instr}
-use Rattle.model.specs.declared.instr.Instr.TheVariants.{Const, Move, Clear, Load, LoadPaged, Get, Mark, Insert, Remove, Start, Take, Begin, Next, Pass, Call, Complete, IfPending}
+use Rattle.model.specs.declared.instr.Instr.TheVariants.{Const, Move, Clear, Load, LoadPaged, Get, Mark, Release, Insert, Remove, Unlink, Arm, Disarm, Start, Take, Begin, Next, Pass, Call, Complete, IfPending}
+use Rattle.model.specs.declared.set.QueueName.TheVariants.{Declared}
 use Rattle.model.specs.declared.world.Activation.{Activation}
 use Rattle.model.specs.declared.world.Value.{Value}
 use Rattle.model.specs.declared.world.Value.TheVariants.{Blank, Num, Ref}
 use Rattle.model.specs.Action.{Action}
-use Rattle.model.specs.LocalRule.{given_down, handed, handed_at_label, kind_of, left_behind, marked}
+use Rattle.model.specs.LocalRule.{given_down, handed, handed_at_label, kind_of, marked}
+use Rattle.model.specs.Kinds.{all_let_go, is_guard, kind_disarmed, kind_inserted, kind_removed, let_go, left_behind}
 use Rattle.model.specs.Queues.{StartState}
-use Rattle.model.specs.Set.{Set, flow_of, sort_of}
+use Rattle.model.specs.Set.{Set, cancel_routine_of, flow_of, guard_named, sort_of}
 use Rattle.model.specs.World.{Shared, next}
 use Rattle.run_laws.proofs.States.Frames.{Runs, state_of}
 use Rattle.run_laws.proofs.States.Kinds.{number_kinds}
 use Rattle.run_laws.proofs.States.Moves.{arrives, arrives_next, has_next}
-use Rattle.run_laws.proofs.States.NoViews.{IsHanded, left_none}
+use Rattle.run_laws.proofs.States.NoViews.{IsHanded, handed_inserted, handed_removed, left_none}
 use Rattle.run_laws.proofs.States.Rules.{States}
-use Rattle.run_laws.proofs.Steps.Comes.{GoesTo, Queued, Written, inserts, jumping, keeps_all, makes_blank, makes_number, moves_over, onward, puts_in, removes, removes_none, starts_next, starts_packet, takes_none, takes_out}
+use Rattle.run_laws.proofs.Steps.Comes.{GoesTo, Queued, Written, inserts, jumping, keeps_all, makes_blank, makes_number, moves_over, onward, puts_in, removes, removes_none, starts_next, starts_packet, takes_none, takes_out, unlinks}
 use Rattle.run_laws.proofs.Steps.Words.{is_touching, keeps_registers, work_of}
 use Rattle.run_laws.proofs.Tests.{or_left, or_right}
 
@@ -96,8 +99,37 @@ module _ (f : Kind → Bool) (given : IsHanded f) (P : Value → Type 0) where
   hold_move kinds values r q empty h =
       let k : Kind = slice_index_or kinds q BlankKind in
       let v : Value = slice_index_or values q Blank in
-      hold_turn (slice_set kinds r k) (slice_set values r v) q (left_behind k) (left_none f given k)
+      hold_turn (slice_set kinds r k) (slice_set values r v) q (left_behind k) (left_none f given.blank given.number k)
       (hold_set kinds values r k v h (λ is. hold_get kinds values q empty h is))
+
+  -- a register whose packet becomes of another kind, and the release of a guard
+  hold_becomes : (kinds : List Kind) (values : List Value) (r : ℕ) (k : Kind)
+      → (f k ≡ true → f (slice_index_or kinds r BlankKind) ≡ true) → HoldOf f P kinds values
+      → HoldOf f P (slice_set kinds r k) values
+  hold_becomes [] values r k was h = tt
+  hold_becomes (j ∷ kinds) [] zero k was h = tt
+  hold_becomes (j ∷ kinds) [] (suc r) k was h = tt
+  hold_becomes (j ∷ kinds) (w ∷ values) zero k was h = ((λ is. h.0 (was is)), h.1)
+  hold_becomes (j ∷ kinds) (w ∷ values) (suc r) k was h = (h.0, hold_becomes kinds values r k was h.1)
+
+  disarmed_was : (k : Kind) → f (kind_disarmed k) ≡ true → f k ≡ true
+  disarmed_was (Armed name) is = absurd (is_not (Listed name) (given.listed name) is)
+  disarmed_was (Taken name) is = absurd (is_not Own given.own is)
+  disarmed_was _ is = is
+
+  go_was : (set : Set) (driver lock : ℕ) (k : Kind) → f (let_go set driver lock k) ≡ true → f k ≡ true
+  go_was set driver lock (Armed name) =
+      cond_both (is_guard (guard_named set driver name) lock) BlankKind (Armed name)
+      (λ k. f k ≡ true → f (Armed name) ≡ true)
+      (λ guards is. absurd (is_not BlankKind given.blank is)) (λ other is. is)
+  go_was set driver lock _ = λ is. is
+
+  go_hold : (set : Set) (driver lock : ℕ) (kinds : List Kind) (values : List Value)
+      → HoldOf f P kinds values → HoldOf f P (all_let_go set driver lock kinds) values
+  go_hold set driver lock [] values h = tt
+  go_hold set driver lock (k ∷ kinds) [] h = tt
+  go_hold set driver lock (k ∷ kinds) (v ∷ values) h =
+      ((λ is. h.0 (go_was set driver lock k is)), go_hold set driver lock kinds values h.1)
 
   marked_hold : (s : Abs) (values : List Value) (r : ℕ) (k : Kind) → HoldOf f P s.kinds values
       → HoldOf f P (marked s r k).kinds values
@@ -111,28 +143,40 @@ module _ (f : Kind → Bool) (given : IsHanded f) (P : Value → Type 0) where
   given_hold s values r _ h = h
 
   -- an instruction after which the values are as they were
-  pub handed_hold : (s : Abs) (i : Instr) (values : List Value) → copies i ≡ false
-      → HoldOf f P s.kinds values → HoldOf f P (handed s i).kinds values
-  handed_hold s (Const r n) values plain h = hold_turn s.kinds values r NumKind given.number h
-  handed_hold s (Move r q) values plain h = cc
-  handed_hold s (Clear r) values plain h = hold_turn s.kinds values r BlankKind given.blank h
-  handed_hold s (Load r c) values plain h = hold_turn s.kinds values r NumKind given.number h
-  handed_hold s (LoadPaged r c) values plain h = hold_turn s.kinds values r NumKind given.number h
-  handed_hold s (Get r q field) values plain h = hold_turn s.kinds values r NumKind given.number h
-  handed_hold s (Mark r) values plain h = marked_hold s values r (kind_of s r) h
-  handed_hold s (Insert r q) values plain h = hold_turn s.kinds values r BlankKind given.blank h
-  handed_hold s (Remove r q label) values plain h = hold_turn s.kinds values r Own given.own h
-  handed_hold s (Start r) values plain h = hold_turn s.kinds values r BlankKind given.blank h
-  handed_hold s (Take r label) values plain h = hold_turn s.kinds values r Own given.own h
-  handed_hold s (Begin r) values plain h = hold_turn s.kinds values r BlankKind given.blank h
-  handed_hold s (Pass r) values plain h = given_hold s values r (kind_of s r) h
-  handed_hold s (Call r g) values plain h = given_hold s values r (kind_of s r) h
-  handed_hold s (Complete r status) values plain h = hold_turn s.kinds values r BlankKind given.blank h
-  handed_hold s _ values plain h = h
+  pub handed_hold : (set : Set) (driver : ℕ) (s : Abs) (i : Instr) (values : List Value) → copies i ≡ false
+      → HoldOf f P s.kinds values → HoldOf f P (handed set driver s i).kinds values
+  handed_hold set driver s (Const r n) values plain h = hold_turn s.kinds values r NumKind given.number h
+  handed_hold set driver s (Move r q) values plain h = cc
+  handed_hold set driver s (Clear r) values plain h = hold_turn s.kinds values r BlankKind given.blank h
+  handed_hold set driver s (Load r c) values plain h = hold_turn s.kinds values r NumKind given.number h
+  handed_hold set driver s (LoadPaged r c) values plain h = hold_turn s.kinds values r NumKind given.number h
+  handed_hold set driver s (Get r q field) values plain h = hold_turn s.kinds values r NumKind given.number h
+  handed_hold set driver s (Mark r) values plain h = marked_hold s values r (kind_of s r) h
+  handed_hold set driver s (Insert r q) values plain h =
+      hold_turn s.kinds values r (kind_inserted (cancel_routine_of set driver q) q)
+      (handed_inserted f given (cancel_routine_of set driver q) q) h
+  handed_hold set driver s (Remove r q label) values plain h =
+      hold_turn s.kinds values r (kind_removed (cancel_routine_of set driver q) q)
+      (handed_removed f given (cancel_routine_of set driver q) q) h
+  handed_hold set driver s (Unlink r q) values plain h =
+      hold_turn s.kinds values r Own given.own h
+  handed_hold set driver s (Arm r q) values plain h =
+      hold_turn s.kinds values r (Armed (Declared q)) (given.armed (Declared q)) h
+  handed_hold set driver s (Disarm r label) values plain h =
+      hold_becomes s.kinds values r (kind_disarmed (kind_of s r)) (disarmed_was (kind_of s r)) h
+  handed_hold set driver s (Release lock) values plain h = go_hold set driver lock s.kinds values h
+  handed_hold set driver s (Start r) values plain h = hold_turn s.kinds values r BlankKind given.blank h
+  handed_hold set driver s (Take r label) values plain h = hold_turn s.kinds values r Own given.own h
+  handed_hold set driver s (Begin r) values plain h = hold_turn s.kinds values r BlankKind given.blank h
+  handed_hold set driver s (Pass r) values plain h = given_hold s values r (kind_of s r) h
+  handed_hold set driver s (Call r g) values plain h = given_hold s values r (kind_of s r) h
+  handed_hold set driver s (Complete r status) values plain h = hold_turn s.kinds values r BlankKind given.blank h
+  handed_hold set driver s _ values plain h = h
 
   pub label_hold : (s : Abs) (i : Instr) (values : List Value) → HoldOf f P s.kinds values
       → HoldOf f P (handed_at_label s i).kinds values
   label_hold s (Remove r q label) values h = hold_turn s.kinds values r BlankKind given.blank h
+  label_hold s (Disarm r label) values h = hold_turn s.kinds values r BlankKind given.blank h
   label_hold s (Take r label) values h = hold_turn s.kinds values r BlankKind given.blank h
   label_hold s (IfPending r label) values h = h
   label_hold s _ values h = h
@@ -144,9 +188,9 @@ module _ (f : Kind → Bool) (given : IsHanded f) (P : Value → Type 0) where
 
     written_hold : (i : Instr) (registers : List Value) → Runs set states s a i → Written a i registers
         → Held a
-        → HoldOf f P (handed (state_of states a) i).kinds registers
+        → HoldOf f P (handed set a.driver (state_of states a) i).kinds registers
     written_hold i registers h (keeps_all _ same) held =
-        handed_hold (state_of states a) i a.registers (keeps_copies i same) held
+        handed_hold set a.driver (state_of states a) i a.registers (keeps_copies i same) held
     written_hold i registers h (makes_number _ r n is) held =
         subst (λ (kinds : List Kind). HoldOf f P kinds (slice_set a.registers r (Num n)))
         (sym (number_kinds (state_of states a) (sort_of set a.driver a.routine) set a.driver i r
@@ -174,7 +218,7 @@ module _ (f : Kind → Bool) (given : IsHanded f) (P : Value → Type 0) where
     next_hold i h leads plain held =
         subst (λ (state : Abs). HoldOf f P state.kinds a.registers)
         (sym (arrives_next set states s a i h leads))
-        (handed_hold (state_of states a) i a.registers plain held)
+        (handed_hold set a.driver (state_of states a) i a.registers plain held)
 
   -- by an instruction about queues
   pub queued_hold : (set : Set) (states : States) (s : Shared) (a : Activation) (i : Instr) → P Blank
@@ -188,10 +232,14 @@ module _ (f : Kind → Bool) (given : IsHanded f) (P : Value → Type 0) where
   queued_hold set states s a i empty h (removes r q label n entries there) held =
       subst (λ (state : Abs). HoldOf f P state.kinds (slice_set a.registers r (Ref n)))
       (sym (arrives_next set states s a (Remove r q label) h refl))
-      (hold_set (state_of states a).kinds a.registers r Own (Ref n) held
-      (λ is. absurd (is_not Own given.own is)))
+      (hold_set (state_of states a).kinds a.registers r
+      (kind_removed (cancel_routine_of set a.driver q) q) (Ref n) held
+      (λ is. absurd (is_not (kind_removed (cancel_routine_of set a.driver q) q)
+      (handed_removed f given (cancel_routine_of set a.driver q) q) is)))
   queued_hold set states s a i empty h (removes_none r q label there) held =
       goes_hold set states s a empty (Remove r q label) _ true h (jumping label refl) held
+  queued_hold set states s a i empty h (unlinks r q n entries reads there) held =
+      next_hold set states s a empty (Unlink r q) h refl refl held
   queued_hold set states s a i empty h (starts_packet r n start reads there) held =
       next_hold set states s a empty (Start r) h refl refl held
   queued_hold set states s a i empty h (takes_out r label n start there slot) held =

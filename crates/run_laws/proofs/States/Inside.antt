@@ -8,7 +8,7 @@ use Rattle.model.specs.declared.status.Status.{Status}
 use Rattle.model.specs.declared.status.Status.TheVariants.{Success}
 use Rattle.model.specs.declared.world.Activation.{Activation}
 use Rattle.model.specs.declared.world.Frame.{Frame}
-use Rattle.model.specs.declared.world.Frame.TheVariants.{Routine, Walk}
+use Rattle.model.specs.declared.world.Frame.TheVariants.{Routine, Walk, Cancel as CancelFrame}
 use Rattle.model.specs.declared.world.Value.{Value}
 use Rattle.model.specs.declared.world.Value.TheVariants.{Status as StatusValue}
 use Rattle.model.specs.Effect.{operand_of, answered_in, answered}
@@ -52,6 +52,7 @@ module _ (set : Set) (states : States) (issued : ℕ) where
       → StandsInside set a
   inside_under None a h = ready_inside a h
   inside_under (Some (Walk n)) a h = ready_inside a h.0
+  inside_under (Some (CancelFrame c)) a h = absurd h
   inside_under (Some (Routine b)) a h =
       told_inside set a Success (operand_of (instruction_at set a.driver a.routine (a.position - 1)))
       (ready_inside (answered set a Success) (h.2 Success))

@@ -1,27 +1,32 @@
 -- Registers hold what their kinds say: a number, a status, or a packet that was issued; and an
 -- instruction that breaks no rule finds its operands there, and leaves registers of the kinds that
 -- the local rule says.
-use Rattle.std.proofs.Common.{◌≡◌, ◌⊎◌, ℕ, zero, suc, ◌<◌, ◌≤◌, inl, inr, true, false, List, [], ◌∷◌, length, None, Some, refl, arith, sym, subst, ap, ◌∙◌}
-use Rattle.std.specs.Prelude.{⊤, slice_set, slice_index_or, nat_lt}
-use Rattle.std.proofs.lemmas.Bool.{lt-ltb}
+use Rattle.std.proofs.Common.{◌≡◌, ◌⊎◌, ℕ, zero, suc, ◌<◌, ◌≤◌, inl, inr, Bool, true, false, List, [], ◌∷◌, length, Option, None, Some, refl, arith, sym, subst, ap, ◌∙◌}
+use Rattle.std.specs.List.{list_any}
+use Rattle.std.specs.Prelude.{◌||◌, ⊤, slice_set, slice_index_or, nat_lt}
+use Rattle.std.proofs.lemmas.Bool.{cond_both, lt-ltb}
 use Rattle.std.proofs.lemmas.List.{length-set, set-get_or}
 use Rattle.model.specs.declared.abs.Abs.{Abs}
 use Rattle.model.specs.declared.abs.Kind.{Kind}
-use Rattle.model.specs.declared.abs.Kind.TheVariants.{Blank as BlankKind, Num as NumKind, Lower, New, Own, View}
+use Rattle.model.specs.declared.abs.Kind.TheVariants.{Blank as BlankKind, Num as NumKind, Lower, New, Own, Listed, Armed, Taken, Cancelling, View}
 use Rattle.model.specs.declared.instr.Instr.{Instr}
-use Rattle.model.specs.declared.instr.Instr.TheVariants.{Const, Move, Clear, Add, Subtract, JumpIfZero, JumpIfLess, Load, Store, LoadPaged, StorePaged, Get, Put, Mark, Acquire, Release, Pass, Call, Complete, IfPending, Insert, Remove, Start, Take, Begin}
+use Rattle.model.specs.declared.instr.Instr.TheVariants.{Const, Move, Clear, Add, Subtract, JumpIfZero, JumpIfLess, Load, Store, LoadPaged, StorePaged, Get, Put, Mark, Acquire, Release, Pass, Call, Complete, IfPending, Insert, Remove, Unlink, Arm, Disarm, IfCancel, Start, Take, Begin}
+use Rattle.model.specs.declared.set.QueueName.TheVariants.{Declared}
 use Rattle.model.specs.declared.set.Sort.{Sort}
 use Rattle.model.specs.declared.status.Status.{Status}
 use Rattle.model.specs.declared.world.Activation.{Activation}
 use Rattle.model.specs.declared.world.Value.{Value}
 use Rattle.model.specs.declared.world.Value.TheVariants.{Blank, Num, Ref, Status as StatusValue}
-use Rattle.model.specs.LocalRule.{kind_of, is_packet, is_right, is_lower, Wanted, demanded, any_packet, a_new_one, one_handed_or_owned, one_to_mark, one_to_look_at, number_kind, complete_kind, mark_fault, refuses, left_behind, marked, given_down, handed, handed_at_label, an_owned_one}
-use Rattle.model.specs.Set.{Set}
+use Rattle.model.specs.LocalRule.{kind_of, Wanted, demanded, any_packet, a_new_one, one_handed_or_owned, one_to_mark, one_to_look_at, number_kind, complete_kind, mark_fault, refuses, marked, given_down, handed, handed_at_label, an_owned_one, queued_kind}
+use Rattle.model.specs.Kinds.{is_packet, is_right, is_lower, left_behind, all_let_go, is_cancelling, is_exchanged, is_guard, is_listed, kind_disarmed, kind_inserted, kind_removed, let_go}
+use Rattle.model.specs.Set.{Set, cancel_routine_of, guard_named}
 use Rattle.model.specs.World.{Shared, number_in, packet_in, status_in}
 use Rattle.run_laws.proofs.Lists.{copied}
+use Rattle.run_laws.proofs.States.NoViews.{HasNone, is_queued}
 use Rattle.run_laws.proofs.States.Rules.{first_none, second_none}
 use Rattle.run_laws.proofs.Steps.Comes.{Written, keeps_all, makes_number, moves_over, makes_blank}
 use Rattle.run_laws.proofs.Steps.Words.{work_of, is_forwarding, goes_next, packet_operand, number_operand, second_operand, keeps_registers, numbered_by, is_giving}
+use Rattle.run_laws.proofs.Tests.{or_left, or_right}
 
 abbrev pub IsPacket : ℕ → Value → Type 0
 IsPacket issued v = (n : ℕ) × (v ≡ Ref n) × (n < issued)
@@ -32,6 +37,10 @@ Suits issued NumKind v = (n : ℕ) × (v ≡ Num n)
 Suits issued Lower v = (status : Status) × (v ≡ StatusValue status)
 Suits issued New v = IsPacket issued v
 Suits issued Own v = IsPacket issued v
+Suits issued (Listed name) v = IsPacket issued v
+Suits issued (Armed name) v = IsPacket issued v
+Suits issued (Taken name) v = IsPacket issued v
+Suits issued (Cancelling name) v = IsPacket issued v
 Suits issued View v = IsPacket issued v
 
 abbrev pub HasKinds : ℕ → List Kind → List Value → Type 0
@@ -97,6 +106,10 @@ suits_later issued more Lower v le h = h
 suits_later issued more View v le h = (h.0, h.1, (let l : h.0 < issued = h.2 in omega arith))
 suits_later issued more New v le h = (h.0, h.1, (let l : h.0 < issued = h.2 in omega arith))
 suits_later issued more Own v le h = (h.0, h.1, (let l : h.0 < issued = h.2 in omega arith))
+suits_later issued more (Listed name) v le h = (h.0, h.1, (let l : h.0 < issued = h.2 in omega arith))
+suits_later issued more (Armed name) v le h = (h.0, h.1, (let l : h.0 < issued = h.2 in omega arith))
+suits_later issued more (Taken name) v le h = (h.0, h.1, (let l : h.0 < issued = h.2 in omega arith))
+suits_later issued more (Cancelling name) v le h = (h.0, h.1, (let l : h.0 < issued = h.2 in omega arith))
 
 pub kinds_later : (issued more : ℕ) (kinds : List Kind) (values : List Value) → issued ≤ more
     → HasKinds issued kinds values → HasKinds more kinds values
@@ -126,6 +139,10 @@ packet_ref s Lower v is h = cc
 packet_ref s View v is h = (h.0, h.1, packet_found s v h)
 packet_ref s New v is h = (h.0, h.1, packet_found s v h)
 packet_ref s Own v is h = (h.0, h.1, packet_found s v h)
+packet_ref s (Listed name) v is h = (h.0, h.1, packet_found s v h)
+packet_ref s (Armed name) v is h = (h.0, h.1, packet_found s v h)
+packet_ref s (Taken name) v is h = (h.0, h.1, packet_found s v h)
+packet_ref s (Cancelling name) v is h = (h.0, h.1, packet_found s v h)
 
 -- what an instruction demands of its operands
 pub demanded_packet : (wanted : Wanted) (k : Kind) → demanded wanted k ≡ None → is_packet k ≡ true
@@ -140,6 +157,12 @@ complete_packet NumKind h = cc
 complete_packet Lower h = cc
 complete_packet _ h = refl
 
+queued_packet : (fits : Bool) (k : Kind) → queued_kind fits k ≡ None → is_packet k ≡ true
+queued_packet fits BlankKind h = cc
+queued_packet fits NumKind h = cc
+queued_packet fits Lower h = cc
+queued_packet fits _ h = refl
+
 number_is : (k : Kind) → number_kind k ≡ None → k ≡ NumKind
 number_is NumKind h = refl
 number_is BlankKind h = cc
@@ -147,6 +170,74 @@ number_is Lower h = cc
 number_is View h = cc
 number_is New h = cc
 number_is Own h = cc
+number_is (Listed name) h = cc
+number_is (Armed name) h = cc
+number_is (Taken name) h = cc
+number_is (Cancelling name) h = cc
+
+-- what a packet becomes in its register is still one
+packet_suits : (issued : ℕ) (k : Kind) (v : Value) → is_packet k ≡ true → Suits issued k v
+    → IsPacket issued v
+packet_suits issued BlankKind v is h = cc
+packet_suits issued NumKind v is h = cc
+packet_suits issued Lower v is h = cc
+packet_suits issued New v is h = h
+packet_suits issued Own v is h = h
+packet_suits issued (Listed name) v is h = h
+packet_suits issued (Armed name) v is h = h
+packet_suits issued (Taken name) v is h = h
+packet_suits issued (Cancelling name) v is h = h
+packet_suits issued View v is h = h
+
+inserted_suits : (issued : ℕ) (cancel : Option ℕ) (q : ℕ) (v : Value) → IsPacket issued v
+    → Suits issued (kind_inserted cancel q) v
+inserted_suits issued None q v h = tt
+inserted_suits issued (Some routine) q v h = h
+
+pub removed_suits : (issued : ℕ) (cancel : Option ℕ) (q : ℕ) (v : Value) → IsPacket issued v
+    → Suits issued (kind_removed cancel q) v
+removed_suits issued None q v h = h
+removed_suits issued (Some routine) q v h = h
+
+disarmed_suits : (issued : ℕ) (k : Kind) (v : Value) → Suits issued k v
+    → Suits issued (kind_disarmed k) v
+disarmed_suits issued (Armed name) v h = h
+disarmed_suits issued (Taken name) v h = h
+disarmed_suits issued _ v h = h
+
+-- the kinds after the release of a guard
+module _ (set : Set) (driver lock : ℕ) where
+  go_suits : (issued : ℕ) (k : Kind) (v : Value) → Suits issued k v
+      → Suits issued (let_go set driver lock k) v
+  go_suits issued (Armed name) v h =
+      cond_both (is_guard (guard_named set driver name) lock) BlankKind (Armed name)
+      (λ k. Suits issued k v) (λ guards. tt) (λ other. h)
+  go_suits issued _ v h = h
+
+  go_kinds : (issued : ℕ) (kinds : List Kind) (values : List Value) → HasKinds issued kinds values
+      → HasKinds issued (all_let_go set driver lock kinds) values
+  go_kinds issued [] [] h = tt
+  go_kinds issued [] (v ∷ values) h = absurd h
+  go_kinds issued (k ∷ kinds) [] h = absurd h
+  go_kinds issued (k ∷ kinds) (v ∷ values) h =
+      (go_suits issued k v h.0, go_kinds issued kinds values h.1)
+
+  go_long : (kinds : List Kind) → length (all_let_go set driver lock kinds) ≡ length kinds
+  go_long [] = refl
+  go_long (k ∷ kinds) = ap suc (go_long kinds)
+
+  go_same : (k : Kind) → is_queued k ≡ false → let_go set driver lock k ≡ k
+  go_same (Armed name) none = cc
+  go_same _ none = refl
+
+  go_all_same : (kinds : List Kind) → list_any is_queued kinds ≡ false
+      → all_let_go set driver lock kinds ≡ kinds
+  go_all_same [] none = refl
+  go_all_same (k ∷ kinds) none =
+      rw (
+        go_same k (or_left (is_queued k) (list_any is_queued kinds) none),
+        go_all_same kinds (or_right (is_queued k) (list_any is_queued kinds) none),
+      ) refl
 
 module _ (s : Abs) (sort : Sort) (set : Set) (driver : ℕ) where
   abbrev Obeys : Instr → Type 0
@@ -173,6 +264,20 @@ module _ (s : Abs) (sort : Sort) (set : Set) (driver : ℕ) where
   packet_wanted (Complete q status) r h is =
       let one : q ≡ r = cc in
       subst IsPacketAt one (complete_packet (kind_of s q) (first_none _ _ h))
+  packet_wanted (Unlink q list) r h is =
+      let one : q ≡ r = cc in
+      subst IsPacketAt one
+      (queued_packet
+      (is_listed (Declared list) (kind_of s q) || is_cancelling (Declared list) (kind_of s q))
+      (kind_of s q) (first_none _ _ h))
+  packet_wanted (Arm q list) r h is =
+      let one : q ≡ r = cc in
+      subst IsPacketAt one
+      (queued_packet (is_listed (Declared list) (kind_of s q)) (kind_of s q) (first_none _ _ h))
+  packet_wanted (Disarm q label) r h is =
+      let one : q ≡ r = cc in
+      subst IsPacketAt one (queued_packet (is_exchanged (kind_of s q)) (kind_of s q) h)
+  packet_wanted (IfCancel q label) r h is = demands any_packet q r h is
   packet_wanted (IfPending q label) r h is = demands one_to_look_at q r (first_none _ _ h) is
   packet_wanted _ r h is = cc
 
@@ -214,7 +319,7 @@ module _ (s : Abs) (sort : Sort) (set : Set) (driver : ℕ) where
       ∙ set-get_or s.kinds r BlankKind)
 
   pub number_kinds : (i : Instr) (r : ℕ) → Obeys i → numbered_by i ≡ Some r
-      → (handed s i).kinds ≡ slice_set s.kinds r NumKind
+      → (handed set driver s i).kinds ≡ slice_set s.kinds r NumKind
   number_kinds (Const q n) r h is = becomes_number q r is
   number_kinds (Load q c) r h is = becomes_number q r is
   number_kinds (LoadPaged q c) r h is = becomes_number q r is
@@ -230,9 +335,16 @@ module _ (s : Abs) (sort : Sort) (set : Set) (driver : ℕ) where
   mark_kinds issued values r New keeps suits h = kinds_turn issued s.kinds values r Own h suits
   mark_kinds issued values r _ keeps suits h = h
 
+  packet_there : (issued : ℕ) (values : List Value) (i : Instr) (r : ℕ) → Obeys i
+      → packet_operand i ≡ Some r → HasKinds issued s.kinds values
+      → IsPacket issued (slice_index_or values r Blank)
+  packet_there issued values i r keeps is h =
+      packet_suits issued (kind_of s r) (slice_index_or values r Blank) (packet_wanted i r keeps is)
+      (kinds_get issued s.kinds values r h)
+
   same_kinds : (issued : ℕ) (values : List Value) (i : Instr) → Obeys i → keeps_registers i ≡ true
       → goes_next i ≡ true → is_forwarding (work_of i) ≡ false → HasKinds issued s.kinds values
-      → HasKinds issued (handed s i).kinds values
+      → HasKinds issued (handed set driver s i).kinds values
   same_kinds issued values (Const r n) keeps same on stays h = cc
   same_kinds issued values (Move r q) keeps same on stays h = cc
   same_kinds issued values (Clear r) keeps same on stays h = cc
@@ -246,7 +358,21 @@ module _ (s : Abs) (sort : Sort) (set : Set) (driver : ℕ) where
   same_kinds issued values (Mark r) keeps same on stays h =
       mark_kinds issued values r (kind_of s r) keeps (kinds_get issued s.kinds values r h) h
   same_kinds issued values (Insert r q) keeps same on stays h =
-      kinds_turn issued s.kinds values r BlankKind h tt
+      kinds_turn issued s.kinds values r (kind_inserted (cancel_routine_of set driver q) q) h
+      (inserted_suits issued (cancel_routine_of set driver q) q (slice_index_or values r Blank)
+      (packet_there issued values (Insert r q) r keeps refl h))
+  same_kinds issued values (Unlink r q) keeps same on stays h =
+      kinds_turn issued s.kinds values r Own h
+      (packet_there issued values (Unlink r q) r keeps refl h)
+  same_kinds issued values (Arm r q) keeps same on stays h =
+      kinds_turn issued s.kinds values r (Armed (Declared q)) h
+      (packet_there issued values (Arm r q) r keeps refl h)
+  same_kinds issued values (Disarm r label) keeps same on stays h =
+      kinds_turn issued s.kinds values r (kind_disarmed (kind_of s r)) h
+      (disarmed_suits issued (kind_of s r) (slice_index_or values r Blank)
+      (kinds_get issued s.kinds values r h))
+  same_kinds issued values (Release lock) keeps same on stays h =
+      go_kinds set driver lock issued s.kinds values h
   same_kinds issued values (Start r) keeps same on stays h =
       kinds_turn issued s.kinds values r BlankKind h tt
   same_kinds issued values (Begin r) keeps same on stays h =
@@ -258,7 +384,7 @@ module _ (s : Abs) (sort : Sort) (set : Set) (driver : ℕ) where
   pub written_kinds : (issued : ℕ) (a : Activation) (i : Instr) (registers : List Value) → Obeys i
       → goes_next i ≡ true
       → is_forwarding (work_of i) ≡ false → Written a i registers → HasKinds issued s.kinds a.registers
-      → HasKinds issued (handed s i).kinds registers
+      → HasKinds issued (handed set driver s i).kinds registers
   written_kinds issued a i registers keeps on stays (keeps_all _ same) h =
       same_kinds issued a.registers i keeps same on stays h
   written_kinds issued a i registers keeps on stays (makes_number _ r n is) h =
@@ -270,34 +396,39 @@ module _ (s : Abs) (sort : Sort) (set : Set) (driver : ℕ) where
 
   -- a status in the register of a packet that was sent down
   pub given_kinds : (issued : ℕ) (values : List Value) (r : ℕ) (k : Kind) (status : Status)
-      → is_right k ≡ true
+      → is_right k ≡ true → is_queued k ≡ false
       → HasKinds issued s.kinds values
       → HasKinds issued (given_down s r k).kinds (slice_set values r (StatusValue status))
-  given_kinds issued values r New status is h =
+  given_kinds issued values r New status is plain h =
       kinds_set issued s.kinds values r Lower (StatusValue status) h (status, refl)
-  given_kinds issued values r Own status is h =
+  given_kinds issued values r Own status is plain h =
       kinds_set issued s.kinds values r BlankKind (StatusValue status) h tt
-  given_kinds issued values r _ status is h = cc
+  given_kinds issued values r _ status is plain h = cc
 
 -- what leaves the registers alone, and the packets with who has them, leaves the kinds as they are
-pub still_kinds : (s : Abs) (i : Instr) → keeps_registers i ≡ true → is_giving (work_of i) ≡ false
-    → (handed s i).kinds ≡ s.kinds
-still_kinds s (Const r n) same quiet = cc
-still_kinds s (Move r q) same quiet = cc
-still_kinds s (Clear r) same quiet = cc
-still_kinds s (Load r c) same quiet = cc
-still_kinds s (LoadPaged r c) same quiet = cc
-still_kinds s (Get r q field) same quiet = cc
-still_kinds s (Mark r) same quiet = cc
-still_kinds s (Insert r q) same quiet = cc
-still_kinds s (Remove r q label) same quiet = cc
-still_kinds s (Start r) same quiet = cc
-still_kinds s (Take r label) same quiet = cc
-still_kinds s (Begin r) same quiet = cc
-still_kinds s (Pass r) same quiet = cc
-still_kinds s (Call r f) same quiet = cc
-still_kinds s (Complete r status) same quiet = cc
-still_kinds s _ same quiet = refl
+pub still_kinds : (set : Set) (driver : ℕ) (s : Abs) (i : Instr) → HasNone is_queued s
+    → keeps_registers i ≡ true → is_giving (work_of i) ≡ false
+    → (handed set driver s i).kinds ≡ s.kinds
+still_kinds set driver s (Const r n) none same quiet = cc
+still_kinds set driver s (Move r q) none same quiet = cc
+still_kinds set driver s (Clear r) none same quiet = cc
+still_kinds set driver s (Load r c) none same quiet = cc
+still_kinds set driver s (LoadPaged r c) none same quiet = cc
+still_kinds set driver s (Get r q field) none same quiet = cc
+still_kinds set driver s (Mark r) none same quiet = cc
+still_kinds set driver s (Insert r q) none same quiet = cc
+still_kinds set driver s (Remove r q label) none same quiet = cc
+still_kinds set driver s (Unlink r q) none same quiet = cc
+still_kinds set driver s (Arm r q) none same quiet = cc
+still_kinds set driver s (Disarm r label) none same quiet = cc
+still_kinds set driver s (Release lock) none same quiet = go_all_same set driver lock s.kinds none
+still_kinds set driver s (Start r) none same quiet = cc
+still_kinds set driver s (Take r label) none same quiet = cc
+still_kinds set driver s (Begin r) none same quiet = cc
+still_kinds set driver s (Pass r) none same quiet = cc
+still_kinds set driver s (Call r f) none same quiet = cc
+still_kinds set driver s (Complete r status) none same quiet = cc
+still_kinds set driver s _ none same quiet = refl
 
 -- no step changes how many kinds and spin locks there are
 marked_long : (s : Abs) (r : ℕ) (k : Kind) → length (marked s r k).kinds ≡ length s.kinds
@@ -309,25 +440,32 @@ given_long s r New = length-set s.kinds r Lower
 given_long s r Own = length-set s.kinds r BlankKind
 given_long s r _ = refl
 
-pub handed_long : (s : Abs) (i : Instr) → length (handed s i).kinds ≡ length s.kinds
-handed_long s (Const r n) = length-set s.kinds r NumKind
-handed_long s (Move r q) =
+pub handed_long : (set : Set) (driver : ℕ) (s : Abs) (i : Instr)
+    → length (handed set driver s i).kinds ≡ length s.kinds
+handed_long set driver s (Const r n) = length-set s.kinds r NumKind
+handed_long set driver s (Move r q) =
     length-set (slice_set s.kinds r (kind_of s q)) q (left_behind (kind_of s q))
     ∙ length-set s.kinds r (kind_of s q)
-handed_long s (Clear r) = length-set s.kinds r BlankKind
-handed_long s (Load r c) = length-set s.kinds r NumKind
-handed_long s (LoadPaged r c) = length-set s.kinds r NumKind
-handed_long s (Get r q field) = length-set s.kinds r NumKind
-handed_long s (Mark r) = marked_long s r (kind_of s r)
-handed_long s (Insert r q) = length-set s.kinds r BlankKind
-handed_long s (Remove r q label) = length-set s.kinds r Own
-handed_long s (Start r) = length-set s.kinds r BlankKind
-handed_long s (Take r label) = length-set s.kinds r Own
-handed_long s (Begin r) = length-set s.kinds r BlankKind
-handed_long s (Pass r) = given_long s r (kind_of s r)
-handed_long s (Call r f) = given_long s r (kind_of s r)
-handed_long s (Complete r status) = length-set s.kinds r BlankKind
-handed_long s _ = refl
+handed_long set driver s (Clear r) = length-set s.kinds r BlankKind
+handed_long set driver s (Load r c) = length-set s.kinds r NumKind
+handed_long set driver s (LoadPaged r c) = length-set s.kinds r NumKind
+handed_long set driver s (Get r q field) = length-set s.kinds r NumKind
+handed_long set driver s (Mark r) = marked_long s r (kind_of s r)
+handed_long set driver s (Insert r q) =
+    length-set s.kinds r (kind_inserted (cancel_routine_of set driver q) q)
+handed_long set driver s (Remove r q label) =
+    length-set s.kinds r (kind_removed (cancel_routine_of set driver q) q)
+handed_long set driver s (Unlink r q) = length-set s.kinds r Own
+handed_long set driver s (Arm r q) = length-set s.kinds r (Armed (Declared q))
+handed_long set driver s (Disarm r label) = length-set s.kinds r (kind_disarmed (kind_of s r))
+handed_long set driver s (Release lock) = go_long set driver lock s.kinds
+handed_long set driver s (Start r) = length-set s.kinds r BlankKind
+handed_long set driver s (Take r label) = length-set s.kinds r Own
+handed_long set driver s (Begin r) = length-set s.kinds r BlankKind
+handed_long set driver s (Pass r) = given_long s r (kind_of s r)
+handed_long set driver s (Call r f) = given_long s r (kind_of s r)
+handed_long set driver s (Complete r status) = length-set s.kinds r BlankKind
+handed_long set driver s _ = refl
 
 pub marked_locks : (s : Abs) (r : ℕ) (k : Kind) → (marked s r k).locks ≡ s.locks
 marked_locks s r View = refl
@@ -337,17 +475,19 @@ pub given_locks : (s : Abs) (r : ℕ) (k : Kind) → (given_down s r k).locks �
 given_locks s r New = refl
 given_locks s r _ = refl
 
-pub handed_locks : (s : Abs) (i : Instr) → length (handed s i).locks ≡ length s.locks
-handed_locks s (Mark r) = ap length (marked_locks s r (kind_of s r))
-handed_locks s (Pass r) = ap length (given_locks s r (kind_of s r))
-handed_locks s (Call r f) = ap length (given_locks s r (kind_of s r))
-handed_locks s (Acquire lock) = length-set s.locks lock true
-handed_locks s (Release lock) = length-set s.locks lock false
-handed_locks s _ = refl
+pub handed_locks : (set : Set) (driver : ℕ) (s : Abs) (i : Instr)
+    → length (handed set driver s i).locks ≡ length s.locks
+handed_locks set driver s (Mark r) = ap length (marked_locks s r (kind_of s r))
+handed_locks set driver s (Pass r) = ap length (given_locks s r (kind_of s r))
+handed_locks set driver s (Call r f) = ap length (given_locks s r (kind_of s r))
+handed_locks set driver s (Acquire lock) = length-set s.locks lock true
+handed_locks set driver s (Release lock) = length-set s.locks lock false
+handed_locks set driver s _ = refl
 
 -- nor does a jump: it changes the kinds where there was no packet to take alone, and no locks
 pub label_long : (s : Abs) (i : Instr) → length (handed_at_label s i).kinds ≡ length s.kinds
 label_long s (Remove r q label) = length-set s.kinds r BlankKind
+label_long s (Disarm r label) = length-set s.kinds r BlankKind
 label_long s (Take r label) = length-set s.kinds r BlankKind
 label_long s (IfPending r label) = refl
 label_long s _ = refl
@@ -355,6 +495,7 @@ label_long s _ = refl
 pub label_kinds : (s : Abs) (i : Instr) → is_giving (work_of i) ≡ false
     → (handed_at_label s i).kinds ≡ s.kinds
 label_kinds s (Remove r q label) quiet = cc
+label_kinds s (Disarm r label) quiet = cc
 label_kinds s (Take r label) quiet = cc
 label_kinds s (IfPending r label) quiet = refl
 label_kinds s _ quiet = refl
@@ -363,6 +504,7 @@ pub label_suits : (issued : ℕ) (s : Abs) (i : Instr) (values : List Value)
     → HasKinds issued s.kinds values
     → HasKinds issued (handed_at_label s i).kinds values
 label_suits issued s (Remove r q label) values h = kinds_turn issued s.kinds values r BlankKind h tt
+label_suits issued s (Disarm r label) values h = kinds_turn issued s.kinds values r BlankKind h tt
 label_suits issued s (Take r label) values h = kinds_turn issued s.kinds values r BlankKind h tt
 label_suits issued s (IfPending r label) values h = h
 label_suits issued s _ values h = h

@@ -1,5 +1,5 @@
 -- A state for every position of every routine of an accepted set, the default routine included.
-use Rattle.std.proofs.Common.{◌≡◌, ℕ, zero, suc, ◌<◌, ◌≤◌, inl, inr, List, [], ◌∷◌, length, Option, None, Some, refl, arith, subst, false}
+use Rattle.std.proofs.Common.{◌≡◌, ℕ, zero, suc, ◌<◌, ◌≤◌, inl, inr, List, [], ◌∷◌, length, Option, None, Some, refl, arith, subst, false, ap, sym, ◌∙◌}
 use Rattle.std.specs.Prelude.{⊤, All, IfSome, slice_get, slice_index_or, option_and_then}
 use Rattle.std.proofs.lemmas.Bool.Decides.{eqb_tells}
 use Rattle.std.proofs.lemmas.Option.{slice_get_within}
@@ -12,12 +12,13 @@ use Rattle.model.specs.declared.limits.TheConstants.{MAX_QUEUES, MAX_ROUTINES}
 use Rattle.model.specs.declared.set.Driver.{Driver}
 use Rattle.model.specs.declared.set.Routine.{Routine}
 use Rattle.model.specs.declared.set.Sort.{Sort}
-use Rattle.model.specs.declared.set.Sort.TheVariants.{Dispatch, Dpc, Propagate, StartIo}
-use Rattle.model.specs.LocalRule.{entered_with}
+use Rattle.model.specs.declared.set.Sort.TheVariants.{Dispatch, Dpc, Propagate, StartIo, Hold, Cancel}
+use Rattle.model.specs.LocalRule.{entered_with, is_hold}
 use Rattle.model.specs.Loops.{open_at}
-use Rattle.model.specs.Set.{Set, Member, member, routine_of, default_routine, default_number, default_code}
+use Rattle.model.specs.Set.{Set, Member, member, routine_of, sort_in, default_routine, default_number, default_code}
 use Rattle.model.specs.Sound.{IsSound, DriverFits, RoutineFits, OperandFits, HasSort, IsCompletion, CallsFit, completion_named, QueueFits, QueuesFit, queue_named}
 use Rattle.model.specs.Typable.{IsTypableRoutine, IsTypableDriver, IsTypable}
+use Rattle.run_laws.specs.CancelsNothing.{CancelsNothing}
 use Rattle.run_laws.proofs.Lists.{all_at}
 use Rattle.run_laws.proofs.States.Follows.{Follows, Typed, LoopsBefore, typed, default_typed}
 use Rattle.run_laws.proofs.States.Remaining.{Chain, chain}
@@ -61,11 +62,13 @@ pub record IsKnown (m : Member) (state : ℕ → Abs) : Type 0 where
 abbrev Knows : Member → Type 0
 Knows m = (state : ℕ → Abs) × IsKnown m state
 
-completion_sort : (sort : Sort) → IsCompletion sort → sort ≡ Propagate
-completion_sort Propagate h = refl
-completion_sort Dispatch h = absurd h
-completion_sort StartIo h = absurd h
-completion_sort Dpc h = absurd h
+completion_sort : (sort : Sort) → is_hold sort ≡ false → IsCompletion sort → sort ≡ Propagate
+completion_sort Propagate lends h = refl
+completion_sort Hold lends h = cc
+completion_sort Dispatch lends h = absurd h
+completion_sort StartIo lends h = absurd h
+completion_sort Dpc lends h = absurd h
+completion_sort Cancel lends h = absurd h
 
 -- a routine in the list of a driver is the one of its number
 module _ (set : Set) (driver : ℕ) (d : Driver) (there : slice_get set.drivers driver ≡ Some d)
@@ -79,20 +82,26 @@ module _ (set : Set) (driver : ℕ) (d : Driver) (there : slice_get set.drivers 
         | inr e ↦ rw (e.0, there) found
       ]
 
-  continues : (number : ℕ) (o : Option Routine) → slice_get d.routines number ≡ o → HasSort IsCompletion o
-      → Continues set driver number
-  continues number None found h = absurd h
-  continues number (Some routine) found h =
-      (routine, routine_found number routine found, completion_sort routine.sort h)
+  module _ (quiet : CancelsNothing set) where
+    continues : (number : ℕ) (o : Option Routine) → slice_get d.routines number ≡ o → HasSort IsCompletion o
+        → Continues set driver number
+    continues number None found h = absurd h
+    continues number (Some routine) found h = (
+      routine,
+      routine_found number routine found,
+      completion_sort routine.sort
+          (sym (ap (λ (o : Option Routine). is_hold (sort_in o))
+          (routine_found number routine found)) ∙ quiet.routines driver number) h,
+    )
 
-  set_by : (f : Option ℕ) → IfSome f (λ number. HasSort IsCompletion (slice_get d.routines number))
-      → SetBy set driver f
-  set_by None h = tt
-  set_by (Some f) h = continues f (slice_get d.routines f) refl h
+    set_by : (f : Option ℕ) → IfSome f (λ number. HasSort IsCompletion (slice_get d.routines number))
+        → SetBy set driver f
+    set_by None h = tt
+    set_by (Some f) h = continues f (slice_get d.routines f) refl h
 
-  calls_lead : (routine : Routine) → CallsFit d.routines routine → All (CallLeads set driver) routine.code
-  calls_lead routine h =
-      λ p i within. set_by (completion_named (slice_index_or routine.code p i)) (h p i within)
+    calls_lead : (routine : Routine) → CallsFit d.routines routine → All (CallLeads set driver) routine.code
+    calls_lead routine h =
+        λ p i within. set_by (completion_named (slice_index_or routine.code p i)) (h p i within)
 
 -- the default routine
 default_operands : (p : ℕ) (d : Instr) → p < 2 → OperandFits (slice_index_or default_code p d)
@@ -141,7 +150,8 @@ knows m typable operands calls queues =
     (all.0, record { follows = all.1; operands = operands; calls = calls; queues = queues })
 
 -- every routine of an accepted set
-module _ (set : Set) (typable : IsTypable set) (sound : IsSound set) (driver number : ℕ) where
+module _ (set : Set) (typable : IsTypable set) (sound : IsSound set) (quiet : CancelsNothing set)
+    (driver number : ℕ) where
   knows_of : (o : Option Driver) → slice_get set.drivers driver ≡ o → (routine : Routine)
       → option_and_then (λ d. slice_get d.routines number) o ≡ Some routine
       → Knows (member set driver number routine)
@@ -153,7 +163,7 @@ module _ (set : Set) (typable : IsTypable set) (sound : IsSound set) (driver num
       typable.drivers driver d (slice_get_within set.drivers driver d there) there in
       knows (member set driver number routine) (right number routine within h)
       (all_at RoutineFits d.routines number routine fits.routines h).operands
-      (calls_lead set driver d there fits.few routine
+      (calls_lead set driver d there fits.few quiet routine
       (all_at (CallsFit d.routines) d.routines number routine fits.calls h))
       (queues_fit (length d.queues) routine fits.few_queues
       (all_at (QueuesFit (length d.queues)) d.routines number routine fits.queues h))
@@ -187,12 +197,12 @@ known_in set driver number (Some other) h routine there =
     let same : other ≡ routine = cc in
     subst (λ (r : Routine). IsKnown (member set driver number r) (h other refl).0) same (h other refl).1
 
-pub led : (set : Set) → IsTypable set → IsSound set → (states : States) × IsLed set states
-led set typable sound = (
+pub led : (set : Set) → IsTypable set → IsSound set → CancelsNothing set → (states : States) × IsLed set states
+led set typable sound quiet = (
   λ driver number. states_in set driver number (routine_of set driver number)
-      (knows_routine set typable sound driver number),
+      (knows_routine set typable sound quiet driver number),
   record {
     known = λ driver number routine there. known_in set driver number (routine_of set driver number)
-        (knows_routine set typable sound driver number) routine there;
+        (knows_routine set typable sound quiet driver number) routine there;
   },
 )

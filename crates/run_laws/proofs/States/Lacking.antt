@@ -6,12 +6,12 @@ use Rattle.model.specs.declared.abs.Rule.{Rule}
 use Rattle.model.specs.declared.event.Lock.{Lock}
 use Rattle.model.specs.declared.event.Lock.TheVariants.{SystemCancel}
 use Rattle.model.specs.declared.instr.Instr.{Instr}
-use Rattle.model.specs.declared.instr.Instr.TheVariants.{Acquire, Release, AcquireCancel, ReleaseCancel, Pass, Call, End, Ret}
+use Rattle.model.specs.declared.instr.Instr.TheVariants.{Acquire, Arm, Release, AcquireCancel, ReleaseCancel, Pass, Call, End, Ret}
 use Rattle.model.specs.declared.instr.Return.{Return}
-use Rattle.model.specs.declared.instr.Return.TheVariants.{WithStatus, Lower, Continue, Void}
+use Rattle.model.specs.declared.instr.Return.TheVariants.{WithStatus, Lower, Continue, Stop, Void}
 use Rattle.model.specs.declared.limits.TheConstants.{MAX_QUEUES, MAX_LOOPS}
 use Rattle.model.specs.declared.set.Sort.{Sort}
-use Rattle.model.specs.declared.set.Sort.TheVariants.{Dispatch, Dpc, Propagate, StartIo}
+use Rattle.model.specs.declared.set.Sort.TheVariants.{Dispatch, Dpc, Propagate, StartIo, Hold, Cancel}
 use Rattle.model.specs.declared.status.Status.{Status}
 use Rattle.model.specs.declared.world.Activation.{Activation}
 use Rattle.model.specs.declared.world.Frame.TheVariants.{Routine}
@@ -26,10 +26,11 @@ use Rattle.run_laws.proofs.States.Fits.{queue_there, IsThere, owner_there}
 use Rattle.run_laws.proofs.States.Frames.{state_of, Stays, Runs}
 use Rattle.run_laws.proofs.States.Kinds.{status_there}
 use Rattle.run_laws.proofs.States.LoopEnds.{room_for_loop, some_loop}
+use Rattle.run_laws.proofs.States.Never.{never_exchanges}
 use Rattle.run_laws.proofs.States.Obeyed.{SendsDown, sends_down, returns_by}
 use Rattle.run_laws.proofs.States.OnTop.{OnTop, at_routine, runs, value_suits, packet_there, number_found}
 use Rattle.run_laws.proofs.States.Rules.{States, first_none}
-use Rattle.run_laws.proofs.Steps.Comes.{Lacks, no_instruction, no_number, no_packet, no_room, no_loop, no_cells, none_taken, none_freed, no_queue, no_start, no_lower, no_status, no_form}
+use Rattle.run_laws.proofs.Steps.Comes.{Lacks, no_instruction, no_number, no_packet, no_room, no_loop, no_cells, none_taken, none_freed, no_queue, no_start, no_cancel, no_lower, no_status, no_form}
 use Rattle.run_laws.proofs.Steps.Words.{Forwarding, work_of, packet_operand, lock_taken, lock_freed, status_returned, is_form_of}
 use Rattle.run_laws.proofs.States.StartsFit.{start_there}
 
@@ -47,6 +48,11 @@ has_form Dpc Void h = refl
 has_form Dpc _ h = cc
 has_form Propagate Continue h = refl
 has_form Propagate _ h = cc
+has_form Hold Continue h = refl
+has_form Hold Stop h = refl
+has_form Hold _ h = cc
+has_form Cancel Void h = refl
+has_form Cancel _ h = cc
 
 -- what sends a packet down works on one
 down_operand : (i : Instr) → work_of i ≡ Forwarding → (r : ℕ) × (packet_operand i ≡ Some r)
@@ -112,6 +118,7 @@ module _ (set : Set) (states : States) (s : Shared) (a : Activation) where
       let no : None ≡ Some status.0 = sym none ∙ status.1 in
       cc
   some_status Continue h of_form none = cc
+  some_status Stop h of_form none = cc
   some_status Void h of_form none = cc
 
   pub never_lacks : OnTop set states s (Routine a) → Lacks set s a → ⊥
@@ -148,6 +155,8 @@ module _ (set : Set) (states : States) (s : Shared) (a : Activation) where
       queue_there set s h.fits a.device q (device_within i run) (queue_within i q run is) none
   never_lacks h (no_start i at is none) =
       start_there set s a.device h.fits.starts (device_within i (runs set states s a i h at)) none
+  never_lacks h (no_cancel r q at none) =
+      never_exchanges set states s a (Arm r q) (runs set states s a (Arm r q) h at) refl
   never_lacks h (no_lower i at is none) =
       let lower : LowerThere set a.device = lower_device i (runs set states s a i h at) is in
       let no : None ≡ Some lower.0 = sym none ∙ lower.1 in

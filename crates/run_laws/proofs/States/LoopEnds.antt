@@ -113,9 +113,10 @@ two_turns (suc (suc n)) cost some =
     rw (one, two) (omega arith)
 
 -- a loop's body is entered in the state of its start
-opened_state : (i : Instr) → IsOpening (flow_of i) → (s : Abs) → next_state s (Some i) ≡ Some s
-opened_state (Loop turns) loop s = refl
-opened_state _ loop s = absurd loop
+opened_state : (set : Set) (driver : ℕ) (i : Instr) → IsOpening (flow_of i) → (s : Abs)
+    → next_state set driver s (Some i) ≡ Some s
+opened_state set driver (Loop turns) loop s = refl
+opened_state set driver _ loop s = absurd loop
 
 module _ (set : Set) (states : States) (s : Shared) (a : Activation) (h : Runs set states s a End) where
   -- the loop is closed
@@ -151,9 +152,9 @@ module _ (set : Set) (states : States) (s : Shared) (a : Activation) (h : Runs s
   loop_state q None here loop within = absurd loop
   loop_state q (Some i) here loop within =
       h.known.follows.next q (states a.driver a.routine q) within
-      (subst (λ (x : Option Instr). next_state (states a.driver a.routine q) x
+      (subst (λ (x : Option Instr). next_state set a.driver (states a.driver a.routine q) x
       ≡ Some (states a.driver a.routine q))
-      (sym here) (opened_state i loop (states a.driver a.routine q)))
+      (sym here) (opened_state set a.driver i loop (states a.driver a.routine q)))
 
   turn_moved : (q : ℕ) (loops : List ℕ) (outer : List OpenLoop) (turns : ℕ)
       → ClosesAt h.routine.code a q loops outer turns → 1 < turns

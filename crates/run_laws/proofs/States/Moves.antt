@@ -29,9 +29,9 @@ use Rattle.run_laws.proofs.Steps.Words.{work_of, is_forwarding, falls_through, g
 use Rattle.run_laws.proofs.Tests.{and_left, and_right}
 
 -- the state that an instruction which breaks no rule leads to, at the next position or at its label
-abbrev pub onto : Abs → Instr → Bool → Abs
-onto s i false = handed s i
-onto s i true = handed_at_label s i
+abbrev pub onto : Set → ℕ → Abs → Instr → Bool → Abs
+onto set driver s i false = handed set driver s i
+onto set driver s i true = handed_at_label s i
 
 -- what leads to the next position, and what opens and closes no loop
 abbrev pub has_next : Flow → Bool
@@ -171,12 +171,13 @@ module _ (set : Set) (states : States) (s : Shared) (a : Activation) (i : Instr)
   -- the next position
   pub next_at : has_next (flow_of i) ≡ true
       → (a.position + 1 < length h.routine.code)
-      × (states a.driver a.routine (a.position + 1) ≡ handed (state_of states a) i)
+      × (states a.driver a.routine (a.position + 1) ≡ handed set a.driver (state_of states a) i)
   next_at leads =
-      h.known.follows.next a.position (handed (state_of states a) i) h.stays.within
-      (subst (λ (x : Option Instr). next_state (state_of states a) x
-      ≡ Some (handed (state_of states a) i)) (sym h.here)
-      (next_out (flow_of i) (handed (state_of states a) i) (handed_at_label (state_of states a) i) leads))
+      h.known.follows.next a.position (handed set a.driver (state_of states a) i) h.stays.within
+      (subst (λ (x : Option Instr). next_state set a.driver (state_of states a) x
+      ≡ Some (handed set a.driver (state_of states a) i)) (sym h.here)
+      (next_out (flow_of i) (handed set a.driver (state_of states a) i)
+      (handed_at_label (state_of states a) i) leads))
 
   -- and the label
   label_there : (label : ℕ) → label_of i ≡ Some label
@@ -190,10 +191,10 @@ module _ (set : Set) (states : States) (s : Shared) (a : Activation) (i : Instr)
   jump_at label labelled =
       h.known.follows.jump a.position label (handed_at_label (state_of states a) i) h.stays.within
       (label_there label labelled)
-      (subst (λ (x : Option Instr). jump_state (state_of states a) x
+      (subst (λ (x : Option Instr). jump_state set a.driver (state_of states a) x
       ≡ Some (handed_at_label (state_of states a) i))
       (sym h.here)
-      (jump_out (flow_of i) label (handed (state_of states a) i)
+      (jump_out (flow_of i) label (handed set a.driver (state_of states a) i)
       (handed_at_label (state_of states a) i) labelled))
 
   -- what a plain instruction leaves to execute
@@ -237,16 +238,17 @@ module _ (set : Set) (states : States) (s : Shared) (a : Activation) (i : Instr)
 
   -- on to the next position
   pub moved_next : goes_next i ≡ true → (values : List Value)
-      → HasKinds s.issued (handed (state_of states a) i).kinds values
+      → HasKinds s.issued (handed set a.driver (state_of states a) i).kinds values
       → Moved set states s.issued a (record a { position = a.position + 1; registers = values })
-      (handed (state_of states a) i)
+      (handed set a.driver (state_of states a) i)
   moved_next on values kinds =
       let there : (a.position + 1 < length h.routine.code)
-      × (states a.driver a.routine (a.position + 1) ≡ handed (state_of states a) i) =
+      × (states a.driver a.routine (a.position + 1) ≡ handed set a.driver (state_of states a) i) =
       next_at (falls_next (flow_of i) on) in
       let is : is_plain (flow_of i) ≡ true = falls_plain (flow_of i) on in
-      plain_goes is (a.position + 1) values (handed (state_of states a) i) there.1 there.0 (plain_open is)
-      (omega arith) kinds (handed_locks (state_of states a) i) (handed_long (state_of states a) i)
+      plain_goes is (a.position + 1) values (handed set a.driver (state_of states a) i) there.1 there.0
+      (plain_open is) (omega arith) kinds (handed_locks set a.driver (state_of states a) i)
+      (handed_long set a.driver (state_of states a) i)
 
   -- to a label: no more is left there than at the next position
   label_open : (label : ℕ) → label_of i ≡ Some label → label < length h.routine.code
@@ -302,7 +304,7 @@ module _ (set : Set) (states : States) (s : Shared) (a : Activation) (i : Instr)
 
   -- whichever way it goes on, but for what sends a packet down: its register waits for a status
   pub moved : (b : Activation) (jumped : Bool) → is_forwarding (work_of i) ≡ false → GoesTo a i b jumped
-      → Moved set states s.issued a b (onto (state_of states a) i jumped)
+      → Moved set states s.issued a b (onto set a.driver (state_of states a) i jumped)
   moved b jumped stays (onward registers on written) =
       moved_next on registers
       (written_kinds (state_of states a) _ set a.driver s.issued a i registers h.obeys on stays
@@ -311,16 +313,16 @@ module _ (set : Set) (states : States) (s : Shared) (a : Activation) (i : Instr)
 
   -- an instruction that leaves the registers alone and goes on
   pub moved_on : goes_next i ≡ true → keeps_registers i ≡ true → is_forwarding (work_of i) ≡ false
-      → Moved set states s.issued a (next a) (handed (state_of states a) i)
+      → Moved set states s.issued a (next a) (handed set a.driver (state_of states a) i)
   moved_on on keeps stays = moved (next a) false stays (onward a.registers on (keeps_all i keeps))
 
   -- the state there
   pub arrives_next : has_next (flow_of i) ≡ true
-      → states a.driver a.routine (a.position + 1) ≡ handed (state_of states a) i
+      → states a.driver a.routine (a.position + 1) ≡ handed set a.driver (state_of states a) i
   arrives_next leads = (next_at leads).1
 
   pub arrives : (b : Activation) (jumped : Bool) → GoesTo a i b jumped
-      → state_of states b ≡ onto (state_of states a) i jumped
+      → state_of states b ≡ onto set a.driver (state_of states a) i jumped
   arrives b jumped (onward registers on written) = arrives_next (falls_next (flow_of i) on)
   arrives b jumped (jumping label labelled) = (jump_at label labelled).1
 

@@ -2,21 +2,26 @@
 -- a routine begins alone: a dispatch routine and a deferred routine have no packet on its way up,
 -- in no state that arrives at a position, and a deferred routine and a completion routine have none
 -- that was handed over.
-use Rattle.std.proofs.Common.{true, ◌≡◌, ℕ, zero, suc, Bool, false, List, [], ◌∷◌, Some, refl, ap, sym, ◌∙◌, subst}
+use Rattle.std.proofs.Common.{true, ◌≡◌, ℕ, zero, suc, Bool, false, List, [], ◌∷◌, Option, None, Some, refl, ap, sym, ◌∙◌, subst}
 use Rattle.std.specs.Prelude.{◌||◌, slice_set, slice_index_or}
 use Rattle.std.specs.List.{list_any}
+use Rattle.std.proofs.lemmas.Bool.{cond_both}
 use Rattle.model.specs.declared.abs.Abs.{Abs}
 use Rattle.model.specs.declared.abs.Duty.TheVariants.{NoDuty, Fresh}
 use Rattle.model.specs.declared.abs.Kind.{Kind}
-use Rattle.model.specs.declared.abs.Kind.TheVariants.{Blank, Num, Lower, New, Own, View}
+use Rattle.model.specs.declared.abs.Kind.TheVariants.{Blank, Num, Lower, New, Own, Listed, Armed, Taken, Cancelling, View}
 use Rattle.model.specs.declared.abs.Settled.TheVariants.{Open, Settled as SettledMark}
 use Rattle.model.specs.declared.instr.Instr.{Instr}
-use Rattle.model.specs.declared.instr.Instr.TheVariants.{Const, Move, Clear, Load, LoadPaged, Get, Mark, Pass, Call, Complete, IfPending, Insert, Remove, Start, Take, Begin}
-use Rattle.model.specs.declared.set.Sort.TheVariants.{Propagate, Dpc, Dispatch, StartIo}
-use Rattle.model.specs.LocalRule.{entered_with, entry_of_sort, given_down, handed, handed_at_label, is_view, kind_of, left_behind, marked}
+use Rattle.model.specs.declared.instr.Instr.TheVariants.{Const, Move, Clear, Load, LoadPaged, Get, Mark, Pass, Call, Complete, IfPending, Release, Insert, Remove, Unlink, Arm, Disarm, Start, Take, Begin}
+use Rattle.model.specs.declared.set.QueueName.{QueueName}
+use Rattle.model.specs.declared.set.QueueName.TheVariants.{Declared}
+use Rattle.model.specs.declared.set.Sort.TheVariants.{Propagate, Dpc, Dispatch, StartIo, Hold, Cancel}
+use Rattle.model.specs.LocalRule.{entered_with, entry_of_sort, entry_state, given_down, handed, handed_at_label, kind_of, marked, queued_kind, refuses}
+use Rattle.model.specs.Kinds.{all_let_go, is_guard, is_listed, is_new, is_view, kind_disarmed, kind_inserted, kind_removed, left_behind, let_go}
 use Rattle.model.specs.Paths.{Arrives}
-use Rattle.model.specs.Set.{Member}
+use Rattle.model.specs.Set.{Set, Member, cancel_routine_of, cancels_for, guard_named}
 use Rattle.run_laws.proofs.States.Along.{arrives_keep}
+use Rattle.run_laws.proofs.States.Rules.{first_none}
 use Rattle.run_laws.proofs.Tests.{or_left, or_right}
 use Rattle.model.specs.declared.set.Sort.{Sort}
 
@@ -26,16 +31,85 @@ pub record IsHanded (f : Kind → Bool) : Type 0 where
   pub number : f Num ≡ false
   pub lower : f Lower ≡ false
   pub own : f Own ≡ false
+  pub listed : (name : QueueName) → f (Listed name) ≡ false
+  pub armed : (name : QueueName) → f (Armed name) ≡ false
+  pub taken : (name : QueueName) → f (Taken name) ≡ false
 
 pub handed_views : IsHanded is_view
-handed_views = record { blank = refl; number = refl; lower = refl; own = refl }
-
-abbrev pub is_new : Kind → Bool
-is_new New = true
-is_new _ = false
+handed_views =
+    record {
+      blank = refl;
+      number = refl;
+      lower = refl;
+      own = refl;
+      listed = λ name. refl;
+      armed = λ name. refl;
+      taken = λ name. refl;
+    }
 
 pub handed_news : IsHanded is_new
-handed_news = record { blank = refl; number = refl; lower = refl; own = refl }
+handed_news =
+    record {
+      blank = refl;
+      number = refl;
+      lower = refl;
+      own = refl;
+      listed = λ name. refl;
+      armed = λ name. refl;
+      taken = λ name. refl;
+    }
+
+-- a packet that stands in a list with a cancel routine, or was taken off it, or handed to that
+abbrev pub is_queued : Kind → Bool
+is_queued Blank = false
+is_queued Num = false
+is_queued Lower = false
+is_queued New = false
+is_queued Own = false
+is_queued (Listed name) = true
+is_queued (Armed name) = true
+is_queued (Taken name) = true
+is_queued (Cancelling name) = true
+is_queued View = false
+
+-- kinds that no instruction of a driver makes where there are none and it breaks no rule
+pub record NeverMade (set : Set) (driver : ℕ) (f : Kind → Bool) : Type 0 where
+  pub blank : f Blank ≡ false
+  pub number : f Num ≡ false
+  pub lower : f Lower ≡ false
+  pub own : f Own ≡ false
+  pub inserted : (q : ℕ) → f (kind_inserted (cancel_routine_of set driver q) q) ≡ false
+  pub removed : (q : ℕ) → f (kind_removed (cancel_routine_of set driver q) q) ≡ false
+  pub armed : (q : ℕ) (k : Kind) → queued_kind (is_listed (Declared q) k) k ≡ None → f k ≡ false
+      → f (Armed (Declared q)) ≡ false
+  pub disarmed : (k : Kind) → f k ≡ false → f (kind_disarmed k) ≡ false
+
+module _ (f : Kind → Bool) (given : IsHanded f) where
+  pub handed_inserted : (cancel : Option ℕ) (q : ℕ) → f (kind_inserted cancel q) ≡ false
+  handed_inserted None q = given.blank
+  handed_inserted (Some routine) q = given.listed (Declared q)
+
+  pub handed_removed : (cancel : Option ℕ) (q : ℕ) → f (kind_removed cancel q) ≡ false
+  handed_removed None q = given.own
+  handed_removed (Some routine) q = given.taken (Declared q)
+
+  handed_disarmed : (k : Kind) → f k ≡ false → f (kind_disarmed k) ≡ false
+  handed_disarmed (Armed name) h = given.listed name
+  handed_disarmed (Taken name) h = given.own
+  handed_disarmed _ h = h
+
+  pub handed_never : (set : Set) (driver : ℕ) → NeverMade set driver f
+  handed_never set driver =
+      record {
+        blank = given.blank;
+        number = given.number;
+        lower = given.lower;
+        own = given.own;
+        inserted = λ q. handed_inserted (cancel_routine_of set driver q) q;
+        removed = λ q. handed_removed (cancel_routine_of set driver q) q;
+        armed = λ q k keeps h. given.armed (Declared q);
+        disarmed = handed_disarmed;
+      }
 
 abbrev pub HasNone : (Kind → Bool) → Abs → Type 0
 HasNone f s = list_any f s.kinds ≡ false
@@ -46,78 +120,116 @@ HasNoView s = HasNone is_view s
 both_false : (b c : Bool) → b ≡ false → c ≡ false → (b || c) ≡ false
 both_false b c one other = rw (one, other) refl
 
-module _ (f : Kind → Bool) (given : IsHanded f) where
-  none_set : (kinds : List Kind) (r : ℕ) (k : Kind) → f k ≡ false → list_any f kinds ≡ false
-      → list_any f (slice_set kinds r k) ≡ false
-  none_set [] r k is h = refl
-  none_set (j ∷ kinds) zero k is h =
-      both_false (f k) (list_any f kinds) is (or_right (f j) (list_any f kinds) h)
-  none_set (j ∷ kinds) (suc r) k is h =
-      both_false (f j) (list_any f (slice_set kinds r k))
-      (or_left (f j) (list_any f kinds) h)
-      (none_set kinds r k is (or_right (f j) (list_any f kinds) h))
+none_set : (f : Kind → Bool) (kinds : List Kind) (r : ℕ) (k : Kind) → f k ≡ false
+    → list_any f kinds ≡ false → list_any f (slice_set kinds r k) ≡ false
+none_set f [] r k is h = refl
+none_set f (j ∷ kinds) zero k is h =
+    both_false (f k) (list_any f kinds) is (or_right (f j) (list_any f kinds) h)
+none_set f (j ∷ kinds) (suc r) k is h =
+    both_false (f j) (list_any f (slice_set kinds r k))
+    (or_left (f j) (list_any f kinds) h)
+    (none_set f kinds r k is (or_right (f j) (list_any f kinds) h))
 
-  pub none_at : (kinds : List Kind) (r : ℕ) → list_any f kinds ≡ false
-      → f (slice_index_or kinds r Blank) ≡ false
-  none_at [] r h = given.blank
-  none_at (j ∷ kinds) zero h = or_left (f j) (list_any f kinds) h
-  none_at (j ∷ kinds) (suc r) h = none_at kinds r (or_right (f j) (list_any f kinds) h)
+pub left_none : (f : Kind → Bool) → f Blank ≡ false → f Num ≡ false → (k : Kind)
+    → f (left_behind k) ≡ false
+left_none f blank number Num = number
+left_none f blank number _ = blank
 
-  pub left_none : (k : Kind) → f (left_behind k) ≡ false
-  left_none Num = given.number
-  left_none Blank = given.blank
-  left_none Lower = given.blank
-  left_none New = given.blank
-  left_none Own = given.blank
-  left_none View = given.blank
+pub none_blank : (f : Kind → Bool) → f Blank ≡ false → (kinds : List Kind) (r : ℕ)
+    → list_any f kinds ≡ false → f (slice_index_or kinds r Blank) ≡ false
+none_blank f blank [] r h = blank
+none_blank f blank (j ∷ kinds) zero h = or_left (f j) (list_any f kinds) h
+none_blank f blank (j ∷ kinds) (suc r) h =
+    none_blank f blank kinds r (or_right (f j) (list_any f kinds) h)
+
+pub none_at : (f : Kind → Bool) → IsHanded f → (kinds : List Kind) (r : ℕ) → list_any f kinds ≡ false
+    → f (slice_index_or kinds r Blank) ≡ false
+none_at f given kinds r h = none_blank f given.blank kinds r h
+
+module _ (set : Set) (driver : ℕ) (f : Kind → Bool) (never : NeverMade set driver f) where
+  go_none : (lock : ℕ) (k : Kind) → f k ≡ false → f (let_go set driver lock k) ≡ false
+  go_none lock (Armed name) h =
+      cond_both (is_guard (guard_named set driver name) lock) Blank (Armed name)
+      (λ k. f k ≡ false) (λ guards. never.blank) (λ other. h)
+  go_none lock _ h = h
+
+  all_go_none : (lock : ℕ) (kinds : List Kind) → list_any f kinds ≡ false
+      → list_any f (all_let_go set driver lock kinds) ≡ false
+  all_go_none lock [] h = refl
+  all_go_none lock (k ∷ kinds) h =
+      both_false (f (let_go set driver lock k)) (list_any f (all_let_go set driver lock kinds))
+      (go_none lock k (or_left (f k) (list_any f kinds) h))
+      (all_go_none lock kinds (or_right (f k) (list_any f kinds) h))
 
   marked_none : (s : Abs) (r : ℕ) (k : Kind) → HasNone f s → HasNone f (marked s r k)
-  marked_none s r New h = none_set s.kinds r Own given.own h
+  marked_none s r New h = none_set f s.kinds r Own never.own h
   marked_none s r _ h = h
 
   given_none : (s : Abs) (r : ℕ) (k : Kind) → HasNone f s → HasNone f (given_down s r k)
-  given_none s r New h = none_set s.kinds r Lower given.lower h
-  given_none s r Own h = none_set s.kinds r Blank given.blank h
+  given_none s r New h = none_set f s.kinds r Lower never.lower h
+  given_none s r Own h = none_set f s.kinds r Blank never.blank h
   given_none s r _ h = h
 
-  handed_none : (s : Abs) (i : Instr) → HasNone f s → HasNone f (handed s i)
-  handed_none s (Const r n) h = none_set s.kinds r Num given.number h
-  handed_none s (Move r q) h =
-      none_set (slice_set s.kinds r (kind_of s q)) q (left_behind (kind_of s q))
-      (left_none (kind_of s q))
-      (none_set s.kinds r (kind_of s q) (none_at s.kinds q h) h)
-  handed_none s (Clear r) h = none_set s.kinds r Blank given.blank h
-  handed_none s (Load r c) h = none_set s.kinds r Num given.number h
-  handed_none s (LoadPaged r c) h = none_set s.kinds r Num given.number h
-  handed_none s (Get r q field) h = none_set s.kinds r Num given.number h
-  handed_none s (Mark r) h = marked_none s r (kind_of s r) h
-  handed_none s (Insert r q) h = none_set s.kinds r Blank given.blank h
-  handed_none s (Remove r q label) h = none_set s.kinds r Own given.own h
-  handed_none s (Start r) h = none_set s.kinds r Blank given.blank h
-  handed_none s (Take r label) h = none_set s.kinds r Own given.own h
-  handed_none s (Begin r) h = none_set s.kinds r Blank given.blank h
-  handed_none s (Pass r) h = given_none s r (kind_of s r) h
-  handed_none s (Call r f) h = given_none s r (kind_of s r) h
-  handed_none s (Complete r status) h = none_set s.kinds r Blank given.blank h
-  handed_none s _ h = h
+  handed_none : (s : Abs) (i : Instr) (sort : Sort) → refuses s i sort set driver ≡ None → HasNone f s
+      → HasNone f (handed set driver s i)
+  handed_none s (Const r n) sort keeps h = none_set f s.kinds r Num never.number h
+  handed_none s (Move r q) sort keeps h =
+      none_set f (slice_set s.kinds r (kind_of s q)) q (left_behind (kind_of s q))
+      (left_none f never.blank never.number (kind_of s q))
+      (none_set f s.kinds r (kind_of s q) (none_blank f never.blank s.kinds q h) h)
+  handed_none s (Clear r) sort keeps h = none_set f s.kinds r Blank never.blank h
+  handed_none s (Load r c) sort keeps h = none_set f s.kinds r Num never.number h
+  handed_none s (LoadPaged r c) sort keeps h = none_set f s.kinds r Num never.number h
+  handed_none s (Get r q field) sort keeps h = none_set f s.kinds r Num never.number h
+  handed_none s (Mark r) sort keeps h = marked_none s r (kind_of s r) h
+  handed_none s (Insert r q) sort keeps h =
+      none_set f s.kinds r (kind_inserted (cancel_routine_of set driver q) q) (never.inserted q) h
+  handed_none s (Remove r q label) sort keeps h =
+      none_set f s.kinds r (kind_removed (cancel_routine_of set driver q) q) (never.removed q) h
+  handed_none s (Unlink r q) sort keeps h = none_set f s.kinds r Own never.own h
+  handed_none s (Arm r q) sort keeps h =
+      none_set f s.kinds r (Armed (Declared q))
+      (never.armed q (kind_of s r) (first_none _ _ keeps) (none_blank f never.blank s.kinds r h)) h
+  handed_none s (Disarm r label) sort keeps h =
+      none_set f s.kinds r (kind_disarmed (kind_of s r))
+      (never.disarmed (kind_of s r) (none_blank f never.blank s.kinds r h)) h
+  handed_none s (Release lock) sort keeps h = all_go_none lock s.kinds h
+  handed_none s (Start r) sort keeps h = none_set f s.kinds r Blank never.blank h
+  handed_none s (Take r label) sort keeps h = none_set f s.kinds r Own never.own h
+  handed_none s (Begin r) sort keeps h = none_set f s.kinds r Blank never.blank h
+  handed_none s (Pass r) sort keeps h = given_none s r (kind_of s r) h
+  handed_none s (Call r f) sort keeps h = given_none s r (kind_of s r) h
+  handed_none s (Complete r status) sort keeps h = none_set f s.kinds r Blank never.blank h
+  handed_none s _ sort keeps h = h
 
   label_none : (s : Abs) (i : Instr) → HasNone f s → HasNone f (handed_at_label s i)
-  label_none s (Remove r q label) h = none_set s.kinds r Blank given.blank h
-  label_none s (Take r label) h = none_set s.kinds r Blank given.blank h
+  label_none s (Remove r q label) h = none_set f s.kinds r Blank never.blank h
+  label_none s (Disarm r label) h = none_set f s.kinds r Blank never.blank h
+  label_none s (Take r label) h = none_set f s.kinds r Blank never.blank h
   label_none s (IfPending r label) h = h
   label_none s _ h = h
 
-  -- a routine of a sort that begins with none has none
-  arrives_none : (m : Member) (p : ℕ) (s : Abs) (sort : Sort) (entry : Abs) → m.routine.sort ≡ sort
-      → entry_of_sort sort ≡ Some entry → HasNone f entry → Arrives m p s → HasNone f s
-  arrives_none m p s sort entry is enters none arrives =
-      arrives_keep (HasNone f) m
-      (λ first there.
-      let start : Some entry ≡ Some first = sym (ap entry_of_sort is ∙ enters) ∙ there in
-      let same : entry ≡ first = cc in
-      subst (HasNone f) same none)
-      (λ before i q at rule h. handed_none before i h)
-      (λ before i q at rule h. label_none before i h) p s arrives
+-- a routine that begins with none has none
+pub none_arrives : (f : Kind → Bool) (m : Member) (p : ℕ) (s : Abs) → NeverMade m.set m.driver f
+    → ((first : Abs) → entry_state m ≡ Some first → HasNone f first) → Arrives m p s → HasNone f s
+none_arrives f m p s never none arrives =
+    arrives_keep (HasNone f) m none
+    (λ before i q at rule h. handed_none m.set m.driver f never before i m.routine.sort rule h)
+    (λ before i q at rule h. label_none m.set m.driver f never before i h) p s arrives
+
+-- a routine of a sort that begins with none has none
+arrives_none : (f : Kind → Bool) (given : IsHanded f) (m : Member) (p : ℕ) (s : Abs) (sort : Sort)
+    (entry : Abs) → m.routine.sort ≡ sort
+    → entry_of_sort sort (cancels_for m.set m.driver m.number) ≡ Some entry → HasNone f entry
+    → Arrives m p s → HasNone f s
+arrives_none f given m p s sort entry is enters none arrives =
+    none_arrives f m p s (handed_never f given m.set m.driver)
+    (λ first there.
+    let start : Some entry ≡ Some first =
+    sym (ap (λ (x : Sort). entry_of_sort x (cancels_for m.set m.driver m.number)) is ∙ enters) ∙ there
+    in
+    let same : entry ≡ first = cc in
+    subst (HasNone f) same none) arrives
 
 pub no_view_at : (kinds : List Kind) (r : ℕ) → list_any is_view kinds ≡ false
     → is_view (slice_index_or kinds r Blank) ≡ false
@@ -135,6 +247,8 @@ is_deferred Dispatch = false
 is_deferred StartIo = true
 is_deferred Dpc = true
 is_deferred Propagate = false
+is_deferred Hold = false
+is_deferred Cancel = false
 
 pub deferred_no_view : (m : Member) (p : ℕ) (s : Abs) (sort : Sort) → m.routine.sort ≡ sort
     → is_deferred sort ≡ true → Arrives m p s → HasNoView s
@@ -146,6 +260,8 @@ deferred_no_view m p s Dpc is deferred arrives =
     arrives_none is_view handed_views m p s Dpc (entered_with Blank NoDuty SettledMark false) is refl
     refl arrives
 deferred_no_view m p s Propagate is deferred arrives = cc
+deferred_no_view m p s Hold is deferred arrives = cc
+deferred_no_view m p s Cancel is deferred arrives = cc
 
 pub deferred_no_new : (m : Member) (p : ℕ) (s : Abs) (sort : Sort) → m.routine.sort ≡ sort
     → is_deferred sort ≡ true → Arrives m p s → HasNone is_new s
@@ -157,6 +273,8 @@ deferred_no_new m p s Dpc is deferred arrives =
     arrives_none is_new handed_news m p s Dpc (entered_with Blank NoDuty SettledMark false) is refl
     refl arrives
 deferred_no_new m p s Propagate is deferred arrives = cc
+deferred_no_new m p s Hold is deferred arrives = cc
+deferred_no_new m p s Cancel is deferred arrives = cc
 
 pub propagate_no_new : (m : Member) (p : ℕ) (s : Abs) → m.routine.sort ≡ Propagate → Arrives m p s
     → HasNone is_new s

@@ -1,7 +1,7 @@
 -- What an instruction that breaks no rule tells of the state before it: where it sends a packet
 -- down, completes one, or returns.
-use Rattle.std.proofs.Common.{◌≡◌, ℕ, Bool, true, false, None, Some, refl}
-use Rattle.std.specs.Prelude.{◌||◌}
+use Rattle.std.proofs.Common.{◌≡◌, ℕ, Bool, true, false, List, [], ◌∷◌, None, Some, refl, sym, ◌∙◌, subst}
+use Rattle.std.specs.Prelude.{◌||◌, ◌&&◌}
 use Rattle.std.specs.List.{list_any}
 use Rattle.model.specs.declared.abs.Abs.{Abs}
 use Rattle.model.specs.declared.abs.Kind.{Kind}
@@ -11,13 +11,16 @@ use Rattle.model.specs.declared.instr.Instr.{Instr}
 use Rattle.model.specs.declared.instr.Instr.TheVariants.{Pass, Call, Complete, Ret}
 use Rattle.model.specs.declared.instr.Return.{Return}
 use Rattle.model.specs.declared.set.Sort.{Sort}
-use Rattle.model.specs.declared.set.Sort.TheVariants.{Dispatch, Dpc, Propagate, StartIo}
+use Rattle.model.specs.declared.set.Sort.TheVariants.{Dispatch, Dpc, Propagate, StartIo, Hold, Cancel}
 use Rattle.model.specs.declared.status.Status.{Status}
 use Rattle.model.specs.Forwarding.{lacks_lower, is_too_small}
-use Rattle.model.specs.LocalRule.{an_owned_one, kind_of, is_kept, is_right, is_pending, is_completion, holds_lock, holds_spin_lock, a_new_one, one_handed_or_owned, demanded, complete_kind, broken_if, least_of, completion_sort_fault, forward_sort_fault, kept_fault, given_down, handed, refuses, forward_fault, duty_fault, form_fault, settled_fault}
+use Rattle.model.specs.LocalRule.{an_owned_one, gives_back, is_dropped, is_hold, kind_of, is_pending, is_completion, holds_lock, holds_spin_lock, a_new_one, one_handed_or_owned, demanded, complete_kind, broken_if, least_of, completion_sort_fault, forward_sort_fault, kept_fault, given_down, handed, refuses, forward_fault, duty_fault, form_fault, settled_fault}
+use Rattle.model.specs.Kinds.{is_kept, is_right}
 use Rattle.model.specs.Set.{Set}
+use Rattle.run_laws.proofs.States.NoViews.{is_queued}
 use Rattle.run_laws.proofs.States.Rules.{first_none, second_none, unbroken}
 use Rattle.run_laws.proofs.Steps.Words.{Forwarding, work_of, packet_operand}
+use Rattle.run_laws.proofs.Tests.{or_left, or_right}
 
 -- how many locations more a packet needs that an instruction sends down
 abbrev pub locations_wanted : Instr → ℕ
@@ -29,6 +32,8 @@ forwards_of Dispatch h = refl
 forwards_of StartIo h = cc
 forwards_of Dpc h = cc
 forwards_of Propagate h = cc
+forwards_of Hold h = cc
+forwards_of Cancel h = cc
 
 new_right : (k : Kind) → demanded a_new_one k ≡ None → is_right k ≡ true
 new_right New h = refl
@@ -38,6 +43,15 @@ owned_right : (k : Kind) → demanded one_handed_or_owned k ≡ None → is_righ
 owned_right New h = refl
 owned_right Own h = refl
 owned_right _ h = cc
+
+new_unqueued : (k : Kind) → demanded a_new_one k ≡ None → is_queued k ≡ false
+new_unqueued New h = refl
+new_unqueued _ h = cc
+
+owned_unqueued : (k : Kind) → demanded one_handed_or_owned k ≡ None → is_queued k ≡ false
+owned_unqueued New h = refl
+owned_unqueued Own h = refl
+owned_unqueued _ h = cc
 
 pub inserts_right : (k : Kind) → demanded an_owned_one k ≡ None → k ≡ Own
 inserts_right Own h = refl
@@ -51,27 +65,55 @@ complete_right _ h = cc
 either_free : (cancel spin : Bool) → cancel ≡ false → spin ≡ false → (cancel || spin) ≡ false
 either_free cancel spin one two = rw (one, two) refl
 
+-- where a routine that was lent no packet returns, it keeps none
+dropped_kept : (k : Kind) → is_dropped false k ≡ is_kept k
+dropped_kept k = and_true (is_kept k)
+  where
+    and_true : (b : Bool) → (b && true) ≡ b
+    and_true false = refl
+    and_true true = refl
+
+no_kept : (kinds : List Kind) → list_any (is_dropped false) kinds ≡ false
+    → list_any is_kept kinds ≡ false
+no_kept [] h = refl
+no_kept (k ∷ kinds) h =
+    either_free (is_kept k) (list_any is_kept kinds)
+    (sym (dropped_kept k) ∙ or_left (is_dropped false k) (list_any (is_dropped false) kinds) h)
+    (no_kept kinds (or_right (is_dropped false k) (list_any (is_dropped false) kinds) h))
+
+never_back : (sort : Sort) (form : Return) → is_hold sort ≡ false → gives_back sort form ≡ false
+never_back Hold form lends = cc
+never_back _ form lends = refl
+
+pub nothing_kept : (sort : Sort) (form : Return) (kinds : List Kind) → is_hold sort ≡ false
+    → list_any (is_dropped (gives_back sort form)) kinds ≡ false → list_any is_kept kinds ≡ false
+nothing_kept sort form kinds lends none =
+    no_kept kinds
+    (subst (λ (back : Bool). list_any (is_dropped back) kinds ≡ false) (never_back sort form lends) none)
+
 module _ (s : Abs) (sort : Sort) (set : Set) (driver : ℕ) where
   -- a packet is sent down
   pub record SendsDown (i : Instr) (r : ℕ) : Type 0 where
     pub right : is_right (kind_of s r) ≡ true
+    pub unqueued : is_queued (kind_of s r) ≡ false
     pub free : holds_lock s ≡ false
     pub dispatch : sort ≡ Dispatch
     pub room : is_too_small set driver (locations_wanted i) ≡ false
     pub lower : lacks_lower set driver ≡ false
-    pub after : handed s i ≡ given_down s r (kind_of s r)
+    pub after : handed set driver s i ≡ given_down s r (kind_of s r)
 
   sends_by : (i : Instr) (q r : ℕ) → Some q ≡ Some r → is_right (kind_of s q) ≡ true
-      → forward_fault s sort set driver (locations_wanted i) ≡ None
-      → handed s i ≡ given_down s q (kind_of s q)
+      → is_queued (kind_of s q) ≡ false → forward_fault s sort set driver (locations_wanted i) ≡ None
+      → handed set driver s i ≡ given_down s q (kind_of s q)
       → SendsDown i r
-  sends_by i q r same right rule after =
+  sends_by i q r same right unqueued rule after =
       let one : q ≡ r = cc in
       let later : least_of (forward_sort_fault sort)
       (least_of (broken_if (is_too_small set driver (locations_wanted i)) StackTooSmall)
       (broken_if (lacks_lower set driver) NoLower)) ≡ None = second_none _ _ rule in
       record {
         right = rw one at right;
+        unqueued = rw one at unqueued;
         free = unbroken (holds_lock s) LockHeld (first_none _ _ rule);
         dispatch = forwards_of sort (first_none _ _ later);
         room = unbroken (is_too_small set driver (locations_wanted i)) StackTooSmall
@@ -83,10 +125,11 @@ module _ (s : Abs) (sort : Sort) (set : Set) (driver : ℕ) where
   pub sends_down : (i : Instr) (r : ℕ) → refuses s i sort set driver ≡ None → work_of i ≡ Forwarding
       → packet_operand i ≡ Some r → SendsDown i r
   sends_down (Pass q) r h is operand =
-      sends_by (Pass q) q r operand (new_right (kind_of s q) (first_none _ _ h)) (second_none _ _ h) refl
+      sends_by (Pass q) q r operand (new_right (kind_of s q) (first_none _ _ h))
+      (new_unqueued (kind_of s q) (first_none _ _ h)) (second_none _ _ h) refl
   sends_down (Call q f) r h is operand =
       sends_by (Call q f) q r operand (owned_right (kind_of s q) (first_none _ _ h))
-      (second_none _ _ h) refl
+      (owned_unqueued (kind_of s q) (first_none _ _ h)) (first_none _ _ (second_none _ _ h)) refl
   sends_down _ r h is operand = cc
 
   -- one is completed
@@ -113,23 +156,23 @@ module _ (s : Abs) (sort : Sort) (set : Set) (driver : ℕ) where
   pub record ReturnsBy (form : Return) : Type 0 where
     pub duty : duty_fault s form ≡ None
     pub free : holds_lock s ≡ false
-    pub nothing_left : list_any is_kept s.kinds ≡ false
+    pub nothing_left : list_any (is_dropped (gives_back sort form)) s.kinds ≡ false
     pub of_form : form_fault sort form ≡ None
-    pub settled : settled_fault sort s.settled ≡ None
+    pub settled : settled_fault sort s form ≡ None
 
   pub returns_by : (form : Return) → refuses s (Ret form) sort set driver ≡ None → ReturnsBy form
   returns_by form h =
-      let rest : least_of (kept_fault s)
-      (least_of (form_fault sort form) (settled_fault sort s.settled)) ≡ None =
+      let back : Bool = gives_back sort form in
+      let rest : least_of (kept_fault s back)
+      (least_of (form_fault sort form) (settled_fault sort s form)) ≡ None =
       second_none _ _ h in
-      let kept : kept_fault s ≡ None = first_none _ _ rest in
+      let kept : kept_fault s back ≡ None = first_none _ _ rest in
       record {
         duty = first_none _ _ h;
         free = either_free s.cancel (holds_spin_lock s)
             (unbroken s.cancel CancelSpinLock (first_none _ _ kept))
             (unbroken (holds_spin_lock s) SpinLock (first_none _ _ (second_none _ _ kept)));
-        nothing_left =
-            unbroken (list_any is_kept s.kinds) Dropped
+        nothing_left = unbroken (list_any (is_dropped back) s.kinds) Dropped
             (first_none _ _ (second_none _ _ (second_none _ _ kept)));
         of_form = first_none _ _ (second_none _ _ rest);
         settled = second_none _ _ (second_none _ _ rest);

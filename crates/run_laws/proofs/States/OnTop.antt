@@ -1,6 +1,6 @@
 -- The top frame of a thread of an accepted set: it stands as it should, what it executes is the
 -- instruction of a routine that breaks no rule, and it lacks nothing that the instruction wants.
-use Rattle.std.proofs.Common.{◌≡◌, ◌⊎◌, ℕ, Option, None, Some, sym, subst, ◌∙◌, ap}
+use Rattle.std.proofs.Common.{◌≡◌, ◌⊎◌, ℕ, false, Option, None, Some, refl, sym, subst, ◌∙◌, ap}
 use Rattle.std.specs.Prelude.{slice_get, option_and_then}
 use Rattle.model.specs.declared.abs.Kind.TheVariants.{Num as NumKind}
 use Rattle.model.specs.declared.instr.Instr.{Instr}
@@ -18,8 +18,10 @@ use Rattle.run_laws.proofs.States.Fits.{Fits}
 use Rattle.run_laws.proofs.States.Frames.{state_of, Stays, IsGood, Runs}
 use Rattle.run_laws.proofs.States.Kinds.{Suits, kinds_get, number_there, packet_ref, packet_wanted, number_wanted}
 use Rattle.run_laws.proofs.States.Known.{IsKnown}
+use Rattle.run_laws.proofs.States.NoViews.{HasNone, is_queued, none_blank}
 use Rattle.run_laws.proofs.States.Rules.{States}
 use Rattle.run_laws.proofs.States.Stacks.{Stands}
+use Rattle.run_laws.proofs.States.Unlisted.{arrives_unlisted}
 use Rattle.run_laws.proofs.Steps.Comes.{Executing}
 use Rattle.run_laws.proofs.Steps.Words.{packet_operand, number_operand, second_operand}
 
@@ -58,6 +60,17 @@ module _ (set : Set) (states : States) (s : Shared) (a : Activation) where
         fits = h.fits;
         good = h.good;
       }
+
+  -- none of its registers has a packet of a list with a cancel routine
+  pub none_listed : (i : Instr) → Runs set states s a i → HasNone is_queued (state_of states a)
+  none_listed i h =
+      arrives_unlisted (member set a.driver a.routine h.routine) h.good.quiet a.position
+      (state_of states a) (h.known.follows.arrives a.position h.stays.within)
+
+  pub never_listed : (i : Instr) → Runs set states s a i → (r : ℕ)
+      → is_queued (kind_of (state_of states a) r) ≡ false
+  never_listed i h r =
+      none_blank is_queued refl (state_of states a).kinds r (none_listed i h)
 
   pub value_suits : (i : Instr) (r : ℕ) → Runs set states s a i
       → Suits s.issued (kind_of (state_of states a) r) (register a r)

@@ -1,34 +1,44 @@
 -- What the instructions about queues do to a routine's frame: it goes on to the next position, with the
 -- first packet of a queue or the one in the current slot in a register where one was taken, or to a
 -- label where there was none.
-use Rattle.std.proofs.Common.{◌<◌, ℕ, Bool, true, false, List, ◌∷◌, None, Some, refl, subst}
-use Rattle.std.specs.Prelude.{slice_set}
+use Rattle.std.proofs.Common.{◌<◌, ℕ, Bool, true, false, List, [], ◌∷◌, None, Some, refl, subst}
+use Rattle.std.specs.Prelude.{nat_eq, slice_set}
+use Rattle.std.proofs.lemmas.Bool.{cond_both}
 use Rattle.model.specs.declared.abs.Kind.TheVariants.{Own}
 use Rattle.model.specs.declared.instr.Instr.{Instr}
-use Rattle.model.specs.declared.instr.Instr.TheVariants.{Begin, Insert, Next, Remove, Start, Take}
+use Rattle.model.specs.declared.instr.Instr.TheVariants.{Begin, Insert, Next, Remove, Start, Take, Unlink}
 use Rattle.model.specs.declared.world.Activation.{Activation}
 use Rattle.model.specs.declared.world.Value.TheVariants.{Ref}
 use Rattle.model.specs.Action.{Action}
-use Rattle.model.specs.Queues.{StartState, inserted, next_started, started, with_slot}
-use Rattle.model.specs.Set.{Set}
+use Rattle.model.specs.Kinds.{kind_removed}
+use Rattle.model.specs.Queues.{StartState, inserted, next_started, started, unlinked, with_slot}
+use Rattle.model.specs.Set.{Set, cancel_routine_of}
 use Rattle.model.specs.World.{Shared}
-use Rattle.run_laws.proofs.Lists.{each_push}
+use Rattle.run_laws.proofs.Lists.{Each, each_push}
 use Rattle.run_laws.proofs.Past.Packets.{named}
 use Rattle.run_laws.proofs.States.Fits.{AllQueuesFit, queue_issued, queue_put_fits}
 use Rattle.run_laws.proofs.States.Frames.{Moved, Runs, state_of}
-use Rattle.run_laws.proofs.States.Kinds.{kinds_set}
+use Rattle.run_laws.proofs.States.Kinds.{kinds_set, removed_suits}
 use Rattle.run_laws.proofs.States.Moves.{moved_label, moved_next, moved_on, onto}
 use Rattle.run_laws.proofs.States.Rules.{States}
 use Rattle.run_laws.proofs.States.StartsFit.{AllStartsFit, SlotFits, StartFits, WereIssued, next_started_fits, slot_put_fits, start_issued, start_put_fits, started_fits}
-use Rattle.run_laws.proofs.Steps.Comes.{Queued, inserts, removes, removes_none, puts_in, starts_next, starts_packet, takes_none, takes_out}
+use Rattle.run_laws.proofs.Steps.Comes.{Queued, inserts, removes, removes_none, puts_in, starts_next, starts_packet, takes_none, takes_out, unlinks}
 
 -- where the frame goes on
 pub record MovedOn (set : Set) (states : States) (s : Shared) (a : Activation) (i : Instr) (b : Activation)
     (queues : List (List (List ℕ))) (lists : List StartState) : Type 0 where
   pub jumped : Bool
-  pub moved : Moved set states s.issued a b (onto (state_of states a) i jumped)
+  pub moved : Moved set states s.issued a b (onto set a.driver (state_of states a) i jumped)
   pub fits : AllQueuesFit set queues s.issued
   pub starts : AllStartsFit set lists s.issued
+
+-- what a packet is taken out of names no others
+each_unlinked : (P : ℕ → Type 0) (entries : List ℕ) (n : ℕ) → Each P entries
+    → Each P (unlinked entries n)
+each_unlinked P [] n all = tt
+each_unlinked P (entry ∷ entries) n all =
+    cond_both (nat_eq entry n) entries (entry ∷ unlinked entries n) (λ left. Each P left)
+    (λ same. all.1) (λ other. (all.0, each_unlinked P entries n all.1))
 
 pub queue_moves : (set : Set) (states : States) (s : Shared) (a : Activation) (i : Instr)
     → Runs set states s a i
@@ -51,8 +61,9 @@ queue_moves set states s a i h (removes r q label n entries there) =
     record {
       jumped = false;
       moved = moved_next set states s a (Remove r q label) h refl (slice_set a.registers r (Ref n))
-          (kinds_set s.issued (state_of states a).kinds a.registers r Own (Ref n) h.stays.kinds
-          (n, refl, all.0));
+          (kinds_set s.issued (state_of states a).kinds a.registers r
+          (kind_removed (cancel_routine_of set a.driver q) q) (Ref n) h.stays.kinds
+          (removed_suits s.issued (cancel_routine_of set a.driver q) q (Ref n) (n, refl, all.0)));
       fits = queue_put_fits set s a.device q (n ∷ entries) entries there all.1 h.fits.queued;
       starts = h.fits.starts;
     }
@@ -61,6 +72,16 @@ queue_moves set states s a i h (removes_none r q label there) =
       jumped = true;
       moved = moved_label set states s a (Remove r q label) h label refl;
       fits = h.fits.queued;
+      starts = h.fits.starts;
+    }
+queue_moves set states s a i h (unlinks r q n entries reads there) =
+    record {
+      jumped = false;
+      moved = moved_on set states s a (Unlink r q) h refl refl refl;
+      fits = queue_put_fits set s a.device q entries (unlinked entries n) there
+          (each_unlinked (λ (m : ℕ). m < s.issued) entries n
+          (queue_issued set s a.device q entries there h.fits.queued))
+          h.fits.queued;
       starts = h.fits.starts;
     }
 queue_moves set states s a i h (starts_packet r n start reads there) =

@@ -9,26 +9,30 @@ use Rattle.model.specs.declared.set.Sort.TheVariants.{Dispatch, Propagate}
 use Rattle.model.specs.declared.status.Status.{Status}
 use Rattle.model.specs.declared.world.Activation.{Activation}
 use Rattle.model.specs.declared.world.Frame.{Frame}
-use Rattle.model.specs.declared.world.Frame.TheVariants.{Routine, Walk}
+use Rattle.model.specs.declared.world.Frame.TheVariants.{Routine, Walk, Cancel as CancelFrame}
 use Rattle.model.specs.declared.world.Irql.{Irql}
 use Rattle.model.specs.declared.world.Irql.TheVariants.{Passive}
 use Rattle.model.specs.declared.world.OpenLoop.{OpenLoop}
-use Rattle.model.specs.Effect.{Outcome, answered_in, completes_with, operand_of, root_over, turned}
+use Rattle.model.specs.Effect.{Outcome, answered_in, completes_with, operand_of, turned}
+use Rattle.model.specs.Events.{root_over}
 use Rattle.model.specs.Set.{Set, instruction_at}
 use Rattle.model.specs.World.{Shared, at_label, next, outer_loops, with_loops}
 use Rattle.run_laws.proofs.Lists.{Each}
 use Rattle.run_laws.proofs.States.Entering.{IsOfSort, Begins, begins_back}
 use Rattle.run_laws.proofs.States.Lacking.{down}
+use Rattle.run_laws.proofs.States.Never.{never_stands}
 use Rattle.run_laws.proofs.States.OnTop.{OnTop, runs}
 use Rattle.run_laws.proofs.States.Queueing.{MovedOn, queue_moves}
 use Rattle.run_laws.proofs.States.Rules.{States}
 use Rattle.run_laws.proofs.States.Told.{told_frame, told_last}
-use Rattle.run_laws.proofs.Steps.Comes.{GoesTo, onward, jumping, Comes, computes, turns_loop, pages, looks_at, completes_packet, passes_down, calls_down, returns_status, lets_go, lets_walk, ends_dpc, walks_gone, walks_to, walks_up, carries_up, tops_out, works_on_queues, ends_startio}
+use Rattle.run_laws.proofs.Steps.Comes.{GoesTo, onward, jumping, Comes, computes, turns_loop, pages, looks_at, completes_packet, passes_down, calls_down, returns_status, lets_go, lets_walk, ends_dpc, walks_gone, walks_to, walks_up, carries_up, tops_out, works_on_queues, ends_startio, exchanges, resumes_walk, resumes_gone, resumes_none, stops_walk, stops_none, ends_cancel, lends_to, cancels}
+use Rattle.run_laws.proofs.Steps.Uncancelled.{never_lends}
 
 module _ (set : Set) (root : Irql) where
   abbrev pub Low : Frame → Type 0
   Low (Routine a) = IsOfSort set a Dispatch → root ≡ Passive
   Low (Walk n) = ⊤
+  Low (CancelFrame c) = ⊤
 
   goes_low : (a : Activation) (i : Instr) (b : Activation) (jumped : Bool) → GoesTo a i b jumped
       → Low (Routine a) → Low (Routine b)
@@ -51,7 +55,9 @@ module _ (set : Set) (root : Irql) where
   told_low : (told : Option Status) (f : Frame) → Low f → Low (told_frame set told f)
   told_low None (Routine a) low = low
   told_low None (Walk n) low = low
+  told_low None (CancelFrame c) low = low
   told_low (Some status) (Walk n) low = low
+  told_low (Some status) (CancelFrame c) low = low
   told_low (Some status) (Routine a) low =
       answered_low a status (operand_of (instruction_at set a.driver a.routine (a.position - 1))) low
 
@@ -71,6 +77,8 @@ module _ (set : Set) (root : Irql) where
     step_low under f o h low (turns_loop a l at inner) = (turned_low a l low, tt)
     step_low under f o h low (pages a i b cell cells at work goes long) = (goes_low a i b false goes low, tt)
     step_low under f o h low (looks_at a i b jumped r n p at work goes operand reads there jumps) =
+        (goes_low a i b jumped goes low, tt)
+    step_low under f o h low (exchanges a i b jumped r n p armer at work goes operand reads there how) =
         (goes_low a i b jumped goes low, tt)
     step_low under f o h low (completes_packet a r status n p at reads there) = (low, (tt, tt))
     step_low under f o h low (passes_down a r n p lower at reads there below) = (
@@ -92,6 +100,16 @@ module _ (set : Set) (root : Irql) where
     step_low under f o h low (returns_status a form status at sort is) = tt
     step_low under f o h low (lets_go a at sort free) = tt
     step_low under f o h low (lets_walk a n at sort) = tt
+    step_low under f o h low (resumes_walk a n p at sort there) = tt
+    step_low under f o h low (resumes_gone a n at sort gone) = tt
+    step_low under f o h low (resumes_none a at sort free) = tt
+    step_low under f o h low (stops_walk a n at above) = tt
+    step_low under f o h low (stops_none a at above free) = tt
+    step_low under f o h low (ends_cancel a at sort) = tt
+    step_low under f o h low (lends_to n p c there set_there sort) =
+        absurd (never_lends h.good.quiet c sort)
+    step_low under f o h low (cancels n step made moves) =
+        absurd (never_stands set states s (record { packet = n; next = step }) h)
     step_low under f o h low (works_on_queues a i b queues starts actions full at queued) =
         let on : MovedOn set states s a i b queues starts =
         queue_moves set states s a i (runs set states s a i h at) queued in
@@ -99,7 +117,7 @@ module _ (set : Set) (root : Irql) where
     step_low under f o h low (ends_startio a at sort) = tt
     step_low under f o h low (ends_dpc a at sort) = tt
     step_low under f o h low (walks_gone n gone) = tt
-    step_low under f o h low (walks_to n p c there set_there) =
+    step_low under f o h low (walks_to n p c there set_there lends) =
         let begins : Begins set states s.issued (completes_with set c n) Propagate n =
         begins_back set states s h.good h.fits n p c h.stands there set_there in
         (tt, ((λ is. (let no : Propagate ≡ Dispatch = sym begins.of_sort ∙ is in cc)), tt))

@@ -7,10 +7,12 @@ use Rattle.model.specs.declared.set.Sort.TheVariants.{Dispatch, Propagate}
 use Rattle.model.specs.declared.status.Status.{Status}
 use Rattle.model.specs.declared.world.Activation.{Activation}
 use Rattle.model.specs.declared.world.Frame.{Frame}
-use Rattle.model.specs.declared.world.Frame.TheVariants.{Routine, Walk}
+use Rattle.model.specs.declared.world.Frame.TheVariants.{Routine, Walk, Cancel as CancelFrame}
 use Rattle.model.specs.Effect.{operand_of, answered_in, answered, told_to}
 use Rattle.model.specs.LocalRule.{holds_lock}
 use Rattle.model.specs.Set.{Set, instruction_at}
+use Rattle.run_laws.proofs.Lists.{Each}
+use Rattle.run_laws.proofs.Past.Walks.{WalkIssued}
 use Rattle.run_laws.proofs.States.Entering.{IsOfSort}
 use Rattle.run_laws.proofs.States.Frames.{Ready, state_of}
 use Rattle.run_laws.proofs.States.Kinds.{kinds_later}
@@ -33,10 +35,11 @@ answered_sort set a status sort h =
 module _ (set : Set) (states : States) where
   -- a frame, and the one that stands on it. A routine's frame goes on whatever status it is told by
   -- the dispatch routine on it; the I/O manager's has a completion routine on it, or nothing. What
-  -- stands below holds no lock
+  -- stands below holds no lock. Where nothing is cancelled no frame of IoCancelIrp stands
   abbrev pub Stands : ℕ → Option Frame → Frame → Type 0
   Stands issued None (Routine a) = Ready set states issued a
   Stands issued None (Walk n) = n < issued
+  Stands issued None (CancelFrame c) = ⊥
   Stands issued (Some (Walk n)) (Routine a) = Ready set states issued a
       × (holds_lock (state_of states a) ≡ false)
   Stands issued (Some (Routine b)) (Routine a) =
@@ -44,6 +47,9 @@ module _ (set : Set) (states : States) where
       × ((status : Status) → Ready set states issued (answered set a status))
   Stands issued (Some (Routine b)) (Walk n) = IsOfSort set b Propagate × (n < issued)
   Stands issued (Some (Walk m)) (Walk n) = ⊥
+  Stands issued (Some (Routine b)) (CancelFrame c) = ⊥
+  Stands issued (Some (Walk m)) (CancelFrame c) = ⊥
+  Stands issued (Some (CancelFrame c)) f = ⊥
 
   -- the frames of a thread, the lowest first
   abbrev pub Stacked : ℕ → List Frame → Type 0
@@ -67,11 +73,27 @@ module _ (set : Set) (states : States) where
     top_stands (g ∷ []) f h = h.1
     top_stands (g ∷ e ∷ below) f h = top_stands (e ∷ below) f h.1
 
+    -- the I/O manager completes packets that were issued
+    walk_stands : (above : Option Frame) (f : Frame) → Stands issued above f → WalkIssued issued f
+    walk_stands above (Routine a) h = tt
+    walk_stands above (CancelFrame c) h = tt
+    walk_stands None (Walk n) h = h
+    walk_stands (Some (Routine b)) (Walk n) h = h.1
+    walk_stands (Some (Walk m)) (Walk n) h = absurd h
+    walk_stands (Some (CancelFrame c)) (Walk n) h = absurd h
+
+    pub walks_stand : (frames : List Frame) → Stacked issued frames → Each (WalkIssued issued) frames
+    walks_stand [] h = tt
+    walks_stand (f ∷ []) h = (walk_stands None f h, tt)
+    walks_stand (f ∷ g ∷ frames) h = (walk_stands (Some g) f h.0, walks_stand (g ∷ frames) h.1)
+
     under_told : (g e : Frame) (told : Option Status) → Stands issued (Some e) g
         → Stands issued (Some (told_frame set told e)) g
     under_told g (Routine b) None h = h
     under_told g (Walk n) None h = h
     under_told g (Walk n) (Some status) h = h
+    under_told g (CancelFrame c) told h = absurd h
+    under_told (CancelFrame c) (Routine b) (Some status) h = absurd h
     under_told (Routine a) (Routine b) (Some status) h =
         (answered_sort set b status Dispatch h.0, h.1, h.2)
     under_told (Walk n) (Routine b) (Some status) h = (answered_sort set b status Propagate h.0, h.1)
@@ -132,6 +154,10 @@ module _ (set : Set) (states : States) where
         (h.0, h.1, λ status. ready_later (answered set a status) (h.2 status))
     stands_later (Some (Routine b)) (Walk n) h = (h.0, let l : n < issued = h.1 in omega arith)
     stands_later (Some (Walk m)) (Walk n) h = absurd h
+    stands_later None (CancelFrame c) h = absurd h
+    stands_later (Some (Routine b)) (CancelFrame c) h = absurd h
+    stands_later (Some (Walk m)) (CancelFrame c) h = absurd h
+    stands_later (Some (CancelFrame c)) f h = absurd h
 
     pub stacked_later : (frames : List Frame) → Stacked issued frames → Stacked more frames
     stacked_later [] h = tt

@@ -11,7 +11,8 @@ use Rattle.model.specs.declared.world.Irql.{Irql}
 use Rattle.model.specs.declared.world.Irql.TheVariants.{Passive, Dispatch as DispatchLevel}
 use Rattle.model.specs.declared.world.Thread.{Thread}
 use Rattle.model.specs.declared.world.Value.TheVariants.{Blank}
-use Rattle.model.specs.Effect.{Change, Outcome, top_of, standing, with_thread, with_stack, rooted, dpc_activation, with_new_packet, serves_request, finished_or}
+use Rattle.model.specs.Effect.{Outcome, top_of}
+use Rattle.model.specs.Events.{Change, standing, with_thread, with_stack, rooted, dpc_activation, with_new_packet, serves_request, finished_or}
 use Rattle.model.specs.Fault.{first_fault}
 use Rattle.model.specs.Run.{begun, root_of, frames_of, frames_on}
 use Rattle.model.specs.Set.{Set}
@@ -24,6 +25,7 @@ use Rattle.run_laws.proofs.Devices.{device_fits}
 use Rattle.run_laws.proofs.Lists.{Each, each_push, each_append, each_before, each_after}
 use Rattle.run_laws.proofs.Past.Packets.{Tells, tells_issue, tells_nothing}
 use Rattle.run_laws.proofs.Past.Steps.{told_packets}
+use Rattle.run_laws.proofs.Past.Walks.{UnderIssued, WalkIssued, under_issued}
 use Rattle.run_laws.proofs.Runs.Events.{BeginsStartIo, stops_run, StepsFrame, Happens, nothing, steps, issues, begins, begins_startio as startio_begins}
 use Rattle.run_laws.proofs.Runs.Kept.{GoesOnBy, with_queued}
 use Rattle.run_laws.proofs.Runs.Threads.{frames_there, each_thread, each_frames, idle_frames}
@@ -31,11 +33,12 @@ use Rattle.run_laws.proofs.States.Entering.{Begins, Enters, begins_request, begi
 use Rattle.run_laws.proofs.States.Fine.{is_wrong, IsRight, is_right_step, StepLeaves, leaves_fine}
 use Rattle.run_laws.proofs.States.Fits.{queues_later, PacketLeads, Fits, new_leads, unused_fits}
 use Rattle.run_laws.proofs.States.Frames.{IsGood}
+use Rattle.run_laws.proofs.States.Never.{keeps_below}
 use Rattle.run_laws.proofs.States.OnTop.{OnTop}
 use Rattle.run_laws.proofs.States.Roots.{Low, last_low, step_low, low_over}
 use Rattle.run_laws.proofs.States.Rules.{States}
 use Rattle.run_laws.proofs.States.StartsFit.{StartFits, begun_fits, first_low, start_issued, start_put_fits, starts_later}
-use Rattle.run_laws.proofs.States.Stacks.{Stacked, top_stands, replaced, stacked_later}
+use Rattle.run_laws.proofs.States.Stacks.{Stacked, top_stands, replaced, stacked_later, walks_stand}
 use Rattle.run_laws.proofs.States.Told.{told_last, standing_last}
 use Rattle.run_laws.proofs.Steps.Below.{standing_is}
 use Rattle.model.specs.declared.limits.TheConstants.{MAX_LIVE_PACKETS}
@@ -76,6 +79,12 @@ module _ (set : Set) (states : States) (w : World) (past : List Entry) (good : I
       subst (λ (frames : List Frame). Stacked set states w.shared.issued frames)
       (frames_there w t h.thread h.found ∙ h.frames) (stands.frames t)
 
+  walks_below : (t : ℕ) (h : StepsFrame set w t) → UnderIssued w.shared.issued (top_of h.below)
+  walks_below t h =
+      under_issued w.shared.issued h.below
+      (each_before (WalkIssued w.shared.issued) h.below (h.frame ∷ [])
+      (walks_stand set states w.shared.issued (h.below ++ h.frame ∷ []) (stands_there t h)))
+
   pub on_top : (t : ℕ) (h : StepsFrame set w t) → OnTop set states w.shared h.frame
   on_top t h =
       record {
@@ -85,7 +94,7 @@ module _ (set : Set) (states : States) (w : World) (past : List Entry) (good : I
       }
 
   -- no event goes wrong, and none has a reply with which a run stops
-  pub right_event : (t : ℕ) (c : Change) → Happens set w t c
+  pub right_event : (t : ℕ) (c : Change) → Happens set w t false c
       → (list_any is_wrong c.actions ≡ false) × (stops_run c.reply ≡ false)
   right_event t c (nothing reply right) = (refl, right)
   right_event t c (steps h) =
@@ -118,7 +127,8 @@ module _ (set : Set) (states : States) (w : World) (past : List Entry) (good : I
       → Each (Low set h.thread.root) (standing set h.below h.outcome)
   lows_after t h =
       let root : Irql = h.thread.root in
-      rw (standing_last set w.shared t (top_of h.below) h.frame h.outcome h.below h.comes)
+      rw (standing_last set w.shared t (top_of h.below) h.frame h.outcome h.below h.comes
+      (keeps_below set states w.shared t (top_of h.below) h.frame h.outcome (on_top t h) h.comes))
       (each_append (Low set root) (told_last set h.outcome.told h.below) h.outcome.frames
       (last_low set root h.outcome.told h.below
       (each_before (Low set root) h.below (h.frame ∷ []) (lows_there t h)))
@@ -159,11 +169,11 @@ module _ (set : Set) (states : States) (w : World) (past : List Entry) (good : I
         frames = stands.frames;
       }
 
-  pub standing_kept : (actor : Actor) (c : Change) → GoesOnBy set w past actor c
+  pub standing_kept : (actor : Actor) (c : Change) → GoesOnBy set w past actor false c
       → Standing set states c.world (recorded past actor c.actions)
   standing_kept actor c on = kept c on.happens on.quiet
     where
-      kept : (c : Change) → Happens set w actor.thread c → first_fault past actor c.actions ≡ None
+      kept : (c : Change) → Happens set w actor.thread false c → first_fault past actor c.actions ≡ None
           → Standing set states c.world (recorded past actor c.actions)
       kept c (nothing reply right) quiet = stands
       kept c (steps h) quiet =
@@ -176,13 +186,18 @@ module _ (set : Set) (states : States) (w : World) (past : List Entry) (good : I
           let issued : o.shared.issued ≡ w.shared.issued = leaves.issued in
           record {
             fits = leaves.fits;
-            tells = told_packets set w.shared past actor (top_of h.below) h.frame o stands.tells h.comes;
+            tells = told_packets set w.shared past actor (top_of h.below) h.frame o stands.tells
+                (walks_below t h) h.comes;
             roots = roots_after t o.shared h.thread (with_stack h.thread (standing set h.below o)) h.found
                 (low_over set h.thread.root (standing set h.below o) (lows_after t h));
             frames = frames_after t o.shared h.thread (with_stack h.thread (standing set h.below o))
                 h.found
                 (omega arith)
-                (rw (standing_is set w.shared t (top_of h.below) h.frame o h.below h.comes, issued)
+                (rw (
+                  standing_is set w.shared t (top_of h.below) h.frame o h.below h.comes
+                      (keeps_below set states w.shared t (top_of h.below) h.frame o (on_top t h) h.comes),
+                  issued,
+                )
                 (replaced set states w.shared.issued h.below h.frame o.told o.frames (stands_there t h)
                 leaves.stands));
           }

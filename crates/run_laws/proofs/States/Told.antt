@@ -1,16 +1,17 @@
 -- What a step tells the frame below the one that ran: the last of those below is told, and the
 -- frame under the next.
-use Rattle.std.proofs.Common.{◌≡◌, ℕ, ◌-◌, List, [], ◌∷◌, ◌++◌, length, take, Option, None, Some, get_or, refl, sym, ◌∙◌, ap, arith}
+use Rattle.std.proofs.Common.{◌≡◌, ℕ, ◌-◌, List, [], ◌∷◌, ◌++◌, length, take, Option, None, Some, get_or, false, refl, sym, ◌∙◌, ap, arith}
 use Rattle.std.specs.Prelude.{slice_get}
 use Rattle.std.proofs.lemmas.Option.{slice_get-get_or}
 use Rattle.model.specs.declared.status.Status.{Status}
 use Rattle.model.specs.declared.world.Frame.{Frame}
-use Rattle.model.specs.declared.world.Frame.TheVariants.{Routine, Walk}
-use Rattle.model.specs.Effect.{Outcome, answered, top_of, told_top, told_to, standing}
+use Rattle.model.specs.declared.world.Frame.TheVariants.{Routine, Walk, Cancel as CancelFrame}
+use Rattle.model.specs.Effect.{Outcome, answered, top_of, told_top, told_to}
+use Rattle.model.specs.Events.{standing}
 use Rattle.model.specs.Set.{Set}
 use Rattle.model.specs.World.{Shared}
 use Rattle.run_laws.proofs.Lists.{last_split}
-use Rattle.run_laws.proofs.Steps.Below.{standing_is}
+use Rattle.run_laws.proofs.Steps.Below.{standing_is, takes_below}
 use Rattle.run_laws.proofs.Steps.Comes.{Comes}
 
 -- a frame is told a status, if any
@@ -28,6 +29,7 @@ pub last_same : (set : Set) (below : List Frame) → told_last set None below �
 last_same set [] = refl
 last_same set (Routine a ∷ []) = refl
 last_same set (Walk n ∷ []) = refl
+last_same set (CancelFrame c ∷ []) = refl
 last_same set (g ∷ e ∷ below) = ap (λ (frames : List Frame). g ∷ frames) (last_same set (e ∷ below))
 
 last_told : (set : Set) (xs : List Frame) (status : Status) (f : Frame)
@@ -57,6 +59,11 @@ last_top set below status (Some (Walk n)) h =
     let split : below ≡ take (length below - 1) below ++ Walk n ∷ [] = last_split below (Walk n) h in
     split ∙ sym (last_told set (take (length below - 1) below) status (Walk n))
     ∙ ap (told_last set (Some status)) (sym split)
+last_top set below status (Some (CancelFrame c)) h =
+    let split : below ≡ take (length below - 1) below ++ CancelFrame c ∷ [] =
+    last_split below (CancelFrame c) h in
+    split ∙ sym (last_told set (take (length below - 1) below) status (CancelFrame c))
+    ∙ ap (told_last set (Some status)) (sym split)
 last_top set [] status None h = refl
 last_top set (g ∷ below) status None h = absurd (some_top g below h)
 
@@ -69,10 +76,11 @@ told_is set below (Some status) = last_top set below status (top_of below) refl
 -- what stands after a step: the frames below, the last one told, and those in place of the one that
 -- ran
 pub standing_last : (set : Set) (s : Shared) (t : ℕ) (under : Option Frame) (f : Frame)
-    (o : Outcome) (below : List Frame)
-    → Comes set s t under f o → standing set below o ≡ told_last set o.told below ++ o.frames
-standing_last set s t under f o below comes =
-    standing_is set s t under f o below comes
+    (o : Outcome) (below : List Frame) (comes : Comes set s t under f o)
+    → takes_below set s t under f o comes ≡ false
+    → standing set below o ≡ told_last set o.told below ++ o.frames
+standing_last set s t under f o below comes kept =
+    standing_is set s t under f o below comes kept
     ∙ ap (λ (frames : List Frame). frames ++ o.frames) (told_is set below o.told)
 
 -- the frame under the next one

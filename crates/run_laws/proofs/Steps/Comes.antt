@@ -1,34 +1,38 @@
 -- The shapes of a step: a thread's top frame, over another frame or none, leaves one of these
 -- outcomes. Each shape has the instruction, and all that decided it. What a step does to a law is
 -- then said once a shape, and an instruction of a known shape costs a law nothing.
-use Rattle.std.specs.Prelude.{ℕ, ◌≡◌, ◌⊎◌, ◌+◌, ◌∷◌, ◌++◌, not, Bool, true, false, List, [], length, Option, None, Some, nat_eq, nat_lt, slice_get, slice_set}
+use Rattle.std.specs.Prelude.{ℕ, ◌≡◌, ◌⊎◌, ◌+◌, ◌∷◌, ◌++◌, not, Bool, true, false, List, [], length, Option, None, Some, is_none, is_some, nat_eq, nat_lt, slice_get, slice_set}
 use Rattle.model.specs.declared.event.Lock.{Lock}
+use Rattle.model.specs.declared.event.Lock.TheVariants.{SystemCancel}
 use Rattle.model.specs.declared.event.OfDevice.{OfDevice}
-use Rattle.model.specs.declared.event.Reply.TheVariants.{Topped}
+use Rattle.model.specs.declared.event.Reply.TheVariants.{Topped, Waited}
 use Rattle.model.specs.declared.instr.Instr.{Instr}
-use Rattle.model.specs.declared.instr.Instr.TheVariants.{Move, Clear, Loop, End, Put, Mark, Insert, Remove, Start, Take, Begin, Next, Pass, Call, Complete, Ret}
+use Rattle.model.specs.declared.instr.Instr.TheVariants.{Move, Clear, Loop, End, Put, Mark, Insert, Remove, Unlink, Arm, Disarm, Start, Take, Begin, Next, Pass, Call, Complete, Ret}
 use Rattle.model.specs.declared.instr.Return.{Return}
-use Rattle.model.specs.declared.instr.Return.TheVariants.{Continue, Void}
+use Rattle.model.specs.declared.instr.Return.TheVariants.{Continue, Stop, Void}
 use Rattle.model.specs.declared.limits.TheConstants.{MAX_LOOPS}
-use Rattle.model.specs.declared.set.Sort.TheVariants.{Dispatch, StartIo, Dpc, Propagate}
+use Rattle.model.specs.declared.set.Sort.TheVariants.{Dispatch, StartIo, Dpc, Propagate, Hold, Cancel}
 use Rattle.model.specs.declared.status.Status.{Status}
 use Rattle.model.specs.declared.world.Activation.{Activation}
+use Rattle.model.specs.declared.world.Armer.{Armer}
+use Rattle.model.specs.declared.world.CancelStep.{CancelStep}
+use Rattle.model.specs.declared.world.CancelStep.TheVariants.{Acquire as AcquireStep, SetFlag, Exchange}
 use Rattle.model.specs.declared.world.Cells.{Cells}
 use Rattle.model.specs.declared.world.Completion.{Completion}
 use Rattle.model.specs.declared.world.Frame.{Frame}
-use Rattle.model.specs.declared.world.Frame.TheVariants.{Routine, Walk}
+use Rattle.model.specs.declared.world.Frame.TheVariants.{Routine, Walk, Cancel as CancelFrame}
 use Rattle.model.specs.declared.world.OpenLoop.{OpenLoop}
 use Rattle.model.specs.declared.world.Packet.{Packet}
 use Rattle.model.specs.declared.world.Value.{Value}
 use Rattle.model.specs.declared.world.Value.TheVariants.{Blank, Num, Ref}
-use Rattle.model.specs.Action.{Action, Executes, Acquires, Releases, TouchesPaged, Touches, Calls, Ups, Completes, Marks, Leaves, TopsOut}
-use Rattle.model.specs.Effect.{Outcome, leaves, goes_wrong, goes_on, waits, turned, asks, set_by, returned, completes_with}
-use Rattle.model.specs.Queues.{StartState, has_room_for_next, has_room_to_start, inserted, is_full, next_started, started, with_slot}
-use Rattle.model.specs.Set.{Set, instruction_at, sort_of, lower_of, label_of}
+use Rattle.model.specs.Action.{Action, Executes, Acquires, Releases, TouchesPaged, Touches, Calls, Ups, Completes, Continues, Lends, Exchanges, Marks, Leaves, TopsOut}
+use Rattle.model.specs.Effect.{Outcome, leaves, goes_wrong, goes_on, waits, turned, asks, set_by, returned, is_walk, routine_of_device, completes_with, sort_of_completion, armer_of, goes_on_cancelling, cancel_ends}
+use Rattle.model.specs.LocalRule.{is_completion, is_hold}
+use Rattle.model.specs.Queues.{StartState, has_room_for_next, has_room_to_start, inserted, is_full, next_started, started, unlinked, with_slot}
+use Rattle.model.specs.Set.{Set, cancel_routine_named, cancel_routine_of, instruction_at, sort_of, lower_of, label_of}
 use Rattle.model.specs.Sound.{queue_named}
-use Rattle.model.specs.World.{Shared, queue_of, with_queue, start_of, with_start, with_register, owner_of, with_owner, with_locks, packet_of, with_packet, without_packet, packet_in, number_in, register, next, at_label, innermost, with_loops, with_info, mark_current, current_location, sent_down, shared_with, left_location, moved_up, is_marked, completion_of, completed}
-use Rattle.run_laws.proofs.Steps.Words.{starts_packets}
-use Rattle.run_laws.proofs.Steps.Words.{Computing, Paging, Looking, Forwarding, work_of, is_touching, goes_next, packet_operand, number_operand, second_operand, keeps_registers, numbered_by, is_of_cells, lock_taken, lock_freed, jumps_on, status_returned, is_form_of}
+use Rattle.model.specs.World.{Shared, entered, queue_of, with_queue, start_of, with_start, with_register, owner_of, with_owner, with_locks, packet_of, with_packet, without_packet, packet_in, number_in, register, next, at_label, innermost, with_loops, with_info, mark_current, cancelled, with_armer, current_location, sent_down, shared_with, left_location, moved_up, is_marked, completion_of, completed}
+use Rattle.run_laws.proofs.Steps.Words.{Computing, Paging, Looking, Exchanging, Forwarding, work_of, starts_packets, is_touching, goes_next, packet_operand, number_operand, second_operand, keeps_registers, numbered_by, is_of_cells, lock_taken, lock_freed, jumps_on, status_returned, is_form_of}
 
 -- the instruction at an activation's position
 abbrev pub Executing : Set → Activation → Instr → Type 0
@@ -38,8 +42,9 @@ Executing set a i = instruction_at set a.driver a.routine a.position ≡ Some i
 abbrev pub Reads : Shared → Activation → ℕ → ℕ → Type 0
 Reads s a r n = packet_in s (register a r) ≡ Some n
 
--- why a step is wrong: there is no instruction, or an operand, a loop, a cell, a lock, a queue, what
--- a device has for StartIo, a device or a form of return that it wants isn't there
+-- why a step is wrong: there is no instruction, or an operand, a loop, a cell, a lock, a queue,
+-- what a device has for StartIo, a cancel routine, a device or a form of return that it wants isn't
+-- there
 pub data Lacks (set : Set) (s : Shared) (a : Activation) : Type 0 where
   no_instruction : instruction_at set a.driver a.routine a.position ≡ None → Lacks set s a
   no_number : (i : Instr) (r : ℕ) → Executing set a i → (number_operand i ≡ Some r)
@@ -59,6 +64,8 @@ pub data Lacks (set : Set) (s : Shared) (a : Activation) : Type 0 where
   no_queue : (i : Instr) (q : ℕ) → Executing set a i → queue_named i ≡ Some q
       → queue_of s a.device q ≡ None → Lacks set s a
   no_start : (i : Instr) → Executing set a i → starts_packets i ≡ true → start_of s a.device ≡ None
+      → Lacks set s a
+  no_cancel : (r q : ℕ) → Executing set a (Arm r q) → cancel_routine_of set a.driver q ≡ None
       → Lacks set s a
   no_lower : (i : Instr) → Executing set a i → work_of i ≡ Forwarding → lower_of set a.device ≡ None
       → Lacks set s a
@@ -83,11 +90,11 @@ pub data GoesTo (a : Activation) (i : Instr) : Activation → Bool → Type 0 wh
       → GoesTo a i (record a { position = a.position + 1; registers = registers }) false
   jumping : (label : ℕ) → label_of i ≡ Some label → GoesTo a i (at_label a label) true
 
--- what an instruction about queues comes to: a packet is put into a queue of the device or taken off
--- one, given to the device for StartIo, taken out of its current slot or put into it, or the next
--- one is started; or there is none to take off or out, and it jumps. How the activation goes on, the
--- queues and what the devices have for StartIo after it, the packet that it touches, if any, and
--- whether a list has no room
+-- what an instruction about queues comes to: a packet is put into a queue of the device or taken
+-- off one, from its front or wherever it stands, given to the device for StartIo, taken out of its
+-- current slot or put into it, or the next one is started; or there is none to take off or out, and
+-- it jumps. How the activation goes on, the queues and what the devices have for StartIo after it, the packet
+-- that it touches, if any, and whether a list has no room
 pub data Queued (s : Shared) (a : Activation) : Instr → Activation → List (List (List ℕ))
     → List StartState → List Action → Bool → Type 0 where
   inserts : (r q n : ℕ) (entries : List ℕ) → Reads s a r n → queue_of s a.device q ≡ Some entries
@@ -98,6 +105,9 @@ pub data Queued (s : Shared) (a : Activation) : Instr → Activation → List (L
       (with_queue s a.device q entries).queues s.starts (Touches n ∷ []) false
   removes_none : (r q label : ℕ) → queue_of s a.device q ≡ Some []
       → Queued s a (Remove r q label) (at_label a label) s.queues s.starts [] false
+  unlinks : (r q n : ℕ) (entries : List ℕ) → Reads s a r n → queue_of s a.device q ≡ Some entries
+      → Queued s a (Unlink r q) (next a) (with_queue s a.device q (unlinked entries n)).queues s.starts
+      (Touches n ∷ []) false
   starts_packet : (r n : ℕ) (start : StartState) → Reads s a r n → start_of s a.device ≡ Some start
       → Queued s a (Start r) (next a) s.queues (with_start s a.device (started start n)).starts
       (Touches n ∷ []) (not (has_room_to_start start))
@@ -121,11 +131,53 @@ abbrev pub queued_to : Shared → Activation → List (List (List ℕ)) → List
 queued_to s b queues starts actions full =
     record (goes_on (record s { queues = queues; starts = starts }) b actions) { full = full }
 
--- what stands under a frame is the I/O manager's
-abbrev pub is_walk : Option Frame → Bool
-is_walk None = false
-is_walk (Some (Routine a)) = false
-is_walk (Some (Walk n)) = true
+-- what an instruction puts into a packet's cancel word, and whether it jumps: the cancel routine of
+-- a queue, or none, where it jumps if there was none before
+pub data Exchanged (set : Set) (a : Activation) (p : Packet) : Instr → Bool → Option Armer
+    → Type 0 where
+  arms_for : (r q routine : ℕ) → cancel_routine_of set a.driver q ≡ Some routine
+      → Exchanged set a p (Arm r q) false (Some (armer_of a q))
+  disarms : (r label : ℕ) → Exchanged set a p (Disarm r label) (is_none p.armer) None
+
+-- what a step of IoCancelIrp comes to, for a packet of a number: it takes the system cancel spin
+-- lock, has it already, or waits for it; finds no packet, and frees the lock; sets the packet's cancel
+-- flag; finds its cancel word empty, or no routine by it, and frees the lock; or the cancel routine
+-- begins in its place
+pub data Cancels (set : Set) (s : Shared) (t n : ℕ) : CancelStep → Outcome → Type 0 where
+  takes_cancel : owner_of s.locks SystemCancel ≡ Some None
+      → Cancels set s t n AcquireStep
+      (leaves (with_locks s (with_owner s.locks SystemCancel (Some t))) (goes_on_cancelling n SetFlag)
+      (Acquires SystemCancel ∷ []))
+  retakes_cancel : owner_of s.locks SystemCancel ≡ Some (Some t)
+      → Cancels set s t n AcquireStep
+      (leaves s (goes_on_cancelling n SetFlag) (Acquires SystemCancel ∷ []))
+  awaits_cancel : (owner : ℕ) → owner_of s.locks SystemCancel ≡ Some (Some owner)
+      → nat_eq owner t ≡ false
+      → Cancels set s t n AcquireStep
+      (record (leaves s (goes_on_cancelling n AcquireStep) []) { reply = Waited })
+  flags_gone : packet_of s n ≡ None → Cancels set s t n SetFlag (cancel_ends s [])
+  sets_flag : (p : Packet) → packet_of s n ≡ Some p
+      → Cancels set s t n SetFlag
+      (leaves (with_packet s n (cancelled p)) (goes_on_cancelling n Exchange) [])
+  exchanges_gone : packet_of s n ≡ None → Cancels set s t n Exchange (cancel_ends s [])
+  finds_empty : (p : Packet) → packet_of s n ≡ Some p → p.armer ≡ None
+      → Cancels set s t n Exchange
+      (cancel_ends (with_packet s n (with_armer p None)) (Exchanges n false ∷ []))
+  finds_none : (p : Packet) (armer : Armer) → packet_of s n ≡ Some p → p.armer ≡ Some armer
+      → cancel_routine_named set (routine_of_device (slice_get set.devices armer.device)) armer.queue
+      ≡ None
+      → Cancels set s t n Exchange
+      (cancel_ends (with_packet s n (with_armer p None)) (Exchanges n false ∷ []))
+  calls_cancel : (p : Packet) (armer : Armer) (routine : ℕ) → packet_of s n ≡ Some p
+      → p.armer ≡ Some armer
+      → cancel_routine_named set (routine_of_device (slice_get set.devices armer.device)) armer.queue
+      ≡ Some routine
+      → Cancels set s t n Exchange
+      (leaves (with_packet s n (with_armer p None))
+      (Routine
+      (entered (routine_of_device (slice_get set.devices armer.device)) routine armer.device (Ref n))
+      ∷ [])
+      (Exchanges n false ∷ []))
 
 -- a step comes to an outcome: of a thread's top frame, over a frame or none
 pub data Comes (set : Set) (s : Shared) (t : ℕ) : Option Frame → Frame → Outcome → Type 0 where
@@ -176,6 +228,14 @@ pub data Comes (set : Set) (s : Shared) (t : ℕ) : Option Frame → Frame → O
       → Reads s a r n → packet_of s n ≡ Some p
       → Comes set s t under (Routine a)
       (goes_on (with_packet s n (mark_current p)) (next a) (Touches n ∷ Marks n ∷ []))
+  exchanges : {under : Option Frame} (a : Activation) (i : Instr) (b : Activation) (jumped : Bool)
+      (r n : ℕ) (p : Packet) (armer : Option Armer)
+      → Executing set a i → work_of i ≡ Exchanging → GoesTo a i b jumped → packet_operand i ≡ Some r
+      → Reads s a r n
+      → packet_of s n ≡ Some p → Exchanged set a p i jumped armer
+      → Comes set s t under (Routine a)
+      (goes_on (with_packet s n (with_armer p armer)) b
+      (Touches n ∷ Exchanges n (is_some armer) ∷ []))
   -- a free lock becomes the thread's, one that it owns stays its own, one becomes free
   takes_lock : {under : Option Frame} (a : Activation) (i : Instr) (lock : Lock) → Executing set a i
       → lock_taken a i ≡ Some lock → owner_of s.locks lock ≡ Some None
@@ -228,24 +288,55 @@ pub data Comes (set : Set) (s : Shared) (t : ℕ) : Option Frame → Frame → O
   lets_walk : (a : Activation) (n : ℕ) → Executing set a (Ret Continue)
       → sort_of set a.driver a.routine ≡ Propagate
       → Comes set s t (Some (Walk n)) (Routine a) (leaves s [] (Executes ∷ Touches n ∷ []))
-  -- a StartIo or DPC routine ends, and nobody is told
+  -- one that was lent a packet gives it back with that, or finds that it has topped out
+  resumes_walk : (a : Activation) (n : ℕ) (p : Packet) → Executing set a (Ret Continue)
+      → sort_of set a.driver a.routine ≡ Hold → packet_of s n ≡ Some p
+      → Comes set s t (Some (Walk n)) (Routine a)
+      (leaves (with_packet s n (record p { completing = true })) []
+      (Executes ∷ Touches n ∷ Continues n ∷ []))
+  resumes_gone : (a : Activation) (n : ℕ) → Executing set a (Ret Continue)
+      → sort_of set a.driver a.routine ≡ Hold → packet_of s n ≡ None
+      → Comes set s t (Some (Walk n)) (Routine a)
+      (leaves s [] (Executes ∷ Touches n ∷ Continues n ∷ []))
+  resumes_none : {under : Option Frame} (a : Activation) → Executing set a (Ret Continue)
+      → sort_of set a.driver a.routine ≡ Hold → is_walk under ≡ false
+      → Comes set s t under (Routine a) (leaves s [] (Executes ∷ []))
+  -- a completion routine stops the completion: the I/O manager's frame below is gone too
+  stops_walk : (a : Activation) (n : ℕ) → Executing set a (Ret Stop)
+      → is_completion (sort_of set a.driver a.routine) ≡ true
+      → Comes set s t (Some (Walk n)) (Routine a)
+      (record (leaves s [] (Executes ∷ [])) { taken_below = true })
+  stops_none : {under : Option Frame} (a : Activation) → Executing set a (Ret Stop)
+      → is_completion (sort_of set a.driver a.routine) ≡ true → is_walk under ≡ false
+      → Comes set s t under (Routine a) (leaves s [] (Executes ∷ []))
+  -- a StartIo, DPC or cancel routine ends, and nobody is told
   ends_startio : {under : Option Frame} (a : Activation) → Executing set a (Ret Void)
       → sort_of set a.driver a.routine ≡ StartIo
       → Comes set s t under (Routine a) (leaves s [] (Executes ∷ []))
   ends_dpc : {under : Option Frame} (a : Activation) → Executing set a (Ret Void)
       → sort_of set a.driver a.routine ≡ Dpc
       → Comes set s t under (Routine a) (leaves s [] (Executes ∷ []))
-  -- the I/O manager finds no packet; it runs the completion routine of the location that it leaves;
+  ends_cancel : {under : Option Frame} (a : Activation) → Executing set a (Ret Void)
+      → sort_of set a.driver a.routine ≡ Cancel
+      → Comes set s t under (Routine a) (leaves s [] (Executes ∷ []))
+  -- the I/O manager finds no packet; it runs the completion routine of the location that it leaves,
+  -- which may look at the packet or is lent it;
   -- where there is none it goes up, without a mark or with one that it carries up; or the packet
   -- tops out
   walks_gone : {under : Option Frame} (n : ℕ) → packet_of s n ≡ None
       → Comes set s t under (Walk n) (leaves s [] (Touches n ∷ []))
   walks_to : {under : Option Frame} (n : ℕ) (p : Packet) (c : Completion) → packet_of s n ≡ Some p
-      → completion_of (current_location p) ≡ Some c
+      → completion_of (current_location p) ≡ Some c → is_hold (sort_of_completion set c) ≡ false
       → Comes set s t under (Walk n)
       (leaves (with_packet s n (moved_up (left_location p)))
       (Walk n ∷ Routine (completes_with set c n) ∷ [])
       (Touches n ∷ Leaves n ∷ Ups n ∷ []))
+  lends_to : {under : Option Frame} (n : ℕ) (p : Packet) (c : Completion) → packet_of s n ≡ Some p
+      → completion_of (current_location p) ≡ Some c → sort_of_completion set c ≡ Hold
+      → Comes set s t under (Walk n)
+      (leaves (with_packet s n (record (moved_up (left_location p)) { completing = false }))
+      (Walk n ∷ Routine (completes_with set c n) ∷ [])
+      (Touches n ∷ Leaves n ∷ Ups n ∷ Lends n ∷ []))
   walks_up : {under : Option Frame} (n : ℕ) (p : Packet) → packet_of s n ≡ Some p
       → completion_of (current_location p) ≡ None → nat_lt 1 p.depth ≡ true
       → is_marked (current_location p) ≡ false
@@ -264,3 +355,6 @@ pub data Comes (set : Set) (s : Shared) (t : ℕ) : Option Frame → Frame → O
       (record (leaves (without_packet s n) [] (Touches n ∷ Leaves n ∷ TopsOut n ∷ [])) {
         reply = Topped n p.status p.info;
       })
+  -- the I/O manager cancels a packet
+  cancels : {under : Option Frame} (n : ℕ) (step : CancelStep) (o : Outcome) → Cancels set s t n step o
+      → Comes set s t under (CancelFrame (record { packet = n; next = step })) o

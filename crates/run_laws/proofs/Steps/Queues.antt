@@ -6,7 +6,7 @@ use Rattle.model.specs.declared.world.Activation.{Activation}
 use Rattle.model.specs.Action.{Action, Touches}
 use Rattle.model.specs.Queues.{StartState}
 use Rattle.model.specs.World.{Shared}
-use Rattle.run_laws.proofs.Steps.Comes.{Queued, inserts, removes, removes_none, starts_packet, takes_out, takes_none, puts_in, starts_next}
+use Rattle.run_laws.proofs.Steps.Comes.{Queued, inserts, removes, removes_none, unlinks, starts_packet, takes_out, takes_none, puts_in, starts_next}
 use Rattle.run_laws.proofs.Steps.Words.{Queueing, work_of}
 
 pub queued_work : {s : Shared} {a b : Activation} {i : Instr} {queues : List (List (List ℕ))}
@@ -15,6 +15,7 @@ pub queued_work : {s : Shared} {a b : Activation} {i : Instr} {queues : List (Li
 queued_work (inserts r q n entries reads there) = refl
 queued_work (removes r q label n entries there) = refl
 queued_work (removes_none r q label there) = refl
+queued_work (unlinks r q n entries reads there) = refl
 queued_work (starts_packet r n start reads there) = refl
 queued_work (takes_out r label n start there slot) = refl
 queued_work (takes_none r label start there slot) = refl
@@ -27,6 +28,7 @@ pub queued_same : {s : Shared} {a b : Activation} {i : Instr} {queues : List (Li
 queued_same (inserts r q n entries reads there) = (refl, refl)
 queued_same (removes r q label n entries there) = (refl, refl)
 queued_same (removes_none r q label there) = (refl, refl)
+queued_same (unlinks r q n entries reads there) = (refl, refl)
 queued_same (starts_packet r n start reads there) = (refl, refl)
 queued_same (takes_out r label n start there slot) = (refl, refl)
 queued_same (takes_none r label start there slot) = (refl, refl)
@@ -40,6 +42,7 @@ pub queued_touches : {s : Shared} {a b : Activation} {i : Instr} {queues : List 
 queued_touches (inserts r q n entries reads there) = inr (n, refl)
 queued_touches (removes r q label n entries there) = inr (n, refl)
 queued_touches (removes_none r q label there) = inl refl
+queued_touches (unlinks r q n entries reads there) = inr (n, refl)
 queued_touches (starts_packet r n start reads there) = inr (n, refl)
 queued_touches (takes_out r label n start there slot) = inl refl
 queued_touches (takes_none r label start there slot) = inl refl

@@ -1,35 +1,40 @@
 -- Every step has one of the shapes: the one walk over the instructions and the I/O manager's steps.
 use Rattle.std.proofs.Common.{◌≡◌, ℕ, ◌+◌, List, [], ◌∷◌, length, Option, None, Some, Bool, true, false, inl, inr, refl, ap, sym, ◌∙◌}
-use Rattle.std.specs.Prelude.{option_map, nat_eq, nat_lt, slice_get, slice_set, if◌then◌else◌}
+use Rattle.std.specs.Prelude.{is_none, option_map, nat_eq, nat_lt, slice_get, slice_set, if◌then◌else◌}
 use Rattle.std.proofs.lemmas.Bool.{cond_both}
 use Rattle.std.proofs.lemmas.Bool.Decides.{eqb_tells}
 use Rattle.std.proofs.lemmas.List.{length-set}
 use Rattle.model.specs.declared.event.Lock.{Lock}
 use Rattle.model.specs.declared.event.Lock.TheVariants.{SystemCancel}
+use Rattle.model.specs.declared.event.Reply.TheVariants.{Waited}
 use Rattle.model.specs.declared.instr.Field.{Field}
 use Rattle.model.specs.declared.instr.Instr.{Instr}
-use Rattle.model.specs.declared.instr.Instr.TheVariants.{Const, Move, Clear, Add, Subtract, JumpIfZero, JumpIfLess, Jump, Loop, End, Load, Store, LoadPaged, StorePaged, Get, Put, Mark, Acquire, Release, AcquireCancel, ReleaseCancel, Insert, Remove, Start, Take, Begin, Next, Pass, Call, Complete, IfPending, Ret}
+use Rattle.model.specs.declared.instr.Instr.TheVariants.{Const, Move, Clear, Add, Subtract, JumpIfZero, JumpIfLess, Jump, Loop, End, Load, Store, LoadPaged, StorePaged, Get, Put, Mark, Acquire, Release, AcquireCancel, ReleaseCancel, Insert, Remove, Unlink, Arm, Disarm, IfCancel, Start, Take, Begin, Next, Pass, Call, Complete, IfPending, Ret}
 use Rattle.model.specs.declared.instr.Return.{Return}
-use Rattle.model.specs.declared.instr.Return.TheVariants.{WithStatus, Lower, Continue, Void}
+use Rattle.model.specs.declared.instr.Return.TheVariants.{WithStatus, Lower, Continue, Stop, Void}
 use Rattle.model.specs.declared.limits.TheConstants.{MAX_LOOPS}
 use Rattle.model.specs.declared.set.Sort.{Sort}
-use Rattle.model.specs.declared.set.Sort.TheVariants.{Dispatch, StartIo, Dpc, Propagate}
+use Rattle.model.specs.declared.set.Sort.TheVariants.{Dispatch, StartIo, Dpc, Propagate, Hold, Cancel}
 use Rattle.model.specs.declared.status.Status.{Status}
 use Rattle.model.specs.declared.world.Activation.{Activation}
+use Rattle.model.specs.declared.world.Armer.{Armer}
+use Rattle.model.specs.declared.world.CancelStep.{CancelStep}
+use Rattle.model.specs.declared.world.CancelStep.TheVariants.{Acquire as AcquireStep, SetFlag, Exchange}
 use Rattle.model.specs.declared.world.Cells.{Cells}
 use Rattle.model.specs.declared.world.Completion.{Completion}
 use Rattle.model.specs.declared.world.Frame.{Frame}
-use Rattle.model.specs.declared.world.Frame.TheVariants.{Routine, Walk}
+use Rattle.model.specs.declared.world.Frame.TheVariants.{Routine, Walk, Cancel as CancelFrame}
 use Rattle.model.specs.declared.world.OpenLoop.{OpenLoop}
 use Rattle.model.specs.declared.world.Packet.{Packet}
 use Rattle.model.specs.declared.world.Value.{Value}
-use Rattle.model.specs.Action.{Acquires, Touches, Ups, Marks, Leaves}
-use Rattle.model.specs.Effect.{Outcome, leaves, goes_wrong, goes_on, number_effect, of_both, sum_of, difference_of, jump_effect, is_zero_at, is_less_at, loop_effect, end_effect, cell_of, load_effect, load_paged_effect, stored, stored_paged, store_effect, store_paged_effect, get_packet, get_effect, put_packet, put_effect, waits, acquire_owned, acquire_effect, release_effect, spin_lock, insert_effect, remove_from, remove_effect, start_effect, take_from, take_effect, begin_effect, next_effect, mark_packet, mark_effect, complete_packet, complete_effect, pass_packet, pass_effect, call_packet, call_effect, look_packet, look_effect, return_lower, continued, return_effect, instruction_effect, routine_effect, walk_up, walk_out, walk_from, walk_packet, frame_effect}
+use Rattle.model.specs.Action.{Acquires, Continues, Exchanges, Executes, Touches, Ups, Marks, Leaves}
+use Rattle.model.specs.Effect.{Outcome, leaves, goes_wrong, goes_on, number_effect, of_both, sum_of, difference_of, jump_effect, is_zero_at, is_less_at, loop_effect, end_effect, cell_of, load_effect, load_paged_effect, stored, stored_paged, store_effect, store_paged_effect, get_packet, get_effect, put_packet, put_effect, waits, acquire_owned, acquire_effect, release_effect, spin_lock, insert_effect, remove_from, remove_effect, unlink_effect, arm_packet, arm_effect, disarm_packet, disarm_effect, ask_packet, ask_effect, start_effect, take_from, take_effect, begin_effect, next_effect, mark_packet, mark_effect, complete_packet, complete_effect, pass_packet, pass_effect, call_packet, call_effect, look_packet, look_effect, return_lower, continued, given_back, let_on, stopped, routine_of_device, sort_of_completion, lent_to, lending, completes_with, goes_on_cancelling, cancel_acquires, cancel_flags, cancel_calls, cancel_armed, cancel_exchanges, cancel_step, return_effect, instruction_effect, routine_effect, walk_up, walk_out, walk_from, walk_packet, frame_effect}
+use Rattle.model.specs.LocalRule.{is_completion}
 use Rattle.model.specs.Queues.{StartState}
-use Rattle.model.specs.Set.{Set, instruction_at, sort_of, lower_of, label_of}
-use Rattle.model.specs.World.{Shared, queue_of, start_of, owner_of, packet_of, with_packet, packet_in, number_in, status_in, register, next, at_label, innermost, mark_current, current_location, left_location, moved_up, is_marked, completion_of}
+use Rattle.model.specs.Set.{Set, cancel_routine_named, cancel_routine_of, instruction_at, sort_of, lower_of, label_of}
+use Rattle.model.specs.World.{Shared, queue_of, start_of, owner_of, packet_of, with_packet, packet_in, number_in, status_in, register, next, at_label, innermost, mark_current, current_location, left_location, moved_up, is_marked, completion_of, with_armer}
 use Rattle.run_laws.proofs.Steps.Words.{Computing, work_of, goes_next, number_operand, second_operand, keeps_registers, numbered_by, lock_taken, lock_freed}
-use Rattle.run_laws.proofs.Steps.Comes.{Executing, Reads, Lacks, no_instruction, no_number, no_packet, no_room, no_loop, no_cells, none_taken, none_freed, no_queue, no_start, no_lower, no_status, no_form, Written, keeps_all, makes_number, moves_over, makes_blank, onward, jumping, inserts, removes, removes_none, starts_packet, takes_out, takes_none, puts_in, starts_next, Comes, errs, awaits_lock, computes, opens_loop, turns_loop, pages, touches_gone, looks_at, writes_info, marks_packet, takes_lock, retakes_lock, frees_lock, works_on_queues, completes_packet, completes_gone, passes_down, calls_down, returns_status, lets_go, lets_walk, ends_startio, ends_dpc, walks_gone, walks_to, walks_up, carries_up, tops_out}
+use Rattle.run_laws.proofs.Steps.Comes.{Executing, Exchanged, Reads, Lacks, no_instruction, no_number, no_packet, no_room, no_loop, no_cells, none_taken, none_freed, no_queue, no_start, no_cancel, no_lower, no_status, no_form, Written, keeps_all, makes_number, moves_over, makes_blank, onward, jumping, inserts, removes, removes_none, unlinks, starts_packet, takes_out, takes_none, puts_in, starts_next, arms_for, disarms, Cancels, takes_cancel, retakes_cancel, awaits_cancel, flags_gone, sets_flag, exchanges_gone, finds_empty, finds_none, calls_cancel, Comes, errs, awaits_lock, computes, opens_loop, turns_loop, pages, touches_gone, looks_at, writes_info, marks_packet, exchanges, takes_lock, retakes_lock, frees_lock, works_on_queues, completes_packet, completes_gone, passes_down, calls_down, returns_status, lets_go, lets_walk, resumes_walk, resumes_gone, resumes_none, stops_walk, stops_none, ends_startio, ends_dpc, ends_cancel, walks_gone, walks_to, lends_to, walks_up, carries_up, tops_out, cancels}
 
 module _ (set : Set) (s : Shared) (t : ℕ) (under : Option Frame) (a : Activation) where
   abbrev ComesTo : Outcome → Type 0
@@ -200,6 +205,72 @@ module _ (set : Set) (s : Shared) (t : ℕ) (under : Option Frame) (a : Activati
   removed_in r q label None at there = errs a (no_queue (Remove r q label) q at refl there)
   removed_in r q label (Some entries) at there = removed_from r q label entries at there
 
+  unlinked_in : (r q : ℕ) (o : Option ℕ) (entries : Option (List ℕ)) → Executing set a (Unlink r q)
+      → packet_in s (register a r) ≡ o → queue_of s a.device q ≡ entries
+      → ComesTo (unlink_effect s a q o entries)
+  unlinked_in r q None entries at reads there = errs a (no_packet (Unlink r q) r at refl reads)
+  unlinked_in r q (Some n) None at reads there = errs a (no_queue (Unlink r q) q at refl there)
+  unlinked_in r q (Some n) (Some entries) at reads there =
+      works_on_queues a (Unlink r q) _ _ _ _ _ at (unlinks r q n entries reads there)
+
+  -- the cancel word of a packet, and its cancel flag
+  armed_in : (r q routine n : ℕ) (o : Option Packet) → Executing set a (Arm r q)
+      → cancel_routine_of set a.driver q ≡ Some routine → Reads s a r n → packet_of s n ≡ o
+      → ComesTo (arm_packet s a q n o)
+  armed_in r q routine n None at is reads there =
+      touches_gone a (Arm r q) r n at refl refl refl reads there
+  armed_in r q routine n (Some p) at is reads there =
+      exchanges a (Arm r q) (next a) false r n p _ at refl
+      (onward a.registers refl (keeps_all (Arm r q) refl)) refl reads there
+      (arms_for r q routine is)
+
+  arms : (r q : ℕ) (o routine : Option ℕ) → Executing set a (Arm r q)
+      → packet_in s (register a r) ≡ o → cancel_routine_of set a.driver q ≡ routine
+      → ComesTo (arm_effect s a q o routine)
+  arms r q None routine at reads is = errs a (no_packet (Arm r q) r at refl reads)
+  arms r q (Some n) None at reads is = errs a (no_cancel r q at is)
+  arms r q (Some n) (Some routine) at reads is =
+      armed_in r q routine n (packet_of s n) at is reads refl
+
+  disarmed_in : (r label n : ℕ) (o : Option Packet) → Executing set a (Disarm r label)
+      → Reads s a r n → packet_of s n ≡ o → ComesTo (disarm_packet s a label n o)
+  disarmed_in r label n None at reads there =
+      touches_gone a (Disarm r label) r n at refl refl refl reads there
+  disarmed_in r label n (Some p) at reads there =
+      disarmed_to (is_none p.armer) (disarms r label)
+    where
+      disarmed_to : (empty : Bool) → Exchanged set a p (Disarm r label) empty None
+          → ComesTo
+          (goes_on (with_packet s n (with_armer p None)) (if empty then at_label a label else next a)
+          (Touches n ∷ Exchanges n false ∷ []))
+      disarmed_to true how =
+          exchanges a (Disarm r label) _ true r n p None at refl (jumping label refl) refl reads there
+          how
+      disarmed_to false how =
+          exchanges a (Disarm r label) _ false r n p None at refl
+          (onward a.registers refl (keeps_all (Disarm r label) refl)) refl reads there how
+
+  disarmed : (r label : ℕ) (o : Option ℕ) → Executing set a (Disarm r label)
+      → packet_in s (register a r) ≡ o → ComesTo (disarm_effect s a label o)
+  disarmed r label None at reads = errs a (no_packet (Disarm r label) r at refl reads)
+  disarmed r label (Some n) at reads = disarmed_in r label n (packet_of s n) at reads refl
+
+  asks_in : (r label n : ℕ) (o : Option Packet) → Executing set a (IfCancel r label) → Reads s a r n
+      → packet_of s n ≡ o → ComesTo (ask_packet s a label n o)
+  asks_in r label n None at reads there =
+      touches_gone a (IfCancel r label) r n at refl refl refl reads there
+  asks_in r label n (Some p) at reads there =
+      cond_both p.cancel (at_label a label) (next a) (λ b. ComesTo (goes_on s b (Touches n ∷ [])))
+      (λ is. looks_at a (IfCancel r label) _ true r n p at refl (jumping label refl) refl reads
+      there (sym is))
+      (λ isnt. looks_at a (IfCancel r label) _ false r n p at refl
+      (onward a.registers refl (keeps_all (IfCancel r label) refl)) refl reads there (sym isnt))
+
+  asks_flag : (r label : ℕ) (o : Option ℕ) → Executing set a (IfCancel r label)
+      → packet_in s (register a r) ≡ o → ComesTo (ask_effect s a label o)
+  asks_flag r label None at reads = errs a (no_packet (IfCancel r label) r at refl reads)
+  asks_flag r label (Some n) at reads = asks_in r label n (packet_of s n) at reads refl
+
   started_in : (r : ℕ) (o : Option ℕ) (start : Option StartState) → Executing set a (Start r)
       → packet_in s (register a r) ≡ o → start_of s a.device ≡ start
       → ComesTo (start_effect s a o start)
@@ -292,13 +363,37 @@ module _ (set : Set) (s : Shared) (t : ℕ) (under : Option Frame) (a : Activati
   returns_lower r None at sort there = errs a (no_status (Lower r) at sort refl there)
   returns_lower r (Some status) at sort there = returns_status a (Lower r) status at sort there
 
--- a completion routine lets the completion go on that stands under it
-lets : (set : Set) (s : Shared) (t : ℕ) (a : Activation) (under : Option Frame)
-    → Executing set a (Ret Continue)
-    → sort_of set a.driver a.routine ≡ Propagate → Comes set s t under (Routine a) (continued s under)
-lets set s t a None at sort = lets_go a at sort refl
-lets set s t a (Some (Routine b)) at sort = lets_go a at sort refl
-lets set s t a (Some (Walk n)) at sort = lets_walk a n at sort
+-- a completion routine lets the completion go on that stands under it, or stops it
+module _ (set : Set) (s : Shared) (t : ℕ) (a : Activation) where
+  lets : (under : Option Frame) → Executing set a (Ret Continue)
+      → sort_of set a.driver a.routine ≡ Propagate
+      → Comes set s t under (Routine a) (continued s under)
+  lets None at sort = lets_go a at sort refl
+  lets (Some (Routine b)) at sort = lets_go a at sort refl
+  lets (Some (Walk n)) at sort = lets_walk a n at sort
+  lets (Some (CancelFrame c)) at sort = lets_go a at sort refl
+
+  resumes : (n : ℕ) (o : Option Packet) → Executing set a (Ret Continue)
+      → sort_of set a.driver a.routine ≡ Hold → packet_of s n ≡ o
+      → Comes set s t (Some (Walk n)) (Routine a)
+      (leaves (given_back s n o) [] (Executes ∷ Touches n ∷ Continues n ∷ []))
+  resumes n None at sort there = resumes_gone a n at sort there
+  resumes n (Some p) at sort there = resumes_walk a n p at sort there
+
+  lets_held : (under : Option Frame) → Executing set a (Ret Continue)
+      → sort_of set a.driver a.routine ≡ Hold → Comes set s t under (Routine a) (let_on s under)
+  lets_held None at sort = resumes_none a at sort refl
+  lets_held (Some (Routine b)) at sort = resumes_none a at sort refl
+  lets_held (Some (Walk n)) at sort = resumes n (packet_of s n) at sort refl
+  lets_held (Some (CancelFrame c)) at sort = resumes_none a at sort refl
+
+  stops : (under : Option Frame) → Executing set a (Ret Stop)
+      → is_completion (sort_of set a.driver a.routine) ≡ true
+      → Comes set s t under (Routine a) (stopped s under)
+  stops None at sort = stops_none a at sort refl
+  stops (Some (Routine b)) at sort = stops_none a at sort refl
+  stops (Some (Walk n)) at sort = stops_walk a n at sort
+  stops (Some (CancelFrame c)) at sort = stops_none a at sort refl
 
 returns : (set : Set) (s : Shared) (t : ℕ) (under : Option Frame) (a : Activation) (sort : Sort)
     (form : Return)
@@ -309,22 +404,38 @@ returns set s t under a Dispatch (WithStatus status) at is =
 returns set s t under a Dispatch (Lower r) at is =
     returns_lower set s t under a r (status_in (register a r)) at is refl
 returns set s t under a Dispatch Continue at is = errs a (no_form Continue at (rw is refl))
+returns set s t under a Dispatch Stop at is = errs a (no_form Stop at (rw is refl))
 returns set s t under a Dispatch Void at is = errs a (no_form Void at (rw is refl))
 returns set s t under a StartIo (WithStatus status) at is =
     errs a (no_form (WithStatus status) at (rw is refl))
 returns set s t under a StartIo (Lower r) at is = errs a (no_form (Lower r) at (rw is refl))
 returns set s t under a StartIo Continue at is = errs a (no_form Continue at (rw is refl))
+returns set s t under a StartIo Stop at is = errs a (no_form Stop at (rw is refl))
 returns set s t under a StartIo Void at is = ends_startio a at is
 returns set s t under a Dpc (WithStatus status) at is =
     errs a (no_form (WithStatus status) at (rw is refl))
 returns set s t under a Dpc (Lower r) at is = errs a (no_form (Lower r) at (rw is refl))
 returns set s t under a Dpc Continue at is = errs a (no_form Continue at (rw is refl))
+returns set s t under a Dpc Stop at is = errs a (no_form Stop at (rw is refl))
 returns set s t under a Dpc Void at is = ends_dpc a at is
 returns set s t under a Propagate (WithStatus status) at is =
     errs a (no_form (WithStatus status) at (rw is refl))
 returns set s t under a Propagate (Lower r) at is = errs a (no_form (Lower r) at (rw is refl))
 returns set s t under a Propagate Continue at is = lets set s t a under at is
+returns set s t under a Propagate Stop at is = stops set s t a under at (rw is refl)
 returns set s t under a Propagate Void at is = errs a (no_form Void at (rw is refl))
+returns set s t under a Hold (WithStatus status) at is =
+    errs a (no_form (WithStatus status) at (rw is refl))
+returns set s t under a Hold (Lower r) at is = errs a (no_form (Lower r) at (rw is refl))
+returns set s t under a Hold Continue at is = lets_held set s t a under at is
+returns set s t under a Hold Stop at is = stops set s t a under at (rw is refl)
+returns set s t under a Hold Void at is = errs a (no_form Void at (rw is refl))
+returns set s t under a Cancel (WithStatus status) at is =
+    errs a (no_form (WithStatus status) at (rw is refl))
+returns set s t under a Cancel (Lower r) at is = errs a (no_form (Lower r) at (rw is refl))
+returns set s t under a Cancel Continue at is = errs a (no_form Continue at (rw is refl))
+returns set s t under a Cancel Stop at is = errs a (no_form Stop at (rw is refl))
+returns set s t under a Cancel Void at is = ends_cancel a at is
 
 executes : (set : Set) (s : Shared) (t : ℕ) (under : Option Frame) (a : Activation) (i : Instr)
     → Executing set a i
@@ -376,6 +487,14 @@ executes set s t under a (Insert r q) at =
     inserted_in set s t under a r q (packet_in s (register a r)) (queue_of s a.device q) at refl refl
 executes set s t under a (Remove r q label) at =
     removed_in set s t under a r q label (queue_of s a.device q) at refl
+executes set s t under a (Unlink r q) at =
+    unlinked_in set s t under a r q (packet_in s (register a r)) (queue_of s a.device q) at refl refl
+executes set s t under a (Arm r q) at =
+    arms set s t under a r q (packet_in s (register a r)) (cancel_routine_of set a.driver q) at refl refl
+executes set s t under a (Disarm r label) at =
+    disarmed set s t under a r label (packet_in s (register a r)) at refl
+executes set s t under a (IfCancel r label) at =
+    asks_flag set s t under a r label (packet_in s (register a r)) at refl
 executes set s t under a (Start r) at =
     started_in set s t under a r (packet_in s (register a r)) (start_of s a.device) at refl refl
 executes set s t under a (Take r label) at =
@@ -401,6 +520,50 @@ routine_comes : (set : Set) (s : Shared) (t : ℕ) (under : Option Frame) (a : A
 routine_comes set s t under a None at = errs a (no_instruction at)
 routine_comes set s t under a (Some i) at = executes set s t under a i at
 
+-- a step of IoCancelIrp
+module _ (set : Set) (s : Shared) (t n : ℕ) where
+  cancel_taken : (o : Option ℕ) → s.locks.system_cancel ≡ o
+      → Cancels set s t n AcquireStep (cancel_acquires s t n o)
+  cancel_taken None there = takes_cancel (ap (λ (x : Option ℕ). Some x) there)
+  cancel_taken (Some owner) there =
+      cond_both (nat_eq owner t)
+      (leaves s (goes_on_cancelling n SetFlag) (Acquires SystemCancel ∷ []))
+      (record (leaves s (goes_on_cancelling n AcquireStep) []) { reply = Waited })
+      (λ o. Cancels set s t n AcquireStep o)
+      (λ own. elim (eqb_tells owner t) [
+        | inl g ↦ retakes_cancel (ap (λ (x : Option ℕ). Some x) there ∙ ap (λ x. Some (Some x)) g.1)
+        | inr g ↦ cc
+      ]) (λ other. awaits_cancel owner (ap (λ (x : Option ℕ). Some x) there) other)
+
+  cancel_flagged : (o : Option Packet) → packet_of s n ≡ o
+      → Cancels set s t n SetFlag (cancel_flags s n o)
+  cancel_flagged None there = flags_gone there
+  cancel_flagged (Some p) there = sets_flag p there
+
+  cancel_called : (p : Packet) (armer : Armer) (o : Option ℕ) → packet_of s n ≡ Some p
+      → p.armer ≡ Some armer
+      → cancel_routine_named set (routine_of_device (slice_get set.devices armer.device)) armer.queue
+      ≡ o
+      → Cancels set s t n Exchange
+      (cancel_calls (with_packet s n (with_armer p None)) n armer
+      (routine_of_device (slice_get set.devices armer.device)) o)
+  cancel_called p armer None there word named = finds_none p armer there word named
+  cancel_called p armer (Some routine) there word named =
+      calls_cancel p armer routine there word named
+
+  cancel_found : (p : Packet) (o : Option Armer) → packet_of s n ≡ Some p → p.armer ≡ o
+      → Cancels set s t n Exchange (cancel_armed set (with_packet s n (with_armer p None)) n o)
+  cancel_found p None there word = finds_empty p there word
+  cancel_found p (Some armer) there word =
+      cancel_called p armer
+      (cancel_routine_named set (routine_of_device (slice_get set.devices armer.device)) armer.queue)
+      there word refl
+
+  cancel_exchanged : (o : Option Packet) → packet_of s n ≡ o
+      → Cancels set s t n Exchange (cancel_exchanges set s n o)
+  cancel_exchanged None there = exchanges_gone there
+  cancel_exchanged (Some p) there = cancel_found p p.armer there refl
+
 module _ (set : Set) (s : Shared) (t : ℕ) (under : Option Frame) where
   up : (n : ℕ) (p : Packet) (marked : Bool) → packet_of s n ≡ Some p
       → completion_of (current_location p) ≡ None
@@ -414,10 +577,23 @@ module _ (set : Set) (s : Shared) (t : ℕ) (under : Option Frame) where
   up n p false there none deep is = walks_up n p there none deep is
   up n p true there none deep is = carries_up n p there none deep is
 
+  routed : (n : ℕ) (p : Packet) (c : Completion) (sort : Sort) → packet_of s n ≡ Some p
+      → completion_of (current_location p) ≡ Some c → sort_of_completion set c ≡ sort
+      → Comes set s t under (Walk n)
+      (leaves (with_packet s n (lent_to sort (moved_up (left_location p))))
+      (Walk n ∷ Routine (completes_with set c n) ∷ [])
+      (Touches n ∷ Leaves n ∷ Ups n ∷ lending sort n))
+  routed n p c Dispatch there next is = walks_to n p c there next (rw is refl)
+  routed n p c StartIo there next is = walks_to n p c there next (rw is refl)
+  routed n p c Dpc there next is = walks_to n p c there next (rw is refl)
+  routed n p c Propagate there next is = walks_to n p c there next (rw is refl)
+  routed n p c Hold there next is = lends_to n p c there next is
+  routed n p c Cancel there next is = walks_to n p c there next (rw is refl)
+
   walks_from : (n : ℕ) (p : Packet) (o : Option Completion) → packet_of s n ≡ Some p
       → completion_of (current_location p) ≡ o
       → Comes set s t under (Walk n) (walk_from set s n (left_location p) o)
-  walks_from n p (Some c) there next = walks_to n p c there next
+  walks_from n p (Some c) there next = routed n p c (sort_of_completion set c) there next refl
   walks_from n p None there next =
       cond_both (nat_lt 1 p.depth) (walk_up s n (left_location p)) (walk_out s n (left_location p))
       (λ o. Comes set s t under (Walk n) o)
@@ -429,7 +605,13 @@ module _ (set : Set) (s : Shared) (t : ℕ) (under : Option Frame) where
   walks n None there = walks_gone n there
   walks n (Some p) there = walks_from n p (completion_of (current_location p)) there refl
 
+  comes_cancelling : (n : ℕ) (step : CancelStep) → Cancels set s t n step (cancel_step set s t n step)
+  comes_cancelling n AcquireStep = cancel_taken set s t n s.locks.system_cancel refl
+  comes_cancelling n SetFlag = cancel_flagged set s t n (packet_of s n) refl
+  comes_cancelling n Exchange = cancel_exchanged set s t n (packet_of s n) refl
+
   pub comes : (f : Frame) → Comes set s t under f (frame_effect set s t under f)
   comes (Routine a) =
       routine_comes set s t under a (instruction_at set a.driver a.routine a.position) refl
   comes (Walk n) = walks n (packet_of s n) refl
+  comes (CancelFrame c) = cancels c.packet c.next _ (comes_cancelling c.packet c.next)

@@ -4,11 +4,11 @@ use Rattle.std.specs.Prelude.{ℕ, Bool, true, false, Option, None, Some}
 use Rattle.model.specs.declared.event.Lock.{Lock}
 use Rattle.model.specs.declared.event.Lock.TheVariants.{SystemCancel}
 use Rattle.model.specs.declared.instr.Instr.{Instr}
-use Rattle.model.specs.declared.instr.Instr.TheVariants.{Const, Move, Clear, Add, Subtract, JumpIfZero, JumpIfLess, Jump, Loop, End, Load, Store, LoadPaged, StorePaged, Get, Put, Mark, Acquire, Release, AcquireCancel, ReleaseCancel, Insert, Remove, Start, Take, Begin, Next, Pass, Call, Complete, IfPending, Ret}
+use Rattle.model.specs.declared.instr.Instr.TheVariants.{Const, Move, Clear, Add, Subtract, JumpIfZero, JumpIfLess, Jump, Loop, End, Load, Store, LoadPaged, StorePaged, Get, Put, Mark, Acquire, Release, AcquireCancel, ReleaseCancel, Insert, Remove, Unlink, Arm, Disarm, IfCancel, Start, Take, Begin, Next, Pass, Call, Complete, IfPending, Ret}
 use Rattle.model.specs.declared.instr.Return.{Return}
-use Rattle.model.specs.declared.instr.Return.TheVariants.{WithStatus, Lower, Continue, Void}
+use Rattle.model.specs.declared.instr.Return.TheVariants.{WithStatus, Lower, Continue, Stop, Void}
 use Rattle.model.specs.declared.set.Sort.{Sort}
-use Rattle.model.specs.declared.set.Sort.TheVariants.{Dispatch, StartIo, Dpc, Propagate}
+use Rattle.model.specs.declared.set.Sort.TheVariants.{Dispatch, StartIo, Dpc, Propagate, Hold, Cancel}
 use Rattle.model.specs.declared.status.Status.{Status}
 use Rattle.model.specs.declared.world.Activation.{Activation}
 use Rattle.model.specs.declared.world.Packet.{Packet}
@@ -17,8 +17,9 @@ use Rattle.model.specs.Set.{Flow, Onward, Branches, Jumps, Opens, Closes, Leaves
 use Rattle.model.specs.World.{register, status_in}
 
 -- computing with registers and cells, opening and turning loops, touching paged cells, looking at a
--- packet, writing to it, marking it, taking and freeing locks, working on the queues of a device or
--- on what it has for StartIo, sending a packet down, completing it, and returning
+-- packet, writing to it, marking it, exchanging its cancel routine, taking and freeing locks,
+-- working on the queues of a device or on what it has for StartIo, sending a packet down, completing
+-- it, and returning
 pub data Work : Type 0 where
   Computing : Work
   Looping : Work
@@ -26,6 +27,7 @@ pub data Work : Type 0 where
   Looking : Work
   Writing : Work
   Marking : Work
+  Exchanging : Work
   Locking : Work
   Queueing : Work
   Forwarding : Work
@@ -56,6 +58,10 @@ work_of AcquireCancel = Locking
 work_of ReleaseCancel = Locking
 work_of (Insert r q) = Queueing
 work_of (Remove r q label) = Queueing
+work_of (Unlink r q) = Queueing
+work_of (Arm r q) = Exchanging
+work_of (Disarm r label) = Exchanging
+work_of (IfCancel r label) = Looking
 work_of (Start r) = Queueing
 work_of (Take r label) = Queueing
 work_of (Begin r) = Queueing
@@ -71,6 +77,7 @@ abbrev pub is_touching : Work → Bool
 is_touching Looking = true
 is_touching Writing = true
 is_touching Marking = true
+is_touching Exchanging = true
 is_touching Forwarding = true
 is_touching _ = false
 
@@ -78,10 +85,11 @@ abbrev pub is_forwarding : Work → Bool
 is_forwarding Forwarding = true
 is_forwarding _ = false
 
--- work that changes the kind of the packet's register alone: a mark, what puts it into a queue or
--- sends it down, and its completion
+-- work that changes the kind of the packet's register alone: a mark, an exchange of its cancel
+-- routine, what puts it into a queue or sends it down, and its completion
 abbrev pub is_giving : Work → Bool
 is_giving Marking = true
+is_giving Exchanging = true
 is_giving Queueing = true
 is_giving Forwarding = true
 is_giving Completing = true
@@ -105,6 +113,10 @@ packet_operand (Get r q field) = Some q
 packet_operand (Put q r) = Some q
 packet_operand (Mark r) = Some r
 packet_operand (Insert r q) = Some r
+packet_operand (Unlink r q) = Some r
+packet_operand (Arm r q) = Some r
+packet_operand (Disarm r label) = Some r
+packet_operand (IfCancel r label) = Some r
 packet_operand (Start r) = Some r
 packet_operand (Begin r) = Some r
 packet_operand (Pass r) = Some r
@@ -161,6 +173,14 @@ is_of_cells (LoadPaged r c) = true
 is_of_cells (StorePaged c r) = true
 is_of_cells _ = false
 
+-- an instruction is about what a device has for StartIo
+abbrev pub starts_packets : Instr → Bool
+starts_packets (Start r) = true
+starts_packets (Take r label) = true
+starts_packets (Begin r) = true
+starts_packets Next = true
+starts_packets _ = false
+
 -- the lock that an activation takes, and the one that it frees
 abbrev pub lock_taken : Activation → Instr → Option Lock
 lock_taken a (Acquire lock) = Some (spin_lock a lock)
@@ -173,9 +193,10 @@ lock_freed a ReleaseCancel = Some SystemCancel
 lock_freed a _ = None
 
 -- a look at a packet jumps exactly if Irp->PendingReturned is set, where the instruction looks at
--- that
+-- that, or Irp->Cancel, where it looks at that
 abbrev pub jumps_on : Instr → Packet → Bool
 jumps_on (IfPending r label) p = p.pending_returned
+jumps_on (IfCancel r label) p = p.cancel
 jumps_on _ p = false
 
 -- the status that a dispatch routine returns
@@ -183,6 +204,7 @@ abbrev pub status_returned : Activation → Return → Option Status
 status_returned a (WithStatus status) = Some status
 status_returned a (Lower r) = status_in (register a r)
 status_returned a Continue = None
+status_returned a Stop = None
 status_returned a Void = None
 
 -- the forms of return of a sort of routine
@@ -190,24 +212,30 @@ abbrev pub is_form_of : Sort → Return → Bool
 is_form_of Dispatch (WithStatus status) = true
 is_form_of Dispatch (Lower r) = true
 is_form_of Dispatch Continue = false
+is_form_of Dispatch Stop = false
 is_form_of Dispatch Void = false
 is_form_of StartIo (WithStatus status) = false
 is_form_of StartIo (Lower r) = false
 is_form_of StartIo Continue = false
+is_form_of StartIo Stop = false
 is_form_of StartIo Void = true
 is_form_of Dpc (WithStatus status) = false
 is_form_of Dpc (Lower r) = false
 is_form_of Dpc Continue = false
+is_form_of Dpc Stop = false
 is_form_of Dpc Void = true
 is_form_of Propagate (WithStatus status) = false
 is_form_of Propagate (Lower r) = false
 is_form_of Propagate Continue = true
+is_form_of Propagate Stop = true
 is_form_of Propagate Void = false
-
--- an instruction is about what a device has for StartIo
-abbrev pub starts_packets : Instr → Bool
-starts_packets (Start r) = true
-starts_packets (Take r label) = true
-starts_packets (Begin r) = true
-starts_packets Next = true
-starts_packets _ = false
+is_form_of Hold (WithStatus status) = false
+is_form_of Hold (Lower r) = false
+is_form_of Hold Continue = true
+is_form_of Hold Stop = true
+is_form_of Hold Void = false
+is_form_of Cancel (WithStatus status) = false
+is_form_of Cancel (Lower r) = false
+is_form_of Cancel Continue = false
+is_form_of Cancel Stop = false
+is_form_of Cancel Void = true

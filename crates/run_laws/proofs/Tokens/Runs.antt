@@ -7,7 +7,8 @@ use Rattle.model.specs.declared.world.Activation.{Activation}
 use Rattle.model.specs.declared.world.Frame.TheVariants.{Routine}
 use Rattle.model.specs.declared.world.Irql.TheVariants.{Dispatch as DispatchLevel}
 use Rattle.model.specs.declared.world.Thread.{Thread}
-use Rattle.model.specs.Effect.{Change, Outcome, dpc_activation, rooted, serves_request, settled, standing, top_of, with_stack}
+use Rattle.model.specs.Effect.{Outcome, top_of}
+use Rattle.model.specs.Events.{Change, dpc_activation, rooted, serves_request, settled, standing, with_stack}
 use Rattle.model.specs.Queues.{StartState, head_of, idle, without_first_to_start, without_head}
 use Rattle.model.specs.Run.{begun}
 use Rattle.model.specs.Set.{Set}
@@ -22,6 +23,7 @@ use Rattle.run_laws.proofs.Runs.Events.{BeginsStartIo, Happens, StepsFrame, begi
 use Rattle.run_laws.proofs.Runs.Kept.{GoesOnBy, with_queued}
 use Rattle.run_laws.proofs.States.Entering.{Begins, begins_dpc, begins_request, startio_activation}
 use Rattle.run_laws.proofs.States.Frames.{IsGood, state_of}
+use Rattle.run_laws.proofs.States.Never.{keeps_below}
 use Rattle.run_laws.proofs.States.Rules.{States}
 use Rattle.run_laws.proofs.States.Standing.{Standing, on_top, startio_enters}
 use Rattle.run_laws.proofs.States.Told.{told_last, standing_last}
@@ -184,11 +186,13 @@ module _ (set : Set) (states : States) (w : World) (past : List Entry) (good : I
           top_changed (λ f. frame_tokens states d f) w.threads t h.thread
           (with_stack h.thread (standing set h.below h.outcome)) h.below
           (told_last set h.outcome.told h.below) h.frame h.outcome.frames h.found h.frames
-          (standing_last set w.shared t (top_of h.below) h.frame h.outcome h.below h.comes)
+          (standing_last set w.shared t (top_of h.below) h.frame h.outcome h.below h.comes
+          (keeps_below set states w.shared t (top_of h.below) h.frame h.outcome
+          (on_top set states w past good stands t h) h.comes))
           (last_sum set (λ f. frame_tokens states d f) h.outcome.told
           (frame_told_tokens set states d h.outcome.told) h.below)
 
-  tokens_happen : (actor : Actor) (c : Change) → Happens set w actor.thread c
+  tokens_happen : (actor : Actor) (c : Change) → Happens set w actor.thread false c
       → OneTokenEach states c.world
   tokens_happen actor c (nothing reply right) = each
   tokens_happen actor c (steps h) = stepped_each actor.thread h
@@ -205,7 +209,7 @@ module _ (set : Set) (states : States) (w : World) (past : List Entry) (good : I
       (begun_tokens (begins_dpc set states good w.shared.issued h.d h.routine h.there) refl)
   tokens_happen actor c (startio_begins h) = startio_each actor.thread h c.world refl refl
 
-  pub tokens_kept : (actor : Actor) (c : Change) → GoesOnBy set w past actor c
+  pub tokens_kept : (actor : Actor) (c : Change) → GoesOnBy set w past actor false c
       → OneTokenEach states c.world
   tokens_kept actor c on = tokens_happen actor c on.happens
 

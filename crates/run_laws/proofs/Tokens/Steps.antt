@@ -9,19 +9,19 @@ use Rattle.model.specs.declared.abs.Kind.{Kind}
 use Rattle.model.specs.declared.abs.Kind.TheVariants.{New}
 use Rattle.model.specs.declared.abs.Rule.TheVariants.{CancelSpinLock, SpinLock, Token}
 use Rattle.model.specs.declared.instr.Instr.{Instr}
-use Rattle.model.specs.declared.instr.Instr.TheVariants.{Begin, Call, Complete, End, Insert, Loop, Mark, Next, Pass, Put, Remove, Ret, Start, Take}
+use Rattle.model.specs.declared.instr.Instr.TheVariants.{Begin, Call, Complete, End, Insert, Loop, Mark, Next, Pass, Put, Remove, Ret, Start, Take, Unlink}
 use Rattle.model.specs.declared.instr.Return.{Return}
-use Rattle.model.specs.declared.instr.Return.TheVariants.{Continue, Void}
+use Rattle.model.specs.declared.instr.Return.TheVariants.{Continue, Stop, Void}
 use Rattle.model.specs.declared.set.Sort.{Sort}
 use Rattle.model.specs.declared.status.Status.{Status}
 use Rattle.model.specs.declared.world.Activation.{Activation}
 use Rattle.model.specs.declared.world.Frame.{Frame}
-use Rattle.model.specs.declared.world.Frame.TheVariants.{Routine, Walk}
+use Rattle.model.specs.declared.world.Frame.TheVariants.{Routine, Walk, Cancel as CancelFrame}
 use Rattle.model.specs.declared.world.Packet.{Packet}
 use Rattle.model.specs.declared.world.Value.{Value}
 use Rattle.model.specs.Action.{Action}
 use Rattle.model.specs.Effect.{Outcome, answered_in, completes_with, dispatched, operand_of, turned}
-use Rattle.model.specs.LocalRule.{broken_if, form_fault, given_down, handed, handed_at_label, holds_spin_lock, kept_fault, kind_of, least_of, left_packet, marked, refuses, settled_fault}
+use Rattle.model.specs.LocalRule.{broken_if, form_fault, given_down, gives_back, handed, handed_at_label, holds_spin_lock, kept_fault, kind_of, least_of, left_packet, marked, refuses, settled_fault}
 use Rattle.model.specs.Queues.{StartState, next_of, started, with_slot}
 use Rattle.model.specs.Set.{Set, flow_of, instruction_at, lower_of, sort_of}
 use Rattle.model.specs.World.{Shared, asked_of, current_location, next, register, start_of}
@@ -33,11 +33,13 @@ use Rattle.run_laws.proofs.States.Entering.{Enters, begins_back, begins_lower, f
 use Rattle.run_laws.proofs.States.Frames.{Moved, Runs, state_of}
 use Rattle.run_laws.proofs.States.LoopEnds.{moved_end}
 use Rattle.run_laws.proofs.States.Moves.{arrives, arrives_next, falls_next, has_next, onto}
+use Rattle.run_laws.proofs.States.Never.{never_stands}
 use Rattle.run_laws.proofs.States.OnTop.{OnTop, runs}
 use Rattle.run_laws.proofs.States.Rules.{States, first_none, granted, second_none, unbroken}
 use Rattle.run_laws.proofs.States.Told.{told_frame}
-use Rattle.run_laws.proofs.Steps.Comes.{Comes, GoesTo, Queued, Reads, awaits_lock, calls_down, carries_up, completes_gone, completes_packet, computes, ends_dpc, ends_startio, errs, frees_lock, inserts, jumping, lets_go, lets_walk, looks_at, marks_packet, onward, opens_loop, pages, passes_down, puts_in, removes, removes_none, retakes_lock, returns_status, starts_next, starts_packet, takes_lock, takes_none, takes_out, tops_out, touches_gone, turns_loop, walks_gone, walks_to, walks_up, works_on_queues, writes_info}
+use Rattle.run_laws.proofs.Steps.Comes.{Comes, GoesTo, Queued, Reads, awaits_lock, calls_down, carries_up, completes_gone, completes_packet, computes, cancels, ends_cancel, ends_dpc, ends_startio, errs, exchanges, frees_lock, inserts, jumping, lends_to, lets_go, lets_walk, looks_at, marks_packet, onward, opens_loop, pages, passes_down, puts_in, removes, removes_none, resumes_gone, resumes_none, resumes_walk, retakes_lock, returns_status, starts_next, starts_packet, stops_none, stops_walk, takes_lock, takes_none, takes_out, tops_out, touches_gone, turns_loop, unlinks, walks_gone, walks_to, walks_up, works_on_queues, writes_info}
 use Rattle.run_laws.proofs.Steps.Locking.{LockWord, freed_word, taken_word}
+use Rattle.run_laws.proofs.Steps.Uncancelled.{never_lends}
 use Rattle.run_laws.proofs.Steps.Words.{Queueing, Work, is_touching, work_of}
 use Rattle.run_laws.proofs.Tests.{and_false}
 use Rattle.run_laws.proofs.Tokens.Sums.{FewTokens, at_most_one, own_token}
@@ -94,6 +96,8 @@ pub frame_told_tokens : (set : Set) (states : States) (d : ℕ) (told : Option S
 frame_told_tokens set states d None (Routine a) = refl
 frame_told_tokens set states d None (Walk m) = refl
 frame_told_tokens set states d (Some status) (Walk m) = refl
+frame_told_tokens set states d None (CancelFrame c) = refl
+frame_told_tokens set states d (Some status) (CancelFrame c) = refl
 frame_told_tokens set states d (Some status) (Routine a) =
     told_tokens states d a status
     (operand_of (instruction_at set a.driver a.routine (a.position - 1)))
@@ -115,24 +119,25 @@ given_token : (s : Abs) (r : ℕ) (k : Kind) → (given_down s r k).token ≡ s.
 given_token s r New = refl
 given_token s r _ = refl
 
-handed_token : (s : Abs) (i : Instr) → leaves_token (work_of i) ≡ true
-    → (handed s i).token ≡ s.token
-handed_token s (Mark r) h = marked_token s r (kind_of s r)
-handed_token s (Pass r) h = given_token s r (kind_of s r)
-handed_token s (Call r f) h = given_token s r (kind_of s r)
-handed_token s (Take r label) h = cc
-handed_token s (Begin r) h = cc
-handed_token s Next h = cc
-handed_token s _ h = refl
+handed_token : (set : Set) (driver : ℕ) (s : Abs) (i : Instr) → leaves_token (work_of i) ≡ true
+    → (handed set driver s i).token ≡ s.token
+handed_token set driver s (Mark r) h = marked_token s r (kind_of s r)
+handed_token set driver s (Pass r) h = given_token s r (kind_of s r)
+handed_token set driver s (Call r f) h = given_token s r (kind_of s r)
+handed_token set driver s (Take r label) h = cc
+handed_token set driver s (Begin r) h = cc
+handed_token set driver s Next h = cc
+handed_token set driver s _ h = refl
 
 label_token : (s : Abs) (i : Instr) → (handed_at_label s i).token ≡ s.token
 label_token s (Remove r q label) = refl
 label_token s _ = refl
 
-onto_token : (s : Abs) (i : Instr) (jumped : Bool) → leaves_token (work_of i) ≡ true
-    → (onto s i jumped).token ≡ s.token
-onto_token s i false h = handed_token s i h
-onto_token s i true h = label_token s i
+onto_token : (set : Set) (driver : ℕ) (s : Abs) (i : Instr) (jumped : Bool)
+    → leaves_token (work_of i) ≡ true
+    → (onto set driver s i jumped).token ≡ s.token
+onto_token set driver s i false h = handed_token set driver s i h
+onto_token set driver s i true h = label_token s i
 
 -- what an instruction that breaks no rule says of the token before it
 module _ (s : Abs) (sort : Sort) (set : Set) (driver : ℕ) where
@@ -147,12 +152,13 @@ module _ (s : Abs) (sort : Sort) (set : Set) (driver : ℕ) where
 
   pub return_token : (form : Return) → refuses s (Ret form) sort set driver ≡ None → s.token ≡ false
   return_token form h =
-      let rest : least_of (kept_fault s)
-      (least_of (form_fault sort form) (settled_fault sort s.settled)) ≡ None =
+      let back : Bool = gives_back sort form in
+      let rest : least_of (kept_fault s back)
+      (least_of (form_fault sort form) (settled_fault sort s form)) ≡ None =
       second_none _ _ h in
-      let kept : kept_fault s ≡ None = first_none _ _ rest in
+      let kept : kept_fault s back ≡ None = first_none _ _ rest in
       unbroken s.token Token
-      (second_none (left_packet s) _ (second_none (broken_if (holds_spin_lock s) SpinLock) _
+      (second_none (left_packet s back) _ (second_none (broken_if (holds_spin_lock s) SpinLock) _
       (second_none (broken_if s.cancel CancelSpinLock) _ kept)))
 
 -- IoStartPacket: a token more, where the device was idle
@@ -237,7 +243,7 @@ module _ (set : Set) (states : States) (s : Shared) where
         → (state_of states b).token ≡ (state_of states a).token
     goes_token b jumped is to =
         ap (λ (state : Abs). state.token) (arrives set states s a i h b jumped to)
-        ∙ onto_token (state_of states a) i jumped is
+        ∙ onto_token set a.driver (state_of states a) i jumped is
 
     goes_device : (b : Activation) (jumped : Bool) → GoesTo a i b jumped → b.device ≡ a.device
     goes_device b jumped (onward registers on written) = refl
@@ -250,12 +256,14 @@ module _ (set : Set) (states : States) (s : Shared) where
         goes_with a b o starts frames (goes_device b jumped to) (goes_token b jumped is to)
 
     pub state_next : has_next (flow_of i) ≡ true
-        → (states a.driver a.routine (a.position + 1)).token ≡ (handed (state_of states a) i).token
+        → (states a.driver a.routine (a.position + 1)).token
+        ≡ (handed set a.driver (state_of states a) i).token
     state_next leads = ap (λ (state : Abs). state.token) (arrives_next set states s a i h leads)
 
     next_token_same : leaves_token (work_of i) ≡ true → has_next (flow_of i) ≡ true
         → (states a.driver a.routine (a.position + 1)).token ≡ (state_of states a).token
-    next_token_same is leads = state_next leads ∙ handed_token (state_of states a) i is
+    next_token_same is leads =
+        state_next leads ∙ handed_token set a.driver (state_of states a) i is
 
     next_tokens : (o : Outcome) → leaves_token (work_of i) ≡ true → has_next (flow_of i) ≡ true
         → o.shared.starts ≡ s.starts → o.frames ≡ Routine (next a) ∷ []
@@ -370,6 +378,8 @@ module _ (set : Set) (states : States) (s : Shared) where
         leaves_starts _ refl
         (ap (λ (state : Abs). state.token)
         (arrives set states s a (Take r label) h _ true (jumping label refl)))
+    queued_tokens i h (unlinks r q n entries reads there) =
+        leaves_starts (next a) refl (state_next a (Unlink r q) h refl)
     queued_tokens i h (starts_packet r n start reads there) =
         let same : (state_of states (next a)).token ≡ (state_of states a).token =
         state_next a (Start r) h refl in
@@ -450,6 +460,9 @@ module _ (set : Set) (states : States) (s : Shared) where
       next_tokens a (Put q r) (runs set states s a (Put q r) top at) o refl refl refl refl
   token_step t under f o top few (marks_packet a r n p at reads there) =
       next_tokens a (Mark r) (runs set states s a (Mark r) top at) o refl refl refl refl
+  token_step t under f o top few
+      (exchanges a i b jumped r n p armer at is goes operand reads there how) =
+      goes_tokens a i (runs set states s a i top at) b jumped o (ap leaves_token is) goes refl refl
   token_step t under f o top few (takes_lock a i lock at takes free) =
       lock_tokens a i o (runs set states s a i top at) (taken_word a i lock takes) refl refl
   token_step t under f o top few (retakes_lock a i lock at takes its) =
@@ -478,16 +491,32 @@ module _ (set : Set) (states : States) (s : Shared) where
       returns a Continue o (runs set states s a (Ret Continue) top at) refl refl
   token_step t under f o top few (lets_walk a n at is) =
       returns a Continue o (runs set states s a (Ret Continue) top at) refl refl
+  token_step t under f o top few (resumes_walk a n p at is there) =
+      returns a Continue o (runs set states s a (Ret Continue) top at) refl refl
+  token_step t under f o top few (resumes_gone a n at is gone) =
+      returns a Continue o (runs set states s a (Ret Continue) top at) refl refl
+  token_step t under f o top few (resumes_none a at is walk) =
+      returns a Continue o (runs set states s a (Ret Continue) top at) refl refl
+  token_step t under f o top few (stops_walk a n at is) =
+      returns a Stop o (runs set states s a (Ret Stop) top at) refl refl
+  token_step t under f o top few (stops_none a at is walk) =
+      returns a Stop o (runs set states s a (Ret Stop) top at) refl refl
+  token_step t under f o top few (ends_cancel a at is) =
+      returns a Void o (runs set states s a (Ret Void) top at) refl refl
   token_step t under f o top few (ends_startio a at is) =
       returns a Void o (runs set states s a (Ret Void) top at) refl refl
   token_step t under f o top few (ends_dpc a at is) =
       returns a Void o (runs set states s a (Ret Void) top at) refl refl
-  token_step t under f o top few (walks_to n p c there set_there) =
+  token_step t under f o top few (walks_to n p c there set_there lends) =
       same_starts (Walk n) o refl
       (λ d. let none : frame_tokens states d (Routine (completes_with set c n)) ≡ 0 =
       begun_tokens (begins_back set states s top.good top.fits n p c top.stands there set_there)
       refl d in
       omega arith)
+  token_step t under f o top few (lends_to n p c there set_there lends) =
+      absurd (never_lends top.good.quiet c lends)
+  token_step t under f o top few (cancels n step made moves) =
+      absurd (never_stands set states s _ top)
   token_step t under f o top few (walks_gone n gone) = same_starts (Walk n) o refl (λ d. refl)
   token_step t under f o top few (walks_up n p there without deep unmarked) =
       same_starts (Walk n) o refl (λ d. refl)

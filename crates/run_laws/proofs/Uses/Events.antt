@@ -1,17 +1,18 @@
 -- What an event does to each packet and its uses; so it keeps what live packets and the trace tell
 -- of each other, what was agreed on for a use, and that a use waits for the one below it.
-use Rattle.std.proofs.Common.{◌≡◌, ℕ, ◌+◌, inl, inr, List, [], ◌∷◌, ◌++◌, None, Option, Some, Bool, refl, ap, sym, ◌∙◌, subst, arith, slice_get}
+use Rattle.std.proofs.Common.{◌≡◌, ℕ, ◌+◌, inl, inr, List, [], ◌∷◌, ◌++◌, None, Option, Some, Bool, refl, ap, sym, ◌∙◌, subst, arith, slice_get, false}
 use Rattle.std.specs.Prelude.{nat_lt, slice_set}
 use Rattle.std.proofs.lemmas.Bool.Decides.{eqb_tells}
 use Rattle.model.specs.declared.world.Activation.{Activation}
 use Rattle.model.specs.declared.world.Frame.{Frame}
-use Rattle.model.specs.declared.world.Frame.TheVariants.{Routine, Walk}
+use Rattle.model.specs.declared.world.Frame.TheVariants.{Routine, Walk, Cancel as CancelFrame}
 use Rattle.model.specs.declared.world.Irql.{Irql}
 use Rattle.model.specs.declared.world.Irql.TheVariants.{Passive, Dispatch as DispatchLevel}
 use Rattle.model.specs.declared.world.Packet.{Packet}
 use Rattle.model.specs.declared.world.Thread.{Thread}
 use Rattle.model.specs.Action.{Action, Issues}
-use Rattle.model.specs.Effect.{Change, Outcome, rooted, serves_request, standing, top_of, with_new_packet, with_stack, dpc_activation}
+use Rattle.model.specs.Effect.{Outcome, top_of}
+use Rattle.model.specs.Events.{Change, rooted, serves_request, standing, with_new_packet, with_stack, dpc_activation}
 use Rattle.model.specs.Fault.{first_fault}
 use Rattle.model.specs.Run.{frames_on}
 use Rattle.model.specs.Set.{Set}
@@ -24,6 +25,7 @@ use Rattle.run_laws.proofs.Runs.Events.{Happens, IssuesPacket, StepsFrame, issue
 use Rattle.run_laws.proofs.Runs.Threads.{frames_there}
 use Rattle.run_laws.proofs.States.Frames.{IsGood}
 use Rattle.run_laws.proofs.States.Entering.{startio_activation}
+use Rattle.run_laws.proofs.States.Never.{keeps_below, never_stands}
 use Rattle.run_laws.proofs.States.Rules.{States}
 use Rattle.run_laws.proofs.States.Stacks.{Stacked}
 use Rattle.run_laws.proofs.States.Standing.{Standing, on_top, stands_there}
@@ -60,11 +62,13 @@ module _ (set : Set) (states : States) (issued : ℕ) where
       → OnWalk set (last_under under (g ∷ below)) a
   on_walk under (Walk n) [] a h = h.0.0
   on_walk under (Routine b) [] a h = tt
+  on_walk under (CancelFrame c) [] a h = tt
   on_walk under g (e ∷ below) a h = on_walk (Some g) e below a h.1
 
   frame_on : (below : List Frame) (f : Frame) → Stacked set states issued (below ++ f ∷ [])
       → FrameOn set (last_under None below) f
   frame_on below (Walk n) h = tt
+  frame_on below (CancelFrame c) h = tt
   frame_on [] (Routine a) h = tt
   frame_on (g ∷ below) (Routine a) h = on_walk None g below a h
 
@@ -99,6 +103,8 @@ module _ (set : Set) (states : States) (w : World) (past : List Entry)
   frame_used actor under below (Walk n) o h comes quiet =
       walk_used set states w.shared past actor actor.thread under n
       (steps_walk set states w.shared past actor under n h) below o comes
+  frame_used actor under below (CancelFrame c) o h comes quiet =
+      absurd (never_stands set states w.shared c h.top)
 
   frame_turns : (actor : Actor) (h : StepsFrame set w actor.thread)
       → first_fault past actor h.outcome.actions ≡ None → (n : ℕ) → WorldTurns states w
@@ -119,7 +125,9 @@ module _ (set : Set) (states : States) (w : World) (past : List Entry)
         even = λ returned. late_replaced states returned n set w.threads t h.thread after h.below
             h.frame o.told
             o.frames h.found h.frames
-            (standing_is set w.shared t (top_of h.below) h.frame o h.below h.comes);
+            (standing_is set w.shared t (top_of h.below) h.frame o h.below h.comes
+            (keeps_below set states w.shared t (top_of h.below) h.frame o (known_top t h).top
+            h.comes));
         own = λ returned. late_top states returned n w.threads t h.thread h.below h.frame h.found
             h.frames;
         free = λ free returned. no_late_free states w n returned known.kept free;
@@ -206,7 +214,7 @@ module _ (set : Set) (states : States) (w : World) (past : List Entry)
       ∙ root_late actor.thread thread DispatchLevel a n found idle p.pending_returned))
 
   -- an event
-  pub event_turns : (actor : Actor) (c : Change) → Happens set w actor.thread c
+  pub event_turns : (actor : Actor) (c : Change) → Happens set w actor.thread false c
       → first_fault past actor c.actions ≡ None
       → (n : ℕ) → WorldTurns states w c.world past (recorded past actor c.actions) n
   event_turns actor c (nothing reply right) quiet n =
@@ -328,7 +336,7 @@ uses_begun w none =
 -- an event keeps what live packets and the trace tell of each other
 pub uses_event : (set : Set) (states : States) (w : World) (past : List Entry) (actor : Actor)
     (c : Change)
-    → KnownWorld set states w past → UsesTell w past → Happens set w actor.thread c
+    → KnownWorld set states w past → UsesTell w past → Happens set w actor.thread false c
     → first_fault past actor c.actions ≡ None → UsesTell c.world (recorded past actor c.actions)
 uses_event set states w past actor c known told happens quiet =
     record {

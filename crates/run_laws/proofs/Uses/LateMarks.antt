@@ -15,7 +15,7 @@ use Rattle.model.specs.declared.abs.Settled.TheVariants.{Open, NeedMark, Settled
 use Rattle.model.specs.declared.status.Status.{Status}
 use Rattle.model.specs.declared.world.Activation.{Activation}
 use Rattle.model.specs.declared.world.Frame.{Frame}
-use Rattle.model.specs.declared.world.Frame.TheVariants.{Routine, Walk}
+use Rattle.model.specs.declared.world.Frame.TheVariants.{Routine, Walk, Cancel as CancelFrame}
 use Rattle.model.specs.declared.world.Packet.{Packet}
 use Rattle.model.specs.declared.world.Thread.{Thread}
 use Rattle.model.specs.Effect.{answered_in, operand_of, told_to}
@@ -63,6 +63,7 @@ module _ (states : States) (returned : Bool) (n : ℕ) where
   late_walk None m = refl
   late_walk (Some (Routine a)) m = refl
   late_walk (Some (Walk k)) m = refl
+  late_walk (Some (CancelFrame c)) m = refl
 
   -- a frame that is told a status counts as before
   answered_late : (under : Option Frame) (a : Activation) (status : Status)
@@ -71,12 +72,15 @@ module _ (states : States) (returned : Bool) (n : ℕ) where
   answered_late None a status (Some r) = refl
   answered_late (Some (Routine b)) a status (Some r) = refl
   answered_late (Some (Walk m)) a status (Some r) = refl
+  answered_late (Some (CancelFrame c)) a status (Some r) = refl
 
   told_late : (set : Set) (under : Option Frame) (told : Option Status)
       (f : Frame) → late under (told_frame set told f) ≡ late under f
   told_late set under None (Routine a) = refl
   told_late set under None (Walk m) = refl
+  told_late set under None (CancelFrame c) = refl
   told_late set under (Some status) (Walk m) = refl
+  told_late set under (Some status) (CancelFrame c) = refl
   told_late set under (Some status) (Routine a) =
       answered_late under a status
       (operand_of (instruction_at set a.driver a.routine (a.position - 1)))
@@ -85,9 +89,12 @@ module _ (states : States) (returned : Bool) (n : ℕ) where
       → late (Some (told_frame set told g)) f ≡ late (Some g) f
   told_under set None (Routine a) f = refl
   told_under set None (Walk m) f = refl
+  told_under set None (CancelFrame c) f = refl
   told_under set (Some status) (Walk m) f = refl
+  told_under set (Some status) (CancelFrame c) f = refl
   told_under set (Some status) (Routine a) (Routine b) = refl
   told_under set (Some status) (Routine a) (Walk m) = refl
+  told_under set (Some status) (Routine a) (CancelFrame c) = refl
 
   on_told : (set : Set) (told : Option Status) (g : Frame)
       (frames : List Frame) → lates (Some (told_frame set told g)) frames ≡ lates (Some g) frames
@@ -122,12 +129,13 @@ module _ (states : States) (returned : Bool) (n : ℕ) where
       ∙ last_late set under told below frames
 
   late_under : (under : Option Frame) (f : Frame) → late under f ≤ walks_under under n
-  late_under None (Routine a) = omega arith
-  late_under None (Walk m) = omega arith
-  late_under (Some (Routine b)) (Routine a) = omega arith
-  late_under (Some (Routine b)) (Walk m) = omega arith
+  late_under None f = omega arith
+  late_under (Some (Routine b)) f = omega arith
+  late_under (Some (CancelFrame c)) f = omega arith
   late_under (Some (Walk k)) (Walk m) =
       let none : late (Some (Walk k)) (Walk m) ≡ 0 = refl in omega arith
+  late_under (Some (Walk k)) (CancelFrame c) =
+      let none : late (Some (Walk k)) (CancelFrame c) ≡ 0 = refl in omega arith
   late_under (Some (Walk k)) (Routine a) =
       elim (eqb_tells k n) [
         | inl e ↦ rw e.0 (late_one returned (states a.driver a.routine a.position).settled)

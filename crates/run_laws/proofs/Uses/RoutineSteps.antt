@@ -1,12 +1,13 @@
 -- What a step of a routine does to each packet and its uses.
 use Rattle.std.proofs.Common.{◌≡◌, ℕ, ◌+◌, ◌-◌, ◌≤◌, ◌⊎◌, inl, inr, List, [], ◌∷◌, ◌++◌, length, Option, None, Some, Bool, true, false, refl, ap, sym, ◌∙◌, subst, arith}
-use Rattle.std.specs.Prelude.{⊤, nat_eq, nat_le, slice_get}
+use Rattle.std.specs.Prelude.{⊤, is_some, nat_eq, nat_le, not, slice_get}
 use Rattle.std.specs.List.{list_any}
 use Rattle.std.proofs.lemmas.Bool.{cond_both, eq-eqb, leb-false}
 use Rattle.std.proofs.lemmas.Bool.Decides.{eqb_tells}
 use Rattle.model.specs.declared.abs.Abs.{Abs}
 use Rattle.model.specs.declared.abs.Kind.{Kind}
-use Rattle.model.specs.declared.abs.Kind.TheVariants.{Blank, Num, Lower, New, Own, View}
+use Rattle.model.specs.declared.abs.Kind.TheVariants.{New, View}
+use Rattle.model.specs.declared.abs.Rule.TheVariants.{Completion as CompletionRule}
 use Rattle.model.specs.declared.abs.Settled.{Settled}
 use Rattle.model.specs.declared.abs.Settled.TheVariants.{NeedMark, Open, Settled as SettledMark}
 use Rattle.model.specs.declared.event.Reply.{Reply}
@@ -15,23 +16,24 @@ use Rattle.model.specs.declared.event.Bug.{Bug}
 use Rattle.model.specs.declared.event.BugCheck.TheVariants.{IrqlNotLessOrEqual, NoMoreIrpStackLocations}
 use Rattle.model.specs.declared.event.Subject.TheVariants.{Packet as PacketSubject}
 use Rattle.model.specs.declared.instr.Instr.{Instr}
-use Rattle.model.specs.declared.instr.Instr.TheVariants.{Call, Complete, End, Get, IfPending, Loop, Mark, Pass, Put, Ret}
+use Rattle.model.specs.declared.instr.Instr.TheVariants.{Call, Complete, End, Get, IfCancel, IfPending, Loop, Mark, Pass, Put, Ret}
 use Rattle.model.specs.declared.instr.Return.{Return}
-use Rattle.model.specs.declared.instr.Return.TheVariants.{Continue, Void}
+use Rattle.model.specs.declared.instr.Return.TheVariants.{Continue, Stop, Void}
 use Rattle.model.specs.declared.set.Sort.{Sort}
-use Rattle.model.specs.declared.set.Sort.TheVariants.{Dispatch, Propagate, Dpc, StartIo}
+use Rattle.model.specs.declared.set.Sort.TheVariants.{Propagate}
 use Rattle.model.specs.declared.world.Activation.{Activation}
 use Rattle.model.specs.declared.world.Frame.{Frame}
-use Rattle.model.specs.declared.world.Frame.TheVariants.{Routine, Walk}
+use Rattle.model.specs.declared.world.Frame.TheVariants.{Routine, Walk, Cancel as CancelFrame}
 use Rattle.model.specs.declared.world.OpenLoop.{OpenLoop}
 use Rattle.model.specs.declared.world.Packet.{Packet}
-use Rattle.model.specs.Action.{Action, Acquires, Calls, Completes, Executes, GoesWrong, Marks, Releases, Touches, TouchesPaged}
+use Rattle.model.specs.Action.{Action, Acquires, Calls, Completes, Continues, Exchanges, Executes, GoesWrong, Marks, Releases, Touches, TouchesPaged}
 use Rattle.model.specs.Effect.{Outcome, asks, dispatched, goes_on, goes_wrong, leaves, set_by, turned}
 use Rattle.model.specs.Fault.{depth, first_fault, stack_size, bug_if, first_or, topped}
-use Rattle.model.specs.LocalRule.{given_down, is_right, is_view, kind_of, look_fault, mark_fault, marked, refuses, settled_fault}
+use Rattle.model.specs.LocalRule.{broken_if, given_down, is_settled, kind_of, look_fault, mark_fault, marked, refuses, settled_fault}
+use Rattle.model.specs.Kinds.{is_right, is_view}
 use Rattle.model.specs.Set.{Set, flow_of, sort_of}
 use Rattle.model.specs.Trace.{Actor, Entry}
-use Rattle.model.specs.World.{Shared, asked_of, completed, completion_of, current_location, innermost, is_marked, mark_current, next, packet_of, sent_down, shared_with, with_info, with_locks, with_loops, with_owner, with_packet}
+use Rattle.model.specs.World.{Shared, asked_of, completed, completion_of, current_location, innermost, is_marked, mark_current, next, packet_of, sent_down, shared_with, with_armer, with_info, with_locks, with_loops, with_owner, with_packet}
 use Rattle.run_laws.specs.Holder.{frame_rights}
 use Rattle.run_laws.proofs.Holders.Sums.{held, own_if, unheld}
 use Rattle.run_laws.proofs.Past.LivePackets.{find}
@@ -43,7 +45,7 @@ use Rattle.run_laws.proofs.States.Lacking.{down}
 use Rattle.run_laws.proofs.States.Obeyed.{returns_by}
 use Rattle.run_laws.proofs.Steps.Locking.{LockWord, freed_word, taken_word}
 use Rattle.run_laws.proofs.States.Rules.{States}
-use Rattle.run_laws.proofs.Steps.Comes.{Queued, Comes, Executing, GoesTo, Reads, awaits_lock, calls_down, completes_gone, completes_packet, computes, errs, frees_lock, lets_go, lets_walk, looks_at, marks_packet, opens_loop, pages, passes_down, retakes_lock, returns_status, takes_lock, touches_gone, turns_loop, writes_info, ends_dpc, works_on_queues, ends_startio}
+use Rattle.run_laws.proofs.Steps.Comes.{Queued, Comes, Executing, GoesTo, Reads, awaits_lock, calls_down, completes_gone, completes_packet, computes, ends_cancel, errs, exchanges, frees_lock, lets_go, lets_walk, looks_at, marks_packet, opens_loop, pages, passes_down, resumes_gone, resumes_none, resumes_walk, retakes_lock, returns_status, stops_none, stops_walk, takes_lock, touches_gone, turns_loop, writes_info, ends_dpc, works_on_queues, ends_startio}
 use Rattle.run_laws.proofs.Steps.Faults.{none_first, none_later}
 use Rattle.run_laws.proofs.Steps.Words.{Looking, Marking, Work, jumps_on, packet_operand, work_of}
 use Rattle.run_laws.proofs.Uses.Becomes.{gets_marked, goes_down}
@@ -63,11 +65,13 @@ pub late_still : (states : States) (returned : Bool) (n : ℕ) (under : Option F
 late_still states returned n None a b h = refl
 late_still states returned n (Some (Routine c)) a b h = refl
 late_still states returned n (Some (Walk m)) a b h = rw h refl
+late_still states returned n (Some (CancelFrame c)) a b h = refl
 
 on_routine : (states : States) (returned : Bool) (n : ℕ) (b : Activation) (g : Frame)
     → late_on states returned n (Some (Routine b)) g ≡ 0
 on_routine states returned n b (Routine c) = refl
 on_routine states returned n b (Walk m) = refl
+on_routine states returned n b (CancelFrame c) = refl
 
 one_late : (states : States) (returned : Bool) (n : ℕ) (under : Option Frame) (a b : Activation)
     → (state_of states b).settled ≡ (state_of states a).settled
@@ -107,14 +111,14 @@ given_settled : (s : Abs) (r : ℕ) (k : Kind) → (given_down s r k).settled �
 given_settled s r New = refl
 given_settled s r _ = refl
 
-onto_settled : (s : Abs) (i : Instr) (jumped : Bool) → settles i ≡ false
-    → (onto s i jumped).settled ≡ s.settled
-onto_settled s (Mark r) jumped h = cc
-onto_settled s (IfPending r label) jumped h = cc
-onto_settled s (Pass r) false h = given_settled s r (kind_of s r)
-onto_settled s (Call r f) false h = given_settled s r (kind_of s r)
-onto_settled s _ true h = refl
-onto_settled s _ false h = refl
+onto_settled : (set : Set) (driver : ℕ) (s : Abs) (i : Instr) (jumped : Bool) → settles i ≡ false
+    → (onto set driver s i jumped).settled ≡ s.settled
+onto_settled set driver s (Mark r) jumped h = cc
+onto_settled set driver s (IfPending r label) jumped h = cc
+onto_settled set driver s (Pass r) false h = given_settled s r (kind_of s r)
+onto_settled set driver s (Call r f) false h = given_settled s r (kind_of s r)
+onto_settled set driver s _ true h = refl
+onto_settled set driver s _ false h = refl
 
 -- a look: of a completion routine it settles whether there is a mark to carry up
 abbrev LooksSo : Abs → Abs → ℕ → Packet → Type 0
@@ -127,32 +131,32 @@ looked_kind : (carried : Settled) (k : Kind) → look_fault carried k ≡ None �
 looked_kind Open View h = (refl, refl)
 looked_kind NeedMark View h = cc
 looked_kind SettledMark View h = cc
-looked_kind carried New h = cc
-looked_kind carried Own h = cc
-looked_kind carried Blank h = cc
-looked_kind carried Num h = cc
-looked_kind carried Lower h = cc
+looked_kind carried _ h = cc
 
-looked_late : (returned : Bool) (s : Abs) (r label : ℕ) → s.settled ≡ Open
-    → late_mark returned (onto s (IfPending r label) returned).settled ≡ late_mark returned s.settled
-looked_late true s r label is = rw is refl
-looked_late false s r label is = rw is refl
+looked_late : (set : Set) (driver : ℕ) (returned : Bool) (s : Abs) (r label : ℕ) → s.settled ≡ Open
+    → late_mark returned (onto set driver s (IfPending r label) returned).settled
+    ≡ late_mark returned s.settled
+looked_late set driver true s r label is = rw is refl
+looked_late set driver false s r label is = rw is refl
 
 looks_so : (s : Abs) (i : Instr) (sort : Sort) (set : Set) (driver r : ℕ) (p : Packet) (jumped : Bool)
     → refuses s i sort set driver ≡ None → work_of i ≡ Looking → packet_operand i ≡ Some r
     → jumped ≡ jumps_on i p
-    → LooksSo s (onto s i jumped) r p
+    → LooksSo s (onto set driver s i jumped) r p
 looks_so s (Get q k field) sort set driver r p true rule work operand jumps = inl refl
 looks_so s (Get q k field) sort set driver r p false rule work operand jumps = inl refl
+looks_so s (IfCancel q label) sort set driver r p true rule work operand jumps = inl refl
+looks_so s (IfCancel q label) sort set driver r p false rule work operand jumps = inl refl
 looks_so s (IfPending q label) sort set driver r p jumped rule work operand jumps =
     let known : (is_view (kind_of s q) ≡ true) × (s.settled ≡ Open) =
     looked_kind s.settled (kind_of s q) rule in
     let same : q ≡ r = cc in
     inr (
       subst (λ (x : ℕ). is_view (kind_of s x) ≡ true) same known.0,
-      subst (λ (b : Bool). late_mark p.pending_returned (onto s (IfPending q label) b).settled
+      subst (λ (b : Bool). late_mark p.pending_returned
+          (onto set driver s (IfPending q label) b).settled
           ≡ late_mark p.pending_returned s.settled) (sym jumps)
-          (looked_late p.pending_returned s q label known.1),
+          (looked_late set driver p.pending_returned s q label known.1),
     )
 looks_so s _ sort set driver r p jumped rule work operand jumps = cc
 
@@ -163,10 +167,7 @@ marked_kind carried New h = inl refl
 marked_kind NeedMark View h = inr (refl, refl)
 marked_kind Open View h = cc
 marked_kind SettledMark View h = cc
-marked_kind carried Own h = cc
-marked_kind carried Blank h = cc
-marked_kind carried Num h = cc
-marked_kind carried Lower h = cc
+marked_kind carried _ h = cc
 
 new_settled : (s : Abs) (r : ℕ) (k : Kind) → k ≡ New → (marked s r k).settled ≡ s.settled
 new_settled s r New h = refl
@@ -174,17 +175,15 @@ new_settled s r View h = cc
 new_settled s r _ h = refl
 
 -- a return: a completion routine has carried up what it had to
-settled_mark : (carried : Settled) (sort : Sort) → sort ≡ Propagate → settled_fault sort carried ≡ None
+carried_mark : (carried : Settled) → broken_if (not (is_settled carried)) CompletionRule ≡ None
     → carried ≡ SettledMark
-settled_mark SettledMark sort is rule = refl
-settled_mark Open Propagate is rule = cc
-settled_mark NeedMark Propagate is rule = cc
-settled_mark Open StartIo is rule = cc
-settled_mark NeedMark StartIo is rule = cc
-settled_mark Open Dpc is rule = cc
-settled_mark NeedMark Dpc is rule = cc
-settled_mark Open Dispatch is rule = cc
-settled_mark NeedMark Dispatch is rule = cc
+carried_mark SettledMark rule = refl
+carried_mark _ rule = cc
+
+settled_mark : (s : Abs) (sort : Sort) (form : Return) → sort ≡ Propagate
+    → settled_fault sort s form ≡ None → s.settled ≡ SettledMark
+settled_mark s Propagate form is rule = carried_mark s.settled rule
+settled_mark s _ form is rule = cc
 
 walk_other : (states : States) (returned : Bool) (n m : ℕ) (under : Option Frame) (a b : Activation)
     → under ≡ Some (Walk n) → nat_eq n m ≡ false
@@ -240,13 +239,13 @@ module _ (set : Set) (states : States) (s : Shared) (past : List Entry) (actor :
       → settles i ≡ false → (state_of states b).settled ≡ (state_of states a).settled
   settled_on i b jumped at goes quiet =
       ap (λ (state : Abs). state.settled) (arrives set states s a i (h.runs i at) b jumped goes)
-      ∙ onto_settled (state_of states a) i jumped quiet
+      ∙ onto_settled set a.driver (state_of states a) i jumped quiet
 
   settled_next : (i : Instr) → Executing set a i → has_next (flow_of i) ≡ true → settles i ≡ false
       → (states a.driver a.routine (a.position + 1)).settled ≡ (state_of states a).settled
   settled_next i at leads quiet =
       ap (λ (state : Abs). state.settled) (arrives_next set states s a i (h.runs i at) leads)
-      ∙ onto_settled (state_of states a) i false quiet
+      ∙ onto_settled set a.driver (state_of states a) i false quiet
 
   queued_settled : (i : Instr) (b : Activation) (queues : List (List (List ℕ)))
       (lists : List StartState) (actions : List Action) (full : Bool) → Executing set a i
@@ -255,7 +254,7 @@ module _ (set : Set) (states : States) (s : Shared) (past : List Entry) (actor :
   queued_settled i b queues lists actions full at queued =
       let on : MovedOn set states s a i b queues lists = queue_moves set states s a i (h.runs i at) queued in
       ap (λ (state : Abs). state.settled) on.moved.arrives
-      ∙ onto_settled (state_of states a) i on.jumped
+      ∙ onto_settled set a.driver (state_of states a) i on.jumped
       (quiet_work i (ap keeps_settled (queued_work queued)))
 
   settled_word : (i : Instr) → Executing set a i → LockWord i
@@ -302,7 +301,7 @@ module _ (set : Set) (states : States) (s : Shared) (past : List Entry) (actor :
   -- a look
   looks_used : (i : Instr) (b : Activation) (jumped : Bool) (r n : ℕ) (p : Packet) → Executing set a i
       → GoesTo a i b jumped → Reads s a r n → packet_of s n ≡ Some p
-      → LooksSo (state_of states a) (onto (state_of states a) i jumped) r p
+      → LooksSo (state_of states a) (onto set a.driver (state_of states a) i jumped) r p
       → UseStep states s past actor under (Routine a) (goes_on s b (Touches n ∷ []))
   looks_used i b jumped r n p at goes reads there (inl same) =
       on_used s b (Executes ∷ Touches n ∷ []) Stepped
@@ -473,7 +472,7 @@ module _ (set : Set) (states : States) (s : Shared) (past : List Entry) (actor :
   carried_up : (form : Return) → Executing set a (Ret form) → sort_of set a.driver a.routine ≡ Propagate
       → (state_of states a).settled ≡ SettledMark
   carried_up form at is =
-      settled_mark (state_of states a).settled (sort_of set a.driver a.routine) is
+      settled_mark (state_of states a) (sort_of set a.driver a.routine) form is
       (returns_by (state_of states a) (sort_of set a.driver a.routine) set a.driver form
       (h.runs (Ret form) at).obeys).settled
 
@@ -481,6 +480,7 @@ module _ (set : Set) (states : States) (s : Shared) (past : List Entry) (actor :
       → OnWalk set u a → late_on states returned n u (Routine a) ≡ 0
   none_on form at returned n None on = refl
   none_on form at returned n (Some (Routine b)) on = refl
+  none_on form at returned n (Some (CancelFrame c)) on = refl
   none_on form at returned n (Some (Walk m)) on =
       rw (carried_up form at on) (cond_both (nat_eq m n) 0 0 (λ x. x ≡ 0) (λ is. refl) (λ isnt. refl))
 
@@ -532,6 +532,13 @@ module _ (set : Set) (states : States) (s : Shared) (past : List Entry) (actor :
       (λ returned m. one_late states returned m under a (next a) (settled_next (Put q r) at refl refl))
   routine_used below o (marks_packet b r n p at reads there) quiet =
       marks_it n p there (marks_used r n p at reads there)
+  routine_used below o (exchanges b i c jumped r n p armer at work goes operand reads there how)
+      quiet =
+      written_used n p (with_armer p armer) (Routine c ∷ [])
+      (Executes ∷ Touches n ∷ Exchanges n (is_some armer) ∷ []) there refl refl (λ k. refl) refl
+      refl refl (λ done. done) (λ m. refl)
+      (λ returned m. one_late states returned m under a c
+      (settled_on i c jumped at goes (quiet_work i (ap keeps_settled work))))
   routine_used below o (takes_lock b i lock at taken free) quiet =
       on_used (with_locks s (with_owner s.locks lock (Some t))) (next a)
       (Executes ∷ Acquires lock ∷ []) Stepped
@@ -582,3 +589,15 @@ module _ (set : Set) (states : States) (s : Shared) (past : List Entry) (actor :
   routine_used below o (ends_startio b at sort) quiet = left_used Void o at refl refl (λ n. refl)
   routine_used below o (ends_dpc b at sort) quiet = left_used Void o at refl refl (λ n. refl)
   routine_used below o (lets_walk b n at sort) quiet = left_used Continue o at refl refl (λ m. refl)
+  routine_used below o (resumes_walk b n p at sort there) quiet =
+      written_used n p (record p { completing = true }) []
+      (Executes ∷ Touches n ∷ Continues n ∷ []) there refl refl (λ k. refl) refl refl refl
+      (λ done. refl) (λ m. refl)
+      (λ returned m. sym (none_on Continue at returned m under h.on))
+  routine_used below o (resumes_gone b n at sort gone) quiet =
+      left_used Continue o at refl refl (λ m. refl)
+  routine_used below o (resumes_none b at sort bare) quiet =
+      left_used Continue o at refl refl (λ m. refl)
+  routine_used below o (stops_walk b n at sort) quiet = left_used Stop o at refl refl (λ m. refl)
+  routine_used below o (stops_none b at sort bare) quiet = left_used Stop o at refl refl (λ m. refl)
+  routine_used below o (ends_cancel b at sort) quiet = left_used Void o at refl refl (λ m. refl)

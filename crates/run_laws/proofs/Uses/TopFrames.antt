@@ -8,8 +8,9 @@ use Rattle.model.specs.declared.set.Sort.{Sort}
 use Rattle.model.specs.declared.set.Sort.TheVariants.{Propagate, Dispatch}
 use Rattle.model.specs.declared.world.Activation.{Activation}
 use Rattle.model.specs.declared.world.Frame.{Frame}
-use Rattle.model.specs.declared.world.Frame.TheVariants.{Routine, Walk}
-use Rattle.model.specs.LocalRule.{is_view, kind_of}
+use Rattle.model.specs.declared.world.Frame.TheVariants.{Routine, Walk, Cancel as CancelFrame}
+use Rattle.model.specs.LocalRule.{kind_of}
+use Rattle.model.specs.Kinds.{is_new, is_view}
 use Rattle.model.specs.Set.{Set, member, sort_of}
 use Rattle.model.specs.Trace.{Actor, Entry}
 use Rattle.model.specs.World.{Shared, register}
@@ -21,7 +22,7 @@ use Rattle.run_laws.proofs.States.Entering.{IsOfSort, sort_there, begins_back}
 use Rattle.run_laws.proofs.States.Frames.{Stays, state_of}
 use Rattle.run_laws.proofs.States.Known.{IsKnown}
 use Rattle.run_laws.proofs.States.LoopEnds.{moved_end}
-use Rattle.run_laws.proofs.States.NoViews.{propagate_no_new, deferred_no_new, is_new, HasNone, deferred_no_view, dispatch_no_view, no_view_at}
+use Rattle.run_laws.proofs.States.NoViews.{propagate_no_new, deferred_no_new, HasNone, deferred_no_view, dispatch_no_view, no_view_at}
 use Rattle.run_laws.proofs.States.OnTop.{OnTop, runs}
 use Rattle.run_laws.proofs.States.Rules.{States}
 use Rattle.run_laws.proofs.Steps.Comes.{Reads}
@@ -33,6 +34,7 @@ use Rattle.run_laws.proofs.Uses.WalkSteps.{StepsWalk}
 abbrev pub FrameOn : Set → Option Frame → Frame → Type 0
 FrameOn set under (Routine a) = OnWalk set under a
 FrameOn set under (Walk n) = ⊤
+FrameOn set under (CancelFrame c) = ⊤
 
 pub record KnownTop (set : Set) (states : States) (s : Shared) (past : List Entry)
     (under : Option Frame) (f : Frame)
@@ -95,6 +97,7 @@ module _ (set : Set) (states : States) (s : Shared) (past : List Entry) (under :
   views_under (Some (Routine b)) seen r n views reads = absurd (never_views seen r views)
   views_under (Some (Walk m)) seen r n views reads =
       ap (λ (k : ℕ). Some (Walk k)) (sym (reads_view states m s a seen r n views reads))
+  views_under (Some (CancelFrame c)) seen r n views reads = absurd seen
 
   pub steps_routine : StepsRoutine set states s past under a
   steps_routine =
@@ -121,6 +124,7 @@ pub steps_walk : (set : Set) (states : States) (s : Shared) (past : List Entry) 
     (n : ℕ) → KnownTop set states s past under (Walk n) → StepsWalk set states s n
 steps_walk set states s past actor under n h =
     record {
+      quiet = h.top.good.quiet;
       rises = h.holding.tells.rises;
       done = λ p at. walk_taken states s past n h.holding p (find_place s.packets n ∙ at);
       starts = λ p c there routed.

@@ -15,11 +15,13 @@ use Rattle.model.specs.PendingAgreement.{is_use, marks_left, was_marked}
 use Rattle.model.specs.Set.{Set}
 use Rattle.model.specs.Trace.{Actor, Entry, current_use, recorded}
 use Rattle.model.specs.World.{Shared, completion_of, current_location, is_marked, left_location, mark_current, moved_up, packet_of, with_packet, without_packet}
+use Rattle.run_laws.specs.CancelsNothing.{CancelsNothing}
 use Rattle.run_laws.proofs.Past.LivePackets.{Rises, find, find_remove}
 use Rattle.run_laws.proofs.Past.Packets.{found, numbered}
 use Rattle.run_laws.proofs.States.Frames.{state_of}
 use Rattle.run_laws.proofs.States.Rules.{States}
-use Rattle.run_laws.proofs.Steps.Comes.{Comes, carries_up, tops_out, walks_gone, walks_to, walks_up}
+use Rattle.run_laws.proofs.Steps.Comes.{Comes, carries_up, lends_to, tops_out, walks_gone, walks_to, walks_up}
+use Rattle.run_laws.proofs.Steps.Uncancelled.{never_lends}
 use Rattle.run_laws.proofs.Uses.Becomes.{gets_marked, goes_out, goes_up}
 use Rattle.run_laws.proofs.Uses.Fates.{late_in, late_on}
 use Rattle.run_laws.proofs.Uses.LateMarks.{late_walk}
@@ -51,6 +53,7 @@ routed_deep p c there some rooted =
 
 -- what is known of the I/O manager's frame that steps
 pub record StepsWalk (set : Set) (states : States) (s : Shared) (n : ℕ) : Type 0 where
+  pub quiet : CancelsNothing set
   pub rises : Rises 0 s.packets s.issued
   pub done : (p : Packet) → find s.packets n ≡ Some p → p.completing ≡ true
   pub starts : (p : Packet) (c : Completion) → packet_of s n ≡ Some p
@@ -227,13 +230,14 @@ module _ (set : Set) (states : States) (s : Shared) (past : List Entry) (actor :
         quiet = refl;
         late = λ p is. sym (late_walk states p.pending_returned k under n);
       })
-  walk_used below o (walks_to m p c there routed) =
+  walk_used below o (walks_to m p c there routed lends) =
       let starts : (state_of states (completes_with set c n)).settled ≡ Open =
       h.starts p c there routed in
       goes_up_at p (Walk n ∷ Routine (completes_with set c n) ∷ []) there
       (λ some rooted. routed_deep p c routed some rooted)
       (routine_late c (is_marked (current_location p)) n true (eq-eqb n n refl) starts)
       (λ k returned apart. routine_late c returned k false apart starts)
+  walk_used below o (lends_to m p c there routed lends) = absurd (never_lends h.quiet c lends)
   walk_used below o (walks_up m p there unrouted deep unmarked) =
       goes_up_at p (Walk n ∷ []) there (λ some rooted. ltb-true 1 p.depth deep)
       (rw unmarked (walk_late false n)) (λ k returned apart. walk_late returned k)
