@@ -3,3 +3,5 @@ pub mod PacketList
 pub mod Table
 pub mod Walk
 pub mod Lending
+pub mod Hold
+pub mod Cancelling

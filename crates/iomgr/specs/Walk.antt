@@ -3,14 +3,17 @@ use Rattle.std.specs.Prelude.{ℕ, [], ◌∷◌, Option, None, Some, nat_lt, if
 use Rattle.model.specs.declared.event.Reply.TheVariants.{Topped}
 use Rattle.model.specs.declared.world.Completion.{Completion}
 use Rattle.model.specs.declared.world.Frame.TheVariants.{Routine, Walk as WalkFrame}
+use Rattle.model.specs.declared.set.Sort.{Sort}
+use Rattle.model.specs.declared.set.Sort.TheVariants.{Dispatch, StartIo, Dpc, Propagate, Hold, Cancel}
 use Rattle.model.specs.declared.world.Packet.{Packet}
 use Rattle.model.specs.Action.{Touches, Leaves, Ups, Marks, TopsOut as TopsOutAction}
-use Rattle.model.specs.Effect.{Outcome, leaves, completes_with}
+use Rattle.model.specs.Effect.{Outcome, leaves, completes_with, lending, sort_of_completion}
 use Rattle.model.specs.Set.{Set}
 use Rattle.model.specs.World.{Shared, current_location, completion_of, left_location, moved_up, carried_up}
 use Rattle.iomgr.specs.declared.walk.WalkStep.{WalkStep}
 use Rattle.iomgr.specs.declared.walk.WalkStep.TheVariants.{Missing, Runs, Ascends, TopsOut}
-use Rattle.iomgr.specs.Table.{Table, live_packet, with_live, without_live}
+use Rattle.iomgr.specs.Hold.{lent}
+use Rattle.iomgr.specs.Table.{Table, live_packet, table_of, with_live, with_table, without_live}
 
 -- what a step leaves: the table, and what was done
 pub record Walked : Type 0 where
@@ -37,12 +40,22 @@ walk_packet table n (Some p) =
 abbrev pub walked : Table → ℕ → Walked
 walked table n = walk_packet table n (live_packet table n)
 
--- what a run makes of it, where the world's shared part has become this
+-- a completion routine that may hold the packet is lent it after that
+abbrev pub lent_if : Sort → Shared → ℕ → Shared
+lent_if Dispatch s n = s
+lent_if StartIo s n = s
+lent_if Dpc s n = s
+lent_if Propagate s n = s
+lent_if Hold s n = with_table s (lent (table_of s) n)
+lent_if Cancel s n = s
+
+-- what a run makes of a step, where the world's shared part has become this
 abbrev pub walk_outcome : Set → Shared → ℕ → WalkStep → Outcome
 walk_outcome set s n Missing = leaves s [] (Touches n ∷ [])
 walk_outcome set s n (Runs c) =
-    leaves s (WalkFrame n ∷ Routine (completes_with set c n) ∷ [])
-    (Touches n ∷ Leaves n ∷ Ups n ∷ [])
+    let sort : Sort = sort_of_completion set c in
+    leaves (lent_if sort s n) (WalkFrame n ∷ Routine (completes_with set c n) ∷ [])
+    (Touches n ∷ Leaves n ∷ Ups n ∷ lending sort n)
 walk_outcome set s n (Ascends marked) =
     leaves s (WalkFrame n ∷ [])
     (Touches n ∷ Leaves n ∷ Ups n ∷ (if marked then Marks n ∷ [] else []))

@@ -1,10 +1,13 @@
 //! The I/O manager: the table of live packets, and the walk by which it completes one.
 #![tactic(auto)]
 
+pub mod cancelling;
+mod lending;
 mod numbers;
 mod packet_list;
 pub mod packet_table;
 pub mod walk;
 
+pub use cancelling::Exchanged;
 pub use packet_table::PacketTable;
 pub use walk::WalkStep;

@@ -61,7 +61,8 @@ fn is_as_numbered(live: &PacketList, numbers: &VecDeque<u64>, place: usize) -> b
 
 impl PacketTable {
     ghost use Rattle.std.specs.Borrow.{sem};
-    ghost use Rattle.model.specs.Effect.{can_issue, walk_packet};
+    ghost use Rattle.model.specs.Effect.{walk_packet};
+    ghost use Rattle.model.specs.Events.{can_issue};
     ghost use Rattle.model.specs.Set.{Set};
     ghost use Rattle.model.specs.World.{Shared, new_packet, packet_in, packet_of, place_of};
     ghost use Rattle.iomgr.specs.Table.{no_packets, shared_of, with_table, live_packet, with_issued, without_place};

@@ -10,7 +10,7 @@ pub enum WalkStep {
     /// Nothing: the packet isn't live.
     Missing,
     /// The location above is current, and the completion routine has to run for the device that set
-    /// it.
+    /// it. One that may hold the packet has to be lent it first.
     Runs(Completion),
     /// The location above is current, and is marked where the one that was left was.
     Ascends { marked: bool },

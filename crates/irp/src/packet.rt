@@ -1,6 +1,6 @@
 //! A live packet, and the calls that change it.
 
-ghost use Rattle.std.specs.Prelude.{◌≡◌, ◌≤◌, ◌<◌, ◌-◌, ◌∷◌, length, nat_lt, option_map, replicate};
+ghost use Rattle.std.specs.Prelude.{◌≡◌, ◌≤◌, ◌<◌, ◌-◌, ◌∷◌, true, false, length, nat_lt, option_map, replicate};
 ghost use Rattle.model.specs.declared.limits.TheConstants.{MAX_STACK};
 ghost use Rattle.model.specs.World.{unused_location};
 
@@ -9,8 +9,9 @@ use arrayvec::ArrayVec;
 use model::instr::Field;
 use model::limits::MAX_STACK;
 use model::status::{Major, Status};
-use model::world::Completion;
+use model::world::{Armer, Completion};
 use std::marker::Model;
+use std::mem;
 
 /// A live packet (IRP): one that was issued and has not topped out.
 #[derive(Drop)]
@@ -23,6 +24,8 @@ pub struct Packet {
     info: u64,
     completing: bool,
     pending_returned: bool,
+    cancel: bool,
+    armer: Option<Armer>,
 }
 
 impl Model for Packet {
@@ -42,6 +45,8 @@ impl Model for Packet {
       completing =
           p.completing;
       pending_returned = p.pending_returned;
+      cancel = p.cancel;
+      armer = p.armer;
     } };
 
     ghost invariant = { λ p. length p.stack.items ≤ MAX_STACK };
@@ -61,7 +66,7 @@ fn stack_of(size: u8, first: Location) -> ArrayVec<Location, MAX_STACK>
 }
 
 impl Packet {
-    ghost use Rattle.model.specs.World.{new_packet, sent_down, shared_with, moved_up, carried_up, mark_current, left_location, completed, with_info, field_of, current_location, completion_of, asked_of, is_marked};
+    ghost use Rattle.model.specs.World.{new_packet, sent_down, shared_with, moved_up, carried_up, mark_current, left_location, completed, cancelled, with_armer, with_info, field_of, current_location, completion_of, asked_of, is_marked};
 
     /// A new packet for a device of this stack size, 1 to 16: the first location asks the device,
     /// and is current.
@@ -77,6 +82,8 @@ impl Packet {
             info: 0,
             completing: false,
             pending_returned: false,
+            cancel: false,
+            armer: None,
         }
     }
 
@@ -135,6 +142,20 @@ impl Packet {
         ensures { result ≡ self.now.pending_returned }
     {
         self.pending_returned
+    }
+
+    /// Irp->Cancel: whether IoCancelIrp was called.
+    pub fn is_cancelled(&self) -> bool
+        ensures { result ≡ self.now.cancel }
+    {
+        self.cancel
+    }
+
+    /// Whose cancel routine is set, if one is.
+    pub fn armer(&self) -> Option<Armer>
+        ensures { result ≡ self.now.armer }
+    {
+        self.armer
     }
 
     /// The place of its current location.
@@ -237,7 +258,36 @@ impl Packet {
         ensures { self.new ≡ completed self.old status }
     {
         self.status = status;
+        self.give_back();
+    }
+
+    /// The I/O manager lends it to a completion routine that may hold it.
+    pub fn lend(&mut self)
+        ensures { self.new ≡ record self.old { completing = false } }
+    {
+        self.completing = false;
+    }
+
+    /// The I/O manager has it again, and goes on with its completion.
+    pub fn give_back(&mut self)
+        ensures { self.new ≡ record self.old { completing = true } }
+    {
         self.completing = true;
+    }
+
+    /// IoCancelIrp: the packet is to be cancelled.
+    pub fn cancel(&mut self)
+        ensures { self.new ≡ cancelled self.old }
+    {
+        self.cancel = true;
+    }
+
+    /// IoSetCancelRoutine: the cancel word becomes this one, and what it was is answered.
+    pub fn exchange(&mut self, armer: Option<Armer>) -> Option<Armer>
+        ensures word { result ≡ self.old.armer }
+        ensures packet { self.new ≡ with_armer self.old armer }
+    {
+        mem::replace(&mut self.armer, armer)
     }
 
     /// Completion leaves the current location: Irp->PendingReturned becomes its mark.
