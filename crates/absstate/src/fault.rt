@@ -4,7 +4,7 @@
 ghost use Rattle.std.specs.Prelude.{◌≡◌, if◌then◌else◌};
 ghost use Rattle.std.specs.List.{list_any};
 ghost use Rattle.model.specs.LocalRule.{least_of, broken_if, unless, demanded, any_packet};
-ghost use Rattle.model.specs.LocalRule.{is_packet, is_view};
+ghost use Rattle.model.specs.Kinds.{is_packet, is_view, is_new};
 ghost use Rattle.model.specs.LocalRule.{needs_mark, is_open, is_completion, is_pending};
 ghost use Rattle.model.specs.LocalRule.{kind_of, holds_spin_lock, holds_lock};
 ghost use Rattle.model.specs.LocalRule.{free_kind, number_kind, level_fault};
@@ -46,6 +46,8 @@ pub struct Wanted {
     new: bool,
     own: bool,
     view: bool,
+    /// One of a list with a cancel routine.
+    queued: bool,
 }
 
 impl Wanted {
@@ -54,48 +56,59 @@ impl Wanted {
         new: true,
         own: true,
         view: true,
+        queued: true,
     };
     /// One that the routine was handed and has done nothing with.
     pub const NEW: Wanted = Wanted {
         new: true,
         own: false,
         view: false,
+        queued: false,
     };
     /// One that it owns.
     pub const OWN: Wanted = Wanted {
         new: false,
         own: true,
         view: false,
+        queued: false,
     };
     /// One that it was handed, or that it owns.
     pub const NEW_OR_OWN: Wanted = Wanted {
         new: true,
         own: true,
         view: false,
+        queued: false,
     };
     /// One that it was handed, or that is on its way up.
     pub const NEW_OR_VIEW: Wanted = Wanted {
         new: true,
         own: false,
         view: true,
+        queued: false,
     };
     /// One that is on its way up.
     pub const VIEW: Wanted = Wanted {
         new: false,
         own: false,
         view: true,
+        queued: false,
     };
 }
 
 /// A register has to hold a packet of a wanted kind.
 pub fn demanded(wanted: Wanted, kind: Kind) -> Option<Rule>
     ensures { result
-        ≡ demanded (record { new = wanted.new; own = wanted.own; view = wanted.view }) kind }
+        ≡ demanded
+        (record { new = wanted.new; own = wanted.own; view = wanted.view; queued = wanted.queued })
+        kind }
 {
     match kind {
         Kind::Blank | Kind::Num | Kind::Lower => Some(Rule::WrongKind),
         Kind::New => unless(wanted.new, mark_or_completion(wanted.own)),
         Kind::Own => unless(wanted.own, mark_or_completion(wanted.new)),
+        Kind::Listed(_) | Kind::Armed(_) | Kind::Taken(_) | Kind::Cancelling(_) => {
+            unless(wanted.queued, Rule::CancelState)
+        }
         Kind::View => unless(wanted.view, Rule::Completion),
     }
 }
@@ -112,16 +125,23 @@ fn mark_or_completion(but_for_its_mark: bool) -> Rule
     }
 }
 
-fn is_packet(kind: Kind) -> bool
+pub fn is_packet(kind: Kind) -> bool
     ensures { result ≡ is_packet kind }
 {
-    matches!(kind, Kind::New | Kind::Own | Kind::View)
+    !matches!(kind, Kind::Blank | Kind::Num | Kind::Lower)
 }
 
-fn is_view(kind: Kind) -> bool
+pub fn is_view(kind: Kind) -> bool
     ensures { result ≡ is_view kind }
 {
     matches!(kind, Kind::View)
+}
+
+/// Whether the routine has done nothing with a packet that it was handed.
+pub fn is_new(kind: Kind) -> bool
+    ensures { result ≡ is_new kind }
+{
+    matches!(kind, Kind::New)
 }
 
 /// A register that holds a packet can't be written over.
@@ -154,7 +174,9 @@ pub fn level_fault(state: &Abs, sort: Sort) -> Option<Rule>
 {
     match sort {
         Sort::Dispatch => broken_if(holds_lock(state), Rule::Level),
-        Sort::StartIo | Sort::Dpc | Sort::Propagate => Some(Rule::Level),
+        Sort::StartIo | Sort::Dpc | Sort::Propagate | Sort::Hold | Sort::Cancel => {
+            Some(Rule::Level)
+        }
     }
 }
 
@@ -261,7 +283,7 @@ fn is_completion(sort: Sort) -> bool
     ensures { result ≡ is_completion sort }
 {
     match sort {
-        Sort::Dispatch | Sort::StartIo | Sort::Dpc => false,
-        Sort::Propagate => true,
+        Sort::Dispatch | Sort::StartIo | Sort::Dpc | Sort::Cancel => false,
+        Sort::Propagate | Sort::Hold => true,
     }
 }

@@ -4,13 +4,14 @@
 ghost use Rattle.std.specs.Prelude.{◌≡◌, ◌≤◌};
 ghost use Rattle.model.specs.Forwarding.{lacks_lower, is_too_small, device_under, is_under};
 ghost use Rattle.model.specs.LocalRule.{kind_of, least_of, broken_if, demanded, forward_fault};
-ghost use Rattle.model.specs.LocalRule.{forward_sort_fault};
+ghost use Rattle.model.specs.LocalRule.{forward_sort_fault, hold_fault, is_held_by, is_hold};
+ghost use Rattle.model.specs.Kinds.{is_new};
 ghost use Rattle.model.specs.LocalRule.{a_new_one, one_handed_or_owned};
 
-use crate::fault::{Wanted, broken_if, demanded, holds_lock, least};
+use crate::fault::{Wanted, broken_if, demanded, holds_lock, is_new, least};
 use crate::state::kind;
 use image::DriverSet;
-use model::abs::{Abs, Rule};
+use model::abs::{Abs, Kind, Rule};
 use model::instr::Register;
 use model::set::{Device, Sort};
 
@@ -32,20 +33,51 @@ pub fn pass_fault(
     )
 }
 
-/// `call` wants a packet that the routine was handed or owns.
+/// `call` wants a packet that the routine was handed or owns, and one that it owns where the
+/// completion routine may hold it.
 pub fn call_fault(
     state: &Abs,
     register: Register,
+    completion: Option<u8>,
     sort: Sort,
     set: &DriverSet,
     driver: u8,
 ) -> Option<Rule>
     ensures { result
         ≡ least_of (demanded one_handed_or_owned (kind_of state.now register))
-        (forward_fault state.now sort set.now driver 1) }
+        (least_of (forward_fault state.now sort set.now driver 1)
+        (hold_fault (kind_of state.now register) set.now driver completion)) }
 {
-    let packet = demanded(Wanted::NEW_OR_OWN, kind(state, register));
-    least(packet, forward_fault(state, sort, set, driver, 1))
+    let kind = kind(state, register);
+    let held = hold_fault(kind, set, driver, completion);
+    least(
+        demanded(Wanted::NEW_OR_OWN, kind),
+        least(forward_fault(state, sort, set, driver, 1), held),
+    )
+}
+
+/// A packet that wasn't marked isn't sent down with a completion routine that may hold it.
+fn hold_fault(kind: Kind, set: &DriverSet, driver: u8, completion: Option<u8>) -> Option<Rule>
+    ensures { result ≡ hold_fault kind set.now driver completion }
+{
+    let unmarked = is_new(kind) && is_held_by(set, driver, completion);
+    broken_if(unmarked, Rule::Completion)
+}
+
+/// Whether the completion routine of this number may hold the packet.
+fn is_held_by(set: &DriverSet, driver: u8, completion: Option<u8>) -> bool
+    ensures { result ≡ is_held_by set.now driver completion }
+{
+    match completion {
+        Some(number) => is_hold(set.sort(driver, number)),
+        None => false,
+    }
+}
+
+fn is_hold(sort: Sort) -> bool
+    ensures { result ≡ is_hold sort }
+{
+    matches!(sort, Sort::Hold)
 }
 
 /// A packet is forwarded by a dispatch routine, while no lock is held, from devices that all have a
@@ -72,8 +104,8 @@ fn forward_sort_fault(sort: Sort) -> Option<Rule>
 {
     match sort {
         Sort::Dispatch => None,
-        Sort::StartIo | Sort::Dpc => Some(Rule::Sort),
-        Sort::Propagate => Some(Rule::Completion),
+        Sort::StartIo | Sort::Dpc | Sort::Cancel => Some(Rule::Sort),
+        Sort::Propagate | Sort::Hold => Some(Rule::Completion),
     }
 }
 

@@ -2,6 +2,7 @@
 //! before it, the states that it hands on, and whether two states are the same.
 #![tactic(auto)]
 
+mod cancel;
 mod fault;
 mod forwarding;
 mod local_rule;

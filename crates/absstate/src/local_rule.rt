@@ -1,15 +1,20 @@
 //! The local rule: what an instruction demands of the state before it, and the states after it.
 
-ghost use Rattle.std.specs.Prelude.{◌≡◌};
+ghost use Rattle.std.specs.Prelude.{◌≡◌, option_map};
 ghost use Rattle.model.specs.LocalRule.{local_rule, refuses, handed, handed_at_label, outs};
 ghost use Rattle.model.specs.LocalRule.{with_kind};
+ghost use Rattle.model.specs.Set.{label_of};
 
+use crate::cancel::{
+    arm_fault, disarm, disarm_fault, insert, release, release_fault, remove, remove_fault,
+    unlink_fault,
+};
 use crate::fault::{
     broken_if, complete_fault, free_fault, least, level_fault, look_fault, mark_fault,
     number_fault, packet_fault,
 };
 use crate::forwarding::{call_fault, pass_fault};
-use crate::queues::{begin_fault, insert_fault, next_fault, remove_fault, start_fault, take_fault};
+use crate::queues::{begin_fault, insert_fault, next_fault, start_fault, take_fault};
 use crate::returns::return_fault;
 use crate::state::{
     begin, complete, give_down, is_held, kind, mark, move_kind, set_kind, set_lock, take,
@@ -17,7 +22,7 @@ use crate::state::{
 use image::DriverSet;
 use model::abs::{Abs, Kind, Outs, Rule, Settled};
 use model::instr::{Instr, Register};
-use model::set::Sort;
+use model::set::{QueueName, Sort};
 
 /// The states that an instruction of a routine of a sort, of a driver of a set, hands on from a
 /// state, or the least rule that it breaks in it.
@@ -32,7 +37,7 @@ pub fn transfer(
 {
     match broken_rule(state, instr, sort, set, driver) {
         Some(rule) => Err(rule),
-        None => Ok(outs_after(state, instr)),
+        None => Ok(outs_after(state, instr, set, driver)),
     }
 }
 
@@ -63,17 +68,23 @@ pub fn broken_rule(
         Instr::Put(packet, from) => least(packet_fault(state, packet), number_fault(state, from)),
         Instr::Mark(register) => mark_fault(state.settled, kind(state, register)),
         Instr::Acquire(lock) => broken_if(is_held(state, lock), Rule::SpinLock),
-        Instr::Release(lock) => broken_if(!is_held(state, lock), Rule::SpinLock),
+        Instr::Release(lock) => release_fault(state, set, driver, lock),
         Instr::AcquireCancel => broken_if(state.cancel, Rule::CancelSpinLock),
         Instr::ReleaseCancel => broken_if(!state.cancel, Rule::CancelSpinLock),
         Instr::Insert(register, queue) => insert_fault(state, register, set, driver, queue),
         Instr::Remove(to, queue, _) => remove_fault(state, to, set, driver, queue),
+        Instr::Unlink(register, queue) => unlink_fault(state, register, set, driver, queue),
+        Instr::Arm(register, queue) => arm_fault(state, register, set, driver, queue),
+        Instr::Disarm(register, _) => disarm_fault(kind(state, register)),
+        Instr::IfCancel(register, _) => packet_fault(state, register),
         Instr::Start(register) => start_fault(state, register, set, driver),
         Instr::Take(to, _) => take_fault(state, to, sort),
         Instr::Begin(register) => begin_fault(state, register),
         Instr::Next => next_fault(state),
         Instr::Pass(register) => pass_fault(state, register, sort, set, driver),
-        Instr::Call(register, _) => call_fault(state, register, sort, set, driver),
+        Instr::Call(register, completion) => {
+            call_fault(state, register, completion, sort, set, driver)
+        }
         Instr::Complete(register, status) => complete_fault(state, register, status, sort),
         Instr::IfPending(register, _) => look_fault(state.settled, kind(state, register)),
         Instr::Ret(form) => return_fault(state, &form, sort),
@@ -81,15 +92,15 @@ pub fn broken_rule(
 }
 
 /// The states that an instruction hands on, where it breaks no rule.
-fn outs_after(state: &Abs, instr: &Instr) -> Outs
-    ensures { result ≡ outs state.now instr.now }
+fn outs_after(state: &Abs, instr: &Instr, set: &DriverSet, driver: u8) -> Outs
+    ensures { result ≡ outs set.now driver state.now instr.now }
 {
     let jump = jumped(state, instr);
     match *instr {
         Instr::Jump(_) | Instr::Ret(_) => Outs { next: None, jump },
         _ => {
             let mut next = *state;
-            advance(&mut next, instr);
+            advance(&mut next, instr, set, driver);
             Outs {
                 next: Some(next),
                 jump,
@@ -100,7 +111,8 @@ fn outs_after(state: &Abs, instr: &Instr) -> Outs
 
 /// The one at the label, if there is a label.
 fn jumped(state: &Abs, instr: &Instr) -> Option<Abs>
-    ensures { result ≡ (outs state.now instr.now).jump }
+    ensures { result
+        ≡ option_map (λ label. handed_at_label state.now instr.now) (label_of instr.now) }
 {
     match instr.label() {
         Some(_) => Some(state_at_label(state, instr)),
@@ -108,24 +120,28 @@ fn jumped(state: &Abs, instr: &Instr) -> Option<Abs>
     }
 }
 
-/// Takes the state before an instruction to the one at the next position.
-pub fn advance(state: &mut Abs, instr: &Instr)
-    ensures { state.new ≡ handed state.old instr.now }
+/// Takes the state before an instruction of a driver of a set to the one at the next position.
+pub fn advance(state: &mut Abs, instr: &Instr, set: &DriverSet, driver: u8)
+    ensures { state.new ≡ handed set.now driver state.old instr.now }
 {
     match *instr {
         Instr::Const(to, _) | Instr::Load(to, _) | Instr::LoadPaged(to, _) | Instr::Get(to, _, _) =>
             { set_kind(state, to, Kind::Num) }
         Instr::Move(to, from) => move_kind(state, to, from),
-        Instr::Clear(register) | Instr::Insert(register, _) | Instr::Start(register) => {
-            set_kind(state, register, Kind::Blank)
+        Instr::Clear(register) | Instr::Start(register) => set_kind(state, register, Kind::Blank),
+        Instr::Insert(register, queue) => insert(state, register, set, driver, queue),
+        Instr::Remove(to, queue, _) => remove(state, to, set, driver, queue),
+        Instr::Unlink(register, _) => set_kind(state, register, Kind::Own),
+        Instr::Arm(register, queue) => {
+            set_kind(state, register, Kind::Armed(QueueName::Declared(queue)))
         }
-        Instr::Remove(to, _, _) => set_kind(state, to, Kind::Own),
+        Instr::Disarm(register, _) => disarm(state, register),
         Instr::Take(to, _) => take(state, to),
         Instr::Begin(register) => begin(state, register),
         Instr::Next => state.token = false,
         Instr::Mark(register) => mark(state, register),
         Instr::Acquire(lock) => set_lock(state, lock, true),
-        Instr::Release(lock) => set_lock(state, lock, false),
+        Instr::Release(lock) => release(state, set, driver, lock),
         Instr::AcquireCancel => state.cancel = true,
         Instr::ReleaseCancel => state.cancel = false,
         Instr::Pass(register) | Instr::Call(register, _) => give_down(state, register),
@@ -144,7 +160,9 @@ pub fn state_at_label(state: &Abs, instr: &Instr) -> Abs
             settled: Settled::NeedMark,
             ..*state
         },
-        Instr::Remove(to, _, _) | Instr::Take(to, _) => without(*state, to),
+        Instr::Remove(to, _, _) | Instr::Disarm(to, _) | Instr::Take(to, _) => {
+            without(*state, to)
+        }
         _ => *state,
     }
 }

@@ -28,26 +28,8 @@ pub fn insert_fault(
     least(packet, guard_fault(state, set, driver, queue))
 }
 
-/// `remove` wants the guard of the queue, and a register for the packet.
-pub fn remove_fault(
-    state: &Abs,
-    to: Register,
-    set: &DriverSet,
-    driver: u8,
-    queue: u8,
-) -> Option<Rule>
-    ensures { result
-        ≡ least_of (guard_fault state.now set.now driver queue)
-        (free_kind (kind_of state.now to)) }
-{
-    least(
-        guard_fault(state, set, driver, queue),
-        free_fault(state, to),
-    )
-}
-
 /// A queue is touched while its guard is held.
-fn guard_fault(state: &Abs, set: &DriverSet, driver: u8, queue: u8) -> Option<Rule>
+pub fn guard_fault(state: &Abs, set: &DriverSet, driver: u8, queue: u8) -> Option<Rule>
     ensures { result ≡ guard_fault state.now set.now driver queue }
 {
     match set.guard(driver, queue) {
@@ -82,7 +64,7 @@ fn is_dpc(sort: Sort) -> bool
     ensures { result ≡ is_dpc sort }
 {
     match sort {
-        Sort::Dispatch | Sort::StartIo | Sort::Propagate => false,
+        Sort::Dispatch | Sort::StartIo | Sort::Propagate | Sort::Hold | Sort::Cancel => false,
         Sort::Dpc => true,
     }
 }

@@ -2,11 +2,15 @@
 
 ghost use Rattle.std.specs.Prelude.{◌≡◌};
 ghost use Rattle.std.specs.List.{list_any};
-ghost use Rattle.model.specs.LocalRule.{kind_of, is_kept, is_lower, is_given_down, is_settled};
+ghost use Rattle.model.specs.LocalRule.{kind_of, is_given_down, is_settled};
+ghost use Rattle.model.specs.Kinds.{is_kept, is_lower};
+ghost use Rattle.model.specs.LocalRule.{is_fresh, is_taken_back, lent_fault, gives_back, is_dropped};
 ghost use Rattle.model.specs.LocalRule.{status_fault, duty_fault, form_fault, settled_fault};
 ghost use Rattle.model.specs.LocalRule.{left_packet, kept_fault, return_fault};
 
-use crate::fault::{broken_if, holds_spin_lock, is_pending, least};
+use crate::fault::{
+    broken_if, holds_spin_lock, is_new, is_packet, is_pending, is_view, least, unless,
+};
 use crate::state::kind;
 use model::abs::{Abs, Duty, Kind, Rule, Settled};
 use model::instr::{Register, Return};
@@ -18,8 +22,9 @@ use model::status::Status;
 pub fn return_fault(state: &Abs, form: &Return, sort: Sort) -> Option<Rule>
     ensures { result ≡ return_fault state.now form.now sort }
 {
-    let sorted = least(form_fault(sort, form), settled_fault(sort, state.settled));
-    least(duty_fault(state, form), least(kept_fault(state), sorted))
+    let sorted = least(form_fault(sort, form), settled_fault(sort, state, form));
+    let kept = kept_fault(state, gives_back(sort, form));
+    least(duty_fault(state, form), least(kept, sorted))
 }
 
 /// The duty to the packet says which status is returned.
@@ -29,7 +34,7 @@ fn duty_fault(state: &Abs, form: &Return) -> Option<Rule>
     match *form {
         Return::WithStatus(status) => status_fault(state.duty, status),
         Return::Lower(register) => lower_fault(state, register),
-        Return::Continue | Return::Void => None,
+        Return::Continue | Return::Stop | Return::Void => None,
     }
 }
 
@@ -74,27 +79,56 @@ fn is_given_down(duty: Duty) -> bool
 fn form_fault(sort: Sort, form: &Return) -> Option<Rule>
     ensures { result ≡ form_fault sort form.now }
 {
-    match (sort, *form) {
-        (Sort::Dispatch, Return::WithStatus(_) | Return::Lower(_)) => None,
-        (Sort::Dispatch, Return::Continue | Return::Void) => Some(Rule::Sort),
-        (Sort::StartIo | Sort::Dpc, Return::Void) => None,
-        (Sort::StartIo | Sort::Dpc, Return::WithStatus(_) | Return::Lower(_) | Return::Continue) =>
-            Some(Rule::Sort),
-        (Sort::Propagate, Return::Continue) => None,
-        (Sort::Propagate, Return::WithStatus(_) | Return::Lower(_) | Return::Void) => {
-            Some(Rule::Sort)
-        }
+    let fits = match sort {
+        Sort::Dispatch => matches!(*form, Return::WithStatus(_) | Return::Lower(_)),
+        Sort::StartIo | Sort::Dpc | Sort::Cancel => matches!(*form, Return::Void),
+        Sort::Propagate => matches!(*form, Return::Continue),
+        Sort::Hold => matches!(*form, Return::Continue | Return::Stop),
+    };
+    unless(fits, Rule::Sort)
+}
+
+/// A completion routine has carried the mark up, or does with the packet that it was lent what it
+/// returns.
+fn settled_fault(sort: Sort, state: &Abs, form: &Return) -> Option<Rule>
+    ensures { result ≡ settled_fault sort state.now form.now }
+{
+    match sort {
+        Sort::Dispatch | Sort::StartIo | Sort::Dpc | Sort::Cancel => None,
+        Sort::Propagate => broken_if(!is_settled(state.settled), Rule::Completion),
+        Sort::Hold => lent_fault(state.duty, form),
     }
 }
 
-/// A completion routine has carried the mark up.
-fn settled_fault(sort: Sort, settled: Settled) -> Option<Rule>
-    ensures { result ≡ settled_fault sort settled }
+/// One that was lent the packet lets its completion go on where it has done nothing with it, and
+/// stops it where it has taken the packet back.
+fn lent_fault(duty: Duty, form: &Return) -> Option<Rule>
+    ensures { result ≡ lent_fault duty form.now }
 {
-    match sort {
-        Sort::Dispatch | Sort::StartIo | Sort::Dpc => None,
-        Sort::Propagate => broken_if(!is_settled(settled), Rule::Completion),
+    match *form {
+        Return::Continue => unless(is_fresh(duty), Rule::Completion),
+        Return::Stop => unless(is_taken_back(duty), Rule::Completion),
+        Return::WithStatus(_) | Return::Lower(_) | Return::Void => None,
     }
+}
+
+fn is_fresh(duty: Duty) -> bool
+    ensures { result ≡ is_fresh duty }
+{
+    matches!(duty, Duty::Fresh)
+}
+
+fn is_taken_back(duty: Duty) -> bool
+    ensures { result ≡ is_taken_back duty }
+{
+    matches!(duty, Duty::Pending)
+}
+
+/// Whether a routine gives the packet back that it was lent.
+fn gives_back(sort: Sort, form: &Return) -> bool
+    ensures { result ≡ gives_back sort form.now }
+{
+    matches!((sort, *form), (Sort::Hold, Return::Continue))
 }
 
 fn is_settled(settled: Settled) -> bool
@@ -103,33 +137,40 @@ fn is_settled(settled: Settled) -> bool
     matches!(settled, Settled::Settled)
 }
 
-/// A routine that returns keeps no lock, no packet in a register, and no token.
-fn kept_fault(state: &Abs) -> Option<Rule>
-    ensures { result ≡ kept_fault state.now }
+/// A routine that returns keeps no lock, no packet in a register but one that it gives back, and no
+/// token.
+fn kept_fault(state: &Abs, back: bool) -> Option<Rule>
+    ensures { result ≡ kept_fault state.now back }
 {
     let spin = broken_if(holds_spin_lock(state), Rule::SpinLock);
     let token = broken_if(state.token, Rule::Token);
     least(
         broken_if(state.cancel, Rule::CancelSpinLock),
-        least(spin, least(left_fault(state), token)),
+        least(spin, least(left_fault(state, back), token)),
     )
 }
 
-fn left_fault(state: &Abs) -> Option<Rule>
-    ensures { result ≡ left_packet state.now }
+fn left_fault(state: &Abs, back: bool) -> Option<Rule>
+    ensures { result ≡ left_packet state.now back }
 {
-    broken_if(is_any_kept(&state.kinds), Rule::Dropped)
+    broken_if(is_any_dropped(&state.kinds, back), Rule::Dropped)
 }
 
-fn is_any_kept(kinds: &[Kind]) -> bool
-    ensures { result ≡ list_any is_kept kinds.now }
+fn is_any_dropped(kinds: &[Kind], back: bool) -> bool
+    ensures { result ≡ list_any (is_dropped back) kinds.now }
 {
-    kinds.iter().any(|kind| is_kept(*kind))
+    kinds.iter().any(|kind| is_dropped(back, *kind))
+}
+
+fn is_dropped(back: bool, kind: Kind) -> bool
+    ensures { result ≡ is_dropped back kind }
+{
+    is_kept(kind) && !(back && is_new(kind))
 }
 
 /// A packet that a routine may not leave in a register: any but one on its way up.
 fn is_kept(kind: Kind) -> bool
     ensures { result ≡ is_kept kind }
 {
-    matches!(kind, Kind::New | Kind::Own)
+    is_packet(kind) && !is_view(kind)
 }

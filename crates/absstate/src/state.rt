@@ -1,26 +1,48 @@
 //! Abstract states: the one at a routine's entry, their parts and changes, and their equality.
 
 ghost use Rattle.std.specs.Prelude.{◌≡◌, ◌↔◌, IsTrue, true, false};
-ghost use Rattle.model.specs.LocalRule.{entry_of_sort, entered_with, kind_of, with_kind};
-ghost use Rattle.model.specs.LocalRule.{is_held, with_lock, left_behind, moved};
-ghost use Rattle.model.specs.LocalRule.{marked, given_down, duty_completed};
+ghost use Rattle.model.specs.LocalRule.{entry_of_sort, entry_of_cancel, entered_with};
+ghost use Rattle.model.specs.LocalRule.{kind_of, with_kind};
+ghost use Rattle.model.specs.LocalRule.{is_held, with_lock, moved};
+ghost use Rattle.model.specs.Kinds.{left_behind};
+ghost use Rattle.model.specs.LocalRule.{marked, given_down};
+ghost use Rattle.model.specs.Kinds.{duty_completed};
 
 use model::abs::{Abs, Duty, Kind, Settled};
 use model::instr::{Register, SpinLock};
 use model::limits::{REGISTERS, SPIN_LOCKS};
-use model::set::Sort;
+use model::set::{QueueName, Sort};
 
 /// The state in which a routine of a sort is entered, if it may be: it finds its packet in the
 /// first register, but for a DPC routine, which is handed none. A StartIo routine has the token of
-/// its device.
-pub fn entry_state(sort: Sort) -> Option<Abs>
-    ensures { result ≡ entry_of_sort sort }
+/// its device. A cancel routine is told the one list that names it, and can't be entered where
+/// there is none.
+pub fn entry_state(sort: Sort, named: Option<QueueName>) -> Option<Abs>
+    ensures { result ≡ entry_of_sort sort named }
 {
     match sort {
         Sort::Dispatch => Some(entered_with(Kind::New, Duty::Fresh, Settled::Settled, false)),
         Sort::StartIo => Some(entered_with(Kind::Own, Duty::NoDuty, Settled::Settled, true)),
         Sort::Dpc => Some(entered_with(Kind::Blank, Duty::NoDuty, Settled::Settled, false)),
         Sort::Propagate => Some(entered_with(Kind::View, Duty::NoDuty, Settled::Open, false)),
+        Sort::Hold => Some(entered_with(Kind::New, Duty::Fresh, Settled::Settled, false)),
+        Sort::Cancel => entry_of_cancel(named),
+    }
+}
+
+/// A cancel routine is handed a packet of the list that names it, with the system cancel spin lock
+/// held.
+fn entry_of_cancel(named: Option<QueueName>) -> Option<Abs>
+    ensures { result ≡ entry_of_cancel named }
+{
+    match named {
+        Some(name) => {
+            let first = Kind::Cancelling(name);
+            let mut state = entered_with(first, Duty::NoDuty, Settled::Settled, false);
+            state.cancel = true;
+            Some(state)
+        }
+        None => None,
     }
 }
 
@@ -106,7 +128,7 @@ fn left_behind(kind: Kind) -> Kind
 {
     match kind {
         Kind::Num => Kind::Num,
-        Kind::Blank | Kind::Lower | Kind::New | Kind::Own | Kind::View => Kind::Blank,
+        _ => Kind::Blank,
     }
 }
 
@@ -121,7 +143,7 @@ pub fn mark(state: &mut Abs, register: Register)
             state.duty = Duty::Pending;
         }
         Kind::View => state.settled = Settled::Settled,
-        Kind::Blank | Kind::Num | Kind::Lower | Kind::Own => {}
+        _ => {}
     }
 }
 
@@ -136,7 +158,7 @@ pub fn give_down(state: &mut Abs, register: Register)
             state.duty = Duty::GivenDown;
         }
         Kind::Own => set_kind(state, register, Kind::Blank),
-        Kind::Blank | Kind::Num | Kind::Lower | Kind::View => {}
+        _ => {}
     }
 }
 

@@ -8,7 +8,7 @@ ghost use Rattle.model.specs.declared.limits.TheConstants.{MAX_INSTRUCTIONS};
 use crate::sound::is_sound;
 use model::instr::{Instr, Register, Return, SpinLock};
 use model::limits::DEFAULT_ROUTINE;
-use model::set::{Device, Driver, Routine, Sort};
+use model::set::{Device, Driver, QueueName, Routine, Sort};
 use model::status::{Major, Status};
 use std::marker::Model;
 
@@ -34,7 +34,8 @@ impl Model for DriverSet {
 
 impl DriverSet {
     ghost use Rattle.model.specs.Set.{Set, serving, instruction_at, sort_of, lower_of};
-    ghost use Rattle.model.specs.Set.{startio_of, dpc_of, guard_of};
+    ghost use Rattle.model.specs.Set.{startio_of, dpc_of, guard_of, cancel_routine_of};
+    ghost use Rattle.model.specs.Set.{guard_named, cancel_routine_named};
     ghost use Rattle.model.specs.LocalRule.{has_startio};
     ghost use Rattle.model.specs.Sound.{IsSound};
 
@@ -120,6 +121,32 @@ impl DriverSet {
         let driver = self.drivers().get(driver as usize)?;
         let queue = driver.queues.as_slice().get(queue as usize)?;
         Some(queue.guard)
+    }
+
+    /// The number of the cancel routine of a queue of a driver, if it has one.
+    pub fn cancel_routine(&self, driver: u8, queue: u8) -> Option<u8>
+        ensures { result ≡ cancel_routine_of self.now driver queue }
+    {
+        let driver = self.drivers().get(driver as usize)?;
+        driver.queues.as_slice().get(queue as usize)?.cancel
+    }
+
+    /// The spin lock that guards a list of a driver.
+    pub fn guard_named(&self, driver: u8, name: QueueName) -> Option<SpinLock>
+        ensures { result ≡ guard_named self.now driver name }
+    {
+        match name {
+            QueueName::Declared(queue) => self.guard(driver, queue),
+        }
+    }
+
+    /// The number of the cancel routine of a list of a driver, if it has one.
+    pub fn cancel_routine_named(&self, driver: u8, name: QueueName) -> Option<u8>
+        ensures { result ≡ cancel_routine_named self.now driver name }
+    {
+        match name {
+            QueueName::Declared(queue) => self.cancel_routine(driver, queue),
+        }
     }
 
     /// The sort of a routine of a driver, the default routine's among them.

@@ -7,4 +7,4 @@ mod sound;
 pub use driver_set::DriverSet;
 pub use model::instr::{Cell, Field, Instr, Register, Return, SpinLock, Turns};
 pub use model::items::Items;
-pub use model::set::{Device, Driver, Queue, Routine, Sort};
+pub use model::set::{Device, Driver, Queue, QueueName, Routine, Sort};

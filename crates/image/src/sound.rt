@@ -5,7 +5,7 @@ ghost use Rattle.model.specs.Sound.{IsSound, DeviceFits, DevicesFit, DriverFits,
 ghost use Rattle.model.specs.Sound.{LabelFits, OperandFits, CallFits, CallsFit};
 ghost use Rattle.model.specs.Sound.{HandlerFits, HasSort, IsDispatch, IsCompletion};
 ghost use Rattle.model.specs.Sound.{StartIoFits, IsStartIo, DpcFits, IsDpc};
-ghost use Rattle.model.specs.Sound.{QueueFits, QueuesFit, GuardFits};
+ghost use Rattle.model.specs.Sound.{QueueFits, QueuesFit, GuardFits, IsCancel, CancelFits};
 
 use model::instr::{Instr, Return};
 use model::limits::{
@@ -35,6 +35,10 @@ fn operand_fits(instr: &Instr) -> bool
         | Instr::Mark(register)
         | Instr::Insert(register, _)
         | Instr::Remove(register, _, _)
+        | Instr::Unlink(register, _)
+        | Instr::Arm(register, _)
+        | Instr::Disarm(register, _)
+        | Instr::IfCancel(register, _)
         | Instr::Start(register)
         | Instr::Take(register, _)
         | Instr::Begin(register)
@@ -60,7 +64,8 @@ fn operand_fits(instr: &Instr) -> bool
         | Instr::AcquireCancel
         | Instr::ReleaseCancel
         | Instr::Next
-        | Instr::Ret(Return::WithStatus(_) | Return::Continue | Return::Void) => true,
+        | Instr::Ret(Return::WithStatus(_) | Return::Continue | Return::Stop | Return::Void) =>
+            true,
     }
 }
 
@@ -122,7 +127,17 @@ fn is_completion(routines: &[Routine], number: u8) -> bool
     ensures { IsTrue result ↔ HasSort IsCompletion (slice_get routines.now number) }
 {
     match routines.get(number as usize) {
-        Some(routine) => matches!(routine.sort, Sort::Propagate),
+        Some(routine) => matches!(routine.sort, Sort::Propagate | Sort::Hold),
+        None => false,
+    }
+}
+
+/// Whether the routine of a number is a cancel routine.
+fn is_cancel(routines: &[Routine], number: u8) -> bool
+    ensures { IsTrue result ↔ HasSort IsCancel (slice_get routines.now number) }
+{
+    match routines.get(number as usize) {
+        Some(routine) => matches!(routine.sort, Sort::Cancel),
         None => false,
     }
 }
@@ -175,7 +190,10 @@ fn queue_fits(queues: usize, instr: &Instr) -> bool
     ensures { IsTrue result ↔ QueueFits queues instr.now }
 {
     match *instr {
-        Instr::Insert(_, queue) | Instr::Remove(_, queue, _) => (queue as usize) < queues,
+        Instr::Insert(_, queue)
+        | Instr::Remove(_, queue, _)
+        | Instr::Unlink(_, queue)
+        | Instr::Arm(_, queue) => (queue as usize) < queues,
         _ => true,
     }
 }
@@ -200,6 +218,21 @@ fn guards_fit(queues: &[Queue]) -> bool
     ensures fit { All GuardFits queues.now }
 {
     queues.iter().all(|queue| guard_fits(queue))
+}
+
+fn cancel_fits(routines: &[Routine], queue: &Queue) -> bool
+    ensures { IsTrue result ↔ CancelFits routines.now queue.now }
+{
+    match queue.cancel {
+        Some(number) => is_cancel(routines, number),
+        None => true,
+    }
+}
+
+fn cancels_fit(routines: &[Routine], queues: &[Queue]) -> bool
+    ensures { IsTrue result ↔ All (CancelFits routines.now) queues.now }
+{
+    queues.iter().all(|queue| cancel_fits(routines, queue))
 }
 
 fn routines_fit(routines: &[Routine]) -> bool
@@ -236,6 +269,7 @@ fn driver_fits(driver: &Driver) -> bool
         && dpc_fits(routines, driver.dpc)
         && all_calls_fit(routines)
         && queues.len() <= MAX_QUEUES
+        && cancels_fit(routines, queues)
         && all_queues_fit(queues.len(), routines)
 }
 

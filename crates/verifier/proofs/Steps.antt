@@ -27,11 +27,11 @@ use Rattle.verifier.proofs.Judging.{fine_there}
 
 -- what the instruction hands on is where it leads
 abbrev outs_at : (m : Member) (at : ℕ) → IsPassed m at → Outs
-outs_at m at h = outs h.state h.instr
+outs_at m at h = outs m.set m.driver h.state h.instr
 
 rule_there : (m : Member) (at : ℕ) (h : IsPassed m at)
     → local_rule h.state h.instr m.routine.sort m.set m.driver ≡ Ok (outs_at m at h)
-rule_there m at h = ap (λ (broken : Option Rule). rule_or broken (outs h.state h.instr)) h.keeps
+rule_there m at h = ap (λ (broken : Option Rule). rule_or broken (outs_at m at h)) h.keeps
 
 hands_of_leads : (m : Member) (at : ℕ) (h : IsPassed m at) (p : ℕ) (s : Abs)
     → Leads m at h.state p s
@@ -105,7 +105,7 @@ ahead_more : (m : Member) (at : ℕ) (h : IsPassed m at) (table new : List Seen)
     → Describes (slice_index_or new p Nothing)
     (With (FromBelow m at p) (label_of h.instr) (outs_at m at h).jump p)
 ahead_more m at h table new p kept above within was =
-    kept_ahead table new at p (flow_of h.instr) h.state (handed h.state h.instr)
+    kept_ahead table new at p (flow_of h.instr) h.state (handed m.set m.driver h.state h.instr)
     (handed_at_label h.state h.instr) (FromBelow m at p) kept above within was
 
 starts_more : (m : Member) (at : ℕ) (h : IsPassed m at) (table new : List Seen) (q : ℕ)
@@ -143,8 +143,8 @@ fine_more m at below here p within (inr least) =
 knows_more : (m : Member) (at : ℕ) (h : IsPassed m at) (here new_here : Seen)
     (table new : List Seen) → Knows m at here table → IsFineAt m at
     → at < length m.routine.code → IsKeptAt m at h table new
-    → IsArrived (flow_of h.instr) (handed h.state h.instr) (slice_index_or new (at + 1) Nothing)
-    new_here → Knows m (at + 1) new_here new
+    → IsArrived (flow_of h.instr) (handed m.set m.driver h.state h.instr)
+    (slice_index_or new (at + 1) Nothing) new_here → Knows m (at + 1) new_here new
 knows_more m at h here new_here table new known fine within kept next =
     let long : length table ≡ length m.routine.code + 1 = known.long in
     record {
@@ -155,7 +155,7 @@ knows_more m at h here new_here table new known fine within kept next =
       fine = λ p low. fine_more m at known.fine fine p low (cases_lt p at);
       seen = λ inside. seen_added m at h (at + 1) new_here
           (arrived (slice_index_or new (at + 1) Nothing) new_here (at + 1) (flow_of h.instr)
-          (handed h.state h.instr) (handed_at_label h.state h.instr)
+          (handed m.set m.driver h.state h.instr) (handed_at_label h.state h.instr)
           (With (FromBelow m at (at + 1)) (label_of h.instr) (outs_at m at h).jump (at + 1)) next
           (ahead_more m at h table new (at + 1) kept (omega arith) (omega arith)
           (known.ahead (at + 1) (omega arith) inside)));
@@ -226,7 +226,7 @@ pub right_more : (m : Member) (at : ℕ) (i : Instr) (arrivals new_arrivals : Ar
     (sums : List ℕ) (sum : ℕ) → IsRight m at places (seen_of arrivals s) table sums
     → at < length m.routine.code → IsPassed m at
     → slice_get m.routine.code at ≡ Some i → IsKept (flow_of i) at s (handed_at_label s i) table new
-    → IsArrived (flow_of i) (handed s i) (slice_index_or new (at + 1) Nothing)
+    → IsArrived (flow_of i) (handed m.set m.driver s i) (slice_index_or new (at + 1) Nothing)
     (seen_of new_arrivals next)
     → sum ≡ certificate_to m.routine.code (suc at) → sum ≤ MAX_CERTIFICATE
     → IsRight m (at + 1) places (seen_of new_arrivals next) new (slice_set sums (at + 1) sum)
@@ -249,9 +249,9 @@ right_more m at i arrivals new_arrivals s next places table new sums sum right w
           table new) state
           (subst (λ (x : Instr). IsKept (flow_of x) at s (handed_at_label s x) table new) same
           kept))
-          (subst (λ (x : Abs). IsArrived (flow_of passed.instr) (handed x passed.instr)
-          (slice_index_or new (at + 1) Nothing) (seen_of new_arrivals next)) state
-          (subst (λ (x : Instr). IsArrived (flow_of x) (handed s x)
+          (subst (λ (x : Abs). IsArrived (flow_of passed.instr)
+          (handed m.set m.driver x passed.instr) (slice_index_or new (at + 1) Nothing) (seen_of new_arrivals next)) state
+          (subst (λ (x : Instr). IsArrived (flow_of x) (handed m.set m.driver s x)
           (slice_index_or new (at + 1) Nothing) (seen_of new_arrivals next)) same arrives));
       summed = sums_more m.routine.code sums at sum right.summed within told short;
     }

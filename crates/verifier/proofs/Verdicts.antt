@@ -1,15 +1,18 @@
 -- What holds of each driver and routine so far, and what the refusal of one says of the set.
-use Rattle.std.proofs.Common.{◌≡◌, ◌≢◌, ℕ, ◌+◌, ◌<◌, ◌≤◌, ◌⊎◌, inl, inr, List, [], ◌∷◌, ◌++◌, length, take, map, Some, slice_index_or, arith, sym, subst, ◌∙◌, ap}
+use Rattle.std.proofs.Common.{◌≡◌, ◌≢◌, ℕ, ◌+◌, ◌<◌, ◌≤◌, ◌⊎◌, inl, inr, Bool, true, false, if◌then◌else◌, None, refl, List, [], ◌∷◌, ◌++◌, length, take, map, Some, slice_index_or, arith, sym, subst, ◌∙◌, ap}
 use Rattle.std.specs.Prelude.{slice_get}
 use Rattle.std.proofs.lemmas.Bool.{cases_lt}
 use Rattle.std.proofs.lemmas.List.{map_more}
 use Rattle.std.proofs.lemmas.Option.{slice_get-get_or}
 use Rattle.model.specs.declared.abs.Refusal.{Refusal}
-use Rattle.model.specs.declared.abs.Rule.TheVariants.{Memory}
+use Rattle.model.specs.declared.abs.Rule.{Rule}
+use Rattle.model.specs.declared.abs.Rule.TheVariants.{Malformed, Sort as SortRule, Memory}
 use Rattle.model.specs.declared.set.Driver.{Driver}
 use Rattle.model.specs.declared.set.Routine.{Routine}
-use Rattle.model.specs.Set.{Set, member}
-use Rattle.model.specs.Typable.{IsTypableRoutine, AreTypableRoutines, IsTypableDriver, AreTypable, IsTypable, IsFirstFaultOf}
+use Rattle.model.specs.LocalRule.{entry_state}
+use Rattle.model.specs.Paths.{is_malformed}
+use Rattle.model.specs.Set.{Set, Member, member}
+use Rattle.model.specs.Typable.{IsTypableRoutine, AreTypableRoutines, IsTypableDriver, AreTypable, IsTypable, IsFaultAt, IsFirstFaultOf}
 use Rattle.verifier.specs.Verdict.{IsRefusalOf, IsRefusalOfDriver, IsRefusalOfRoutine}
 use Rattle.verifier.proofs.Faults.{typable_has_none}
 
@@ -65,6 +68,29 @@ certificates_more {Y = Y} f xs i x ys new y within before read right pushed =
     map_more f xs i x within in
     pushed ∙ ap (λ (z : Y). ys ++ z ∷ []) (right ∙ ap f read)
     ∙ ap (λ (zs : List Y). zs ++ f (slice_index_or xs i x) ∷ []) before ∙ sym all
+
+-- the refusal of a routine that can't be entered
+entry_fault : (m : Member) (rule : Rule) (malformed : Bool)
+    → is_malformed m.routine.code 0 ≡ malformed
+    → entry_state m ≡ None → rule ≡ (if malformed then Malformed else SortRule)
+    → IsFaultAt m 0 rule
+entry_fault m rule true formed none told = inl (formed, told)
+entry_fault m rule false formed none told =
+    inr (inr (inr (inr (inl (record { start = refl; formed = formed; none = none }, told)))))
+
+pub refusal_of_entry : (m : Member) (rule : Rule) (refusal : Refusal) → entry_state m ≡ None
+    → rule ≡ (if is_malformed m.routine.code 0 then Malformed else SortRule)
+    → refusal ≡ record { driver = m.driver; routine = m.number; at = 0; rule = rule }
+    → IsRefusalOfRoutine m refusal
+refusal_of_entry m rule refusal none told made =
+    subst (λ (r : Refusal). IsRefusalOfRoutine m r) (sym made) (inr (record {
+      driver = refl;
+      number = refl;
+      first = record {
+        before = λ p low. absurd (omega (arith, low));
+        fault = entry_fault m rule (is_malformed m.routine.code 0) refl none told;
+      };
+    }))
 
 -- the refusal of a driver for one of its routines
 pub refusal_of_driver : (set : Set) (number : ℕ) (driver : Driver) (place : ℕ) (routine : Routine)

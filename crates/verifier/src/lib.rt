@@ -6,6 +6,7 @@ mod certificate;
 pub mod laws;
 mod loops;
 mod malformed;
+mod named;
 mod pass;
 mod routine;
 mod seen;

@@ -110,7 +110,8 @@ impl<'a> Pass<'a> {
         self.sums[self.at + 1] = sum;
         let instr = &code[self.at];
         keep(&mut self.table, self.at, instr, &self.state);
-        self.arrivals = arrive(&self.table[self.at + 1], instr, &mut self.state);
+        let there = &self.table[self.at + 1];
+        self.arrivals = arrive(there, instr, &mut self.state, self.set, self.driver);
         self.at += 1;
         Ok(())
     }

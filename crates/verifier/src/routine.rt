@@ -2,6 +2,7 @@
 
 ghost use Rattle.std.specs.Prelude.{◌≡◌, ◌<◌, length, if◌then◌else◌, IfOk, IfErr, OnOk};
 ghost use Rattle.model.specs.Certificate.{certificate};
+ghost use Rattle.model.specs.LocalRule.{entry_state};
 ghost use Rattle.model.specs.Paths.{is_malformed};
 ghost use Rattle.model.specs.Set.{member};
 ghost use Rattle.model.specs.Sound.{RoutineFits};
@@ -10,8 +11,9 @@ ghost use Rattle.verifier.specs.Verdict.{IsRefusalOfRoutine};
 
 use crate::loops::survey;
 use crate::malformed::is_malformed;
+use crate::named::cancels_for;
 use crate::pass::Pass;
-use absstate::{Rule, entry_state};
+use absstate::{Abs, Rule, entry_state};
 use image::DriverSet;
 use model::abs::Refusal;
 use model::instr::Instr;
@@ -38,7 +40,7 @@ pub fn check_routine(
     if code.is_empty() {
         return Err(refusal(driver, number, 0, Rule::Malformed));
     }
-    let Some(entry) = entry_state(routine.sort) else {
+    let Some(entry) = entry(set, driver, number, routine) else {
         return Err(match rule_at_entry(alloc, code) {
             Ok(rule) => refusal(driver, number, 0, rule),
             Err(_) => at_start(Rule::Memory),
@@ -53,6 +55,13 @@ pub fn check_routine(
         }
     }
     Ok(pass.certificate())
+}
+
+/// The state in which a routine is entered, if it may be.
+fn entry(set: &DriverSet, driver: u8, number: u8, routine: &Routine) -> Option<Abs>
+    ensures { result ≡ entry_state (member set.now driver number routine.now) }
+{
+    entry_state(routine.sort, cancels_for(set, driver, number))
 }
 
 /// The least rule that is broken at the start of a routine that can't be entered.

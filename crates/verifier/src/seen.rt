@@ -5,6 +5,7 @@ ghost use Rattle.model.specs.LocalRule.{handed, handed_at_label};
 ghost use Rattle.model.specs.Set.{flow_of};
 
 use absstate::{Abs, advance, are_same, state_at_label};
+use image::DriverSet;
 use model::instr::Instr;
 
 /// The states that have been seen to arrive at a position.
@@ -65,15 +66,16 @@ pub fn keep(table: &mut [Seen], at: usize, instr: &Instr, state: &Abs)
     }
 }
 
-/// Takes the state before an instruction to the next position, where jumps have led what is there.
-pub fn arrive(there: &Seen, instr: &Instr, state: &mut Abs) -> Arrivals
-    ensures { IsArrived (flow_of instr.now) (handed state.old instr.now) there.now
+/// Takes the state before an instruction of a driver of a set to the next position, where jumps
+/// have led what is there.
+pub fn arrive(there: &Seen, instr: &Instr, state: &mut Abs, set: &DriverSet, driver: u8) -> Arrivals
+    ensures { IsArrived (flow_of instr.now) (handed set.now driver state.old instr.now) there.now
         (seen_of result state.new) }
 {
     match *instr {
         Instr::Jump(_) | Instr::Ret(_) => take(there, state),
         _ => {
-            advance(state, instr);
+            advance(state, instr, set, driver);
             meet(there, state)
         }
     }

@@ -109,11 +109,11 @@ invariant_of-self c =
     lent_back c.self.inside.table.items c.keep.new.table c.self.inside.table.len (omega arith) back
     in
     let there : slice_index_or c.keep.new.table (c.self.inside.at + 1) Nothing
-    ≡ c.index-2.result.now =
-    read_as c.keep.new.table (c.self.inside.at + 1) c.index-2.result.now c.index-2.result.now
-    Nothing (omega arith)
-    (subst (λ (table : List Seen). c.index-2.result.now ≡ slice_index_or table
-    (c.self.inside.at + 1) c.index-2.result.now) whole c.index-2.ensures) refl
+    ≡ c.index-there.result.now =
+    read_as c.keep.new.table (c.self.inside.at + 1) c.index-there.result.now
+    c.index-there.result.now Nothing (omega arith)
+    (subst (λ (table : List Seen). c.index-there.result.now ≡ slice_index_or table
+    (c.self.inside.at + 1) c.index-there.result.now) whole c.index-there.ensures) refl
     in
     subst (λ (table : List Seen). IsRight (member_of c.self.inside) (c.self.inside.at + 1)
     c.self.inside.places.items
@@ -135,7 +135,8 @@ invariant_of-self c =
     (handed_at_label c.self.inside.state c.index-code-self.result) table c.keep.new.table)
     c.deref_mut.ensures.value c.keep.ensures)
     (subst (λ (seen : Seen). IsArrived (flow_of c.index-code-self.result)
-    (handed c.self.inside.state c.index-code-self.result) seen
+    (handed c.self.inside.set.now c.self.inside.driver c.self.inside.state
+    c.index-code-self.result) seen
     (seen_of c.arrive-self-inside.result c.arrive-self-inside.new.state))
     (sym there) c.arrive-self-inside.ensures)
     (ap (λ (n : ℕ). n + c.turns_at.result) (sym read) ∙ told)

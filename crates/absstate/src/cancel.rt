@@ -1,0 +1,286 @@
+//! What a list with a cancel routine demands of the packets in it, and what becomes of the
+//! registers that hold them. A packet there is the routine's own while no cancel routine can be
+//! called for it.
+
+ghost use Rattle.std.specs.Prelude.{◌≡◌};
+ghost use Rattle.std.specs.List.{list_any};
+ghost use Rattle.model.specs.LocalRule.{kind_of, with_kind, least_of, guard_fault, free_kind};
+ghost use Rattle.model.specs.Kinds.{is_name, is_listed, is_armed, is_cancelling, is_exchanged};
+ghost use Rattle.model.specs.LocalRule.{queued_kind, unlink_kind, names_fault};
+ghost use Rattle.model.specs.Kinds.{names_list};
+ghost use Rattle.model.specs.LocalRule.{release_fault};
+ghost use Rattle.model.specs.Kinds.{is_guard, needs_guard};
+ghost use Rattle.model.specs.Kinds.{kind_inserted, kind_removed, kind_disarmed};
+ghost use Rattle.model.specs.LocalRule.{released};
+ghost use Rattle.model.specs.Kinds.{let_go, all_let_go};
+ghost use Rattle.model.specs.Set.{cancel_routine_of, guard_named};
+
+use crate::fault::{broken_if, free_fault, least, unless};
+use crate::queues::guard_fault;
+use crate::state::{is_held, kind, set_kind, set_lock};
+use image::DriverSet;
+use model::abs::{Abs, Kind, Rule};
+use model::instr::{Register, SpinLock};
+use model::set::QueueName;
+
+/// `remove` wants the guard of the queue, a register for the packet, and no register with a packet
+/// that is or was to be cancelled there: it could be the same.
+pub fn remove_fault(
+    state: &Abs,
+    to: Register,
+    set: &DriverSet,
+    driver: u8,
+    queue: u8,
+) -> Option<Rule>
+    ensures { result
+        ≡ least_of (guard_fault state.now set.now driver queue)
+        (least_of (free_kind (kind_of state.now to))
+        (names_fault state.now (QueueName.Declared queue))) }
+{
+    let named = names_fault(state, QueueName::Declared(queue));
+    least(
+        guard_fault(state, set, driver, queue),
+        least(free_fault(state, to), named),
+    )
+}
+
+/// `unlink` wants a packet that is the routine's own and in the queue, or that is being cancelled
+/// there, and the guard of the queue.
+pub fn unlink_fault(
+    state: &Abs,
+    register: Register,
+    set: &DriverSet,
+    driver: u8,
+    queue: u8,
+) -> Option<Rule>
+    ensures { result
+        ≡ least_of (unlink_kind (QueueName.Declared queue) (kind_of state.now register))
+        (guard_fault state.now set.now driver queue) }
+{
+    least(
+        unlink_kind(QueueName::Declared(queue), kind(state, register)),
+        guard_fault(state, set, driver, queue),
+    )
+}
+
+/// `arm` wants a packet that is the routine's own and in the queue, and the guard of the queue.
+pub fn arm_fault(
+    state: &Abs,
+    register: Register,
+    set: &DriverSet,
+    driver: u8,
+    queue: u8,
+) -> Option<Rule>
+    ensures { result
+        ≡ least_of
+        (queued_kind (is_listed (QueueName.Declared queue) (kind_of state.now register))
+        (kind_of state.now register))
+        (guard_fault state.now set.now driver queue) }
+{
+    let kind = kind(state, register);
+    least(
+        queued_kind(is_listed(QueueName::Declared(queue), kind), kind),
+        guard_fault(state, set, driver, queue),
+    )
+}
+
+/// `disarm` wants a packet whose cancel routine the routine has set, or that it has taken off a
+/// list.
+pub fn disarm_fault(kind: Kind) -> Option<Rule>
+    ensures { result ≡ queued_kind (is_exchanged kind) kind }
+{
+    queued_kind(is_exchanged(kind), kind)
+}
+
+/// A spin lock that is released was held, and no register needs it.
+pub fn release_fault(state: &Abs, set: &DriverSet, driver: u8, lock: SpinLock) -> Option<Rule>
+    ensures { result ≡ release_fault state.now set.now driver lock }
+{
+    let needed = is_any_in_need(&state.kinds, set, driver, lock);
+    least(
+        broken_if(!is_held(state, lock), Rule::SpinLock),
+        broken_if(needed, Rule::Guard),
+    )
+}
+
+fn unlink_kind(name: QueueName, kind: Kind) -> Option<Rule>
+    ensures { result ≡ unlink_kind name kind }
+{
+    queued_kind(is_listed(name, kind) || is_cancelling(name, kind), kind)
+}
+
+/// A packet of a list with a cancel routine has to be there, in a state that fits the instruction.
+fn queued_kind(fits: bool, kind: Kind) -> Option<Rule>
+    ensures { result ≡ queued_kind fits kind }
+{
+    match kind {
+        Kind::Blank | Kind::Num | Kind::Lower => Some(Rule::WrongKind),
+        Kind::New | Kind::Own => Some(Rule::CancelState),
+        Kind::Listed(_) | Kind::Armed(_) | Kind::Taken(_) | Kind::Cancelling(_) => {
+            unless(fits, Rule::CancelState)
+        }
+        Kind::View => Some(Rule::Completion),
+    }
+}
+
+fn names_fault(state: &Abs, name: QueueName) -> Option<Rule>
+    ensures { result ≡ names_fault state.now name }
+{
+    broken_if(is_any_naming(&state.kinds, name), Rule::CancelState)
+}
+
+fn is_any_naming(kinds: &[Kind], name: QueueName) -> bool
+    ensures { result ≡ list_any (names_list name) kinds.now }
+{
+    kinds.iter().any(|kind| names_list(name, *kind))
+}
+
+/// Whether a packet is or was to be cancelled in a list.
+fn names_list(name: QueueName, kind: Kind) -> bool
+    ensures { result ≡ names_list name kind }
+{
+    is_listed(name, kind) || is_armed(name, kind) || is_cancelling(name, kind)
+}
+
+/// Whether a packet is the routine's own, and stands in a list.
+fn is_listed(name: QueueName, kind: Kind) -> bool
+    ensures { result ≡ is_listed name kind }
+{
+    match kind {
+        Kind::Listed(other) => is_name(other, name),
+        _ => false,
+    }
+}
+
+/// Whether a packet may be cancelled in a list.
+fn is_armed(name: QueueName, kind: Kind) -> bool
+    ensures { result ≡ is_armed name kind }
+{
+    match kind {
+        Kind::Armed(other) => is_name(other, name),
+        _ => false,
+    }
+}
+
+/// Whether IoCancelIrp handed a packet to the cancel routine of a list.
+fn is_cancelling(name: QueueName, kind: Kind) -> bool
+    ensures { result ≡ is_cancelling name kind }
+{
+    match kind {
+        Kind::Cancelling(other) => is_name(other, name),
+        _ => false,
+    }
+}
+
+/// Whether the exchange of a packet's cancel routine tells whose it is.
+fn is_exchanged(kind: Kind) -> bool
+    ensures { result ≡ is_exchanged kind }
+{
+    matches!(kind, Kind::Armed(_) | Kind::Taken(_))
+}
+
+/// Whether two names are of the same list.
+fn is_name(one: QueueName, other: QueueName) -> bool
+    ensures { result ≡ is_name one other }
+{
+    match (one, other) {
+        (QueueName::Declared(first), QueueName::Declared(second)) => first == second,
+    }
+}
+
+fn is_any_in_need(kinds: &[Kind], set: &DriverSet, driver: u8, lock: SpinLock) -> bool
+    ensures { result ≡ list_any (needs_guard set.now driver lock) kinds.now }
+{
+    kinds
+        .iter()
+        .any(|kind| needs_guard(set, driver, lock, *kind))
+}
+
+/// Whether a packet stays where it is as long as the routine holds a spin lock: it stands in a list
+/// that the lock guards, with no cancel routine set, or was taken off it.
+fn needs_guard(set: &DriverSet, driver: u8, lock: SpinLock, kind: Kind) -> bool
+    ensures { result ≡ needs_guard set.now driver lock kind }
+{
+    match kind {
+        Kind::Listed(name) | Kind::Taken(name) => is_guard(set, driver, name, lock),
+        _ => false,
+    }
+}
+
+/// Whether a spin lock guards a list.
+fn is_guard(set: &DriverSet, driver: u8, name: QueueName, lock: SpinLock) -> bool
+    ensures { result ≡ is_guard (guard_named set.now driver name) lock }
+{
+    match set.guard_named(driver, name) {
+        Some(guard) => guard.index() == lock.index(),
+        None => false,
+    }
+}
+
+/// Puts the packet in a register into a queue. It stays the routine's own while it holds the guard,
+/// unless the queue is plain.
+pub fn insert(state: &mut Abs, register: Register, set: &DriverSet, driver: u8, queue: u8)
+    ensures { state.new
+        ≡ with_kind state.old register
+        (kind_inserted (cancel_routine_of set.now driver queue) queue) }
+{
+    let kind = match set.cancel_routine(driver, queue) {
+        Some(_) => Kind::Listed(QueueName::Declared(queue)),
+        None => Kind::Blank,
+    };
+    set_kind(state, register, kind);
+}
+
+/// Takes the first packet off a queue into a register. It may be cancelled until its cancel routine
+/// is exchanged, unless the queue is plain.
+pub fn remove(state: &mut Abs, register: Register, set: &DriverSet, driver: u8, queue: u8)
+    ensures { state.new
+        ≡ with_kind state.old register
+        (kind_removed (cancel_routine_of set.now driver queue) queue) }
+{
+    let kind = match set.cancel_routine(driver, queue) {
+        Some(_) => Kind::Taken(QueueName::Declared(queue)),
+        None => Kind::Own,
+    };
+    set_kind(state, register, kind);
+}
+
+/// Notes that the cancel routine of the packet in a register was set, so that IoCancelIrp won't
+/// call it any more.
+pub fn disarm(state: &mut Abs, register: Register)
+    ensures { state.new
+        ≡ with_kind state.old register (kind_disarmed (kind_of state.old register)) }
+{
+    let kind = match kind(state, register) {
+        Kind::Armed(name) => Kind::Listed(name),
+        Kind::Taken(_) => Kind::Own,
+        kind => kind,
+    };
+    set_kind(state, register, kind);
+}
+
+/// Releases a spin lock: a packet in a list that it guards, whose cancel routine is set, belongs to
+/// whoever comes first then.
+pub fn release(state: &mut Abs, set: &DriverSet, driver: u8, lock: SpinLock)
+    ensures { state.new ≡ released state.old set.now driver lock }
+{
+    all_let_go(&mut state.kinds, set, driver, lock);
+    set_lock(state, lock, false);
+}
+
+fn all_let_go(kinds: &mut [Kind], set: &DriverSet, driver: u8, lock: SpinLock)
+    ensures { kinds.new ≡ all_let_go set.now driver lock kinds.old }
+{
+    for kind in kinds.iter_mut() {
+        *kind = let_go(set, driver, lock, *kind);
+    }
+}
+
+fn let_go(set: &DriverSet, driver: u8, lock: SpinLock, kind: Kind) -> Kind
+    ensures { result ≡ let_go set.now driver lock kind }
+{
+    match kind {
+        Kind::Armed(name) if is_guard(set, driver, name, lock) => Kind::Blank,
+        _ => kind,
+    }
+}
