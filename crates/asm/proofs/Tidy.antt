@@ -6,7 +6,7 @@ use Rattle.asm.specs.declared.draft.Place.TheVariants.{Outside, InRoutine}
 use Rattle.asm.specs.declared.draft.Use.{Use}
 use Rattle.asm_line.specs.declared.line.Body.{Body}
 use Rattle.asm_line.specs.declared.line.Body.TheVariants.{Blank, OpenDriver, CloseDriver, AddQueue, Handle, HandleStartIo, HandleDpc, OpenRoutine, CloseRoutine, AddDevice, Step as TakeStep}
-use Rattle.asm.specs.Outline.{Outline, dpc_handled, handled, noted, nothing_read, queue_added, startio_handled, stands}
+use Rattle.asm.specs.Outline.{Outline, dpc_handled, handled, noted, nothing_read, queue_added, startio_handled, stands, used_at}
 use Rattle.asm.proofs.Fitting.{never_in, only_in_routine}
 
 -- no driver is open
@@ -17,6 +17,7 @@ IsEmpty o = record {
   sorts : o.sorts ≡ [];
   calls : o.calls ≡ [];
   queues : o.queue_names ≡ [];
+  guards : o.queues ≡ [];
   uses : o.queue_uses ≡ [];
   read : o.read ≡ None;
   write : o.write ≡ None;
@@ -37,6 +38,7 @@ all_empty = record {
   sorts = refl;
   calls = refl;
   queues = refl;
+  guards = refl;
   uses = refl;
   read = refl;
   write = refl;
@@ -77,10 +79,10 @@ tidy_on o n label CloseDriver stood h =
       outside = λ is. all_empty;
       idle = λ closed. idle;
     }
-tidy_on o n label (AddQueue name (Some guard)) stood h =
-    let inside = never_in Outside o.place (AddQueue name (Some guard)) refl stood in
-    tidy_in_driver (queue_added o name guard) inside h.idle
-tidy_on o n label (AddQueue name None) stood h = h
+tidy_on o n label (AddQueue name (Some guard) cancel) stood h =
+    let inside = never_in Outside o.place (AddQueue name (Some guard) cancel) refl stood in
+    tidy_in_driver (queue_added o name guard (used_at n cancel)) inside h.idle
+tidy_on o n label (AddQueue name None cancel) stood h = h
 tidy_on o n label (Handle major routine) stood h =
     let inside = never_in Outside o.place (Handle major routine) refl stood in
     handled_tidy o (record { line = n; name = routine }) major inside h

@@ -12,7 +12,8 @@ use Rattle.asm_line.specs.declared.line.Body.{Body}
 use Rattle.asm_line.specs.declared.line.Body.TheVariants.{Blank, OpenDriver, CloseDriver, AddQueue, Handle, HandleStartIo, HandleDpc, OpenRoutine, CloseRoutine, AddDevice, Step}
 use Rattle.asm_line.specs.declared.line.Line.{Line}
 use Rattle.asm_line.specs.declared.line.UsedNames.{UsedNames}
-use Rattle.asm.specs.declared.routines.Role.TheVariants.{Handler, Completion, StartIo, Dpc}
+use Rattle.asm.specs.declared.routines.Role.{Role}
+use Rattle.asm.specs.declared.routines.Role.TheVariants.{Handler, Completion, StartIo, Dpc, Cancel}
 use Rattle.asm_line.specs.Line.{line_of, read_line}
 use Rattle.asm.specs.Outline.{Outline, nothing_read, has_room, has_routine, is_again, is_among, is_out_of_range, misfit, noted, stands}
 use Rattle.asm.specs.Reading.{IsFaultOf, IsNamed}
@@ -91,7 +92,7 @@ named_ahead CloseDriver after = []
 named_ahead (OpenRoutine name sort) after = name ∷ after
 named_ahead Blank after = after
 named_ahead (OpenDriver name) after = after
-named_ahead (AddQueue name guard) after = after
+named_ahead (AddQueue name guard cancel) after = after
 named_ahead (Handle major routine) after = after
 named_ahead (HandleStartIo routine) after = after
 named_ahead (HandleDpc routine) after = after
@@ -110,7 +111,7 @@ sorted_ahead CloseDriver after = []
 sorted_ahead (OpenRoutine name sort) after = sort ∷ after
 sorted_ahead Blank after = after
 sorted_ahead (OpenDriver name) after = after
-sorted_ahead (AddQueue name guard) after = after
+sorted_ahead (AddQueue name guard cancel) after = after
 sorted_ahead (Handle major routine) after = after
 sorted_ahead (HandleStartIo routine) after = after
 sorted_ahead (HandleDpc routine) after = after
@@ -126,7 +127,7 @@ sorts_ahead (l ∷ ls) = sorted_ahead l.body (sorts_ahead ls)
 -- the names of the queues from a line to the end of the driver, after which there are these
 abbrev pub queued_ahead : Body → List (List ℕ) → List (List ℕ)
 queued_ahead CloseDriver after = []
-queued_ahead (AddQueue name guard) after = name ∷ after
+queued_ahead (AddQueue name guard cancel) after = name ∷ after
 queued_ahead Blank after = after
 queued_ahead (OpenDriver name) after = after
 queued_ahead (Handle major routine) after = after
@@ -149,7 +150,7 @@ labelled_ahead label (Step instr used) after = option_to_list label ++ after
 labelled_ahead label Blank after = after
 labelled_ahead label (OpenDriver name) after = after
 labelled_ahead label CloseDriver after = after
-labelled_ahead label (AddQueue name guard) after = after
+labelled_ahead label (AddQueue name guard cancel) after = after
 labelled_ahead label (Handle major routine) after = after
 labelled_ahead label (HandleStartIo routine) after = after
 labelled_ahead label (HandleDpc routine) after = after
@@ -188,7 +189,7 @@ abbrev pub drivers_after : List (List ℕ) → Body → List (List ℕ)
 drivers_after drivers (OpenDriver name) = drivers ++ name ∷ []
 drivers_after drivers Blank = drivers
 drivers_after drivers CloseDriver = drivers
-drivers_after drivers (AddQueue name guard) = drivers
+drivers_after drivers (AddQueue name guard cancel) = drivers
 drivers_after drivers (Handle major routine) = drivers
 drivers_after drivers (HandleStartIo routine) = drivers
 drivers_after drivers (HandleDpc routine) = drivers
@@ -203,7 +204,7 @@ devices_after devices (AddDevice name driver stack lower) = devices ++ name ∷ 
 devices_after devices Blank = devices
 devices_after devices (OpenDriver name) = devices
 devices_after devices CloseDriver = devices
-devices_after devices (AddQueue name guard) = devices
+devices_after devices (AddQueue name guard cancel) = devices
 devices_after devices (Handle major routine) = devices
 devices_after devices (HandleStartIo routine) = devices
 devices_after devices (HandleDpc routine) = devices
@@ -216,7 +217,7 @@ abbrev pub routines_around : List (List ℕ) → Body → List Line → List (Li
 routines_around routines (OpenDriver name) next = routines_ahead next
 routines_around routines Blank next = routines
 routines_around routines CloseDriver next = routines
-routines_around routines (AddQueue name guard) next = routines
+routines_around routines (AddQueue name guard cancel) next = routines
 routines_around routines (Handle major routine) next = routines
 routines_around routines (HandleStartIo routine) next = routines
 routines_around routines (HandleDpc routine) next = routines
@@ -230,7 +231,7 @@ abbrev pub sorts_around : List Sort → Body → List Line → List Sort
 sorts_around sorts (OpenDriver name) next = sorts_ahead next
 sorts_around sorts Blank next = sorts
 sorts_around sorts CloseDriver next = sorts
-sorts_around sorts (AddQueue name guard) next = sorts
+sorts_around sorts (AddQueue name guard cancel) next = sorts
 sorts_around sorts (Handle major routine) next = sorts
 sorts_around sorts (HandleStartIo routine) next = sorts
 sorts_around sorts (HandleDpc routine) next = sorts
@@ -244,7 +245,7 @@ abbrev pub queues_around : List (List ℕ) → Body → List Line → List (List
 queues_around queues (OpenDriver name) next = queues_ahead next
 queues_around queues Blank next = queues
 queues_around queues CloseDriver next = queues
-queues_around queues (AddQueue name guard) next = queues
+queues_around queues (AddQueue name guard cancel) next = queues
 queues_around queues (Handle major routine) next = queues
 queues_around queues (HandleStartIo routine) next = queues
 queues_around queues (HandleDpc routine) next = queues
@@ -259,7 +260,7 @@ labels_around labels (OpenRoutine name sort) next = labels_ahead next
 labels_around labels Blank next = labels
 labels_around labels (OpenDriver name) next = labels
 labels_around labels CloseDriver next = labels
-labels_around labels (AddQueue name guard) next = labels
+labels_around labels (AddQueue name guard cancel) next = labels
 labels_around labels (Handle major routine) next = labels
 labels_around labels (HandleStartIo routine) next = labels
 labels_around labels (HandleDpc routine) next = labels
@@ -283,21 +284,21 @@ abbrev pub is_known : List (List ℕ) → Option (List ℕ) → Bool
 is_known names None = true
 is_known names (Some name) = is_among names name
 
--- there is no name, or it is one of a routine that a call may set
-abbrev pub is_callable : Scope → Option (List ℕ) → Bool
-is_callable s None = true
-is_callable s (Some routine) = has_routine s.routines s.sorts Completion routine
+-- there is no name, or it is one of a routine of a sort for the role
+abbrev pub is_served : Scope → Role → Option (List ℕ) → Bool
+is_served s role None = true
+is_served s role (Some routine) = has_routine s.routines s.sorts role routine
 
 -- each name that an instruction uses is there
 abbrev pub all_known : Scope → UsedNames → Bool
 all_known s used = is_known s.labels used.label
-    && (is_callable s used.routine && is_known s.queues used.queue)
+    && (is_served s Completion used.routine && is_known s.queues used.queue)
 
 -- the line's own number where it uses a name that nothing has: a routine that isn't in the driver
 -- around it or isn't of the sort that serves a major function, that begins packets, that an
--- interrupt queues or that a call sets; a queue that isn't in the driver around it; a driver or
--- lower device that isn't before it; or a label that isn't in the routine around it; else what
--- comes of the lines after it
+-- interrupt queues, that a call sets or that cancels the packets of a queue; a queue that isn't in
+-- the driver around it; a driver or lower device that isn't before it; or a label that isn't in the
+-- routine around it; else what comes of the lines after it
 abbrev pub unknown_at : Scope → ℕ → Body → Option ℕ → Option ℕ
 unknown_at s n (Handle major routine) after = if has_routine s.routines s.sorts Handler routine
     then after else Some n
@@ -308,7 +309,8 @@ unknown_at s n (HandleDpc routine) after = if has_routine s.routines s.sorts Dpc
 unknown_at s n (AddDevice name driver stack lower) after =
     if is_among s.drivers driver && is_known s.devices lower then after else Some n
 unknown_at s n (Step instr used) after = if all_known s used then after else Some n
-unknown_at s n (AddQueue name guard) after = after
+unknown_at s n (AddQueue name guard cancel) after =
+    if is_served s Cancel cancel then after else Some n
 unknown_at s n Blank after = after
 unknown_at s n (OpenDriver name) after = after
 unknown_at s n CloseDriver after = after

@@ -2,25 +2,26 @@
 use Rattle.std.specs.Prelude.{ℕ, ⊤, ◌≡◌, ◌<◌, ◌≤◌, All, map, slice_get, unwrap_or, ◌+◌, min, Bool, true, false, not, ◌&&◌, nat_lt, nat_le, bytes_eq, List, [], ◌∷◌, ◌++◌, length, Option, Some, None, is_some, is_none, option_map, option_and_then, option_to_list, position, if◌then◌else◌}
 use Rattle.std.specs.List.{list_any}
 use Rattle.model.specs.declared.instr.Instr.{Instr}
-use Rattle.model.specs.declared.instr.Instr.TheVariants.{Const, Move, Clear, Add, Subtract, JumpIfZero, JumpIfLess, Jump, Loop, End, Load, Store, LoadPaged, StorePaged, Get, Put, Mark, Acquire, Release, AcquireCancel, ReleaseCancel, Insert, Remove, Start, Take, Begin, Next, Pass, Call, Complete, IfPending, Ret}
+use Rattle.model.specs.declared.instr.Instr.TheVariants.{Const, Move, Clear, Add, Subtract, JumpIfZero, JumpIfLess, Jump, Loop, End, Load, Store, LoadPaged, StorePaged, Get, Put, Mark, Acquire, Release, AcquireCancel, ReleaseCancel, Insert, Remove, Unlink, Arm, Disarm, IfCancel, Start, Take, Begin, Next, Pass, Call, Complete, IfPending, Ret}
 use Rattle.model.specs.declared.limits.TheConstants.{MAX_DEVICES, MAX_DRIVERS, MAX_INSTRUCTIONS, MAX_QUEUES, MAX_ROUTINES, MAX_STACK}
 use Rattle.model.specs.declared.set.Device.{Device}
 use Rattle.model.specs.declared.set.Driver.{Driver}
 use Rattle.model.specs.declared.set.Queue.{Queue}
 use Rattle.model.specs.declared.set.Routine.{Routine}
 use Rattle.model.specs.declared.set.Sort.{Sort}
-use Rattle.model.specs.declared.set.Sort.TheVariants.{Dispatch, StartIo, Dpc, Propagate}
-use Rattle.model.specs.Sound.{DriverFits, DevicesFit, GuardFits, LabelFits, OperandFits, queue_named}
+use Rattle.model.specs.declared.set.Sort.TheVariants.{Dispatch, StartIo, Dpc, Propagate, Hold, Cancel}
+use Rattle.model.specs.Sound.{DriverFits, DevicesFit, IsSpinLock, LabelFits, OperandFits, queue_named}
 use Rattle.model.specs.declared.status.Major.{Major}
 use Rattle.model.specs.declared.status.Major.TheVariants.{Read, Write, Control}
 use Rattle.asm.specs.declared.draft.Place.{Place}
 use Rattle.asm.specs.declared.draft.Place.TheVariants.{Outside, InDriver, InRoutine}
 use Rattle.asm.specs.declared.draft.ClosedRoutine.{ClosedRoutine}
 use Rattle.asm.specs.declared.draft.Linked.{Linked}
+use Rattle.asm.specs.declared.draft.QueueLine.{QueueLine}
 use Rattle.asm.specs.declared.draft.Step.{Step as StepOf}
 use Rattle.asm.specs.declared.draft.Use.{Use}
 use Rattle.asm.specs.declared.routines.Role.{Role}
-use Rattle.asm.specs.declared.routines.Role.TheVariants.{Handler, Completion, StartIo as StartIoRole, Dpc as DpcRole}
+use Rattle.asm.specs.declared.routines.Role.TheVariants.{Handler, Completion, StartIo as StartIoRole, Dpc as DpcRole, Cancel as CancelRole}
 use Rattle.asm.specs.declared.fault.AsmKind.{AsmKind}
 use Rattle.asm.specs.declared.fault.AsmKind.TheVariants.{UnknownWord, DuplicateName, OutOfRange, OverLimit}
 use Rattle.asm_line.specs.declared.line.Body.{Body}
@@ -30,11 +31,11 @@ use Rattle.asm_line.specs.declared.line.UsedNames.{UsedNames}
 
 -- What was read: the drivers that are closed and the devices, with the names of all of them; of the
 -- open driver its routines that are closed, the names and sorts of all of its routines, the uses of
--- routines by its calls, its queues, their names, the uses of queues by its instructions, what
--- serves each major function, its StartIo and its DPC routine; of the open routine its sort, its
--- labels, the position that each of them names, and its instructions; and the first line that uses
--- a name which nothing has, of those that are weighed already. What is open is empty where nothing
--- is open.
+-- routines by its calls, its queues with the uses of their cancel routines, their names, the uses
+-- of queues by its instructions, what serves each major function, its StartIo and its DPC routine;
+-- of the open routine its sort, its labels, the position that each of them names, and its
+-- instructions; and the first line that uses a name which nothing has, of those that are weighed
+-- already. What is open is empty where nothing is open.
 pub record Outline : Type 0 where
   pub place : Place
   pub driver_names : List (List ℕ)
@@ -46,7 +47,7 @@ pub record Outline : Type 0 where
   pub routines : List ClosedRoutine
   pub calls : List Use
   pub queue_names : List (List ℕ)
-  pub queues : List Queue
+  pub queues : List QueueLine
   pub queue_uses : List Use
   pub read : Option Use
   pub write : Option Use
@@ -99,7 +100,7 @@ abbrev pub stands : Place → Body → Bool
 stands place Blank = true
 stands Outside (OpenDriver name) = true
 stands Outside CloseDriver = false
-stands Outside (AddQueue name guard) = false
+stands Outside (AddQueue name guard cancel) = false
 stands Outside (Handle major routine) = false
 stands Outside (HandleStartIo routine) = false
 stands Outside (HandleDpc routine) = false
@@ -109,7 +110,7 @@ stands Outside (AddDevice name driver stack lower) = true
 stands Outside (Step instr used) = false
 stands InDriver (OpenDriver name) = false
 stands InDriver CloseDriver = true
-stands InDriver (AddQueue name guard) = true
+stands InDriver (AddQueue name guard cancel) = true
 stands InDriver (Handle major routine) = true
 stands InDriver (HandleStartIo routine) = true
 stands InDriver (HandleDpc routine) = true
@@ -119,7 +120,7 @@ stands InDriver (AddDevice name driver stack lower) = false
 stands InDriver (Step instr used) = false
 stands InRoutine (OpenDriver name) = false
 stands InRoutine CloseDriver = false
-stands InRoutine (AddQueue name guard) = false
+stands InRoutine (AddQueue name guard cancel) = false
 stands InRoutine (Handle major routine) = false
 stands InRoutine (HandleStartIo routine) = false
 stands InRoutine (HandleDpc routine) = false
@@ -142,7 +143,7 @@ is_known_label labels (Some label) = is_among labels label
 -- the line gives a name, a table entry or a label again
 abbrev pub is_again : Outline → Option (List ℕ) → Body → Bool
 is_again o label (OpenDriver name) = is_among o.driver_names name
-is_again o label (AddQueue name guard) = is_among o.queue_names name
+is_again o label (AddQueue name guard cancel) = is_among o.queue_names name
 is_again o label (Handle major routine) = is_some (handler_of o major)
 is_again o label (HandleStartIo routine) = is_some o.startio
 is_again o label (HandleDpc routine) = is_some o.dpc
@@ -160,7 +161,7 @@ is_stack_size n = nat_le 1 n && nat_le n MAX_STACK
 -- an operand of the line is out of range
 abbrev pub is_out_of_range : Body → Bool
 is_out_of_range (AddDevice name driver stack lower) = not (is_stack_size stack)
-is_out_of_range (AddQueue name guard) = is_none guard
+is_out_of_range (AddQueue name guard cancel) = is_none guard
 is_out_of_range (Step instr used) = is_none instr
 is_out_of_range Blank = false
 is_out_of_range (OpenDriver name) = false
@@ -175,7 +176,7 @@ is_out_of_range CloseRoutine = false
 abbrev pub has_room : Outline → Body → Bool
 has_room o (OpenDriver name) = nat_lt (length o.driver_names) MAX_DRIVERS
 has_room o (AddDevice name driver stack lower) = nat_lt (length o.device_names) MAX_DEVICES
-has_room o (AddQueue name guard) = nat_lt (length o.queue_names) MAX_QUEUES
+has_room o (AddQueue name guard cancel) = nat_lt (length o.queue_names) MAX_QUEUES
 has_room o (OpenRoutine name sort) = nat_lt (length o.routine_names) MAX_ROUTINES
 has_room o (Step instr used) = nat_lt (length o.steps) MAX_INSTRUCTIONS
 has_room o Blank = true
@@ -221,18 +222,32 @@ serves Handler Dispatch = true
 serves Handler StartIo = false
 serves Handler Dpc = false
 serves Handler Propagate = false
+serves Handler Hold = false
+serves Handler Cancel = false
 serves Completion Dispatch = false
 serves Completion StartIo = false
 serves Completion Dpc = false
 serves Completion Propagate = true
+serves Completion Hold = true
+serves Completion Cancel = false
 serves StartIoRole Dispatch = false
 serves StartIoRole StartIo = true
 serves StartIoRole Dpc = false
 serves StartIoRole Propagate = false
+serves StartIoRole Hold = false
+serves StartIoRole Cancel = false
 serves DpcRole Dispatch = false
 serves DpcRole StartIo = false
 serves DpcRole Dpc = true
 serves DpcRole Propagate = false
+serves DpcRole Hold = false
+serves DpcRole Cancel = false
+serves CancelRole Dispatch = false
+serves CancelRole StartIo = false
+serves CancelRole Dpc = false
+serves CancelRole Propagate = false
+serves CancelRole Hold = false
+serves CancelRole Cancel = true
 
 -- the number, if there is a sort and it is for the role
 abbrev pub number_for : Role → ℕ → Option Sort → Option ℕ
@@ -286,6 +301,10 @@ with_routine AcquireCancel routine = AcquireCancel
 with_routine ReleaseCancel routine = ReleaseCancel
 with_routine (Insert r q) routine = Insert r q
 with_routine (Remove r q old) routine = Remove r q old
+with_routine (Unlink r q) routine = Unlink r q
+with_routine (Arm r q) routine = Arm r q
+with_routine (Disarm r old) routine = Disarm r old
+with_routine (IfCancel r old) routine = IfCancel r old
 with_routine (Start r) routine = Start r
 with_routine (Take r old) routine = Take r old
 with_routine (Begin r) routine = Begin r
@@ -309,6 +328,8 @@ queue_at o place = unwrap_or (queue_used o place) 0
 abbrev pub with_queue : Instr → ℕ → Instr
 with_queue (Insert r old) queue = Insert r queue
 with_queue (Remove r old label) queue = Remove r queue label
+with_queue (Unlink r old) queue = Unlink r queue
+with_queue (Arm r old) queue = Arm r queue
 with_queue (Call r f) queue = Call r f
 with_queue (Const r value) queue = Const r value
 with_queue (Move r q) queue = Move r q
@@ -331,6 +352,8 @@ with_queue (Acquire lock) queue = Acquire lock
 with_queue (Release lock) queue = Release lock
 with_queue AcquireCancel queue = AcquireCancel
 with_queue ReleaseCancel queue = ReleaseCancel
+with_queue (Disarm r label) queue = Disarm r label
+with_queue (IfCancel r label) queue = IfCancel r label
 with_queue (Start r) queue = Start r
 with_queue (Take r label) queue = Take r label
 with_queue (Begin r) queue = Begin r
@@ -350,11 +373,16 @@ called o step =
 abbrev pub finished : Outline → ClosedRoutine → Routine
 finished o routine = record { sort = routine.sort; code = map (called o) routine.code }
 
+-- a queue of the open driver, with the number of its cancel routine
+abbrev pub finished_queue : Outline → QueueLine → Queue
+finished_queue o q =
+    record { guard = q.guard; cancel = entry_in o.routine_names o.sorts CancelRole q.cancel }
+
 -- the open driver
 abbrev pub finished_driver : Outline → Driver
 finished_driver o = record {
   routines = map (finished o) o.routines;
-  queues = o.queues;
+  queues = map (finished_queue o) o.queues;
   read = entry_in o.routine_names o.sorts Handler o.read;
   write = entry_in o.routine_names o.sorts Handler o.write;
   control = entry_in o.routine_names o.sorts Handler o.control;
@@ -386,12 +414,23 @@ missed_calls names sorts found [] = found
 missed_calls names sorts found (u ∷ us) =
     missed_calls names sorts (earliest found (missed_use names sorts Completion u)) us
 
+-- the first such line of these queues, or the one found already if that is earlier
+abbrev pub missed_cancels : List (List ℕ) → List Sort → Option ℕ → List QueueLine → Option ℕ
+missed_cancels names sorts found [] = found
+missed_cancels names sorts found (q ∷ qs) =
+    missed_cancels names sorts (earliest found (missed_entry names sorts CancelRole q.cancel)) qs
+
+-- the first such line of the queues and entries of the open driver
+abbrev pub missed_server : List (List ℕ) → List Sort → Outline → Option ℕ
+missed_server names sorts o =
+    earliest (missed_cancels names sorts None o.queues) (missed_handler names sorts o)
+
 -- the first line of the open driver that uses a routine which it doesn't have, or one of a sort
 -- that isn't for its role
 abbrev pub missed_routine : Outline → Option ℕ
 missed_routine o =
     earliest (missed_calls o.routine_names o.sorts None o.calls)
-    (missed_handler o.routine_names o.sorts o)
+    (missed_server o.routine_names o.sorts o)
 
 -- the first line of these uses of a name that isn't among these, or the one found already if that
 -- is earlier
@@ -427,11 +466,11 @@ driver_closed o = record o {
   unknown = earliest o.unknown (missed_in_driver o);
 }
 
--- `queue NAME LOCK`
-abbrev pub queue_added : Outline → List ℕ → ℕ → Outline
-queue_added o name guard = record o {
+-- `queue NAME LOCK` and `queue NAME LOCK ROUTINE`
+abbrev pub queue_added : Outline → List ℕ → ℕ → Option Use → Outline
+queue_added o name guard cancel = record o {
   queue_names = o.queue_names ++ name ∷ [];
-  queues = o.queues ++ record { guard = guard } ∷ [];
+  queues = o.queues ++ record { guard = guard; cancel = cancel } ∷ [];
 }
 
 -- `dispatch MAJOR ROUTINE`
@@ -473,6 +512,8 @@ with_label (JumpIfZero r old) label = JumpIfZero r label
 with_label (JumpIfLess r s old) label = JumpIfLess r s label
 with_label (Jump old) label = Jump label
 with_label (Remove r q old) label = Remove r q label
+with_label (Disarm r old) label = Disarm r label
+with_label (IfCancel r old) label = IfCancel r label
 with_label (Take r old) label = Take r label
 with_label (IfPending r old) label = IfPending r label
 with_label (Const r value) label = Const r value
@@ -494,6 +535,8 @@ with_label (Release lock) label = Release lock
 with_label AcquireCancel label = AcquireCancel
 with_label ReleaseCancel label = ReleaseCancel
 with_label (Insert r q) label = Insert r q
+with_label (Unlink r q) label = Unlink r q
+with_label (Arm r q) label = Arm r q
 with_label (Start r) label = Start r
 with_label (Begin r) label = Begin r
 with_label Next label = Next
@@ -591,8 +634,9 @@ abbrev pub noted : Outline → ℕ → Option (List ℕ) → Body → Outline
 noted o n label Blank = o
 noted o n label (OpenDriver name) = driver_opened o name
 noted o n label CloseDriver = driver_closed o
-noted o n label (AddQueue name (Some guard)) = queue_added o name guard
-noted o n label (AddQueue name None) = o
+noted o n label (AddQueue name (Some guard) cancel) =
+    queue_added o name guard (used_at n cancel)
+noted o n label (AddQueue name None cancel) = o
 noted o n label (Handle major routine) = handled o (record { line = n; name = routine }) major
 noted o n label (HandleStartIo routine) = startio_handled o (record { line = n; name = routine })
 noted o n label (HandleDpc routine) = dpc_handled o (record { line = n; name = routine })
@@ -656,7 +700,7 @@ pub record IsOrderly (o : Outline) : Type 0 where
   pub operands_fit : All (λ (step : StepOf). OperandFits step.instr) o.steps
   pub queues_used : All (λ (step : StepOf). QueueUsed (length o.queue_uses) step.instr step.queue)
       o.steps
-  pub guards_fit : All GuardFits o.queues
+  pub guards_fit : All (λ (queue : QueueLine). IsSpinLock queue.guard) o.queues
   pub queue_count : length o.queues ≡ length o.queue_names
   pub driver_count : length o.drivers + open_drivers o.place ≡ length o.driver_names
   pub routine_count : length o.routines + open_routines o.place ≡ length o.routine_names

@@ -38,7 +38,7 @@ impl<'a> Draft<'a> {
     {
         match &line.body {
             Body::OpenDriver(name) => is_among(&self.driver_names, name),
-            Body::AddQueue(name, _) => is_among(&self.queue_names, name),
+            Body::AddQueue(name, _, _) => is_among(&self.queue_names, name),
             Body::Handle(major, _) => self.handler_of(*major).is_some(),
             Body::HandleStartIo(_) => self.startio.is_some(),
             Body::HandleDpc(_) => self.dpc.is_some(),
@@ -67,7 +67,7 @@ impl<'a> Draft<'a> {
         match body {
             Body::OpenDriver(_) => self.driver_names.len() < MAX_DRIVERS,
             Body::AddDevice(_, _, _, _) => self.device_names.len() < MAX_DEVICES,
-            Body::AddQueue(_, _) => self.queue_names.len() < MAX_QUEUES,
+            Body::AddQueue(_, _, _) => self.queue_names.len() < MAX_QUEUES,
             Body::OpenRoutine(_, _) => self.routine_names.len() < MAX_ROUTINES,
             Body::Step(_, _) => self.steps.len() < MAX_INSTRUCTIONS,
             _ => true,
@@ -83,7 +83,7 @@ fn stands(place: Place, body: &Body<'_>) -> bool
         Body::Blank => true,
         Body::OpenDriver(_) | Body::AddDevice(_, _, _, _) => matches!(place, Place::Outside),
         Body::CloseDriver
-        | Body::AddQueue(_, _)
+        | Body::AddQueue(_, _, _)
         | Body::Handle(_, _)
         | Body::HandleStartIo(_)
         | Body::HandleDpc(_)
@@ -98,7 +98,7 @@ fn is_out_of_range(body: &Body<'_>) -> bool
 {
     match body {
         Body::AddDevice(_, _, stack, _) => !is_stack_size(*stack),
-        Body::AddQueue(_, guard) => guard.is_none(),
+        Body::AddQueue(_, guard, _) => guard.is_none(),
         Body::Step(instr, _) => instr.is_none(),
         _ => false,
     }

@@ -4,9 +4,9 @@ ghost use Rattle.std.specs.Prelude.{◌≡◌};
 ghost use Rattle.asm.specs.Outline.{nothing_read};
 
 use indexmap::IndexSet;
-use model::instr::Instr;
+use model::instr::{Instr, SpinLock};
 use model::items::Items;
-use model::set::{Device, Driver, Queue, Sort};
+use model::set::{Device, Driver, Sort};
 use std::alloc::Global;
 use std::marker::Model;
 use text::piece::Piece;
@@ -53,6 +53,14 @@ pub struct ClosedRoutine {
     pub code: Items<Linked>,
 }
 
+/// A queue of the open driver: the spin lock that guards it, and the use of the name of its cancel
+/// routine, if it has one.
+#[derive(Drop)]
+pub struct QueueLine<'a> {
+    pub guard: SpinLock,
+    pub cancel: Option<Use<'a>>,
+}
+
 /// What was read. Contracts see an `Outline`.
 #[derive(Drop)]
 pub struct Draft<'a> {
@@ -66,7 +74,7 @@ pub struct Draft<'a> {
     pub(crate) routines: Vec<ClosedRoutine>,
     pub(crate) calls: Vec<Use<'a>>,
     pub(crate) queue_names: IndexSet<Piece<'a>>,
-    pub(crate) queues: Vec<Queue>,
+    pub(crate) queues: Vec<QueueLine<'a>>,
     pub(crate) queue_uses: Vec<Use<'a>>,
     pub(crate) read: Option<Use<'a>>,
     pub(crate) write: Option<Use<'a>>,

@@ -47,6 +47,8 @@ fn with_label(instr: Instr, label: u16) -> Instr
         Instr::JumpIfLess(less, more, _) => Instr::JumpIfLess(less, more, label),
         Instr::Jump(_) => Instr::Jump(label),
         Instr::Remove(register, queue, _) => Instr::Remove(register, queue, label),
+        Instr::Disarm(register, _) => Instr::Disarm(register, label),
+        Instr::IfCancel(register, _) => Instr::IfCancel(register, label),
         Instr::Take(register, _) => Instr::Take(register, label),
         Instr::IfPending(register, _) => Instr::IfPending(register, label),
         other => other,

@@ -4,13 +4,13 @@ ghost use Rattle.std.specs.Prelude.{◌≡◌, ◌≤◌, ◌<◌, false, true, 
 ghost use Rattle.model.specs.declared.limits.TheConstants.{MAX_DEVICES, MAX_DRIVERS, MAX_INSTRUCTIONS, MAX_QUEUES, MAX_ROUTINES};
 ghost use Rattle.asm.specs.Outline.{device_added, device_of, dpc_handled, driver_closed, driver_opened, handled, is_among, is_known_label, is_stack_size, label_added, noted, queue_added, routine_closed, routine_opened, startio_handled, step_added, stepped, IsFitting, IsOrderly};
 
-use crate::draft::{ClosedRoutine, Draft, Place, Step, Use};
+use crate::draft::{ClosedRoutine, Draft, Place, QueueLine, Step, Use};
 use crate::link::{linked, missed_from};
 use crate::names::{add, add_use, earliest, missed, number_of, number_used, push_some, used_at};
 use asm_line::{Body, Line, UsedNames};
 use model::instr::{Instr, SpinLock};
 use model::items::Items;
-use model::set::{Device, Queue, Sort};
+use model::set::{Device, Sort};
 use model::status::Major;
 use std::alloc::{AllocError, Global};
 use text::piece::Piece;
@@ -31,8 +31,8 @@ impl<'a> Draft<'a> {
             Body::Blank => Ok(()),
             Body::OpenDriver(name) => self.open_driver(name),
             Body::CloseDriver => self.close_driver(alloc),
-            Body::AddQueue(name, guard) => match guard {
-                Some(guard) => self.add_queue(name, guard),
+            Body::AddQueue(name, guard, cancel) => match guard {
+                Some(guard) => self.add_queue(name, guard, used_at(number, cancel)),
                 None => Ok(()),
             },
             Body::Handle(major, name) => self.handle(major, Use { line: number, name }),
@@ -89,13 +89,18 @@ impl<'a> Draft<'a> {
         Ok(())
     }
 
-    /// `queue NAME LOCK`.
-    fn add_queue(&mut self, name: Piece<'a>, guard: SpinLock) -> Result<(), AllocError>
+    /// `queue NAME LOCK` and `queue NAME LOCK ROUTINE`.
+    fn add_queue(
+        &mut self,
+        name: Piece<'a>,
+        guard: SpinLock,
+        cancel: Option<Use<'a>>,
+    ) -> Result<(), AllocError>
         requires { is_among self.old.queue_names name ≡ false }
-        ensures { OnOk result (self.new ≡ queue_added self.old name.entry guard) }
+        ensures { OnOk result (self.new ≡ queue_added self.old name.entry guard cancel.entry) }
     {
         add(&mut self.queue_names, name)?;
-        self.queues.push(Queue { guard })?;
+        self.queues.push(QueueLine { guard, cancel })?;
         Ok(())
     }
 

@@ -1,11 +1,12 @@
 //! The queues of a driver put in place of their names, once all of them are known.
 
-ghost use Rattle.std.specs.Prelude.{◌≡◌, ◌≤◌, length, IfOk, Some};
-ghost use Rattle.model.specs.declared.limits.TheConstants.{MAX_QUEUES};
-ghost use Rattle.asm.specs.Outline.{missed, missed_queue, queue_at, queue_used, with_queue};
+ghost use Rattle.std.specs.Prelude.{◌≡◌, ◌≤◌, length, map, IfOk, Some};
+ghost use Rattle.model.specs.declared.limits.TheConstants.{MAX_QUEUES, MAX_ROUTINES};
+ghost use Rattle.asm.specs.Outline.{finished_queue, missed, missed_queue, queue_at, queue_used, with_queue};
 
-use crate::draft::{Draft, Use};
+use crate::draft::{Draft, QueueLine, Use};
 use crate::names::{earliest, is_among, number_of};
+use crate::routines::Role;
 use indexmap::IndexSet;
 use model::instr::Instr;
 use model::set::Queue;
@@ -19,6 +20,8 @@ pub fn with_queue(instr: Instr, queue: u8) -> Instr
     match instr {
         Instr::Insert(register, _) => Instr::Insert(register, queue),
         Instr::Remove(register, _, label) => Instr::Remove(register, queue, label),
+        Instr::Unlink(register, _) => Instr::Unlink(register, queue),
+        Instr::Arm(register, _) => Instr::Arm(register, queue),
         other => other,
     }
 }
@@ -35,15 +38,28 @@ impl<'a> Draft<'a> {
         found
     }
 
-    /// The open driver's queues.
+    /// The open driver's queues, with the numbers of their cancel routines.
     pub fn finished_queues(&self, alloc: Global) -> Result<Vec<Queue>, AllocError>
-        ensures { IfOk result (λ queues. queues.items ≡ self.now.queues) }
+        requires { length self.now.routine_names ≤ MAX_ROUTINES }
+        ensures { IfOk result
+            (λ queues. queues.items ≡ map (finished_queue self.now) self.now.queues) }
     {
         let mut queues = Vec::new(alloc);
         for queue in &self.queues {
-            queues.push(*queue)?;
+            queues.push(self.finished_queue(queue))?;
         }
         Ok(queues)
+    }
+
+    /// A queue with the number of its cancel routine.
+    fn finished_queue(&self, queue: &QueueLine<'a>) -> Queue
+        requires { length self.now.routine_names ≤ MAX_ROUTINES }
+        ensures { result ≡ finished_queue self.now queue.now }
+    {
+        Queue {
+            guard: queue.guard,
+            cancel: self.entry_in(Role::Cancel, &queue.cancel),
+        }
     }
 
     /// The number of the queue that the instruction of this place touches: 0 where nothing has the

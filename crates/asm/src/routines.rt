@@ -2,7 +2,7 @@
 
 ghost use Rattle.std.specs.Prelude.{◌≡◌, ◌≤◌, length, map, IfOk, None};
 ghost use Rattle.model.specs.declared.limits.TheConstants.{MAX_QUEUES, MAX_ROUTINES};
-ghost use Rattle.asm.specs.Outline.{called, entry_in, finished, missed_calls, missed_entry, missed_handler, missed_in_driver, missed_routine, missed_use, number_for, finished_driver, routine_called, routine_named, serves, with_routine};
+ghost use Rattle.asm.specs.Outline.{called, entry_in, finished, missed_calls, missed_cancels, missed_entry, missed_handler, missed_in_driver, missed_routine, missed_server, missed_use, number_for, finished_driver, routine_called, routine_named, serves, with_routine};
 
 use crate::draft::{ClosedRoutine, Draft, Linked, Use};
 use crate::names::{earliest, number_of};
@@ -25,6 +25,8 @@ pub enum Role {
     StartIo,
     /// To be queued by an interrupt.
     Dpc,
+    /// To be called for a packet of a queue, which is cancelled.
+    Cancel,
 }
 
 /// Whether routines of this sort are for this role.
@@ -33,9 +35,10 @@ fn serves(role: Role, sort: Sort) -> bool
 {
     match (role, sort) {
         (Role::Handler, Sort::Dispatch) => true,
-        (Role::Completion, Sort::Propagate) => true,
+        (Role::Completion, Sort::Propagate | Sort::Hold) => true,
         (Role::StartIo, Sort::StartIo) => true,
         (Role::Dpc, Sort::Dpc) => true,
+        (Role::Cancel, Sort::Cancel) => true,
         _ => false,
     }
 }
@@ -96,7 +99,28 @@ impl<'a> Draft<'a> {
         requires { length self.now.routine_names ≤ MAX_ROUTINES }
         ensures { result ≡ missed_routine self.now }
     {
-        earliest(self.missed_calls(), self.missed_handler())
+        earliest(self.missed_calls(), self.missed_server())
+    }
+
+    /// The first line of a queue or table entry that names such a routine.
+    fn missed_server(&self) -> Option<u64>
+        requires { length self.now.routine_names ≤ MAX_ROUTINES }
+        ensures { result ≡ missed_server self.now.routine_names self.now.sorts self.now }
+    {
+        earliest(self.missed_cancels(), self.missed_handler())
+    }
+
+    /// The first line of a queue whose cancel routine is such a one.
+    fn missed_cancels(&self) -> Option<u64>
+        requires { length self.now.routine_names ≤ MAX_ROUTINES }
+        ensures { result
+            ≡ missed_cancels self.now.routine_names self.now.sorts None self.now.queues }
+    {
+        let mut found = None;
+        for queue in &self.queues {
+            found = earliest(found, self.missed_entry(Role::Cancel, &queue.cancel));
+        }
+        found
     }
 
     /// The first line that names such a routine for a major function, as its StartIo or as its DPC
@@ -116,7 +140,7 @@ impl<'a> Draft<'a> {
         )
     }
 
-    /// The line of a table entry that names such a routine.
+    /// The line of a table entry, or of a queue, that names such a routine.
     fn missed_entry(&self, role: Role, entry: &Option<Use<'a>>) -> Option<u64>
         requires { length self.now.routine_names ≤ MAX_ROUTINES }
         ensures { result ≡ missed_entry self.now.routine_names self.now.sorts role entry.now }
@@ -169,7 +193,7 @@ impl<'a> Draft<'a> {
     }
 
     /// The number of the routine that is named for a role.
-    fn entry_in(&self, role: Role, entry: &Option<Use<'a>>) -> Option<u8>
+    pub fn entry_in(&self, role: Role, entry: &Option<Use<'a>>) -> Option<u8>
         requires { length self.now.routine_names ≤ MAX_ROUTINES }
         ensures { result ≡ entry_in self.now.routine_names self.now.sorts role entry.now }
     {

@@ -7,7 +7,7 @@ use Rattle.text.specs.declared.number.Numeral.{Numeral}
 use Rattle.text.specs.declared.number.Numeral.TheVariants.{Other, TooLarge, Number}
 use Rattle.model.specs.declared.instr.Field.{Field}
 use Rattle.model.specs.declared.instr.Return.{Return}
-use Rattle.model.specs.declared.instr.Return.TheVariants.{WithStatus, Lower, Continue, Void}
+use Rattle.model.specs.declared.instr.Return.TheVariants.{WithStatus, Lower, Continue, Stop, Void}
 use Rattle.model.specs.declared.limits.TheConstants.{CELLS, MAX_TURNS, REGISTERS, SPIN_LOCKS}
 use Rattle.model.specs.declared.set.Sort.{Sort}
 use Rattle.model.specs.declared.status.Major.{Major}
@@ -176,14 +176,15 @@ constant c = then_read (number c) (λ n rest. ranged 0 (constant_of n) rest)
 abbrev pub turns : Cursor → Reading ℕ
 turns c = then_read (number c) (λ n rest. ranged 1 (turns_of n) rest)
 
--- what `ret` returns: a lower driver's status, the word to continue, nothing, or a status of its
--- own
+-- what `ret` returns: a lower driver's status, the word to continue or to stop, nothing, or a
+-- status of its own
 abbrev pub returned_by : List ℕ → Cursor → Reading Return
 returned_by t c =
     if bytes_eq t (codes "lower") then one (λ r. Lower r) register c else
     (if bytes_eq t (codes "continue") then so_far Continue c else
+    (if bytes_eq t (codes "stop") then so_far Stop c else
     (if bytes_eq t (codes "void") then so_far Void c else
-    option_and_then (λ s. so_far (WithStatus s) c) (status_of t)))
+    option_and_then (λ s. so_far (WithStatus s) c) (status_of t))))
 
 abbrev pub returned : Cursor → Reading Return
 returned c = then_read (token c) returned_by

@@ -24,12 +24,12 @@ device c = then_read (name c) (λ n rest. three (AddDevice n) name number option
 abbrev pub if_in_range : {A : Type 0} → Bool → A → Option A
 if_in_range fine a = if fine then Some a else None
 
--- `queue NAME LOCK`
+-- `queue NAME LOCK` and `queue NAME LOCK ROUTINE`
 abbrev pub queue : Cursor → Reading Body
 queue c =
     then_read (name c)
     (λ n rest. then_read (spin_lock rest)
-    (λ lock rest. so_far (AddQueue n (if_in_range rest.in_range lock)) rest))
+    (λ lock rest. one (AddQueue n (if_in_range rest.in_range lock)) optional_name rest))
 
 -- an instruction, and the names that it uses
 abbrev pub step : List ℕ → Cursor → Reading Body
@@ -69,7 +69,7 @@ labelled label (Step instr used) = Some (record { label = Some label; body = Ste
 labelled label Blank = None
 labelled label (OpenDriver name) = None
 labelled label CloseDriver = None
-labelled label (AddQueue name lock) = None
+labelled label (AddQueue name lock cancel) = None
 labelled label (Handle major routine) = None
 labelled label (HandleStartIo routine) = None
 labelled label (HandleDpc routine) = None
@@ -108,8 +108,8 @@ BodyFits (Step None used) = ⊤
 BodyFits Blank = ⊤
 BodyFits (OpenDriver name) = ⊤
 BodyFits CloseDriver = ⊤
-BodyFits (AddQueue name (Some lock)) = IsSpinLock lock
-BodyFits (AddQueue name None) = ⊤
+BodyFits (AddQueue name (Some lock) cancel) = IsSpinLock lock
+BodyFits (AddQueue name None cancel) = ⊤
 BodyFits (Handle major routine) = ⊤
 BodyFits (HandleStartIo routine) = ⊤
 BodyFits (HandleDpc routine) = ⊤

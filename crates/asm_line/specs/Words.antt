@@ -5,7 +5,7 @@ use Rattle.model.specs.declared.status.Status.TheVariants.{Success, Pending, Bus
 use Rattle.model.specs.declared.instr.Field.{Field}
 use Rattle.model.specs.declared.instr.Field.TheVariants.{Major as MajorField, Argument, Info}
 use Rattle.model.specs.declared.set.Sort.{Sort}
-use Rattle.model.specs.declared.set.Sort.TheVariants.{Dispatch as DispatchSort, StartIo, Dpc, Propagate}
+use Rattle.model.specs.declared.set.Sort.TheVariants.{Dispatch as DispatchSort, StartIo, Dpc, Propagate, Hold, Cancel}
 
 -- a status, by the end of its constant's name
 abbrev pub status_of : List ℕ → Option Status
@@ -31,4 +31,6 @@ sort_of t =
     if bytes_eq t (codes "dispatch") then Some DispatchSort else
     (if bytes_eq t (codes "startio") then Some StartIo else
     (if bytes_eq t (codes "dpc") then Some Dpc else
-    (if bytes_eq t (codes "propagate") then Some Propagate else None)))
+    (if bytes_eq t (codes "propagate") then Some Propagate else
+    (if bytes_eq t (codes "hold") then Some Hold else
+    (if bytes_eq t (codes "cancel") then Some Cancel else None)))))

@@ -219,8 +219,8 @@ impl<'a> Cursor<'a> {
         }
     }
 
-    /// What `ret` returns: a lower driver's status, the word to continue, nothing, or a status of
-    /// its own.
+    /// What `ret` returns: a lower driver's status, the word to continue or to stop, nothing, or a
+    /// status of its own.
     pub fn returned(&mut self) -> Option<Return>
         ensures { Reads result self.new (returned self.old) }
     {
@@ -229,6 +229,8 @@ impl<'a> Cursor<'a> {
             Some(Return::Lower(self.register()?))
         } else if is(word, b"continue") {
             Some(Return::Continue)
+        } else if is(word, b"stop") {
+            Some(Return::Stop)
         } else if is(word, b"void") {
             Some(Return::Void)
         } else {

@@ -106,14 +106,15 @@ fn body_of<'a>(word: &[u8], mut at: Cursor<'a>) -> Option<Body<'a>>
     step(word, at)
 }
 
-/// `queue NAME LOCK`.
+/// `queue NAME LOCK` and `queue NAME LOCK ROUTINE`.
 fn queue<'a>(mut at: Cursor<'a>) -> Option<Body<'a>>
     ensures body { result ≡ ended (queue at.entry) }
     ensures fits { IfSome result BodyFits }
 {
     let (name, lock) = (at.name()?, at.spin_lock()?);
     let guard = if at.in_range { Some(lock) } else { None };
-    end(at, Body::AddQueue(name, guard))
+    let cancel = at.optional_name()?;
+    end(at, Body::AddQueue(name, guard, cancel))
 }
 
 /// An instruction, and the names that it uses.

@@ -94,6 +94,12 @@ fn on_queues(word: &[u8], at: &mut Cursor<'_>) -> Option<Instr>
     if is(word, b"remove") {
         return Some(Instr::Remove(at.register()?, at.queue()?, at.label()?));
     }
+    if is(word, b"unlink") {
+        return Some(Instr::Unlink(at.register()?, at.queue()?));
+    }
+    if is(word, b"arm") {
+        return Some(Instr::Arm(at.register()?, at.queue()?));
+    }
     if is(word, b"start") {
         return Some(Instr::Start(at.register()?));
     }
@@ -123,6 +129,12 @@ fn on_packets(word: &[u8], at: &mut Cursor<'_>) -> Option<Instr>
     }
     if is(word, b"mark") {
         return Some(Instr::Mark(at.register()?));
+    }
+    if is(word, b"disarm") {
+        return Some(Instr::Disarm(at.register()?, at.label()?));
+    }
+    if is(word, b"ifcancel") {
+        return Some(Instr::IfCancel(at.register()?, at.label()?));
     }
     if is(word, b"pass") {
         return Some(Instr::Pass(at.register()?));

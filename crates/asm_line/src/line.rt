@@ -26,8 +26,9 @@ pub enum Body<'a> {
     OpenDriver(Piece<'a>),
     /// `endd`.
     CloseDriver,
-    /// `queue NAME LOCK`: its name and the spin lock that guards it, if that is in range.
-    AddQueue(Piece<'a>, Option<SpinLock>),
+    /// `queue NAME LOCK` and `queue NAME LOCK ROUTINE`: its name, the spin lock that guards it, if
+    /// that is in range, and the name of the cancel routine of the packets in it.
+    AddQueue(Piece<'a>, Option<SpinLock>, Option<Piece<'a>>),
     /// `dispatch MAJOR ROUTINE`.
     Handle(Major, Piece<'a>),
     /// `startio ROUTINE`.

@@ -58,6 +58,10 @@ pub fn sort_of(token: &[u8]) -> Option<Sort>
         Some(Sort::Dpc)
     } else if is(token, b"propagate") {
         Some(Sort::Propagate)
+    } else if is(token, b"hold") {
+        Some(Sort::Hold)
+    } else if is(token, b"cancel") {
+        Some(Sort::Cancel)
     } else {
         None
     }

@@ -5,16 +5,16 @@ use Rattle.std.proofs.lemmas.List.Elements.{All-map}
 use Rattle.std.proofs.lemmas.List.{length-map}
 use Rattle.std.proofs.lemmas.Option.{slice_get-map}
 use Rattle.model.specs.declared.set.Routine.{Routine}
-use Rattle.model.specs.Sound.{DriverFits, RoutineFits, LabelFits, OperandFits, CallFits, CallsFit, QueueFits, QueuesFit, queue_named, HasSort, IsDispatch, IsCompletion, IsStartIo, IsDpc}
+use Rattle.model.specs.Sound.{DriverFits, RoutineFits, LabelFits, OperandFits, CallFits, CallsFit, CancelFits, GuardFits, QueueFits, QueuesFit, queue_named, HasSort, IsDispatch, IsCompletion, IsStartIo, IsDpc, IsCancel}
 use Rattle.model.specs.declared.set.Sort.{Sort}
-use Rattle.model.specs.declared.set.Sort.TheVariants.{Dispatch, StartIo, Dpc, Propagate}
+use Rattle.model.specs.declared.set.Sort.TheVariants.{Dispatch, StartIo, Dpc, Propagate, Hold, Cancel}
 use Rattle.model.specs.declared.instr.Instr.{Instr}
-use Rattle.model.specs.declared.instr.Instr.TheVariants.{Insert, Remove, Call}
+use Rattle.model.specs.declared.instr.Instr.TheVariants.{Insert, Remove, Unlink, Arm, Call}
 use Rattle.asm.specs.declared.draft.ClosedRoutine.{ClosedRoutine}
 use Rattle.asm.specs.declared.draft.Use.{Use}
 use Rattle.asm.specs.declared.routines.Role.{Role}
-use Rattle.asm.specs.declared.routines.Role.TheVariants.{Handler, Completion, StartIo as StartIoRole, Dpc as DpcRole}
-use Rattle.asm.specs.Outline.{Outline, with_queue, with_routine, number_of, number_for, routine_called, entry_in, called, finished, finished_driver, missed_queue, queue_at, ClosedFits, IsOrderly, IsUse}
+use Rattle.asm.specs.declared.routines.Role.TheVariants.{Handler, Completion, StartIo as StartIoRole, Dpc as DpcRole, Cancel as CancelRole}
+use Rattle.asm.specs.Outline.{Outline, with_queue, with_routine, number_of, number_for, routine_called, entry_in, called, finished, finished_driver, finished_queue, missed_queue, queue_at, ClosedFits, IsOrderly, IsUse}
 use Rattle.asm.proofs.Orderly.Names.{use_known, number_within}
 
 -- the sort of a closed routine
@@ -32,6 +32,8 @@ label_queued : (count : ℕ) (i : Instr) (q : ℕ) → LabelFits count i
     → LabelFits count (with_queue i q)
 label_queued count (Insert r old) q h = h
 label_queued count (Remove r old label) q h = h
+label_queued count (Unlink r old) q h = h
+label_queued count (Arm r old) q h = h
 label_queued count _ q h = h
 
 -- the operands of an instruction fit still when the routine of a call is known
@@ -42,6 +44,8 @@ operands_still _ f h = h
 operands_queued : (i : Instr) (q : ℕ) → OperandFits i → OperandFits (with_queue i q)
 operands_queued (Insert r old) q h = h
 operands_queued (Remove r old label) q h = h
+operands_queued (Unlink r old) q h = h
+operands_queued (Arm r old) q h = h
 operands_queued _ q h = h
 
 -- so a closed routine fits when its driver is finished
@@ -87,6 +91,7 @@ SortFor Handler sort = IsDispatch sort
 SortFor Completion sort = IsCompletion sort
 SortFor StartIoRole sort = IsStartIo sort
 SortFor DpcRole sort = IsDpc sort
+SortFor CancelRole sort = IsCancel sort
 
 number_has_sort : (o : Outline) (role : Role) (number : ℕ) (sort : Option Sort)
     → map sort_at o.routines ≡ o.sorts → slice_get o.sorts number ≡ sort
@@ -98,6 +103,8 @@ number_has_sort o Handler number (Some Dispatch) sorts is =
 number_has_sort o Handler number (Some _) sorts is = tt
 number_has_sort o Completion number (Some Propagate) sorts is =
     sort_kept IsCompletion o number Propagate sorts is tt
+number_has_sort o Completion number (Some Hold) sorts is =
+    sort_kept IsCompletion o number Hold sorts is tt
 number_has_sort o Completion number (Some _) sorts is = tt
 number_has_sort o StartIoRole number (Some StartIo) sorts is =
     sort_kept IsStartIo o number StartIo sorts is tt
@@ -105,6 +112,9 @@ number_has_sort o StartIoRole number (Some _) sorts is = tt
 number_has_sort o DpcRole number (Some Dpc) sorts is =
     sort_kept IsDpc o number Dpc sorts is tt
 number_has_sort o DpcRole number (Some _) sorts is = tt
+number_has_sort o CancelRole number (Some Cancel) sorts is =
+    sort_kept IsCancel o number Cancel sorts is tt
+number_has_sort o CancelRole number (Some _) sorts is = tt
 
 named_has_sort : (o : Outline) (role : Role) (number : Option ℕ) → map sort_at o.routines ≡ o.sorts
     → IfSome (option_and_then (λ n. number_for role n (slice_get o.sorts n)) number)
@@ -129,6 +139,8 @@ call_queued : (routines : List Routine) (i : Instr) (q : ℕ) → CallFits routi
     → CallFits routines (with_queue i q)
 call_queued routines (Insert r old) q h = h
 call_queued routines (Remove r old label) q h = h
+call_queued routines (Unlink r old) q h = h
+call_queued routines (Arm r old) q h = h
 call_queued routines _ q h = h
 
 calls_fit : (o : Outline) (routine : ClosedRoutine) → map sort_at o.routines ≡ o.sorts
@@ -148,18 +160,20 @@ place_within o place known inside =
     rw used.1 (number_within o.queue_names used.0.name used.2)
 
 -- the number of a queue that an instruction names is below the count of queues
-queue_below : (o : Outline) (named place : Option ℕ) → length o.queues ≡ length o.queue_names
-    → missed_queue o ≡ None → IsUse (length o.queue_uses) named place
-    → IfSome named (λ old. queue_at o place < length o.queues)
-queue_below o None place count known used = tt
-queue_below o (Some old) None count known used = absurd used
-queue_below o (Some old) (Some place) count known used =
+queue_below : (o : Outline) (named place : Option ℕ) (queues : ℕ)
+    → queues ≡ length o.queue_names → missed_queue o ≡ None
+    → IsUse (length o.queue_uses) named place → IfSome named (λ old. queue_at o place < queues)
+queue_below o None place queues count known used = tt
+queue_below o (Some old) None queues count known used = absurd used
+queue_below o (Some old) (Some place) queues count known used =
     let within = place_within o place known used in omega (arith, within, count)
 
 queue_fits : (count : ℕ) (i : Instr) (q : ℕ) → IfSome (queue_named i) (λ old. q < count)
     → QueueFits count (with_queue i q)
 queue_fits count (Insert r old) q h = h
 queue_fits count (Remove r old label) q h = h
+queue_fits count (Unlink r old) q h = h
+queue_fits count (Arm r old) q h = h
 queue_fits count _ q h = tt
 
 -- an instruction names the same queue when the routine of a call is known
@@ -167,17 +181,17 @@ queue_still : (i : Instr) (f : Option ℕ) → queue_named (with_routine i f) �
 queue_still (Call r old) f = refl
 queue_still _ f = refl
 
-queues_fit : (o : Outline) (routine : ClosedRoutine) → length o.queues ≡ length o.queue_names
-    → missed_queue o ≡ None → ClosedFits (length o.queue_uses) routine
-    → QueuesFit (length o.queues) (finished o routine)
-queues_fit o routine count known h =
-    All-map (QueueFits (length o.queues)) (called o) routine.code (λ i d inside.
+queues_fit : (o : Outline) (routine : ClosedRoutine) (queues : ℕ)
+    → queues ≡ length o.queue_names → missed_queue o ≡ None
+    → ClosedFits (length o.queue_uses) routine → QueuesFit queues (finished o routine)
+queues_fit o routine queues count known h =
+    All-map (QueueFits queues) (called o) routine.code (λ i d inside.
     let step = get_or routine.code i d in
     let numbered = with_routine step.instr (routine_called o step.call) in
-    let below = queue_below o (queue_named step.instr) step.queue count known
+    let below = queue_below o (queue_named step.instr) step.queue queues count known
     (h.queues i d inside) in
-    queue_fits (length o.queues) numbered (queue_at o step.queue)
-    (subst (λ (named : Option ℕ). IfSome named (λ old. queue_at o step.queue < length o.queues))
+    queue_fits queues numbered (queue_at o step.queue)
+    (subst (λ (named : Option ℕ). IfSome named (λ old. queue_at o step.queue < queues))
     (sym (queue_still step.instr (routine_called o step.call))) below))
 
 pub finished_driver_fits : (o : Outline) → length o.routine_names ≡ length o.routines
@@ -185,6 +199,9 @@ pub finished_driver_fits : (o : Outline) → length o.routine_names ≡ length o
     → DriverFits (finished_driver o)
 finished_driver_fits o same sorts known h =
     let count = length-map o.routines (finished o) in
+    let queues = length (map (finished_queue o) o.queues) in
+    let all : queues ≡ length o.queue_names =
+    length-map o.queues (finished_queue o) ∙ h.queue_count in
     record {
       few = omega (arith, same, count, h.few_routines);
       routines = All-map RoutineFits (finished o) o.routines
@@ -197,9 +214,11 @@ finished_driver_fits o same sorts known h =
       dpc = entry_fits o DpcRole o.dpc sorts;
       calls = All-map (CallsFit (map (finished o) o.routines)) (finished o) o.routines
           (λ i d inside. calls_fit o (get_or o.routines i d) sorts);
-      few_queues = omega (arith, h.few_queues, h.queue_count);
-      guards = h.guards_fit;
-      queues = All-map (QueuesFit (length o.queues)) (finished o) o.routines
-          (λ i d inside. queues_fit o (get_or o.routines i d) h.queue_count known
+      few_queues = omega (arith, h.few_queues, all);
+      guards = All-map GuardFits (finished_queue o) o.queues h.guards_fit;
+      cancels = All-map (CancelFits (map (finished o) o.routines)) (finished_queue o) o.queues
+          (λ i d inside. entry_fits o CancelRole (get_or o.queues i d).cancel sorts);
+      queues = All-map (QueuesFit queues) (finished o) o.routines
+          (λ i d inside. queues_fit o (get_or o.routines i d) queues all known
           (h.routines_fit i d inside));
     }

@@ -4,8 +4,7 @@ use Rattle.std.specs.Prelude.{All, map, option_to_list, option_map}
 use Rattle.std.proofs.lemmas.List.Elements.{All-push, All-append, All-nil}
 use Rattle.std.proofs.lemmas.List.{length_push, map_push}
 use Rattle.std.proofs.lemmas.Bool.{ltb-true}
-use Rattle.model.specs.declared.set.Queue.{Queue}
-use Rattle.model.specs.Sound.{DriverFits, DevicesFit, GuardFits, IsSpinLock, OperandFits, queue_named, IsSound}
+use Rattle.model.specs.Sound.{DriverFits, DevicesFit, IsSpinLock, OperandFits, queue_named, IsSound}
 use Rattle.model.specs.declared.status.Major.{Major}
 use Rattle.model.specs.declared.status.Major.TheVariants.{Read, Write, Control}
 use Rattle.model.specs.declared.set.Sort.{Sort}
@@ -14,6 +13,7 @@ use Rattle.model.specs.declared.limits.TheConstants.{MAX_DEVICES, MAX_DRIVERS, M
 use Rattle.asm.specs.declared.draft.Place.{Place}
 use Rattle.asm.specs.declared.draft.Place.TheVariants.{Outside, InDriver, InRoutine}
 use Rattle.asm.specs.declared.draft.ClosedRoutine.{ClosedRoutine}
+use Rattle.asm.specs.declared.draft.QueueLine.{QueueLine}
 use Rattle.asm.specs.declared.draft.Step.{Step}
 use Rattle.asm.specs.declared.draft.Use.{Use}
 use Rattle.asm_line.specs.declared.line.Body.{Body}
@@ -28,6 +28,10 @@ use Rattle.asm.proofs.Orderly.Names.{neither, none_before}
 use Rattle.asm.proofs.Orderly.Devices.{devices_stay, added_known, same_devices}
 use Rattle.asm.proofs.Orderly.ClosedRoutines.{closed_fits, use_stays, closed_stays}
 use Rattle.asm.proofs.Orderly.ClosedDrivers.{sort_at, finished_driver_fits}
+
+-- the guard of a queue is a spin lock
+abbrev GuardIs : QueueLine → Type 0
+GuardIs queue = IsSpinLock queue.guard
 
 -- a line's place tells what is open there
 open_at : (p q : Place) (sort : Sort) → p ≡ q → (open_drivers p ≡ open_drivers q)
@@ -98,7 +102,7 @@ driver_closed_orderly o place h =
           subst (λ (steps : List Step). All (λ (step : Step). QueueUsed 0 step.instr step.queue)
           steps) (sym (h.idle p.1))
           (All-nil (λ (step : Step). QueueUsed 0 step.instr step.queue));
-      guards_fit = All-nil GuardFits;
+      guards_fit = All-nil GuardIs;
       queue_count = refl;
       driver_count = omega (arith, more, h.driver_count, p.0);
       routine_count = refl;
@@ -146,11 +150,11 @@ handled_orderly o u Write h = entries_orderly o o.read (Some u) o.control o.star
 handled_orderly o u Control h = entries_orderly o o.read o.write (Some u) o.startio o.dpc h
 
 -- a queue more
-queue_added_orderly : (o : Outline) (name : List ℕ) (guard : ℕ)
+queue_added_orderly : (o : Outline) (name : List ℕ) (guard : ℕ) (cancel : Option Use)
     → length o.queue_names < MAX_QUEUES → IsSpinLock guard → IsOrderly o
-    → IsOrderly (queue_added o name guard)
-queue_added_orderly o name guard room fits h =
-    let queue : Queue = record { guard = guard } in
+    → IsOrderly (queue_added o name guard cancel)
+queue_added_orderly o name guard cancel room fits h =
+    let queue : QueueLine = record { guard = guard; cancel = cancel } in
     let more = length_push o.queue_names name in
     let longer = length_push o.queues queue in
     record {
@@ -163,13 +167,14 @@ queue_added_orderly o name guard room fits h =
       positions_fit = h.positions_fit;
       operands_fit = h.operands_fit;
       queues_used = h.queues_used;
-      guards_fit = All-push GuardFits o.queues queue h.guards_fit fits;
+      guards_fit = All-push GuardIs o.queues queue h.guards_fit fits;
       queue_count = omega (arith, more, longer, h.queue_count);
       driver_count = h.driver_count;
       routine_count = h.routine_count;
       sorts_known = h.sorts_known;
       drivers_fit = h.drivers_fit;
-      devices_known = same_devices o (queue_added o name guard) refl refl refl refl h.devices_known;
+      devices_known =
+          same_devices o (queue_added o name guard cancel) refl refl refl refl h.devices_known;
       routines_fit = h.routines_fit;
     }
 
@@ -353,9 +358,10 @@ orderly_with o n label (OpenDriver name) place size room operand h =
 orderly_with o n label CloseDriver place size room operand h = driver_closed_orderly o place h
 orderly_with o n label (Handle major routine) place size room operand h =
     handled_orderly o (record { line = n; name = routine }) major h
-orderly_with o n label (AddQueue name (Some guard)) place size room operand h =
-    queue_added_orderly o name guard (ltb-true (length o.queue_names) MAX_QUEUES room) operand h
-orderly_with o n label (AddQueue name None) place size room operand h = h
+orderly_with o n label (AddQueue name (Some guard) cancel) place size room operand h =
+    queue_added_orderly o name guard (used_at n cancel)
+    (ltb-true (length o.queue_names) MAX_QUEUES room) operand h
+orderly_with o n label (AddQueue name None cancel) place size room operand h = h
 orderly_with o n label (HandleStartIo routine) place size room operand h =
     let u : Use = record { line = n; name = routine } in
     entries_orderly o o.read o.write o.control (Some u) o.dpc h
@@ -403,7 +409,7 @@ nothing_orderly = record {
   positions_fit = All-nil (λ p. p < 0);
   operands_fit = All-nil (λ (step : Step). OperandFits step.instr);
   queues_used = All-nil (λ (step : Step). QueueUsed 0 step.instr step.queue);
-  guards_fit = All-nil GuardFits;
+  guards_fit = All-nil GuardIs;
   queue_count = refl;
   driver_count = refl;
   routine_count = refl;

@@ -1,21 +1,22 @@
--- The lines of table entries, which name routines.
-use Rattle.std.proofs.Common.{◌≡◌, ℕ, ◌+◌, false, List, Option, Some, None, refl, ap, sym, ◌∙◌}
+-- The lines of table entries and queues, which name routines.
+use Rattle.std.proofs.Common.{◌≡◌, ℕ, ◌+◌, ◌<◌, Bool, false, List, [], ◌∷◌, Option, Some, None, IfSome, refl, ap, sym, ◌∙◌, append_assoc}
 use Rattle.std.specs.Prelude.{is_some, if◌then◌else◌}
 use Rattle.model.specs.declared.status.Major.{Major}
 use Rattle.model.specs.declared.status.Major.TheVariants.{Read, Write, Control}
 use Rattle.model.specs.declared.set.Sort.{Sort}
+use Rattle.asm.specs.declared.draft.QueueLine.{QueueLine}
 use Rattle.asm.specs.declared.draft.Use.{Use}
-use Rattle.asm_line.specs.declared.line.Body.TheVariants.{Handle, HandleStartIo, HandleDpc}
+use Rattle.asm_line.specs.declared.line.Body.TheVariants.{AddQueue, Handle, HandleStartIo, HandleDpc}
 use Rattle.asm_line.specs.declared.line.Line.{Line}
-use Rattle.asm.specs.declared.routines.Role.TheVariants.{Handler, StartIo, Dpc}
-use Rattle.asm.specs.Outline.{Outline, dpc_handled, earliest, handled, handler_of, has_routine, missed_entry, missed_handler, missed_use, startio_handled}
-use Rattle.asm.specs.Laws.{unknown_from}
+use Rattle.asm.specs.declared.routines.Role.{Role}
+use Rattle.asm.specs.declared.routines.Role.TheVariants.{Handler, StartIo, Dpc, Cancel}
+use Rattle.asm.specs.Outline.{Outline, dpc_handled, earliest, handled, handler_of, has_routine, missed_cancels, missed_entry, missed_handler, missed_server, missed_use, queue_added, startio_handled, used_at}
+use Rattle.asm.specs.Laws.{is_served, unknown_from}
 use Rattle.asm.proofs.Unknown.Earliest.{earliest_none, earliest_assoc, earliest_comm, earliest_swap, use_counts}
-use Rattle.asm.proofs.Unknown.Missed.{calling, queueing, pending, jumping}
+use Rattle.asm.proofs.Unknown.Missed.{calling, queueing, pending, jumping, cancels_push, routine_missed}
 use Rattle.asm.proofs.Unknown.Turn.{rest_later, Names, names_of, Around, scope_of, left, Turn}
 use Rattle.asm.proofs.Added.{with_entries}
 use Rattle.asm.proofs.Tidy.{IsIdle}
-use Rattle.asm.specs.declared.routines.Role.{Role}
 
 -- a line among those of the table entries is weighed first as well
 third : (a b line rest : Option ℕ)
@@ -69,6 +70,23 @@ dpc_joins names sorts o u none =
     (earliest_comm startio line) ∙ fourth read write control line startio)
 
 -- so it is found there or among what is left
+found_or_left : (unknown queues calls before after rest : Option ℕ) (known : Bool) (n : ℕ)
+    → IfSome rest (λ m. n < m) → after ≡ earliest (if known then None else Some n) before
+    → earliest unknown (earliest (earliest queues (earliest calls after)) rest)
+    ≡ earliest unknown (earliest (earliest queues (earliest calls before))
+    (if known then rest else Some n))
+found_or_left unknown queues calls before after rest known n later joins =
+    let chosen : Option ℕ = if known then rest else Some n in
+    let counted : earliest after rest ≡ earliest before chosen =
+    ap (λ (x : Option ℕ). earliest x rest) joins ∙ use_counts known n before rest later in
+    ap (earliest unknown) (
+    earliest_assoc queues (earliest calls after) rest
+    ∙ ap (earliest queues) (
+    earliest_assoc calls after rest
+    ∙ ap (earliest calls) counted
+    ∙ sym (earliest_assoc calls before chosen))
+    ∙ sym (earliest_assoc queues (earliest calls before) chosen))
+
 entry_left : (o : Outline) (read write control startio dpc : Option Use) (role : Role)
     (name : List ℕ) (here : Names) (n : ℕ) (ls : List Line) → IsIdle o
     → missed_handler here.routines here.sorts (with_entries o read write control startio dpc)
@@ -80,24 +98,16 @@ entry_left : (o : Outline) (read write control startio dpc : Option Use) (role :
     (if has_routine here.routines here.sorts role name
     then unknown_from (scope_of o here) (n + 1) ls else Some n)))
 entry_left o read write control startio dpc role name here n ls idle joins =
-    let known = has_routine here.routines here.sorts role name in
-    let rest = unknown_from (scope_of o here) (n + 1) ls in
-    let queues = queueing here.queues o.queue_uses in
-    let calls = calling here.routines here.sorts o.calls in
-    let before = missed_handler here.routines here.sorts o in
-    let after = missed_handler here.routines here.sorts
-    (with_entries o read write control startio dpc) in
-    let chosen : Option ℕ = if known then rest else Some n in
-    let counted : earliest after rest ≡ earliest before chosen =
-    ap (λ (x : Option ℕ). earliest x rest) joins
-    ∙ use_counts known n before rest (rest_later (scope_of o here) n ls) in
-    rw idle.steps (ap (earliest o.unknown) (
-    earliest_assoc queues (earliest calls after) rest
-    ∙ ap (earliest queues) (
-    earliest_assoc calls after rest
-    ∙ ap (earliest calls) counted
-    ∙ sym (earliest_assoc calls before chosen))
-    ∙ sym (earliest_assoc queues (earliest calls before) chosen)))
+    let next = with_entries o read write control startio dpc in
+    let cancels = missed_cancels here.routines here.sorts None o.queues in
+    let line = missed_use here.routines here.sorts role (record { line = n; name = name }) in
+    rw idle.steps
+    (found_or_left o.unknown (queueing here.queues o.queue_uses)
+    (calling here.routines here.sorts o.calls) (missed_server here.routines here.sorts o)
+    (missed_server here.routines here.sorts next) (unknown_from (scope_of o here) (n + 1) ls)
+    (has_routine here.routines here.sorts role name) n (rest_later (scope_of o here) n ls)
+    (ap (earliest cancels) joins
+    ∙ earliest_swap cancels line (missed_handler here.routines here.sorts o)))
 
 was_none : (u : Option Use) → is_some u ≡ false → u ≡ None
 was_none None h = refl
@@ -156,4 +166,51 @@ dpc_handled_turn o name here ahead n ls fresh idle h =
     record {
       around = h;
       same = entry_left o o.read o.write o.control o.startio (Some u) Dpc name here n ls idle joins;
+    }
+
+-- a queue more: it was ahead, and its line is weighed beside those of the other queues
+cancel_joins : (o : Outline) (name : List ℕ) (lock : ℕ) (cancel : Option (List ℕ)) (here : Names)
+    (n : ℕ)
+    → missed_server here.routines here.sorts (queue_added o name lock (used_at n cancel))
+    ≡ earliest (if is_served (scope_of o here) Cancel cancel then None else Some n)
+    (missed_server here.routines here.sorts o)
+cancel_joins o name lock cancel here n =
+    let queue : QueueLine = record { guard = lock; cancel = used_at n cancel } in
+    let cancels = missed_cancels here.routines here.sorts None o.queues in
+    let handlers = missed_handler here.routines here.sorts o in
+    let line : Option ℕ =
+    if is_served (scope_of o here) Cancel cancel then None else Some n in
+    ap (λ (x : Option ℕ). earliest x handlers)
+    (cancels_push here.routines here.sorts None o.queues queue
+    ∙ ap (earliest cancels) (routine_missed (scope_of o here) Cancel cancel n)
+    ∙ earliest_comm cancels line)
+    ∙ earliest_assoc line cancels handlers
+
+pub queue_added_turn : (o : Outline) (name : List ℕ) (guard : Option ℕ) (lock : ℕ)
+    (cancel : Option (List ℕ)) (here ahead : Names) (n : ℕ) (ls : List Line) → IsIdle o
+    → Around o.place (names_of o) here
+    (record {
+      routines = ahead.routines;
+      sorts = ahead.sorts;
+      queues = name ∷ ahead.queues;
+      labels = ahead.labels;
+    })
+    → Turn o (queue_added o name lock (used_at n cancel)) here here ahead n
+    (AddQueue name guard cancel) ls
+queue_added_turn o name guard lock cancel here ahead n ls idle h =
+    let next = queue_added o name lock (used_at n cancel) in
+    record {
+      around = record {
+        inside = h.inside;
+        sorted = h.sorted;
+        queued = λ opened. h.queued opened
+            ∙ sym (append_assoc o.queue_names (name ∷ []) ahead.queues);
+        busy = h.busy;
+      };
+      same = rw idle.steps
+          (found_or_left o.unknown (queueing here.queues o.queue_uses)
+          (calling here.routines here.sorts o.calls) (missed_server here.routines here.sorts o)
+          (missed_server here.routines here.sorts next) (unknown_from (scope_of o here) (n + 1) ls)
+          (is_served (scope_of o here) Cancel cancel) n (rest_later (scope_of o here) n ls)
+          (cancel_joins o name lock cancel here n));
     }

@@ -7,7 +7,7 @@ use Rattle.asm.specs.declared.draft.Place.TheVariants.{Outside, InRoutine}
 use Rattle.asm_line.specs.declared.line.Body.{Body}
 use Rattle.asm_line.specs.declared.line.Body.TheVariants.{Blank, OpenDriver, CloseDriver, AddQueue, Handle, HandleStartIo, HandleDpc, OpenRoutine, CloseRoutine, AddDevice, Step as TakeStep}
 use Rattle.asm_line.specs.declared.line.Line.{Line}
-use Rattle.asm.specs.Outline.{Outline, nothing_read, device_added, driver_closed, driver_opened, earliest, is_again, is_among, is_out_of_range, missed, noted, queue_added, routine_closed, routine_opened, stands, used_at}
+use Rattle.asm.specs.Outline.{Outline, nothing_read, device_added, driver_closed, driver_opened, earliest, is_again, is_among, is_out_of_range, missed, noted, routine_closed, routine_opened, stands, used_at}
 use Rattle.asm.specs.Laws.{nothing_named, is_known, labels_ahead, unknown_from, Reads}
 use Rattle.asm.proofs.Unknown.Earliest.{earliest_none, earliest_assoc, earliest_swap, used_now, both_count}
 use Rattle.asm.proofs.Unknown.Missed.{pending, jumping, missed_split, name_missed}
@@ -15,7 +15,7 @@ use Rattle.asm.proofs.Unknown.Turn.{pending_none, rest_later, Names, names_of, A
 use Rattle.asm.proofs.Fitting.{fitting, never_in, only_outside, only_in_routine}
 use Rattle.asm.proofs.Tidy.{IsEmpty, IsIdle, IsTidy, nothing_tidy, tidy_on}
 use Rattle.asm.proofs.Unknown.Instructions.{step_turn}
-use Rattle.asm.proofs.Unknown.Entries.{handled_turn, startio_handled_turn, dpc_handled_turn}
+use Rattle.asm.proofs.Unknown.Entries.{handled_turn, startio_handled_turn, dpc_handled_turn, queue_added_turn}
 
 routine_closed_turn : (o : Outline) (label : Option (List ℕ)) (here ahead : Names) (n : ℕ)
     (ls : List Line) → stands o.place CloseRoutine ≡ true
@@ -155,29 +155,6 @@ device_added_turn o name driver stack lower here ahead n ls empty idle h =
           ∙ ap (λ (x : Option ℕ). earliest o.unknown x) (used_now (known && under) n rest later));
     }
 
--- a queue more: it was ahead
-queue_added_turn : (o : Outline) (name : List ℕ) (guard : Option ℕ) (lock : ℕ) (here ahead : Names)
-    (n : ℕ) (ls : List Line)
-    → Around o.place (names_of o) here
-    (record {
-      routines = ahead.routines;
-      sorts = ahead.sorts;
-      queues = name ∷ ahead.queues;
-      labels = ahead.labels;
-    })
-    → Turn o (queue_added o name lock) here here ahead n (AddQueue name guard) ls
-queue_added_turn o name guard lock here ahead n ls h =
-    record {
-      around = record {
-        inside = h.inside;
-        sorted = h.sorted;
-        queued = λ opened. h.queued opened
-            ∙ sym (append_assoc o.queue_names (name ∷ []) ahead.queues);
-        busy = h.busy;
-      };
-      same = refl;
-    }
-
 turn : (o : Outline) (n : ℕ) (label : Option (List ℕ)) (body : Body) (ls : List Line) (here : Names)
     → stands o.place body ≡ true → is_again o label body ≡ false → is_out_of_range body ≡ false
     → IsTidy o → Around o.place (names_of o) here (ahead_with label body (ahead_of ls))
@@ -194,9 +171,11 @@ turn o n label CloseDriver ls here stood fresh range tidy h =
 turn o n label (Handle major name) ls here stood fresh range tidy h =
     handled_turn o major name here (ahead_of ls) n ls fresh
     (tidy.idle (never_in InRoutine o.place (Handle major name) refl stood)) h
-turn o n label (AddQueue name (Some guard)) ls here stood fresh range tidy h =
-    queue_added_turn o name (Some guard) guard here (ahead_of ls) n ls h
-turn o n label (AddQueue name None) ls here stood fresh range tidy h = cc
+turn o n label (AddQueue name (Some guard) cancel) ls here stood fresh range tidy h =
+    let body = AddQueue name (Some guard) cancel in
+    queue_added_turn o name (Some guard) guard cancel here (ahead_of ls) n ls
+    (tidy.idle (never_in InRoutine o.place body refl stood)) h
+turn o n label (AddQueue name None cancel) ls here stood fresh range tidy h = cc
 turn o n label (HandleStartIo name) ls here stood fresh range tidy h =
     startio_handled_turn o name here (ahead_of ls) n ls fresh
     (tidy.idle (never_in InRoutine o.place (HandleStartIo name) refl stood)) h

@@ -2,11 +2,13 @@
 use Rattle.std.proofs.Common.{◌≡◌, ℕ, List, [], ◌∷◌, ◌++◌, Option, Some, None, refl, ap, sym, ◌∙◌, append-nil}
 use Rattle.std.specs.Prelude.{option_to_list, if◌then◌else◌}
 use Rattle.model.specs.declared.set.Sort.{Sort}
+use Rattle.asm.specs.declared.draft.QueueLine.{QueueLine}
 use Rattle.asm.specs.declared.draft.Step.{Step}
 use Rattle.asm.specs.declared.draft.Use.{Use}
-use Rattle.asm.specs.declared.routines.Role.TheVariants.{Completion}
-use Rattle.asm.specs.Outline.{Outline, earliest, missed, missed_calls, missed_from, missed_handler, missed_use, missed_uses, used_at}
-use Rattle.asm.specs.Laws.{Scope, is_known, is_callable}
+use Rattle.asm.specs.declared.routines.Role.{Role}
+use Rattle.asm.specs.declared.routines.Role.TheVariants.{Completion, Cancel}
+use Rattle.asm.specs.Outline.{Outline, earliest, missed, missed_calls, missed_cancels, missed_entry, missed_from, missed_server, missed_use, missed_uses, used_at}
+use Rattle.asm.specs.Laws.{Scope, is_known, is_served}
 use Rattle.asm.proofs.Unknown.Earliest.{earliest_none, earliest_assoc}
 
 -- the first call of these that sets a routine which isn't among these
@@ -21,7 +23,7 @@ queueing queues uses = missed_uses queues None uses
 abbrev pub pending : List (List ℕ) → List (List ℕ) → List Sort → Outline → Option ℕ
 pending queues names sorts o =
     earliest (queueing queues o.queue_uses)
-    (earliest (calling names sorts o.calls) (missed_handler names sorts o))
+    (earliest (calling names sorts o.calls) (missed_server names sorts o))
 
 -- the first line of the open routine that uses a label which isn't among these
 abbrev pub jumping : List (List ℕ) → List Step → Option ℕ
@@ -57,14 +59,17 @@ uses_push : (names : List (List ℕ)) (found : Option ℕ) (uses : List Use) (u 
 uses_push names found [] u = refl
 uses_push names found (v ∷ vs) u = uses_push names (earliest found (missed names (Some v))) vs u
 
--- the line of a call, where there is one
-abbrev pub missed_call : List (List ℕ) → List Sort → Option Use → Option ℕ
-missed_call names sorts None = None
-missed_call names sorts (Some u) = missed_use names sorts Completion u
+pub cancels_push : (names : List (List ℕ)) (sorts : List Sort) (found : Option ℕ)
+    (queues : List QueueLine) (q : QueueLine)
+    → missed_cancels names sorts found (queues ++ q ∷ [])
+    ≡ earliest (missed_cancels names sorts found queues) (missed_entry names sorts Cancel q.cancel)
+cancels_push names sorts found [] q = refl
+cancels_push names sorts found (p ∷ ps) q =
+    cancels_push names sorts (earliest found (missed_entry names sorts Cancel p.cancel)) ps q
 
 pub calls_added : (names : List (List ℕ)) (sorts : List Sort) (calls : List Use) (u : Option Use)
     → calling names sorts (calls ++ option_to_list u) ≡ earliest (calling names sorts calls)
-    (missed_call names sorts u)
+    (missed_entry names sorts Completion u)
 calls_added names sorts calls None = ap (calling names sorts) (append-nil calls)
     ∙ sym (earliest_none (calling names sorts calls))
 calls_added names sorts calls (Some u) = calls_push names sorts None calls u
@@ -80,8 +85,8 @@ pub name_missed : (names : List (List ℕ)) (name : Option (List ℕ)) (n : ℕ)
 name_missed names None n = refl
 name_missed names (Some name) n = refl
 
-pub call_missed : (s : Scope) (routine : Option (List ℕ)) (n : ℕ)
-    → missed_call s.routines s.sorts (used_at n routine)
-    ≡ (if is_callable s routine then None else Some n)
-call_missed s None n = refl
-call_missed s (Some routine) n = refl
+pub routine_missed : (s : Scope) (role : Role) (routine : Option (List ℕ)) (n : ℕ)
+    → missed_entry s.routines s.sorts role (used_at n routine)
+    ≡ (if is_served s role routine then None else Some n)
+routine_missed s role None n = refl
+routine_missed s role (Some routine) n = refl

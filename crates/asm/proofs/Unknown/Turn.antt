@@ -4,17 +4,19 @@ use Rattle.model.specs.declared.set.Sort.{Sort}
 use Rattle.asm.specs.declared.draft.Place.{Place}
 use Rattle.asm.specs.declared.draft.Place.TheVariants.{Outside, InRoutine}
 use Rattle.asm_line.specs.declared.line.Body.{Body}
-use Rattle.asm_line.specs.declared.line.Body.TheVariants.{Handle, HandleStartIo, HandleDpc, AddDevice, Step as TakeStep}
+use Rattle.asm_line.specs.declared.line.Body.TheVariants.{AddQueue, Handle, HandleStartIo, HandleDpc, AddDevice, Step as TakeStep}
 use Rattle.asm_line.specs.declared.line.Line.{Line}
-use Rattle.asm.specs.declared.routines.Role.TheVariants.{Handler, StartIo, Dpc}
+use Rattle.asm.specs.declared.routines.Role.TheVariants.{Handler, StartIo, Dpc, Cancel}
 use Rattle.asm.specs.Outline.{Outline, earliest, has_routine, is_among}
-use Rattle.asm.specs.Laws.{Scope, all_known, scope_after, drivers_after, devices_after, is_known, labelled_ahead, labels_ahead, labels_around, named_ahead, routines_ahead, routines_around, sorted_ahead, sorts_ahead, sorts_around, queued_ahead, queues_ahead, queues_around, unknown_at, unknown_from}
+use Rattle.asm.specs.Laws.{Scope, all_known, scope_after, drivers_after, devices_after, is_known, is_served, labelled_ahead, labels_ahead, labels_around, named_ahead, routines_ahead, routines_around, sorted_ahead, sorts_ahead, sorts_around, queued_ahead, queues_ahead, queues_around, unknown_at, unknown_from}
 use Rattle.asm.proofs.Tidy.{IsEmpty}
 use Rattle.asm.proofs.Unknown.Earliest.{next_later, chosen_line, weaken}
 use Rattle.asm.proofs.Unknown.Missed.{pending, jumping}
 
 line_or_later : (s : Scope) (n : ℕ) (body : Body) (after : Option ℕ) → IfSome after (λ m. n < m)
     → IfSome (unknown_at s n body after) (λ m. n ≤ m)
+line_or_later s n (AddQueue name guard cancel) after h =
+    chosen_line (is_served s Cancel cancel) n after h
 line_or_later s n (Handle major routine) after h =
     chosen_line (has_routine s.routines s.sorts Handler routine) n after h
 line_or_later s n (HandleStartIo routine) after h =
@@ -45,6 +47,7 @@ pub pending_none : (queues names : List (List ℕ)) (sorts : List Sort) (o : Out
 pending_none queues names sorts o empty = rw (
   empty.calls,
   empty.uses,
+  empty.guards,
   empty.read,
   empty.write,
   empty.control,

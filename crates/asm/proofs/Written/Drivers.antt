@@ -105,18 +105,19 @@ handled_turn o u Control name label ls at = record { place = at; same = refl }
 
 -- a queue more: it was ahead
 whole_queued : (o : Outline) (name : List ℕ) (guard : Option ℕ) (lock : ℕ)
-    (label : Option (List ℕ)) (ls : List Line)
-    → whole o (record { label = label; body = AddQueue name guard } ∷ ls)
-    ≡ whole (queue_added o name lock) ls
-whole_queued o name guard lock label ls =
+    (cancel : Option (List ℕ)) (u : Option Use) (label : Option (List ℕ)) (ls : List Line)
+    → whole o (record { label = label; body = AddQueue name guard cancel } ∷ ls)
+    ≡ whole (queue_added o name lock u) ls
+whole_queued o name guard lock cancel u label ls =
     rw (append_assoc o.queue_names (name ∷ []) (queues_ahead ls)) refl
 
 pub queue_added_turn : (o : Outline) (name : List ℕ) (guard : Option ℕ) (lock : ℕ)
-    (label : Option (List ℕ)) (ls : List Line) → o.place ≡ InDriver
-    → Turn o (queue_added o name lock) InDriver label (AddQueue name guard) ls
-queue_added_turn o name guard lock label ls at =
+    (cancel : Option (List ℕ)) (u : Option Use) (label : Option (List ℕ)) (ls : List Line)
+    → o.place ≡ InDriver
+    → Turn o (queue_added o name lock u) InDriver label (AddQueue name guard cancel) ls
+queue_added_turn o name guard lock cancel u label ls at =
     record {
       place = at;
       same = ap (λ (w : Whole). around o ls (driver_left o w ls))
-          (whole_queued o name guard lock label ls);
+          (whole_queued o name guard lock cancel u label ls);
     }

@@ -10,7 +10,7 @@ use Rattle.asm_line.specs.declared.line.Line.{Line}
 use Rattle.asm.specs.declared.draft.Place.{Place}
 use Rattle.asm.specs.declared.draft.Place.TheVariants.{Outside, InDriver, InRoutine}
 use Rattle.asm.specs.declared.fault.AsmFault.{AsmFault}
-use Rattle.asm.specs.Outline.{Outline, nothing_read, is_out_of_range, noted, stands}
+use Rattle.asm.specs.Outline.{Outline, nothing_read, is_out_of_range, noted, stands, used_at}
 use Rattle.asm.specs.Reading.{named, reading, resolved as set_of}
 use Rattle.asm.specs.Laws.{IsRead, Reads}
 use Rattle.asm.specs.Code.{all_codes, CodeIsOfItsLines, IsOfItsLines}
@@ -39,10 +39,10 @@ turn o n _ label CloseDriver ls at stood range h = cc
 turn o n InDriver label (Handle major name) ls at stood range h =
     handled_turn o (record { line = n; name = name }) major name label ls at
 turn o n _ label (Handle major name) ls at stood range h = cc
-turn o n InDriver label (AddQueue name (Some guard)) ls at stood range h =
-    queue_added_turn o name (Some guard) guard label ls at
-turn o n _ label (AddQueue name (Some guard)) ls at stood range h = cc
-turn o n p label (AddQueue name None) ls at stood range h = cc
+turn o n InDriver label (AddQueue name (Some guard) cancel) ls at stood range h =
+    queue_added_turn o name (Some guard) guard cancel (used_at n cancel) label ls at
+turn o n _ label (AddQueue name (Some guard) cancel) ls at stood range h = cc
+turn o n p label (AddQueue name None cancel) ls at stood range h = cc
 turn o n InDriver label (HandleStartIo name) ls at stood range h =
     record { place = at; same = refl }
 turn o n _ label (HandleStartIo name) ls at stood range h = cc
