@@ -4,23 +4,26 @@ use Rattle.std.specs.Prelude.{◌&&◌, ◌||◌, not, nat_lt, slice_get}
 use Rattle.std.proofs.lemmas.Bool.Decides.{leb_tells}
 use Rattle.model.specs.declared.limits.TheConstants.{MAX_FRAMES}
 use Rattle.model.specs.declared.world.Frame.{Frame}
-use Rattle.model.specs.declared.world.Frame.TheVariants.{Routine, Walk}
+use Rattle.model.specs.declared.world.Frame.TheVariants.{Routine, Walk, Cancel as CancelFrame}
+use Rattle.model.specs.declared.world.Irql.{Irql}
+use Rattle.model.specs.declared.world.Packet.{Packet}
 use Rattle.model.specs.declared.world.Thread.{Thread}
 use Rattle.model.specs.declared.status.Major.{Major}
 use Rattle.model.specs.declared.status.Status.{Status}
 use Rattle.model.specs.declared.set.Device.{Device}
 use Rattle.model.specs.declared.event.Event.{Event}
-use Rattle.model.specs.declared.event.Event.TheVariants.{Issue, Interrupt, Dpc, StartIo, Step}
+use Rattle.model.specs.declared.event.Event.TheVariants.{Issue, Cancel, Interrupt, Dpc, StartIo, Step}
 use Rattle.model.specs.declared.event.Bug.{Bug}
 use Rattle.model.specs.declared.event.Reply.{Reply}
-use Rattle.model.specs.declared.event.Reply.TheVariants.{Stepped, Idle, Refused, Bug as BugCheckReply, Wrong}
-use Rattle.model.specs.Effect.{Outcome, Change, frame_effect, answered, top_of, told_top, told_to, kept_below, finished_or, with_stack, with_thread, standing, settled, top_effect, step_thread, unchanged, issued, issue_on, interrupted, interrupt_on, dpc_begun, dpc_on, startio_begun, startio_for, startio_from, startio_on, is_idle, can_issue, effect}
+use Rattle.model.specs.declared.event.Reply.TheVariants.{Stepped, Finished, Idle, Refused, Bug as BugCheckReply, Wrong}
+use Rattle.model.specs.Effect.{Outcome, frame_effect, answered, top_of, told_top, told_to, kept_below}
+use Rattle.model.specs.Events.{Change, finished_or, with_stack, with_thread, standing, settled, top_effect, step_thread, unchanged, issued, issue_on, irql_of, cancel_of, cancel_on, interrupted, interrupt_on, dpc_begun, dpc_on, startio_begun, startio_for, startio_from, startio_on, is_idle, can_issue, effect}
 use Rattle.model.specs.Run.{Run, Answered, goes, refused, stops, unless_wrong, unless_fault, judged as run_judged, actor_on, answered_on, root_of, tags_on, thread_of, top_tag}
 use Rattle.model.specs.Fault.{first_fault}
 use Rattle.model.specs.Queues.{StartState, head_of}
 use Rattle.model.specs.Set.{Set, dpc_of, startio_of}
 use Rattle.model.specs.Trace.{Entry, recorded}
-use Rattle.model.specs.World.{Shared, World, is_queued, start_of}
+use Rattle.model.specs.World.{Shared, World, is_queued, packet_of, start_of}
 use Rattle.checked.specs.declared.frame.Runner.{Runner}
 use Rattle.checked.specs.Step.{Left, Ended, first_now, stays, unless_full, unless_wrong as wrong_left, left_by, fits, bounded, moved_by, runner, top_now, step_ended, step_now, ended, event_now, is_stop}
 use Rattle.checked.proofs.Lists.{set_back}
@@ -63,6 +66,7 @@ told_frames : (set : Set) (below : List Frame) (status : Status) (o : Option Fra
     length (told_top set below status o) ≡ length below
 told_frames set below status None h = refl
 told_frames set below status (Some (Walk n)) h = refl
+told_frames set below status (Some (CancelFrame c)) h = refl
 told_frames set below status (Some (Routine a)) h =
     let last : List Frame = Routine (answered set a status) ∷ [] in
     let split : below ≡ take (length below - 1) below ++ Routine a ∷ [] =
@@ -348,6 +352,36 @@ module _ (set : Set) (r : Run) (t : ℕ) (on : r.stopped ≡ false) (tells : Pas
   compare_dpc d (Some thread) (Some routine) =
       compare_free d thread routine (not (is_idle thread))
 
+-- the start of IoCancelIrp
+module _ (set : Set) (r : Run) (t : ℕ) (on : r.stopped ≡ false) (tells : PastTells r)
+    (owning : OwningTells) where
+  compare_begins : (n : ℕ) (level : Irql) (thread : Thread) (o : Option Packet) →
+      Same (run_judged set r (actor_on r t) (cancel_of r.world t n level thread o))
+      (ended (cancel_of r.world t n level thread o))
+  compare_begins n level thread None =
+      compare_goes set r t r.past (unchanged r.world Finished) false refl refl
+  compare_begins n level thread (Some p) =
+      compare_goes set r t r.past (cancel_of r.world t n level thread (Some p)) false refl refl
+
+  compare_allowed : (n : ℕ) (level : Irql) (thread : Thread) (b : Bool) →
+      Same (run_judged set r (actor_on r t)
+      (cond {A = Change} b (cancel_of r.world t n level thread (packet_of r.world.shared n))
+      (unchanged r.world Refused)))
+      (ended (cond {A = Change} b
+      (cancel_of r.world t n level thread (packet_of r.world.shared n))
+      (unchanged r.world Refused)))
+  compare_allowed n level thread true =
+      compare_begins n level thread (packet_of r.world.shared n)
+  compare_allowed n level thread false = compare_refused set r t on tells owning
+
+  compare_cancel : (n : ℕ) (level : Option Irql) (o : Option Thread) →
+      Same (run_judged set r (actor_on r t) (cancel_on r.world t n level o))
+      (ended (cancel_on r.world t n level o))
+  compare_cancel n level None = compare_refused set r t on tells owning
+  compare_cancel n None (Some thread) = compare_refused set r t on tells owning
+  compare_cancel n (Some level) (Some thread) =
+      compare_allowed n level thread (is_idle thread && nat_lt n r.world.shared.issued)
+
 -- the start of a StartIo routine
 module _ (set : Set) (r : Run) (t : ℕ) (on : r.stopped ≡ false) (tells : PastTells r)
     (owning : OwningTells) where
@@ -408,6 +442,8 @@ pub compare_event : (set : Set) (r : Run) (e : Event) → r.stopped ≡ false �
 compare_event set r (Issue t d major argument) on tells owning =
     compare_issue set r t on tells owning d major argument (slice_get r.world.threads t)
     (slice_get set.devices d)
+compare_event set r (Cancel t n level) on tells owning =
+    compare_cancel set r t on tells owning n (irql_of level) (slice_get r.world.threads t)
 compare_event set r (Interrupt d) on tells owning = compare_interrupt set r on d (dpc_of set d)
 compare_event set r (Dpc t d) on tells owning =
     compare_dpc set r t on tells owning d (slice_get r.world.threads t) (dpc_of set d)

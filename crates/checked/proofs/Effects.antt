@@ -3,6 +3,7 @@
 use Rattle.std.proofs.Common.{◌≡◌, ℕ, List, [], ◌∷◌, Option, None, Some, Bool, true, false, refl, ap, inl, inr}
 use Rattle.std.specs.Prelude.{not, nat_lt}
 use Rattle.std.proofs.lemmas.Bool.{cases_Bool}
+use Rattle.model.specs.declared.world.CancelStep.{CancelStep}
 use Rattle.model.specs.declared.world.Frame.{Frame}
 use Rattle.model.specs.declared.world.Packet.{Packet}
 use Rattle.model.specs.declared.instr.Instr.{Instr}
@@ -13,6 +14,7 @@ use Rattle.model.specs.declared.event.Bug.{Bug}
 use Rattle.model.specs.declared.event.BugCheck.{BugCheck}
 use Rattle.model.specs.declared.event.BugCheck.TheVariants.{IrqlNotLessOrEqual, SpinLockAlreadyOwned, SpinLockNotOwned, NoMoreIrpStackLocations}
 use Rattle.model.specs.declared.event.Lock.{Lock}
+use Rattle.model.specs.declared.event.Lock.TheVariants.{SystemCancel}
 use Rattle.model.specs.declared.event.OfDevice.{OfDevice}
 use Rattle.model.specs.declared.event.Reply.{Reply}
 use Rattle.model.specs.declared.event.Reply.TheVariants.{Bug as BugCheckReply}
@@ -25,7 +27,7 @@ use Rattle.model.specs.Queues.{StartState}
 use Rattle.model.specs.Set.{Set}
 use Rattle.model.specs.Trace.{Actor, Entry}
 use Rattle.model.specs.World.{Shared, packet_of, packet_in, register}
-use Rattle.run_laws.proofs.Steps.Comes.{Comes, Queued, inserts, removes, removes_none, starts_packet, takes_out, takes_none, puts_in, starts_next, works_on_queues, ends_startio, errs, awaits_lock, computes, opens_loop, turns_loop, pages, touches_gone, looks_at, writes_info, marks_packet, takes_lock, retakes_lock, frees_lock, completes_packet, completes_gone, passes_down, calls_down, ends_dpc, returns_status, lets_go, lets_walk, walks_gone, walks_to, walks_up, carries_up, tops_out}
+use Rattle.run_laws.proofs.Steps.Comes.{Cancels, Comes, Queued, inserts, unlinks, removes, removes_none, starts_packet, takes_out, takes_none, puts_in, starts_next, works_on_queues, ends_startio, errs, awaits_lock, computes, opens_loop, turns_loop, pages, touches_gone, looks_at, writes_info, marks_packet, exchanges, takes_lock, retakes_lock, frees_lock, completes_packet, completes_gone, passes_down, calls_down, ends_dpc, returns_status, lets_go, lets_walk, resumes_walk, resumes_gone, resumes_none, stops_walk, stops_none, ends_cancel, walks_gone, walks_to, lends_to, walks_up, carries_up, tops_out, cancels, takes_cancel, retakes_cancel, awaits_cancel, flags_gone, sets_flag, exchanges_gone, finds_empty, finds_none, calls_cancel}
 use Rattle.run_laws.proofs.Steps.Walk.{comes}
 use Rattle.checked.specs.Step.{first_now}
 use Rattle.checked.proofs.Known.{Known, runs}
@@ -95,11 +97,26 @@ module _ (past : List Entry) (actor : Actor) (s : Shared) (known : Known s past)
   queued_fine a i b queues starts actions full (inserts r q n entries reads there) = touched n
   queued_fine a i b queues starts actions full (removes r q label n entries there) = touched n
   queued_fine a i b queues starts actions full (removes_none r q label there) = refl
+  queued_fine a i b queues starts actions full (unlinks r q n entries reads there) = touched n
   queued_fine a i b queues starts actions full (starts_packet r n start reads there) = touched n
   queued_fine a i b queues starts actions full (takes_out r label n start there slot) = refl
   queued_fine a i b queues starts actions full (takes_none r label start there slot) = refl
   queued_fine a i b queues starts actions full (puts_in r n start reads there) = touched n
   queued_fine a i b queues starts actions full (starts_next start there) = refl
+
+  -- a step of IoCancelIrp takes the system cancel spin lock, or frees it at its end
+  cancel_fine : (set : Set) (n : ℕ) (step : CancelStep) (o : Outcome)
+      → Cancels set s actor.thread n step o → Fine o
+  cancel_fine set n step o (takes_cancel there) = (acquired SystemCancel, refl)
+  cancel_fine set n step o (retakes_cancel there) = (acquired SystemCancel, refl)
+  cancel_fine set n step o (awaits_cancel owner there other) = (refl, refl)
+  cancel_fine set n step o (flags_gone there) = (released SystemCancel, refl)
+  cancel_fine set n step o (sets_flag p there) = (refl, refl)
+  cancel_fine set n step o (exchanges_gone there) = (released SystemCancel, refl)
+  cancel_fine set n step o (finds_empty p there none) = (released SystemCancel, refl)
+  cancel_fine set n step o (finds_none p armer there set_there none) =
+      (released SystemCancel, refl)
+  cancel_fine set n step o (calls_cancel p armer routine there set_there found) = (refl, refl)
 
   -- a step of each shape
   fine : (set : Set) (under : Option Frame) (f : Frame) (o : Outcome)
@@ -115,6 +132,8 @@ module _ (past : List Entry) (actor : Actor) (s : Shared) (known : Known s past)
       (touched n, refl)
   fine set under f o (writes_info a q r n p info runs reads there is) = (touched n, refl)
   fine set under f o (marks_packet a r n p runs reads there) = (touched n, refl)
+  fine set under f o (exchanges a i b jumped r n p armer runs works goes operand reads there now) =
+      (touched n, refl)
   fine set under f o (takes_lock a i lock runs takes there) = (acquired lock, refl)
   fine set under f o (retakes_lock a i lock runs takes there) = (acquired lock, refl)
   fine set under f o (frees_lock a i lock owner runs frees there) = (released lock, refl)
@@ -127,15 +146,23 @@ module _ (past : List Entry) (actor : Actor) (s : Shared) (known : Known s past)
   fine set under f o (returns_status a form status runs sort returns) = (refl, refl)
   fine set under f o (lets_go a runs sort under_is) = (refl, refl)
   fine set under f o (lets_walk a n runs sort) = (touched n, refl)
+  fine set under f o (resumes_walk a n p runs sort there) = (touched n, refl)
+  fine set under f o (resumes_gone a n runs sort there) = (touched n, refl)
+  fine set under f o (resumes_none a runs sort under_is) = (refl, refl)
+  fine set under f o (stops_walk a n runs sort) = (refl, refl)
+  fine set under f o (stops_none a runs sort under_is) = (refl, refl)
   fine set under f o (ends_dpc a runs sort) = (refl, refl)
   fine set under f o (ends_startio a runs sort) = (refl, refl)
+  fine set under f o (ends_cancel a runs sort) = (refl, refl)
   fine set under f o (works_on_queues a i b queues starts actions full runs queued) =
       (queued_fine a i b queues starts actions full queued, refl)
   fine set under f o (walks_gone n there) = (touched n, refl)
-  fine set under f o (walks_to n p c there set_there) = (touched n, refl)
+  fine set under f o (walks_to n p c there set_there sort) = (touched n, refl)
+  fine set under f o (lends_to n p c there set_there sort) = (touched n, refl)
   fine set under f o (walks_up n p there none deep unmarked) = (touched n, refl)
   fine set under f o (carries_up n p there none deep marked) = (touched n, refl)
   fine set under f o (tops_out n p there none top) = (touched n, refl)
+  fine set under f o (cancels n step _ comes) = cancel_fine set n step o comes
 
   -- every step of a frame
   pub fine_frame : (set : Set) (under : Option Frame) (f : Frame)

@@ -3,10 +3,8 @@
 use Rattle.std.proofs.Common.{◌≡◌, ℕ, suc, List, Option, None, Some, Bool, true, false, refl, ap, sym, ◌∙◌, inl, inr, arith, ◌<◌, ◌≤◌, length}
 use Rattle.std.specs.Prelude.{◌||◌, ◌&&◌, not, nat_lt, nat_le}
 use Rattle.std.proofs.lemmas.Bool.Decides.{leb_tells}
-use Rattle.model.specs.declared.event.BugCheck.{BugCheck}
-use Rattle.model.specs.declared.event.BugCheck.TheVariants.{MultipleIrpCompleteRequests}
+use Rattle.model.specs.declared.event.BugCheck.TheVariants.{MultipleIrpCompleteRequests, CancelStateInCompletedIrp}
 use Rattle.model.specs.declared.event.Lock.{Lock}
-use Rattle.model.specs.declared.event.Subject.{Subject}
 use Rattle.model.specs.declared.event.Subject.TheVariants.{Packet as PacketSubject}
 use Rattle.model.specs.declared.world.Packet.{Packet}
 use Rattle.model.specs.Fault.{bug_if, first_or, completion_fault, holds, holds_any, topped, stack_size, depth, at_dispatch, is_dispatch_level}
@@ -16,7 +14,7 @@ use Rattle.model.specs.World.{Shared, packet_of}
 use Rattle.run_laws.specs.PastTells.{PastTells, TellsOfPacket}
 use Rattle.irql_locks.specs.Owns.{owns, owns_any, OwningTells, OwnsSome}
 use Rattle.checked.specs.declared.frame.Runner.{Runner}
-use Rattle.checked.specs.Step.{is_gone, is_held, is_full, is_raised}
+use Rattle.checked.specs.Step.{is_gone, is_held, is_armed, is_full, is_raised}
 
 -- who runs, of who acts
 abbrev pub runs : Actor → Runner
@@ -25,8 +23,10 @@ runs actor = record { thread = actor.thread; root = actor.root }
 pub record Known (s : Shared) (past : List Entry) : Type 0 where
   pub gone : (n : ℕ) → topped past n ≡ is_gone s n
   pub completes : (n : ℕ) → nat_lt n s.issued ≡ true →
-      completion_fault past n ≡ bug_if (is_gone s n || is_held (packet_of s n))
-      MultipleIrpCompleteRequests (PacketSubject n)
+      completion_fault past n ≡ first_or
+      (bug_if (is_gone s n || is_held (packet_of s n)) MultipleIrpCompleteRequests
+      (PacketSubject n))
+      (bug_if (is_armed (packet_of s n)) CancelStateInCompletedIrp (PacketSubject n))
   pub full : (n : ℕ) (p : Packet) → packet_of s n ≡ Some p
       → nat_le (stack_size past n) (depth past n) ≡ is_full (packet_of s n)
   pub locks : (t : ℕ) (l : Lock) → holds past t l ≡ owns s.locks t l
@@ -55,11 +55,6 @@ both_ways true b there back = sym (there refl)
 both_ways false true there back = back refl
 both_ways false false there back = refl
 
-or_none : (b : Bool) (check : BugCheck) (subject : Subject)
-    → first_or (bug_if b check subject) None ≡ bug_if b check subject
-or_none true check subject = refl
-or_none false check subject = refl
-
 module _ (r : Run) (tells : PastTells r) (owning : OwningTells) where
   abbrev shared : Shared
   shared = r.world.shared
@@ -67,8 +62,10 @@ module _ (r : Run) (tells : PastTells r) (owning : OwningTells) where
   -- of a packet that was issued
   completed_as : (n : ℕ) (o : Option Packet) → packet_of shared n ≡ o
       → nat_lt n shared.issued ≡ true →
-      completion_fault r.past n ≡ bug_if (is_gone shared n || is_held (packet_of shared n))
-      MultipleIrpCompleteRequests (PacketSubject n)
+      completion_fault r.past n ≡ first_or
+      (bug_if (is_gone shared n || is_held (packet_of shared n)) MultipleIrpCompleteRequests
+      (PacketSubject n))
+      (bug_if (is_armed (packet_of shared n)) CancelStateInCompletedIrp (PacketSubject n))
   completed_as n None there issued =
       let gone : is_gone shared n ≡ true = rw (issued, there) refl in
       let before : topped r.past n ≡ true = tells.gone n ∙ gone in
@@ -77,8 +74,7 @@ module _ (r : Run) (tells : PastTells r) (owning : OwningTells) where
       let here : is_gone shared n ≡ false = rw there (and_false (nat_lt n shared.issued)) in
       let before : topped r.past n ≡ false = tells.gone n ∙ here in
       let its : TellsOfPacket r.past n p = tells.live n p there in
-      rw (before, here, there, its.completion, its.disarmed)
-      (or_none p.completing MultipleIrpCompleteRequests (PacketSubject n))
+      rw (before, here, there, its.completion, its.armed) refl
 
   full_as : (n : ℕ) (p : Packet) → packet_of shared n ≡ Some p →
       nat_le (stack_size r.past n) (depth r.past n) ≡ is_full (packet_of shared n)

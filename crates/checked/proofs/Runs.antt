@@ -3,7 +3,7 @@ use Rattle.std.proofs.Common.{◌≡◌, List, [], ◌∷◌, ◌++◌, Bool, tr
 use Rattle.model.specs.declared.event.Event.{Event}
 use Rattle.model.specs.declared.event.Reply.{Reply}
 use Rattle.model.specs.declared.event.Reply.TheVariants.{Refused}
-use Rattle.model.specs.Effect.{effect}
+use Rattle.model.specs.Events.{effect}
 use Rattle.model.specs.Machine.{Applies}
 use Rattle.model.specs.Run.{Run, Answered, answered_on, begun, refused, thread_of, step, run_from, run}
 use Rattle.model.specs.Set.{Set}

@@ -1,13 +1,14 @@
 -- A step of a thread's top frame, where it stands.
-use Rattle.std.proofs.Common.{◌≡◌, ◌-◌, ℕ, List, [], ◌∷◌, ◌++◌, Option, None, Some, false, length, take, refl, ap, ◌∙◌, length-append, append_assoc, append-nil}
+use Rattle.std.proofs.Common.{◌≡◌, ◌-◌, ℕ, List, [], ◌∷◌, ◌++◌, Option, None, Some, true, false, length, take, refl, ap, ◌∙◌, length-append, append_assoc, append-nil}
 use Rattle.std.specs.Prelude.{slice_get, slice_set}
 use Rattle.std.specs.List.{IsLastAndRest, refill}
 use Rattle.model.specs.declared.event.Reply.{Reply}
 use Rattle.model.specs.declared.world.Frame.{Frame}
-use Rattle.model.specs.declared.world.Frame.TheVariants.{Routine, Walk}
+use Rattle.model.specs.declared.world.Frame.TheVariants.{Routine, Walk, Cancel}
 use Rattle.model.specs.declared.world.Irql.{Irql}
 use Rattle.model.specs.declared.world.Thread.{Thread}
-use Rattle.model.specs.Effect.{answered, finished_or, root_over, told_to, told_top, with_stack}
+use Rattle.model.specs.Effect.{answered, told_to, told_top}
+use Rattle.model.specs.Events.{finished_or, root_over, with_stack}
 use Rattle.model.specs.Set.{Set}
 use Rattle.model.specs.World.{Shared}
 use Rattle.model.specs.declared.event.Reply.TheVariants.{Stepped}
@@ -99,11 +100,26 @@ module _ (set : Set) (s : Shared) (n : ℕ) (thread : Thread) (below : List Fram
       moved (gone after reply told) same in
       rw (append-nil (told_to set below told)) at now
 
+  -- the frame goes, and the I/O manager's below it too
+  abbrev pub stopped : Shared → Left
+  stopped after =
+      record { shared = after; frames = []; reply = Stepped; taken_below = true; told = None }
+
+  pub moved_stopped : (after : Shared)
+      → stopped after ≡ frame_now set s (runner n thread) below f →
+      moved_as after (with_stack thread (take (length below - 1) below))
+      (finished_or (take (length below - 1) below) Stepped) ≡ thread_now set s n thread
+  moved_stopped after same =
+      let now : moved_by set thread below (stopped after) ≡ thread_now set s n thread =
+      moved (stopped after) same in
+      rw (append-nil (take (length below - 1) below)) at now
+
 -- the frame on the top is told a status
 pub told_by : (set : Set) (items : List Frame) (status : Status) (f : Frame)
     → slice_get items (length items - 1) ≡ Some f →
     slice_set items (length items - 1) (told_frame set status f) ≡ told_top set items status
     (Some f)
 told_by set items status (Walk n) there = set_back items (length items - 1) (Walk n) there
+told_by set items status (Cancel c) there = set_back items (length items - 1) (Cancel c) there
 told_by set items status (Routine a) there =
     set_last items (Routine a) (Routine (answered set a status)) there

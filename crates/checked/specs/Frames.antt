@@ -2,22 +2,36 @@
 use Rattle.std.specs.Prelude.{ℕ, Option, None, Some}
 use Rattle.model.specs.declared.status.Status.{Status}
 use Rattle.model.specs.declared.world.Activation.{Activation}
+use Rattle.model.specs.declared.world.CancelStep.{CancelStep}
 use Rattle.model.specs.declared.world.Frame.{Frame}
-use Rattle.model.specs.declared.world.Frame.TheVariants.{Routine, Walk}
+use Rattle.model.specs.declared.world.Frame.TheVariants.{Routine, Walk, Cancel}
 use Rattle.model.specs.Effect.{answered}
 use Rattle.model.specs.Set.{Set}
+use Rattle.checked.specs.declared.frame.Managing.{Managing}
+use Rattle.checked.specs.declared.frame.Managing.TheVariants.{Completes, Cancels}
 
--- the I/O manager's frame where there is a packet that it completes, and else a routine's
-abbrev pub shown : Option ℕ → Activation → Frame
-shown (Some n) a = Walk n
+-- the I/O manager's frame, of what it does
+abbrev pub manager_frame : Managing → Frame
+manager_frame (Completes n) = Walk n
+manager_frame (Cancels c) = Cancel c
+
+-- its frame where it does something, and else a routine's
+abbrev pub shown : Option Managing → Activation → Frame
+shown (Some m) a = manager_frame m
 shown None a = Routine a
+
+-- its frame where it cancels a packet, and does this next
+abbrev pub cancels_next : ℕ → CancelStep → Frame
+cancels_next n step = Cancel (record { packet = n; next = step })
 
 -- the packet that a frame completes
 abbrev pub walked_packet : Frame → Option ℕ
 walked_packet (Walk n) = Some n
 walked_packet (Routine a) = None
+walked_packet (Cancel c) = None
 
 -- a frame that is told a status
 abbrev pub told_frame : Set → Status → Frame → Frame
 told_frame set status (Walk n) = Walk n
 told_frame set status (Routine a) = Routine (answered set a status)
+told_frame set status (Cancel c) = Cancel c

@@ -1,11 +1,11 @@
 -- What the machine's own account of a frame's step says.
-use Rattle.std.specs.Prelude.{ℕ, ◌≡◌, ◌+◌, Bool, false, List, [], ◌∷◌, None, Some, nat_lt}
+use Rattle.std.specs.Prelude.{ℕ, ◌≡◌, ◌+◌, Bool, true, false, List, [], ◌∷◌, None, Some, nat_lt}
 use Rattle.model.specs.declared.event.Reply.{Reply}
 use Rattle.model.specs.declared.event.Reply.TheVariants.{Stepped, Wrong}
 use Rattle.model.specs.declared.limits.TheConstants.{MAX_FRAMES}
 use Rattle.model.specs.declared.world.Activation.{Activation}
 use Rattle.model.specs.declared.world.Frame.{Frame}
-use Rattle.model.specs.declared.world.Frame.TheVariants.{Routine, Walk}
+use Rattle.model.specs.declared.world.Frame.TheVariants.{Routine}
 use Rattle.model.specs.declared.world.Value.TheVariants.{Ref}
 use Rattle.model.specs.declared.instr.Instr.{Instr}
 use Rattle.model.specs.Effect.{Outcome, instruction_effect, top_of}
@@ -14,13 +14,14 @@ use Rattle.model.specs.World.{Shared, entered}
 use Rattle.checked.specs.declared.frame.Over.{Over}
 use Rattle.checked.specs.declared.frame.Over.TheVariants.{Manager, Routine as RoutineOver}
 use Rattle.checked.specs.declared.frame.Ran.{Ran}
-use Rattle.checked.specs.declared.frame.Ran.TheVariants.{Stays, Under, Gone, Returned}
+use Rattle.checked.specs.declared.frame.Ran.TheVariants.{Stays, Under, Becomes, Gone, Stopped, Returned}
 use Rattle.checked.specs.declared.frame.Runner.{Runner}
+use Rattle.checked.specs.Frames.{manager_frame}
 use Rattle.checked.specs.Step.{Left, judged, bounded, stays}
 
--- a frame that is put over another
+-- a frame that is put over another, or into its place
 abbrev pub frame_over : Over → Frame
-frame_over (Manager n) = Walk n
+frame_over (Manager m) = manager_frame m
 frame_over (RoutineOver driver routine device packet) =
     Routine (entered driver routine device (Ref packet))
 
@@ -43,8 +44,11 @@ left_of s f (Under over) =
       taken_below = false;
       told = None;
     }
+left_of s f (Becomes over) = stays s (frame_over over) Stepped
 left_of s f (Gone reply) =
     record { shared = s; frames = []; reply = reply; taken_below = false; told = None }
+left_of s f Stopped =
+    record { shared = s; frames = []; reply = Stepped; taken_below = true; told = None }
 left_of s f (Returned status) =
     record { shared = s; frames = []; reply = Stepped; taken_below = false; told = Some status }
 

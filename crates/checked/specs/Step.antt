@@ -1,20 +1,21 @@
 -- An event as a machine does it that keeps no trace: it reads the bug checks from the packets and
 -- the locks that it holds, and tells from its reply whether it stops.
-use Rattle.std.specs.Prelude.{ℕ, ◌+◌, ◌-◌, ◌&&◌, ◌||◌, not, Bool, true, false, List, [], ◌∷◌, ◌++◌, length, Option, None, Some, is_none, nat_lt, take, slice_get, if◌then◌else◌}
+use Rattle.std.specs.Prelude.{ℕ, ◌+◌, ◌-◌, ◌&&◌, ◌||◌, not, Bool, true, false, List, [], ◌∷◌, ◌++◌, length, Option, None, Some, is_none, is_some, nat_lt, take, slice_get, if◌then◌else◌}
 use Rattle.model.specs.declared.world.Frame.{Frame}
 use Rattle.model.specs.declared.world.Thread.{Thread}
 use Rattle.model.specs.declared.world.Packet.{Packet}
 use Rattle.model.specs.declared.limits.TheConstants.{MAX_FRAMES}
 use Rattle.model.specs.declared.status.Status.{Status}
 use Rattle.model.specs.declared.event.Event.{Event}
-use Rattle.model.specs.declared.event.Event.TheVariants.{Issue, Interrupt, Dpc, StartIo, Step}
+use Rattle.model.specs.declared.event.Event.TheVariants.{Issue, Cancel, Interrupt, Dpc, StartIo, Step}
 use Rattle.model.specs.declared.event.Bug.{Bug}
-use Rattle.model.specs.declared.event.BugCheck.TheVariants.{IrqlNotLessOrEqual, SpinLockAlreadyOwned, SpinLockNotOwned, NoMoreIrpStackLocations, MultipleIrpCompleteRequests}
+use Rattle.model.specs.declared.event.BugCheck.TheVariants.{IrqlNotLessOrEqual, SpinLockAlreadyOwned, SpinLockNotOwned, NoMoreIrpStackLocations, MultipleIrpCompleteRequests, CancelStateInCompletedIrp}
 use Rattle.model.specs.declared.event.Subject.TheVariants.{Packet as PacketSubject, Lock as LockSubject, Cell}
 use Rattle.model.specs.declared.event.Reply.{Reply}
 use Rattle.model.specs.declared.event.Reply.TheVariants.{Started, Stepped, Finished, Topped, Waited, Idle, Refused, Bug as BugCheckReply, Wrong}
 use Rattle.model.specs.Action.{Action, Executes, Acquires, Releases, TouchesPaged, Touches, Issues, Calls, Ups, Completes, Continues, Lends, Exchanges, Marks, Leaves, Returns, TopsOut, GoesWrong}
-use Rattle.model.specs.Effect.{Outcome, Change, frame_effect, top_of, told_to, kept_below, with_stack, with_thread, issue_on, interrupt_on, dpc_on, startio_on, finished_or}
+use Rattle.model.specs.Effect.{Outcome, frame_effect, top_of, told_to, kept_below}
+use Rattle.model.specs.Events.{Change, with_stack, with_thread, issue_on, irql_of, cancel_on, interrupt_on, dpc_on, startio_on, finished_or}
 use Rattle.model.specs.Fault.{bug_if, first_or, is_dispatch_level}
 use Rattle.model.specs.Machine.{Machine}
 use Rattle.model.specs.Set.{Set, dpc_of, startio_of}
@@ -30,6 +31,11 @@ is_gone s n = nat_lt n s.issued && is_none (packet_of s n)
 abbrev pub is_held : Option Packet → Bool
 is_held None = false
 is_held (Some p) = p.completing
+
+-- a live packet has a cancel routine
+abbrev pub is_armed : Option Packet → Bool
+is_armed None = false
+is_armed (Some p) = is_some p.armer
 
 -- a live packet is at its last location
 abbrev pub is_full : Option Packet → Bool
@@ -48,7 +54,9 @@ fault_now s r (TouchesPaged c) = bug_if (is_raised s r) IrqlNotLessOrEqual (Cell
 fault_now s r (Touches n) = bug_if (is_gone s n) IrqlNotLessOrEqual (PacketSubject n)
 fault_now s r (Calls n) = bug_if (is_full (packet_of s n)) NoMoreIrpStackLocations (PacketSubject n)
 fault_now s r (Completes n) =
-    bug_if (is_gone s n || is_held (packet_of s n)) MultipleIrpCompleteRequests (PacketSubject n)
+    first_or
+    (bug_if (is_gone s n || is_held (packet_of s n)) MultipleIrpCompleteRequests (PacketSubject n))
+    (bug_if (is_armed (packet_of s n)) CancelStateInCompletedIrp (PacketSubject n))
 fault_now s r Executes = None
 fault_now s r (Issues n stack) = None
 fault_now s r (Ups n) = None
@@ -177,6 +185,8 @@ ended c = record { world = c.world; reply = c.reply }
 abbrev pub event_now : Set → World → Event → Ended
 event_now set w (Issue t d major argument) =
     ended (issue_on set w t d major argument (slice_get w.threads t) (slice_get set.devices d))
+event_now set w (Cancel t n level) =
+    ended (cancel_on w t n (irql_of level) (slice_get w.threads t))
 event_now set w (Interrupt d) = ended (interrupt_on w d (dpc_of set d))
 event_now set w (Dpc t d) = ended (dpc_on set w t d (slice_get w.threads t) (dpc_of set d))
 event_now set w (StartIo t d) =

@@ -1,17 +1,19 @@
 //! Routines that begin, and what they are told.
 
-ghost use Rattle.std.specs.Prelude.{◌≡◌, Some, slice_get};
+ghost use Rattle.std.specs.Prelude.{◌≡◌, Some, option_map, slice_get};
 ghost use Rattle.checked.specs.Ran.{frame_over};
 ghost use Rattle.model.specs.declared.world.Frame.TheVariants.{Routine as RoutineFrame};
+ghost use Rattle.model.specs.declared.world.Value.TheVariants.{Ref};
+ghost use Rattle.model.specs.Set.{cancel_routine_named};
 ghost use Rattle.model.specs.World.{entered as entered_of};
-ghost use Rattle.model.specs.Effect.{serving_for as serving_for_of, dispatched as dispatched_of, completes_with, operand_of, answered_in, answered};
+ghost use Rattle.model.specs.Effect.{serving_for as serving_for_of, dispatched as dispatched_of, completes_with, routine_of_device, operand_of, answered_in, answered};
 
 use crate::frame::Over;
 use arrayvec::ArrayVec;
 use image::{DriverSet, Instr};
 use model::limits::{DEFAULT_ROUTINE, REGISTERS};
 use model::status::{Major, Status};
-use model::world::{Activation, Completion, Value};
+use model::world::{Activation, Armer, Completion, Value};
 
 /// A routine that begins, with what it is handed in its first register.
 pub fn entered(driver: u8, routine: u8, device: u8, first: Value) -> Activation
@@ -26,6 +28,16 @@ pub fn entered(driver: u8, routine: u8, device: u8, first: Value) -> Activation
         position: 0,
         loops: ArrayVec::new(),
         registers,
+    }
+}
+
+/// The number of the driver of a device.
+pub fn driver_of(set: &DriverSet, device: u8) -> u8
+    ensures { result ≡ routine_of_device (slice_get set.now.devices device) }
+{
+    match set.devices().get(device as usize) {
+        Some(device) => device.driver,
+        None => 0,
     }
 }
 
@@ -68,16 +80,29 @@ pub fn dispatched(set: &DriverSet, device: u8, major: Option<Major>, packet: u64
 pub fn completing(set: &DriverSet, completion: Completion, packet: u64) -> Over
     ensures { frame_over result ≡ RoutineFrame (completes_with set.now completion packet) }
 {
-    let driver = match set.devices().get(completion.device as usize) {
-        Some(device) => device.driver,
-        None => 0,
-    };
     Over::Routine {
-        driver,
+        driver: driver_of(set, completion.device),
         routine: completion.routine,
         device: completion.device,
         packet,
     }
+}
+
+/// The cancel routine begins of the list that a packet's cancel word names, if that has one.
+pub fn cancelled_by(set: &DriverSet, armer: Armer, packet: u64) -> Option<Over>
+    ensures { let driver = routine_of_device (slice_get set.now.devices armer.device) in
+        option_map (λ over. frame_over over) result
+        ≡ option_map (λ routine. RoutineFrame (entered_of driver routine armer.device (Ref packet)))
+        (cancel_routine_named set.now driver armer.queue) }
+{
+    let driver = driver_of(set, armer.device);
+    let routine = set.cancel_routine_named(driver, armer.queue)?;
+    Some(Over::Routine {
+        driver,
+        routine,
+        device: armer.device,
+        packet,
+    })
 }
 
 /// The register of a `pass` or a `call` becomes the status that the lower driver returned.

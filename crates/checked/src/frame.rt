@@ -1,6 +1,7 @@
 //! The frames of a thread, and what a step leaves of the one that ran.
 
 ghost use Rattle.std.specs.Prelude.{◌≡◌};
+ghost use Rattle.checked.specs.Frames.{cancels_next};
 ghost use Rattle.checked.specs.Ran.{frame_over as frame_over_of, is_last as is_last_over, left_of, wrong_reply};
 ghost use Rattle.checked.specs.Step.{frame_now};
 
@@ -11,15 +12,24 @@ use image::DriverSet;
 use model::event::{Bug, BugCheck, Place, Reply, Subject};
 use model::limits::MAX_FRAMES;
 use model::status::Status;
-use model::world::{Activation, Irql, Value};
+use model::world::{Activation, CancelStep, Canceller, Irql, Value};
 use std::marker::Model;
+
+/// What the I/O manager does, where a frame is its.
+#[derive(Clone, Copy)]
+pub enum Managing {
+    /// It completes the packet of this number.
+    Completes(u64),
+    /// It cancels a packet.
+    Cancels(Canceller),
+}
 
 /// One frame of a thread: a routine that runs, or the I/O manager's. It is a struct, and no enum,
 /// so that a routine is stepped where it stands.
 #[derive(Drop)]
 pub struct Frame {
-    /// The packet that the I/O manager completes, where the frame is its.
-    completes: Option<u64>,
+    /// What the I/O manager does, where the frame is its.
+    manager: Option<Managing>,
     /// The routine that runs, where it isn't.
     activation: Activation,
 }
@@ -30,7 +40,7 @@ impl Model for Frame {
 
     ghost Value = { Frame };
 
-    ghost view = { λ f. shown f.completes f.activation };
+    ghost view = { λ f. shown f.manager f.activation };
 }
 
 /// Who runs: a thread by its number, and the level of its lowest frame.
@@ -40,11 +50,11 @@ pub struct Runner {
     pub root: Irql,
 }
 
-/// A frame that is put over the one that ran.
+/// A frame that is put over the one that ran, or into its place.
 #[derive(Clone, Copy)]
 pub enum Over {
-    /// The I/O manager's, which completes the packet of this number.
-    Manager(u64),
+    /// The I/O manager's.
+    Manager(Managing),
     /// That of a routine, which is handed a packet.
     Routine {
         driver: u8,
@@ -61,8 +71,12 @@ pub enum Ran {
     Stays(Reply),
     /// The frame, and this one over it.
     Under(Over),
+    /// This one.
+    Becomes(Over),
     /// Nothing.
     Gone(Reply),
+    /// Nothing, and the I/O manager's frame below is gone too.
+    Stopped,
     /// Nothing, and the frame below is told this status.
     Returned(Status),
 }
@@ -70,7 +84,7 @@ pub enum Ran {
 impl Default for Frame {
     fn default() -> Frame {
         Frame {
-            completes: Some(0),
+            manager: Some(Managing::Completes(0)),
             activation: entered(0, 0, 0, Value::Blank),
         }
     }
@@ -85,7 +99,7 @@ impl Frame {
         ensures { result ≡ RoutineFrame activation }
     {
         Frame {
-            completes: None,
+            manager: None,
             activation,
         }
     }
@@ -95,8 +109,8 @@ impl Frame {
         ensures { result ≡ frame_over_of over }
     {
         match over {
-            Over::Manager(n) => Frame {
-                completes: Some(n),
+            Over::Manager(managing) => Frame {
+                manager: Some(managing),
                 activation: entered(0, 0, 0, Value::Blank),
             },
             Over::Routine {
@@ -108,11 +122,14 @@ impl Frame {
         }
     }
 
-    /// The packet that the I/O manager completes, where the frame is its.
+    /// The packet that the I/O manager completes, where the frame is of that.
     pub fn completed_packet(&self) -> Option<u64>
         ensures { result ≡ walked_packet self.now }
     {
-        self.completes
+        match self.manager? {
+            Managing::Completes(n) => Some(n),
+            Managing::Cancels(_) => None,
+        }
     }
 
     /// A step of the frame, over the frames `below`.
@@ -126,8 +143,9 @@ impl Frame {
         ensures { left_of shared.new self.new result
             ≡ frame_now set.now shared.old runner below.now self.old }
     {
-        match self.completes {
-            Some(n) => shared.walk(set, below, n),
+        match self.manager {
+            Some(Managing::Completes(n)) => shared.walk(set, below, n),
+            Some(Managing::Cancels(canceller)) => shared.cancel(set, runner, canceller),
             None => routine::step(set, shared, runner, below, &mut self.activation),
         }
     }
@@ -136,7 +154,7 @@ impl Frame {
     pub fn tell(&mut self, set: &DriverSet, status: Status)
         ensures { self.new ≡ told_frame set.now status self.old }
     {
-        if self.completes.is_none() {
+        if self.manager.is_none() {
             answer(set, &mut self.activation, status);
         }
     }
@@ -158,6 +176,13 @@ pub fn wrong_at(a: &Activation) -> Reply
         routine: a.routine,
         position: a.position,
     })
+}
+
+/// Goes on with the cancelling of a packet.
+pub fn cancelling(packet: u64, next: CancelStep) -> Over
+    ensures { frame_over_of result ≡ cancels_next packet next }
+{
+    Over::Manager(Managing::Cancels(Canceller { packet, next }))
 }
 
 /// A bug check about a packet.

@@ -17,10 +17,10 @@ use model::event::{Lock, Reply};
 use model::world::{Activation, Value};
 
 /// `ret ..`: the routine returns, in a form of its sort. It stands over the frames `below`.
-fn leave(set: &DriverSet, shared: &Shared, below: &[Frame], a: &Activation, form: Return) -> Ran
+fn leave(set: &DriverSet, shared: &mut Shared, below: &[Frame], a: &Activation, form: Return) -> Ran
     ensures { let sort = sort_of set.now a.now.driver a.now.routine in
-        let returned = return_effect shared.now a.now (top_of below.now) sort form in
-        LeavesOver below.now shared.now a.now returned shared.now a.now result }
+        let returned = return_effect shared.old a.now (top_of below.now) sort form in
+        LeavesOver below.now shared.old a.now returned shared.new a.now result }
 {
     match (set.sort(a.driver, a.routine), form) {
         (Sort::Dispatch, Return::WithStatus(status)) => Ran::Returned(status),
@@ -28,8 +28,11 @@ fn leave(set: &DriverSet, shared: &Shared, below: &[Frame], a: &Activation, form
             Some(status) => Ran::Returned(status),
             None => Ran::Stays(wrong_at(a)),
         },
-        (Sort::StartIo | Sort::Dpc, Return::Void) => Ran::Gone(Reply::Stepped),
+        (Sort::StartIo | Sort::Dpc | Sort::Cancel, Return::Void) => Ran::Gone(Reply::Stepped),
         (Sort::Propagate, Return::Continue) => shared.go_on(below),
+        (Sort::Hold, Return::Continue) => shared.give_back(below),
+        (Sort::Propagate, Return::Stop) => shared.stop(below),
+        (Sort::Hold, Return::Stop) => shared.stop(below),
         _ => Ran::Stays(wrong_at(a)),
     }
 }
@@ -71,6 +74,10 @@ fn execute(
         Instr::ReleaseCancel => shared.release(runner, Lock::SystemCancel, a),
         Instr::Insert(r, q) => shared.insert(r, q, a),
         Instr::Remove(r, q, label) => shared.remove(r, q, label, a),
+        Instr::Unlink(r, q) => shared.unlink(r, q, a),
+        Instr::Arm(r, q) => shared.arm(set, r, q, a),
+        Instr::Disarm(r, label) => shared.disarm(r, label, a),
+        Instr::IfCancel(r, label) => shared.jump_if_cancelled(r, label, a),
         Instr::Start(r) => shared.start(r, a),
         Instr::Take(r, label) => shared.take(r, label, a),
         Instr::Begin(r) => shared.begin(r, a),

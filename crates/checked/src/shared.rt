@@ -1,6 +1,6 @@
 //! What the threads of a run share.
 
-ghost use Rattle.std.specs.Prelude.{◌≡◌, ◌≤◌, [], IfOk, IsSome, IsTrue, Some, option_map, replicate};
+ghost use Rattle.std.specs.Prelude.{◌≡◌, ◌≤◌, [], IfOk, IsSome, IsTrue, Some, nat_lt, option_map, replicate};
 ghost use Rattle.model.specs.declared.limits.TheConstants.{MAX_QUEUES, MAX_STACK};
 ghost use Rattle.model.specs.Queues.{StartState, idle, without_first_to_start};
 
@@ -15,6 +15,7 @@ use model::world::{Cells, Irql, Value};
 use std::alloc::{AllocError, Global};
 use std::marker::Model;
 
+mod cancelling;
 mod cells;
 mod completion;
 mod forwarding;
@@ -79,7 +80,7 @@ fn idle_devices(alloc: Global, devices: usize) -> Result<Vec<DeviceQueue>, Alloc
 }
 
 impl Shared {
-    ghost use Rattle.model.specs.Effect.{can_issue, with_new_packet};
+    ghost use Rattle.model.specs.Events.{can_issue, with_new_packet};
     ghost use Rattle.model.specs.World.{unused, packet_in, start_of, with_start, is_queued, with_dpc};
     ghost use Rattle.checked.specs.Step.{is_gone, is_raised};
 
@@ -170,10 +171,17 @@ impl Shared {
         self.packet_table.packet_in(value)
     }
 
+    /// Whether a packet of this number was issued.
+    pub fn is_issued(&self, n: u64) -> bool
+        ensures { result ≡ nat_lt n self.now.issued }
+    {
+        n < self.packet_table.issued()
+    }
+
     /// Whether a packet was issued and isn't live: it has topped out.
-    fn is_gone(&self, n: u64) -> bool
+    pub fn is_gone(&self, n: u64) -> bool
         ensures { result ≡ is_gone self.now n }
     {
-        n < self.packet_table.issued() && self.packet_table.find(n).is_none()
+        self.is_issued(n) && self.packet_table.find(n).is_none()
     }
 }

@@ -1,8 +1,9 @@
 //! A thread: its frames, and their steps.
 
-ghost use Rattle.std.specs.Prelude.{◌≡◌, ◌-◌, Some, true, length, take};
+ghost use Rattle.std.specs.Prelude.{◌≡◌, ◌-◌, ◌∷◌, [], Some, true, length, take};
 ghost use Rattle.checked.specs.Step.{thread_now};
-ghost use Rattle.model.specs.Effect.{is_idle, rooted, told_to, with_stack, finished_or};
+ghost use Rattle.model.specs.Effect.{told_to};
+ghost use Rattle.model.specs.Events.{is_idle, with_stack, finished_or};
 
 use crate::frame::{Frame, Ran, Runner};
 use crate::shared::Shared;
@@ -11,7 +12,7 @@ use image::DriverSet;
 use model::event::Reply;
 use model::limits::MAX_FRAMES;
 use model::status::Status;
-use model::world::{Activation, Irql};
+use model::world::Irql;
 use std::marker::Model;
 
 /// A thread: its frames, the lowest first, and the level of the lowest. A thread without frames is
@@ -60,13 +61,14 @@ impl Thread {
         self.frames.is_empty()
     }
 
-    /// A routine begins at a level, on an idle thread.
-    pub fn begin(&mut self, level: Irql, root: Activation)
+    /// A frame is put on an idle thread, at a level.
+    pub fn begin(&mut self, level: Irql, root: Frame)
         requires { is_idle self.old ≡ true }
-        ensures { self.new ≡ rooted self.old level root }
+        ensures { self.new
+            ≡ record self.old { root = level; frames = record { items = root ∷ [] } } }
     {
         self.root = level;
-        self.frames.push(Frame::routine(root));
+        self.frames.push(root);
     }
 
     /// The top frame goes.
@@ -111,9 +113,18 @@ impl Thread {
                 self.frames.push(Frame::over(over));
                 Reply::Stepped
             }
+            Ran::Becomes(over) => {
+                *top = Frame::over(over);
+                Reply::Stepped
+            }
             Ran::Gone(reply) => {
                 self.pop();
                 self.finish(reply)
+            }
+            Ran::Stopped => {
+                self.pop();
+                self.pop();
+                self.finish(Reply::Stepped)
             }
             Ran::Returned(status) => {
                 self.pop();

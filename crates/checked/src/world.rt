@@ -2,17 +2,18 @@
 
 ghost use Rattle.std.specs.Prelude.{◌≡◌, ◌≤◌, IfOk, IfSome, slice_get};
 ghost use Rattle.model.specs.declared.limits.TheConstants.{MAX_STACK};
-ghost use Rattle.checked.specs.Step.{event_now, step_now};
-ghost use Rattle.model.specs.Effect.{routine_of_device};
+ghost use Rattle.checked.specs.Step.{ended, event_now, step_now};
+ghost use Rattle.model.specs.Events.{cancel_on, irql_of};
 ghost use Rattle.model.specs.World.{opening};
 
-use crate::activation::entered;
+use crate::activation::{driver_of, entered};
+use crate::frame::{Frame, cancelling};
 use crate::shared::Shared;
 use crate::thread::Thread;
 use image::{Device, DriverSet};
 use model::event::{Event, Reply};
 use model::status::Major;
-use model::world::{Irql, Value};
+use model::world::{CancelStep, Irql, Value};
 use std::alloc::{AllocError, Global};
 use std::marker::Model;
 
@@ -39,13 +40,15 @@ fn device_of(set: &DriverSet, number: u8) -> Option<Device>
     set.devices().get(number as usize).copied()
 }
 
-/// The number of the driver of a device.
-fn driver_of(set: &DriverSet, device: u8) -> u8
-    ensures { result ≡ routine_of_device (slice_get set.now.devices device) }
+/// The level of a number.
+fn irql_of(level: u8) -> Option<Irql>
+    ensures { result ≡ irql_of level }
 {
-    match device_of(set, device) {
-        Some(target) => target.driver,
-        None => 0,
+    match level {
+        0 => Some(Irql::Passive),
+        1 => Some(Irql::Apc),
+        2 => Some(Irql::Dispatch),
+        _ => None,
     }
 }
 
@@ -78,6 +81,11 @@ impl World {
                 major,
                 argument,
             } => self.issue(set, thread, device, major, argument),
+            Event::Cancel {
+                thread,
+                packet,
+                level,
+            } => self.cancel(thread, packet, level),
             Event::Interrupt { device } => self.interrupt(set, device),
             Event::Dpc { thread, device } => self.begin_dpc(set, thread, device),
             Event::StartIo { thread, device } => self.begin_startio(set, thread, device),
@@ -110,7 +118,31 @@ impl World {
         let routine = set.handler(target.driver, major);
         let packet = self.shared.issue(device, target, major, argument);
         let root = entered(target.driver, routine, device, Value::Ref(packet));
-        self.thread_list[thread as usize].begin(Irql::Passive, root);
+        self.thread_list[thread as usize].begin(Irql::Passive, Frame::routine(root));
+        Reply::Started(packet)
+    }
+
+    /// IoCancelIrp begins for a packet, on an idle thread at a level.
+    fn cancel(&mut self, thread: u8, packet: u64, level: u8) -> Reply
+        ensures { let on = slice_get self.old.threads thread in
+            record { world = self.new; reply = result }
+            ≡ ended (cancel_on self.old thread packet (irql_of level) on) }
+    {
+        let idle = match self.thread_list.get(thread as usize) {
+            Some(canceller) => canceller.is_idle(),
+            None => return Reply::Refused,
+        };
+        let Some(level) = irql_of(level) else {
+            return Reply::Refused;
+        };
+        if !idle || !self.shared.is_issued(packet) {
+            return Reply::Refused;
+        }
+        if self.shared.is_gone(packet) {
+            return Reply::Finished;
+        }
+        let root = Frame::over(cancelling(packet, CancelStep::Acquire));
+        self.thread_list[thread as usize].begin(level, root);
         Reply::Started(packet)
     }
 
@@ -149,7 +181,7 @@ impl World {
         }
         self.shared.set_queued(device, false);
         let root = entered(driver_of(set, device), routine, device, Value::Blank);
-        self.thread_list[thread as usize].begin(Irql::Dispatch, root);
+        self.thread_list[thread as usize].begin(Irql::Dispatch, Frame::routine(root));
         Reply::Stepped
     }
 
@@ -177,7 +209,7 @@ impl World {
         };
         self.shared.start_io(device);
         let root = entered(driver_of(set, device), routine, device, Value::Ref(n));
-        self.thread_list[thread as usize].begin(Irql::Dispatch, root);
+        self.thread_list[thread as usize].begin(Irql::Dispatch, Frame::routine(root));
         Reply::Started(n)
     }
 

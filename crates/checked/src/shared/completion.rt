@@ -7,18 +7,19 @@ ghost use Rattle.checked.specs.declared.frame.Runner.{Runner};
 ghost use Rattle.model.specs.declared.world.Frame.TheVariants.{Walk as WalkFrame};
 
 use super::Shared;
-use crate::activation;
-use crate::frame::{Frame, Over, Ran, is_last, packet_bug, wrong_at};
-use image::{DriverSet, Register};
+use crate::activation::{self, driver_of};
+use crate::frame::{Frame, Managing, Over, Ran, is_last, packet_bug, wrong_at};
+use image::{DriverSet, Register, Sort};
 use iomgr::WalkStep;
 use model::event::{BugCheck, Reply};
 use model::status::Status;
-use model::world::Activation;
+use model::world::{Activation, Completion};
 
 impl Shared {
     ghost use Rattle.checked.specs.Ran.{left_of, LeavesOver};
     ghost use Rattle.checked.specs.Step.{bounded, judged, frame_now};
-    ghost use Rattle.model.specs.Effect.{complete_effect, continued};
+    ghost use Rattle.iomgr.specs.Walk.{lent_if};
+    ghost use Rattle.model.specs.Effect.{complete_effect, continued, let_on, stopped, sort_of_completion};
     ghost use Rattle.model.specs.World.{packet_in, packet_of, register, current_location, completion_of};
 
     /// `complete r STATUS`: IoCompleteRequest on the packet in the register. The I/O manager's
@@ -45,12 +46,15 @@ impl Shared {
         if packet.is_completing() {
             return Ran::Stays(packet_bug(BugCheck::MultipleIrpCompleteRequests, n));
         }
+        if packet.armer().is_some() {
+            return Ran::Stays(packet_bug(BugCheck::CancelStateInCompletedIrp, n));
+        }
         if is_last(below.len()) {
             return Ran::Stays(Reply::Refused);
         }
         packet.complete(status);
         a.position += 1;
-        Ran::Under(Over::Manager(n))
+        Ran::Under(Over::Manager(Managing::Completes(n)))
     }
 
     /// A step of the I/O manager, over the frames `below`, which completes the packet of this
@@ -69,13 +73,26 @@ impl Shared {
             }
             // A packet that was never issued can't have topped out; no run completes one.
             WalkStep::Missing => Ran::Gone(Reply::Stepped),
-            WalkStep::Runs(completion) => { Ran::Under(activation::completing(set, completion, n)) }
+            WalkStep::Runs(completion) => {
+                self.lend(set, completion, n);
+                Ran::Under(activation::completing(set, completion, n))
+            }
             WalkStep::Ascends { marked: _ } => Ran::Stays(Reply::Stepped),
             WalkStep::TopsOut { status, info } => Ran::Gone(Reply::Topped {
                 packet: n,
                 status,
                 info,
             }),
+        }
+    }
+
+    /// A completion routine that may hold the packet of a number is lent it.
+    fn lend(&mut self, set: &DriverSet, completion: Completion, n: u64)
+        ensures { self.new ≡ lent_if (sort_of_completion set.now completion) self.old n }
+    {
+        match set.sort(driver_of(set, completion.device), completion.routine) {
+            Sort::Hold => self.packet_table.lend_to_routine(n),
+            Sort::Dispatch | Sort::StartIo | Sort::Dpc | Sort::Propagate | Sort::Cancel => {}
         }
     }
 
@@ -103,6 +120,39 @@ impl Shared {
                 Ran::Stays(packet_bug(BugCheck::IrqlNotLessOrEqual, n))
             }
             _ => Ran::Gone(Reply::Stepped),
+        }
+    }
+
+    /// `ret continue` of a routine that was lent the packet: it gives that back, and the completion
+    /// goes on.
+    pub fn give_back(&mut self, below: &[Frame]) -> Ran
+        ensures { let onward = let_on self.old (top_of below.now) in
+            (r : Runner) (f : Frame)
+            → left_of self.new f result
+            ≡ bounded below.now self.old f (judged self.old r f onward) }
+    {
+        let under = below.get(below.len().saturating_sub(1));
+        let Some(n) = under.and_then(|frame| frame.completed_packet()) else {
+            return Ran::Gone(Reply::Stepped);
+        };
+        if self.is_gone(n) {
+            return Ran::Stays(packet_bug(BugCheck::IrqlNotLessOrEqual, n));
+        }
+        let _live = self.packet_table.give_back(n);
+        Ran::Gone(Reply::Stepped)
+    }
+
+    /// `ret stop`: the I/O manager's frame below is gone too.
+    pub fn stop(&self, below: &[Frame]) -> Ran
+        ensures { let onward = stopped self.now (top_of below.now) in
+            (r : Runner) (f : Frame)
+            → left_of self.now f result
+            ≡ bounded below.now self.now f (judged self.now r f onward) }
+    {
+        let under = below.get(below.len().saturating_sub(1));
+        match under.and_then(|frame| frame.completed_packet()) {
+            Some(_) => Ran::Stopped,
+            None => Ran::Gone(Reply::Stepped),
         }
     }
 }

@@ -21,7 +21,7 @@ pub fn spin_lock(a: &Activation, lock: SpinLock) -> Lock
 }
 
 /// A bug check about a lock.
-fn bug(check: BugCheck, lock: Lock) -> Reply
+pub fn lock_bug(check: BugCheck, lock: Lock) -> Reply
     ensures { result ≡ Reply.Bug (record { check = check; subject = Subject.Lock lock }) }
 {
     Reply::Bug(Bug {
@@ -46,7 +46,7 @@ impl Shared {
             return Ran::Stays(wrong_at(a));
         };
         if owner == Some(runner.thread) {
-            return Ran::Stays(bug(BugCheck::SpinLockAlreadyOwned, lock));
+            return Ran::Stays(lock_bug(BugCheck::SpinLockAlreadyOwned, lock));
         }
         if !self.lock_table.acquire(lock, runner.thread) {
             return Ran::Stays(Reply::Waited);
@@ -66,7 +66,7 @@ impl Shared {
             return Ran::Stays(wrong_at(a));
         };
         if owner != Some(runner.thread) {
-            return Ran::Stays(bug(BugCheck::SpinLockNotOwned, lock));
+            return Ran::Stays(lock_bug(BugCheck::SpinLockNotOwned, lock));
         }
         self.lock_table.release(lock);
         a.position += 1;

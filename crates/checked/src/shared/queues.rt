@@ -1,4 +1,4 @@
-//! The queues of devices, as instructions insert packets and remove them.
+//! The queues of devices, as instructions insert packets and take them off.
 
 ghost use Rattle.std.specs.Prelude.{◌≡◌, ◌<◌, option_map};
 ghost use Rattle.model.specs.declared.limits.TheConstants.{MAX_INSTRUCTIONS};
@@ -12,7 +12,7 @@ use model::world::{Activation, Value};
 
 impl Shared {
     ghost use Rattle.checked.specs.Ran.{Leaves};
-    ghost use Rattle.model.specs.Effect.{insert_effect, remove_effect};
+    ghost use Rattle.model.specs.Effect.{insert_effect, remove_effect, unlink_effect};
     ghost use Rattle.model.specs.World.{packet_in, queue_of, register};
 
     /// A queue of a device, if there is such a queue.
@@ -44,6 +44,27 @@ impl Shared {
             return Ran::Stays(Reply::Refused);
         }
         self.queue_list[a.device as usize][q as usize].insert(n);
+        a.position += 1;
+        Ran::Stays(Reply::Stepped)
+    }
+
+    /// `unlink r q`: the packet in the register is taken off a queue of the device, wherever it
+    /// stands there.
+    pub fn unlink(&mut self, r: Register, q: u8, a: &mut Activation) -> Ran
+        requires { a.old.position < MAX_INSTRUCTIONS }
+        ensures { let named = packet_in self.old (register a.old r) in
+            let entries = queue_of self.old a.old.device q in
+            let unlinked = unlink_effect self.old a.old q named entries in
+            Leaves self.old a.old unlinked self.new a.new result }
+    {
+        let named = self.packet_in(a.registers[r.index()]);
+        let (Some(n), Some(_)) = (named, self.queue(a.device, q)) else {
+            return Ran::Stays(wrong_at(a));
+        };
+        if self.is_gone(n) {
+            return Ran::Stays(packet_bug(BugCheck::IrqlNotLessOrEqual, n));
+        }
+        let _found = self.queue_list[a.device as usize][q as usize].unlink(n);
         a.position += 1;
         Ran::Stays(Reply::Stepped)
     }

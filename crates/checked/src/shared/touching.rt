@@ -12,7 +12,7 @@ use model::world::{Activation, Value};
 
 impl Shared {
     ghost use Rattle.checked.specs.Ran.{Leaves};
-    ghost use Rattle.model.specs.Effect.{get_effect, put_effect, mark_effect, look_effect};
+    ghost use Rattle.model.specs.Effect.{get_effect, put_effect, mark_effect, look_effect, ask_effect};
     ghost use Rattle.model.specs.World.{packet_in, register, number_in as number_in_of};
 
     /// `get r s F`: r becomes a field of the packet in s.
@@ -85,6 +85,27 @@ impl Shared {
             None => return Ran::Stays(packet_bug(BugCheck::IrqlNotLessOrEqual, n)),
         };
         if pending {
+            a.position = label;
+            return Ran::Stays(Reply::Stepped);
+        }
+        a.position += 1;
+        Ran::Stays(Reply::Stepped)
+    }
+
+    /// `ifcancel r L`: jumps if Irp->Cancel is set.
+    pub fn jump_if_cancelled(&self, r: Register, label: u16, a: &mut Activation) -> Ran
+        requires { a.old.position < MAX_INSTRUCTIONS }
+        ensures { let named = packet_in self.now (register a.old r) in
+            Leaves self.now a.old (ask_effect self.now a.old label named) self.now a.new result }
+    {
+        let Some(n) = self.packet_in(a.registers[r.index()]) else {
+            return Ran::Stays(wrong_at(a));
+        };
+        let cancelled = match self.packet_table.find(n) {
+            Some(packet) => packet.is_cancelled(),
+            None => return Ran::Stays(packet_bug(BugCheck::IrqlNotLessOrEqual, n)),
+        };
+        if cancelled {
             a.position = label;
             return Ran::Stays(Reply::Stepped);
         }

@@ -2,7 +2,7 @@ use Rattle.std.proofs.Common.{◌≡◌, None, Some, ap, ◌∙◌}
 use Rattle.std.specs.List.{IsLastAndRest}
 use Rattle.model.specs.declared.world.Thread.{Thread}
 use Rattle.model.specs.declared.event.Reply.TheVariants.{Stepped}
-use Rattle.checked.proofs.Stacks.{moved_stays, moved_under, moved_gone, popped}
+use Rattle.checked.proofs.Stacks.{moved_stays, moved_under, moved_gone, moved_stopped, popped}
 use Rattle.checked.proofs.thread.Thread.step.Goals as goal
 
 pub returns-in-Stays : goal.returns-in-Stays
@@ -24,6 +24,33 @@ returns-in-Under c =
     (moved_under c.args.set.now c.args.shared.now c.args.number thread c.in-Some.below.now
     c.in-Some.top.now split c.step.new.shared c.step.new.self c.over.result
     c.push.new.self.items (rw (← c.over.ensures) at c.in-Under.ensures) c.push.ensures.items)
+
+pub returns-in-Becomes : goal.returns-in-Becomes
+returns-in-Becomes c =
+    let thread : Thread = record { root = c.self.inside.root; frames = c.self.inside.frames } in
+    let split : IsLastAndRest thread.frames.items c.in-Some.top.now c.in-Some.below.now =
+    rw c.as_mut_slice.ensures.value at c.in-Some.ensures.cases in
+    rw (← c.self.view_is)
+    (moved_stays c.args.set.now c.args.shared.now c.args.number thread c.in-Some.below.now
+    c.in-Some.top.now split c.step.new.shared c.over-in-Becomes.result Stepped
+    (rw (← c.over-in-Becomes.ensures) at c.in-Becomes.ensures))
+
+pub returns-in-Stopped : goal.returns-in-Stopped
+returns-in-Stopped c =
+    let thread : Thread = record { root = c.self.inside.root; frames = c.self.inside.frames } in
+    let split : IsLastAndRest thread.frames.items c.in-Some.top.now c.in-Some.below.now =
+    rw c.as_mut_slice.ensures.value at c.in-Some.ensures.cases in
+    rw (
+      ← c.self.view_is,
+      c.finish-in-Stopped.ensures.thread,
+      c.finish-in-Stopped.ensures.reply,
+      c.pop-in-Stopped-2.ensures,
+      c.pop-in-Stopped.ensures,
+      popped c.args.set.now c.args.shared.now c.args.number thread c.in-Some.below.now
+          c.in-Some.top.now split c.step.new.self,
+    )
+    (moved_stopped c.args.set.now c.args.shared.now c.args.number thread c.in-Some.below.now
+    c.in-Some.top.now split c.step.new.shared c.in-Stopped.ensures)
 
 pub returns-in-Gone : goal.returns-in-Gone
 returns-in-Gone c =
