@@ -1,6 +1,6 @@
 -- One line of a schedule: what it stands for, or the least kind of what is wrong with it.
 use Rattle.std.specs.Prelude.{ℕ, ◌^◌, ◌-◌, ◌&&◌, nat_le, List, [], ◌∷◌, bytes_eq, codes, Option, Some, None, Result, Ok, Err, if◌then◌else◌}
-use Rattle.model.specs.declared.event.Event.TheVariants.{Issue, Interrupt, Dpc, StartIo, Step}
+use Rattle.model.specs.declared.event.Event.TheVariants.{Issue, Cancel, Interrupt, Dpc, StartIo, Step}
 use Rattle.model.specs.declared.status.Major.{Major}
 use Rattle.text.specs.Cut.{tokens_of}
 use Rattle.text.specs.Class.{is_number}
@@ -70,6 +70,31 @@ issue_of thread device major argument =
 abbrev pub issue_line : List (List ℕ) → Result (Option Repeated) ScheduleKind
 issue_line (thread ∷ device ∷ major ∷ argument ∷ []) = issue_of thread device major argument
 issue_line _ = Err UnknownWord
+
+-- the cancel of these numbers, once
+abbrev pub cancelling : Option ℕ → Option ℕ → Option ℕ → Option Repeated
+cancelling (Some thread) (Some packet) (Some level) =
+    Some (record { event = Cancel thread packet level; count = 1 })
+cancelling (Some thread) (Some packet) None = None
+cancelling (Some thread) None level = None
+cancelling None packet level = None
+
+-- the cancel, if its numbers are in range; which levels there are is left to the run
+abbrev pub cancels : List ℕ → List ℕ → List ℕ → Option Repeated
+cancels thread packet level =
+    cancelling (number_within 0 255 thread) (number_within 0 (2 ^ 64 - 1) packet)
+    (number_within 0 255 level)
+
+-- the cancel of a packet, on a thread at a level
+abbrev pub cancel_of : List ℕ → List ℕ → List ℕ → Result (Option Repeated) ScheduleKind
+cancel_of thread packet level =
+    if is_number thread && is_number packet && is_number level
+    then ranged (cancels thread packet level) else Err UnknownWord
+
+-- `cancel T N LEVEL`
+abbrev pub cancel_line : List (List ℕ) → Result (Option Repeated) ScheduleKind
+cancel_line (thread ∷ packet ∷ level ∷ []) = cancel_of thread packet level
+cancel_line _ = Err UnknownWord
 
 -- the interrupt of the device of this number, once
 abbrev pub interruption : Option ℕ → Option Repeated
@@ -153,10 +178,11 @@ abbrev pub event_of : List (List ℕ) → Result (Option Repeated) ScheduleKind
 event_of [] = Ok None
 event_of (word ∷ operands) =
     if bytes_eq word (codes "issue") then issue_line operands else
+    (if bytes_eq word (codes "cancel") then cancel_line operands else
     (if bytes_eq word (codes "interrupt") then interrupt_line operands else
     (if bytes_eq word (codes "dpc") then dpc_line operands else
     (if bytes_eq word (codes "startio") then startio_line operands else
-    (if bytes_eq word (codes "step") then step_line operands else Err UnknownWord))))
+    (if bytes_eq word (codes "step") then step_line operands else Err UnknownWord)))))
 
 -- the tokens of a line, if its bytes and tokens are all allowed
 abbrev pub checked_tokens : List ℕ → Result (List (List ℕ)) ScheduleKind

@@ -1,7 +1,7 @@
 //! One line of a schedule.
 
 ghost use Rattle.std.specs.Prelude.{◌≡◌, ◌≤◌, IfSome};
-ghost use Rattle.interleave.specs.Line.{begins, checked_tokens, dpc_line, dpc_of, event_line, event_of, interrupt_line, interrupt_of, interrupts, issue_line, issue_of, issues, number_within, opening_line, opening_of, startio_line, startio_of, starts, step_line, steps, steps_of, threads_line, threads_of};
+ghost use Rattle.interleave.specs.Line.{begins, cancel_line, cancel_of, cancels, checked_tokens, dpc_line, dpc_of, event_line, event_of, interrupt_line, interrupt_of, interrupts, issue_line, issue_of, issues, number_within, opening_line, opening_of, startio_line, startio_of, starts, step_line, steps, steps_of, threads_line, threads_of};
 
 use crate::schedule::ScheduleKind;
 use model::event::Event;
@@ -105,6 +105,8 @@ fn event_of(mut tokens: Tokens) -> Result<Option<Repeated>, ScheduleKind>
         Some(word) => {
             if is(word, b"issue") {
                 issue_line(tokens)
+            } else if is(word, b"cancel") {
+                cancel_line(tokens)
             } else if is(word, b"interrupt") {
                 interrupt_line(tokens)
             } else if is(word, b"dpc") {
@@ -172,6 +174,45 @@ fn issues(thread: &[u8], device: &[u8], major: Major, argument: &[u8]) -> Option
         device,
         major,
         argument,
+    };
+    Some(Repeated { event, count: 1 })
+}
+
+/// `cancel T N LEVEL`.
+fn cancel_line(mut operands: Tokens) -> Result<Option<Repeated>, ScheduleKind>
+    ensures { result ≡ cancel_line operands.entry }
+{
+    let three = (operands.next(), operands.next(), operands.next());
+    match (three, operands.next()) {
+        ((Some(thread), Some(packet), Some(level)), None) => cancel_of(thread, packet, level),
+        _ => Err(ScheduleKind::UnknownWord),
+    }
+}
+
+/// The cancel of a packet, on a thread at a level.
+fn cancel_of(thread: &[u8], packet: &[u8], level: &[u8]) -> Result<Option<Repeated>, ScheduleKind>
+    ensures { result ≡ cancel_of thread.now packet.now level.now }
+{
+    if !(is_number(thread) && is_number(packet) && is_number(level)) {
+        return Err(ScheduleKind::UnknownWord);
+    }
+    match cancels(thread, packet, level) {
+        Some(repeated) => Ok(Some(repeated)),
+        None => Err(ScheduleKind::OutOfRange),
+    }
+}
+
+/// The cancel, if its numbers are in range.
+fn cancels(thread: &[u8], packet: &[u8], level: &[u8]) -> Option<Repeated>
+    ensures { result ≡ cancels thread.now packet.now level.now }
+{
+    let thread = byte(thread)?;
+    let packet = number_within(0, u64::MAX, packet)?;
+    let level = byte(level)?;
+    let event = Event::Cancel {
+        thread,
+        packet,
+        level,
     };
     Some(Repeated { event, count: 1 })
 }
@@ -311,7 +352,7 @@ fn steps(thread: &[u8], count: &[u8]) -> Option<Repeated>
     })
 }
 
-/// The number of a thread or a device, which has 8 bits.
+/// The number of a thread, a device or a level, which has 8 bits.
 fn byte(token: &[u8]) -> Option<u8>
     ensures { result ≡ number_within 0 255 token.now }
 {

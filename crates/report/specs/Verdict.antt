@@ -3,9 +3,9 @@ use Rattle.std.specs.Prelude.{ℕ, List, [], ◌∷◌, codes}
 use Rattle.std.specs.Fmt.{decimal}
 use Rattle.model.specs.declared.abs.Refusal.{Refusal}
 use Rattle.model.specs.declared.abs.Rule.{Rule}
-use Rattle.model.specs.declared.abs.Rule.TheVariants.{Malformed, Unreachable, StatesDiffer, WrongKind, DoubleCompletion, MarkIrpPending, CancelSpinLock, SpinLock, LockHeld, Level, Guard, Dropped, Token, Sort as SortRule, Completion, StackTooSmall, NoLower, TooLong, Memory}
+use Rattle.model.specs.declared.abs.Rule.TheVariants.{Malformed, Unreachable, StatesDiffer, WrongKind, DoubleCompletion, MarkIrpPending, CancelSpinLock, SpinLock, LockHeld, Level, Guard, CancelState, Dropped, Token, Sort as SortRule, Completion, StackTooSmall, NoLower, TooLong, Memory}
 use Rattle.model.specs.declared.set.Sort.{Sort}
-use Rattle.model.specs.declared.set.Sort.TheVariants.{Dispatch, StartIo, Dpc, Propagate}
+use Rattle.model.specs.declared.set.Sort.TheVariants.{Dispatch, StartIo, Dpc, Propagate, Hold, Cancel}
 use Rattle.report.specs.Line.{line_of}
 
 -- the word of a sort
@@ -14,6 +14,8 @@ sort_text Dispatch = codes "dispatch"
 sort_text StartIo = codes "startio"
 sort_text Dpc = codes "dpc"
 sort_text Propagate = codes "propagate"
+sort_text Hold = codes "hold"
+sort_text Cancel = codes "cancel"
 
 -- a rule: its number and its name
 abbrev pub rule_text : Rule → List ℕ
@@ -28,6 +30,7 @@ rule_text SpinLock = codes "V8 SpinLock"
 rule_text LockHeld = codes "V9 LockHeld"
 rule_text Level = codes "V10 Level"
 rule_text Guard = codes "V11 Guard"
+rule_text CancelState = codes "V12 CancelState"
 rule_text Dropped = codes "V13 Dropped"
 rule_text Token = codes "V14 Token"
 rule_text SortRule = codes "V15 Sort"

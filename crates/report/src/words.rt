@@ -47,6 +47,8 @@ pub(crate) fn sort_text(sort: Sort) -> &'static str
         Sort::StartIo => "startio",
         Sort::Dpc => "dpc",
         Sort::Propagate => "propagate",
+        Sort::Hold => "hold",
+        Sort::Cancel => "cancel",
     }
 }
 
@@ -66,6 +68,7 @@ pub(crate) fn rule_text(rule: Rule) -> &'static str
         Rule::LockHeld => "V9 LockHeld",
         Rule::Level => "V10 Level",
         Rule::Guard => "V11 Guard",
+        Rule::CancelState => "V12 CancelState",
         Rule::Dropped => "V13 Dropped",
         Rule::Token => "V14 Token",
         Rule::Sort => "V15 Sort",
