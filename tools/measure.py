@@ -59,6 +59,26 @@ def through_startio():
             'none: ret void', 'endr', 'endd', 'device v d 1']
     return text, ['issue 0 0 READ 0'] + ['step 0'] * 3, ['startio 1 0'] + ['step 1'] * 2 + ['interrupt 0', 'dpc 1 0'] + ['step 1'] * 5
 
+def through_a_cancelable_queue():
+    """A driver that puts its packets into a queue with a cancel routine, from which its DPC routine completes them: its text, the
+    lines of a request, those of a completion, and those of a cancel after its first, which names the packet."""
+    text = ['driver d', 'queue q l0 gone', 'dispatch READ f', 'dpc g', 'routine f dispatch', 'mark r0', 'acquire l0', 'insert r0 q', 'arm r0 q',
+            'ifcancel r0 was', 'release l0', 'ret PENDING', 'was: disarm r0 lost', 'unlink r0 q', 'release l0', 'complete r0 CANCELLED',
+            'ret PENDING', 'lost: release l0', 'ret PENDING', 'endr', 'routine g dpc', 'acquire l0', 'remove r0 q none', 'disarm r0 none',
+            'release l0', 'complete r0 SUCCESS', 'ret void', 'none: release l0', 'ret void', 'endr', 'routine gone cancel', 'relc', 'acquire l0',
+            'unlink r0 q', 'release l0', 'complete r0 CANCELLED', 'ret void', 'endr', 'endd', 'device v d 1']
+    return text, ['issue 0 0 READ 0', 'step 0 7'], ['interrupt 0', 'dpc 1 0', 'step 1 7'], ['step 1 10']
+
+def half_cancelled(requests, live, request, completion, cancel):
+    """So many requests: so many are queued, every other one of them is cancelled and the rest are completed, again and again."""
+    lines = ['threads 2']
+    for first in range(0, requests, live):
+        lines += request * live
+        for number in range(first, first + live, 2):
+            lines += ['cancel 1 %d 0' % number] + cancel
+        lines += completion * (live // 2)
+    return lines
+
 def events_with(live, request, completion):
     """300,000 events: so many packets are issued, and then the oldest is completed and another one issued, again and again."""
     turn = completion + request
@@ -86,6 +106,10 @@ def cases():
     for way, (text, request, completion) in ('a queue', through_a_queue()), ('StartIo', through_startio()):
         for live in 1, 1000:
             yield 'trace of 300,000 events, %s, %s live' % (way, f'{live:,}'), 'trace', text, events_with(live, request, completion)
+    text, request, completion, cancel = through_a_cancelable_queue()
+    for live in 2, 1000:
+        yield 'trace of 55,000 requests, half cancelled, %s live' % f'{live:,}', 'trace', text, \
+            half_cancelled(55000, live, request, completion, cancel)
 
 def spent(program, words):
     begin = time.perf_counter()

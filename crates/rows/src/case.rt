@@ -23,6 +23,12 @@ pub(crate) struct Faulty {
     pub(crate) told: &'static str,
 }
 
+/// The code of a routine, and what `check` writes of its set.
+pub(crate) struct Broken {
+    pub(crate) code: &'static str,
+    pub(crate) refused: &'static str,
+}
+
 /// Whether the library does in the case what it should.
 pub(crate) fn is_met(alloc: Global, case: &Case) -> bool {
     match case.trace {

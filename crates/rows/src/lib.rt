@@ -3,6 +3,12 @@
 #![tactic(auto)]
 
 #[cfg(test)]
+mod cancel_rules;
+#[cfg(test)]
+mod cancel_steps;
+#[cfg(test)]
+mod cancels;
+#[cfg(test)]
 mod case;
 #[cfg(test)]
 mod command_lines;
@@ -13,11 +19,15 @@ mod dpcs;
 #[cfg(test)]
 mod failures;
 #[cfg(test)]
+mod faulty_cancels;
+#[cfg(test)]
 mod faulty_code;
 #[cfg(test)]
 mod faulty_drivers;
 #[cfg(test)]
 mod faulty_queues;
+#[cfg(test)]
+mod holds;
 #[cfg(test)]
 mod limits;
 #[cfg(test)]

@@ -1,14 +1,8 @@
 //! Verdicts on one routine: each rule of the verifier, where it is broken.
 
-use crate::case::is_judged_so;
+use crate::case::{Broken, is_judged_so};
 use std::alloc::{AllocError, Global};
 use std::test::Fail;
-
-/// The code of a routine, and what `check` writes of its set.
-struct Broken {
-    code: &'static str,
-    refused: &'static str,
-}
 
 static DISPATCH: [Broken; 29] = [
     Broken {

@@ -13,7 +13,7 @@ struct Faulty {
     told: &'static str,
 }
 
-static SCHEDULES: [Faulty; 50] = [
+static SCHEDULES: [Faulty; 68] = [
     Faulty {
         schedule: "",
         told: "schedule fault 2 UnknownWord line 1\n",
@@ -212,6 +212,78 @@ static SCHEDULES: [Faulty; 50] = [
     },
     Faulty {
         schedule: "startio 0 0",
+        told: "schedule fault 2 UnknownWord line 1\n",
+    },
+    Faulty {
+        schedule: "threads 1\ncancel",
+        told: "schedule fault 2 UnknownWord line 2\n",
+    },
+    Faulty {
+        schedule: "threads 1\ncancel 0",
+        told: "schedule fault 2 UnknownWord line 2\n",
+    },
+    Faulty {
+        schedule: "threads 1\ncancel 0 0",
+        told: "schedule fault 2 UnknownWord line 2\n",
+    },
+    Faulty {
+        schedule: "threads 1\ncancel 0 0 0 0",
+        told: "schedule fault 2 UnknownWord line 2\n",
+    },
+    Faulty {
+        schedule: "threads 1\ncancel x 0 256",
+        told: "schedule fault 2 UnknownWord line 2\n",
+    },
+    Faulty {
+        schedule: "threads 1\ncancel 256 x 0",
+        told: "schedule fault 2 UnknownWord line 2\n",
+    },
+    Faulty {
+        schedule: "threads 1\ncancel 0 256 x",
+        told: "schedule fault 2 UnknownWord line 2\n",
+    },
+    Faulty {
+        schedule: "threads 1\ncancel 0 READ 0",
+        told: "schedule fault 2 UnknownWord line 2\n",
+    },
+    Faulty {
+        schedule: "threads 1\nCANCEL 0 0 0",
+        told: "schedule fault 2 UnknownWord line 2\n",
+    },
+    Faulty {
+        schedule: "threads 1\nCancel 0 0 0",
+        told: "schedule fault 1 Lex line 2\n",
+    },
+    Faulty {
+        schedule: "threads 1\ncancel 256 0 0",
+        told: "schedule fault 3 OutOfRange line 2\n",
+    },
+    Faulty {
+        schedule: "threads 1\ncancel 0 18446744073709551616 0",
+        told: "schedule fault 3 OutOfRange line 2\n",
+    },
+    Faulty {
+        schedule: "threads 1\ncancel 0 0 256",
+        told: "schedule fault 3 OutOfRange line 2\n",
+    },
+    Faulty {
+        schedule: "threads 1\ncancel 0 0 0x100",
+        told: "schedule fault 3 OutOfRange line 2\n",
+    },
+    Faulty {
+        schedule: "threads 1\nstep 0 1000000\ncancel 0 0 0",
+        told: "schedule fault 4 TooLong line 3\n",
+    },
+    Faulty {
+        schedule: "threads 1\nstep 0 1000000\ncancel 0 0 256",
+        told: "schedule fault 3 OutOfRange line 3\n",
+    },
+    Faulty {
+        schedule: "cancel 0 0 0\nthreads 1",
+        told: "schedule fault 2 UnknownWord line 1\n",
+    },
+    Faulty {
+        schedule: "cancel 0 0 0",
         told: "schedule fault 2 UnknownWord line 1\n",
     },
 ];
