@@ -5,7 +5,6 @@ use Rattle.model.specs.declared.event.Event.TheVariants.{Step}
 use Rattle.model.specs.declared.event.Reply.{Reply}
 use Rattle.model.specs.declared.event.Reply.TheVariants.{Refused}
 use Rattle.model.specs.Machine.{Machine, Shows}
-use Rattle.run_laws.specs.CancelsNothing.{CancelsNothing, NoCancels}
 use Rattle.run_laws.specs.NeverStops.{LetsGoOn}
 use Rattle.run_laws.specs.Rules.{KeepsTheRules}
 
@@ -15,18 +14,17 @@ pub record IsRun (m : Machine) : Type 0 where
   pub events : List Event
   pub shows : Shows m threads events
 
--- whatever run it showed where nothing is cancelled, that run with the event added keeps the rules
+-- whatever run it showed, that run with the event added keeps the rules
 abbrev pub RulesKept : Machine → Event → Type 0
-RulesKept m e = CancelsNothing m.set → (threads : ℕ) (events : List Event) → Shows m threads events
-    → NoCancels (events ++ e ∷ []) → KeepsTheRules m.set threads (events ++ e ∷ [])
+RulesKept m e = (threads : ℕ) (events : List Event) → Shows m threads events
+    → KeepsTheRules m.set threads (events ++ e ∷ [])
 
 -- the reply was neither a bug check nor that something went wrong
 abbrev pub GoesOn : Machine → Reply → Type 0
-GoesOn m reply = CancelsNothing m.set → (threads : ℕ) (events : List Event) → Shows m threads events
-    → NoCancels events → LetsGoOn reply
+GoesOn m reply = (threads : ℕ) (events : List Event) → Shows m threads events → LetsGoOn reply
 
 -- and where the event was a step of a thread that the run has, it was not refused
 abbrev pub StepsThreads : Machine → Event → Reply → Type 0
 StepsThreads m e reply =
-    CancelsNothing m.set → (threads : ℕ) (events : List Event) (t : ℕ) → Shows m threads events
-    → NoCancels events → t < threads → e ≡ Step t → reply ≢ Refused
+    (threads : ℕ) (events : List Event) (t : ℕ) → Shows m threads events
+    → t < threads → e ≡ Step t → reply ≢ Refused

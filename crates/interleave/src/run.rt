@@ -5,7 +5,6 @@ ghost use Rattle.model.specs.declared.limits.TheConstants.{MAX_THREADS};
 ghost use Rattle.model.specs.declared.event.Event.{Event};
 ghost use Rattle.interleave.specs.Runs.{GoesOn, RulesKept, StepsThreads};
 ghost use Rattle.model.specs.Machine.{Shows, Applies};
-ghost use Rattle.run_laws.specs.CancelsNothing.{CancelsNothing, NoCancels};
 ghost use Rattle.run_laws.specs.Rules.{KeepsTheRules};
 
 use checked::State;
@@ -50,8 +49,8 @@ impl AcceptedRun {
         requires few { threads ≤ MAX_THREADS }
         ensures set { IfOk result (λ run. run.set ≡ accepted) }
         ensures shows { IfOk result (λ run. Shows run threads []) }
-        ensures rules { IfOk result (λ run. CancelsNothing accepted → (events : List Event)
-            → NoCancels events → KeepsTheRules accepted threads events) }
+        ensures rules { IfOk result (λ run. (events : List Event)
+            → KeepsTheRules accepted threads events) }
         ensures back { IfErr result (λ refused. refused.0 ≡ accepted) }
     {
         accepted_runs_keep_the_rules();
@@ -61,9 +60,9 @@ impl AcceptedRun {
         }
     }
 
-    /// Adds an event to the run, and answers as the run does. Where nothing is cancelled the run
-    /// keeps the rules: no bug check, no wrong operand, no activation past its certificate; and a
-    /// step of a thread that it has is not refused.
+    /// Adds an event to the run, and answers as the run does. The run keeps the rules: no bug check,
+    /// no wrong operand, no activation past its certificate; and a step of a thread that it has is
+    /// not refused.
     pub fn apply(&mut self, event: &Event) -> Reply
         ensures applies { Applies self.old event.now self.new result }
         ensures rules { RulesKept self.old event.now }
@@ -87,8 +86,7 @@ pub fn run(
     requires few { threads ≤ MAX_THREADS }
     ensures set { IfOk result (λ run. run.set ≡ accepted) }
     ensures shows { IfOk result (λ run. Shows run threads events.now) }
-    ensures rules { IfOk result (λ run. CancelsNothing accepted → NoCancels events.now
-        → KeepsTheRules accepted threads events.now) }
+    ensures rules { IfOk result (λ run. KeepsTheRules accepted threads events.now) }
     ensures back { IfErr result (λ refused. refused.0 ≡ accepted) }
 {
     accepted_runs_keep_the_rules();

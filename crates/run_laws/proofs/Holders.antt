@@ -1,11 +1,15 @@
 pub mod Sums
+pub mod Walking
 pub mod Rights
 pub mod Queued
+pub mod Plain
 pub mod Started
 pub mod Counts
 pub mod Waits
+pub mod Lent
+pub mod Exchanges
+pub mod Onward
 pub mod Steps
 pub mod Runs
 pub mod Once
 pub mod Apart
-pub mod Full

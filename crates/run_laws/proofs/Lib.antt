@@ -8,6 +8,7 @@ pub mod Past
 pub mod Locks
 pub mod Tokens
 pub mod Holders
+pub mod Claims
 pub mod Room
 pub mod Uses
 pub mod Pending

@@ -96,7 +96,8 @@ pub each_push : {A : Type 0} (P : A → Type 0) (xs : List A) (y : A) → Each P
 each_push P [] y h one = (one, tt)
 each_push P (x ∷ xs) y h one = (h.0, each_push P xs y h.1 one)
 
-pub each_remove : {A : Type 0} (P : A → Type 0) (xs : List A) (i : ℕ) → Each P xs → Each P (remove xs i)
+pub each_remove : {A : Type 0} (P : A → Type 0) (xs : List A) (i : ℕ) → Each P xs
+    → Each P (remove xs i)
 each_remove P [] zero h = tt
 each_remove P [] (suc i) h = tt
 each_remove P (x ∷ xs) zero h = h.1

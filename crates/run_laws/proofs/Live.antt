@@ -1,3 +1,4 @@
 pub mod Sees
 pub mod Steps
 pub mod Kept
+pub mod Claimed

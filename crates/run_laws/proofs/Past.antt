@@ -6,4 +6,3 @@ pub mod Owners
 pub mod Levels
 pub mod Steps
 pub mod Runs
-pub mod Unarmed

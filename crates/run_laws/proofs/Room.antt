@@ -1,4 +1,13 @@
-pub mod Extents
+pub mod Sizes
+pub mod Marked
+pub mod Locations
+pub mod Ways
+pub mod Registers
 pub mod Waiting
+pub mod Changes
+pub mod Frames
+pub mod Calls
+pub mod Routines
+pub mod Words
 pub mod Steps
 pub mod Runs

@@ -3,7 +3,7 @@ pub mod Told
 pub mod Kinds
 pub mod Along
 pub mod NoViews
-pub mod Unlisted
+pub mod Listed
 pub mod Follows
 pub mod Remaining
 pub mod Known
@@ -13,10 +13,10 @@ pub mod Frames
 pub mod Moves
 pub mod LoopEnds
 pub mod Entering
+pub mod Cancelled
 pub mod Stacks
 pub mod OnTop
 pub mod Obeyed
-pub mod Never
 pub mod Lacking
 pub mod Fine
 pub mod Roots
@@ -24,3 +24,4 @@ pub mod Standing
 pub mod Inside
 pub mod Queueing
 pub mod HandedOver
+pub mod Lent

@@ -5,4 +5,3 @@ pub mod Faults
 pub mod Below
 pub mod Locking
 pub mod Queues
-pub mod Uncancelled

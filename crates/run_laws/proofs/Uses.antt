@@ -1,6 +1,7 @@
 pub mod Fates
 pub mod Traced
 pub mod FateFacts
+pub mod HoldRoutines
 pub mod Becomes
 pub mod AgreedStays
 pub mod LinkedStays
@@ -8,6 +9,7 @@ pub mod CurrentUses
 pub mod LateMarks
 pub mod Steps
 pub mod RoutineSteps
+pub mod CancelSteps
 pub mod WalkSteps
 pub mod TopFrames
 pub mod Events

@@ -1,4 +1,3 @@
-pub mod CancelsNothing
 pub mod NoWrong
 pub mod LockOrder
 pub mod Holder
@@ -9,6 +8,7 @@ pub mod Rules
 pub mod CarriedMark
 pub mod SharedMark
 pub mod DoubledToken
+pub mod HeldPacket
 pub mod PendingReturns
 pub mod PastTells
 pub mod Lifetime

@@ -10,7 +10,6 @@ use Rattle.model.specs.Set.{Set}
 use Rattle.model.specs.Sound.{IsSound}
 use Rattle.model.specs.Trace.{Entry, Serving, Tag, Managing, Activated}
 use Rattle.model.specs.Typable.{IsTypable}
-use Rattle.run_laws.specs.CancelsNothing.{CancelsNothing, NoCancels}
 
 -- what a frame did that is the activation of a number
 abbrev pub is_activation : ℕ → Tag → Bool
@@ -82,6 +81,6 @@ pub record KeepCertificates (set : Set) (threads : ℕ) (events : List Event) : 
 
 abbrev pub ActivationsKeepTheirCertificate : Type 0
 ActivationsKeepTheirCertificate =
-    (set : Set) → IsTypable set → IsSound set → CancelsNothing set
-    → (threads : ℕ) (events : List Event) → NoCancels events
+    (set : Set) → IsTypable set → IsSound set
+    → (threads : ℕ) (events : List Event)
     → KeepCertificates set threads events

@@ -10,7 +10,6 @@ use Rattle.model.specs.Machine.{reply_to}
 use Rattle.model.specs.Set.{Set}
 use Rattle.model.specs.Sound.{IsSound}
 use Rattle.model.specs.Typable.{IsTypable}
-use Rattle.run_laws.specs.CancelsNothing.{CancelsNothing, NoCancels}
 
 -- a bug check isn't about a lock: not SPIN_LOCK_ALREADY_OWNED, not SPIN_LOCK_NOT_OWNED, and not
 -- IRQL_NOT_LESS_OR_EQUAL for a paged cell that is touched at DISPATCH_LEVEL
@@ -22,7 +21,7 @@ pub record SparesLocks (bug : Bug) : Type 0 where
 -- every bug check of a run, if there is one, spares the locks
 abbrev pub LocksAreOrderly : Type 0
 LocksAreOrderly =
-    (set : Set) → IsTypable set → IsSound set → CancelsNothing set
-    → (threads : ℕ) (events : List Event) → NoCancels events
+    (set : Set) → IsTypable set → IsSound set
+    → (threads : ℕ) (events : List Event)
     → (e : Event) (bug : Bug)
     → reply_to set threads events e ≡ BugCheckReply bug → SparesLocks bug

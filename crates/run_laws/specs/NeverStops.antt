@@ -11,7 +11,6 @@ use Rattle.model.specs.Run.{run}
 use Rattle.model.specs.Set.{Set}
 use Rattle.model.specs.Sound.{IsSound}
 use Rattle.model.specs.Typable.{IsTypable}
-use Rattle.run_laws.specs.CancelsNothing.{CancelsNothing, NoCancels}
 
 -- a reply is neither a bug check nor that something went wrong
 pub record LetsGoOn (reply : Reply) : Type 0 where
@@ -26,6 +25,6 @@ pub record NeverStops (set : Set) (threads : ℕ) (events : List Event) : Type 0
 
 abbrev pub AcceptedRunsNeverStop : Type 0
 AcceptedRunsNeverStop =
-    (set : Set) → IsTypable set → IsSound set → CancelsNothing set
-    → (threads : ℕ) (events : List Event) → NoCancels events
+    (set : Set) → IsTypable set → IsSound set
+    → (threads : ℕ) (events : List Event)
     → NeverStops set threads events

@@ -10,7 +10,6 @@ use Rattle.model.specs.Set.{Set}
 use Rattle.model.specs.Sound.{IsSound}
 use Rattle.model.specs.Trace.{Entry}
 use Rattle.model.specs.Typable.{IsTypable}
-use Rattle.run_laws.specs.CancelsNothing.{CancelsNothing, NoCancels}
 
 -- nothing that went wrong is in the trace of a run, and no reply is that something went wrong: no
 -- operand is of a wrong kind, no position is outside its routine, no `loop` or `end` is without its
@@ -21,6 +20,6 @@ pub record NeverGoesWrong (set : Set) (threads : ℕ) (events : List Event) : Ty
 
 abbrev pub AcceptedRunsNeverGoWrong : Type 0
 AcceptedRunsNeverGoWrong =
-    (set : Set) → IsTypable set → IsSound set → CancelsNothing set
-    → (threads : ℕ) (events : List Event) → NoCancels events
+    (set : Set) → IsTypable set → IsSound set
+    → (threads : ℕ) (events : List Event)
     → NeverGoesWrong set threads events

@@ -15,7 +15,6 @@ use Rattle.model.specs.Sound.{IsSound}
 use Rattle.model.specs.Trace.{Entry, Serving, Tag, Managing, Activated, uses}
 use Rattle.model.specs.Typable.{IsTypable}
 use Rattle.model.specs.World.{packet_of}
-use Rattle.run_laws.specs.CancelsNothing.{CancelsNothing, NoCancels}
 
 -- a tag is an activation's, and one that serves a use
 abbrev pub IsActivation : Tag → Type 0
@@ -74,7 +73,8 @@ pub record SkipsNothing (set : Set) (threads : ℕ) (events : List Event) : Type
   pub routines : (t k : ℕ) (a : Activation)
       → slice_get (frames_on (run set threads events).world t) k ≡ Some (Routine a)
       → RoutineTag set (tags_on (run set threads events) t) k a
-  pub managers : (t k n : ℕ) → slice_get (frames_on (run set threads events).world t) k ≡ Some (Walk n)
+  pub managers : (t k n : ℕ) → slice_get (frames_on (run set threads events).world t) k
+      ≡ Some (Walk n)
       → slice_get (tags_on (run set threads events) t) k ≡ Some Managing
   pub cancellers : (t k : ℕ) (c : Canceller)
       → slice_get (frames_on (run set threads events).world t) k ≡ Some (CancelFrame c)
@@ -85,6 +85,6 @@ pub record SkipsNothing (set : Set) (threads : ℕ) (events : List Event) : Type
 
 abbrev pub NothingIsSkipped : Type 0
 NothingIsSkipped =
-    (set : Set) → IsTypable set → IsSound set → CancelsNothing set
-    → (threads : ℕ) (events : List Event) → NoCancels events
+    (set : Set) → IsTypable set → IsSound set
+    → (threads : ℕ) (events : List Event)
     → SkipsNothing set threads events

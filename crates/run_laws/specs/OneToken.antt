@@ -14,7 +14,6 @@ use Rattle.model.specs.Sound.{IsSound}
 use Rattle.model.specs.Typable.{IsTypable}
 use Rattle.model.specs.World.{start_of}
 use Rattle.run_laws.specs.Holder.{thread_sum}
-use Rattle.run_laws.specs.CancelsNothing.{CancelsNothing, NoCancels}
 
 -- the tokens of a device that a frame has: one, if it is a routine's for that device, and has it by the
 -- state at its position
@@ -34,14 +33,16 @@ start_tokens start = length start.start_list + slot_tokens start.slot
 
 -- all of a device
 abbrev pub tokens : (ℕ → ℕ → ℕ → Abs) → List Thread → ℕ → StartState → ℕ
-tokens states threads d start = thread_sum (λ f. frame_tokens states d f) threads + start_tokens start
+tokens states threads d start =
+    thread_sum (λ f. frame_tokens states d f) threads + start_tokens start
 
 -- a busy device has one token: an entry of its start list, a full slot, or a routine's frame; an idle
 -- one has none, and no packet waits in its device queue. The states are those that arrive at the
 -- positions of the routines
 pub record HasOneToken (set : Set) (threads : ℕ) (events : List Event) : Type 0 where
   pub states : ℕ → ℕ → ℕ → Abs
-  pub arrive : (driver number p : ℕ) (routine : RoutineOf) → routine_of set driver number ≡ Some routine
+  pub arrive : (driver number p : ℕ) (routine : RoutineOf)
+      → routine_of set driver number ≡ Some routine
       → p < length routine.code
       → Arrives (member set driver number routine) p (states driver number p)
   pub one : (d : ℕ) (start : StartState)
@@ -53,6 +54,6 @@ pub record HasOneToken (set : Set) (threads : ℕ) (events : List Event) : Type 
 
 abbrev pub BusyDevicesHaveOneToken : Type 0
 BusyDevicesHaveOneToken =
-    (set : Set) → IsTypable set → IsSound set → CancelsNothing set
-    → (threads : ℕ) (events : List Event) → NoCancels events
+    (set : Set) → IsTypable set → IsSound set
+    → (threads : ℕ) (events : List Event)
     → HasOneToken set threads events

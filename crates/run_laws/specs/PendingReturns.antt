@@ -6,12 +6,11 @@ use Rattle.model.specs.Run.{run}
 use Rattle.model.specs.Set.{Set}
 use Rattle.model.specs.Sound.{IsSound}
 use Rattle.model.specs.Typable.{IsTypable}
-use Rattle.run_laws.specs.CancelsNothing.{CancelsNothing, NoCancels}
 
 -- what dispatch routines have returned agrees with the marks with which completion left their stack
 -- locations
 abbrev pub AcceptedRunsAgreeOnPending : Type 0
 AcceptedRunsAgreeOnPending =
-    (set : Set) → IsTypable set → IsSound set → CancelsNothing set
-    → (threads : ℕ) (events : List Event) → NoCancels events
+    (set : Set) → IsTypable set → IsSound set
+    → (threads : ℕ) (events : List Event)
     → PendingAgree (run set threads events).past

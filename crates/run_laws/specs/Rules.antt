@@ -11,7 +11,6 @@ use Rattle.model.specs.Typable.{IsTypable}
 use Rattle.run_laws.specs.Holder.{HasOneHolder}
 use Rattle.run_laws.specs.Lifetime.{KeepCertificates}
 use Rattle.run_laws.specs.NeverStops.{NeverStops}
-use Rattle.run_laws.specs.CancelsNothing.{CancelsNothing, NoCancels}
 use Rattle.run_laws.specs.NothingSkipped.{SkipsNothing}
 use Rattle.run_laws.specs.NoWrong.{NeverGoesWrong}
 use Rattle.run_laws.specs.OneToken.{HasOneToken}
@@ -39,6 +38,6 @@ pub record KeepsTheRules (set : Set) (threads : ℕ) (events : List Event) : Typ
 
 abbrev pub AcceptedRunsKeepTheRules : Type 0
 AcceptedRunsKeepTheRules =
-    (set : Set) → IsTypable set → IsSound set → CancelsNothing set
-    → (threads : ℕ) (events : List Event) → NoCancels events
+    (set : Set) → IsTypable set → IsSound set
+    → (threads : ℕ) (events : List Event)
     → KeepsTheRules set threads events

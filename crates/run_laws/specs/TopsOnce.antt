@@ -7,7 +7,6 @@ use Rattle.model.specs.Set.{Set}
 use Rattle.model.specs.Sound.{IsSound}
 use Rattle.model.specs.Trace.{Entry}
 use Rattle.model.specs.Typable.{IsTypable}
-use Rattle.run_laws.specs.CancelsNothing.{CancelsNothing, NoCancels}
 
 -- 1 where an action is that a packet tops out, else 0
 abbrev pub top_of : Action → ℕ → ℕ
@@ -36,6 +35,6 @@ times_topped (e ∷ past) n = top_of e.action n + times_topped past n
 
 abbrev pub PacketsTopOutOnce : Type 0
 PacketsTopOutOnce =
-    (set : Set) → IsTypable set → IsSound set → CancelsNothing set
-    → (threads : ℕ) (events : List Event) → NoCancels events
+    (set : Set) → IsTypable set → IsSound set
+    → (threads : ℕ) (events : List Event)
     → (n : ℕ) → times_topped (run set threads events).past n ≤ 1

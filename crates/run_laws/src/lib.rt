@@ -1,10 +1,11 @@
-//! Laws of runs: what holds of every run of an accepted set that cancels nothing, whatever its
-//! threads and its events, but for calls of IoCancelIrp; and what holds of any set's. Nothing runs
-//! here: each law is the contract of a function that does nothing.
+//! Laws of runs: what holds of every run of an accepted set, whatever its threads and its events;
+//! and what holds of any set's. Nothing runs here: each law is the contract of a function that does
+//! nothing.
 #![tactic(auto)]
 
 ghost use Rattle.run_laws.specs.CarriedMark.{CarriedUp};
 ghost use Rattle.run_laws.specs.DoubledToken.{TokenDoubled};
+ghost use Rattle.run_laws.specs.HeldPacket.{HeldAndCompleted};
 ghost use Rattle.run_laws.specs.Holder.{PacketsHaveOneHolder};
 ghost use Rattle.run_laws.specs.Lifetime.{ActivationsKeepTheirCertificate};
 ghost use Rattle.run_laws.specs.LockOrder.{LocksAreOrderly};
@@ -25,15 +26,15 @@ pub fn the_past_tells_of_the_world()
     ensures { PastTellsOfTheWorld }
 {}
 
-/// No run of an accepted set that cancels nothing goes wrong: no operand is of a wrong kind, no
+/// No run of an accepted set goes wrong: no operand is of a wrong kind, no
 /// position is outside its routine, no loop instruction is without its loop, and an activation's
 /// device is there with its locks and cells.
 pub fn accepted_runs_never_go_wrong()
     ensures { AcceptedRunsNeverGoWrong }
 {}
 
-/// Every activation of an accepted set that cancels nothing executes at most as many instructions
-/// as the certificate of its routine.
+/// Every activation of an accepted set executes at most as many instructions as the certificate of
+/// its routine.
 pub fn activations_keep_their_certificate()
     ensures { ActivationsKeepTheirCertificate }
 {}
@@ -45,8 +46,9 @@ pub fn locks_are_orderly()
 {}
 
 /// Each live packet has one holder: a register that has the right to it, the I/O manager's frame
-/// that completes it, a place in a queue, a start list or a device queue, or a current slot. One
-/// that has topped out has none. Every routine's frame stands inside its code.
+/// that completes it, a place in a queue, a start list or a device queue, a current slot, or its
+/// cancel word; and it stands in at most one list. One that has topped out has none. Every
+/// routine's frame stands inside its code.
 pub fn packets_have_one_holder()
     ensures { PacketsHaveOneHolder }
 {}
@@ -58,8 +60,8 @@ pub fn busy_devices_have_one_token()
     ensures { BusyDevicesHaveOneToken }
 {}
 
-/// No run of an accepted set that cancels nothing stops: there is no bug check of any kind,
-/// nothing goes wrong, and no step of a thread is refused.
+/// No run of an accepted set stops: there is no bug check of any kind, nothing goes wrong, and no
+/// step of a thread is refused.
 pub fn accepted_runs_never_stop()
     ensures { AcceptedRunsNeverStop }
 {}
@@ -77,7 +79,7 @@ pub fn nothing_is_skipped()
     ensures { NothingIsSkipped }
 {}
 
-/// Every run of an accepted set that cancels nothing keeps all these rules.
+/// Every run of an accepted set keeps all these rules.
 pub fn accepted_runs_keep_the_rules()
     ensures { AcceptedRunsKeepTheRules }
 {}
@@ -105,4 +107,10 @@ pub fn a_mark_is_shared()
 /// `begin`.
 pub fn a_token_is_doubled()
     ensures { TokenDoubled }
+{}
+
+/// A worked run in which a completion routine holds a packet that was completed below, and a DPC
+/// routine completes it again: nothing stops the run, and the packet tops out.
+pub fn a_held_packet_is_completed_again()
+    ensures { HeldAndCompleted }
 {}

@@ -1,6 +1,7 @@
 -- What every run of an accepted set keeps, a field a family; no event has a bug check, goes wrong
 -- or passes a bound; and each event keeps it.
-use Rattle.std.proofs.Common.{◌≡◌, ℕ, List, [], length, None, refl, ◌∙◌, Bool, false}
+use Rattle.run_laws.proofs.Claims.Runs.{claimed_begun, claimed_kept}
+use Rattle.std.proofs.Common.{◌≡◌, ℕ, List, [], length, refl, ◌∙◌, Bool}
 use Rattle.std.specs.Prelude.{slice_get}
 use Rattle.std.proofs.lemmas.List.{length-replicate}
 use Rattle.model.specs.Events.{Change}
@@ -14,21 +15,22 @@ use Rattle.run_laws.proofs.Depth.Granted.{same_count}
 use Rattle.run_laws.proofs.Depth.Kept.{AllFall, falls_begun, falls_event, within_bounds}
 use Rattle.run_laws.proofs.Holders.Once.{ToppedOnce, once_kept}
 use Rattle.run_laws.proofs.Holders.Runs.{held_kept, completion_faults_none, held_begun, top_holding}
-use Rattle.run_laws.proofs.Live.Kept.{Sees, sees_begun, sees_event, touches_none}
+use Rattle.run_laws.proofs.Live.Kept.{Sees, sees_begun, sees_event, top_lent, touches_none}
 use Rattle.run_laws.proofs.Uses.Events.{KnownWorld, uses_begun, uses_event}
 use Rattle.run_laws.proofs.Uses.Fates.{UsesTell}
 use Rattle.run_laws.proofs.Holders.Sums.{Held}
 use Rattle.run_laws.proofs.Locks.Runs.{LocksAgree, locks_kept, lock_faults_none, locks_begun}
 use Rattle.run_laws.proofs.Past.Runs.{Telling, telling_begun, telling_happens, telling_queued}
-use Rattle.run_laws.proofs.Past.Unarmed.{NoneArmed, unarmed_event}
-use Rattle.run_laws.proofs.Room.Runs.{Roomy, roomy_begun, call_faults_none, roomy_kept}
+use Rattle.run_laws.proofs.Room.Runs.{Roomy, roomy_begun, call_faults_none, roomy_kept, roomy_lends, roomy_queued}
+use Rattle.run_laws.proofs.Claims.Sums.{Claimed}
+use Rattle.run_laws.proofs.Live.Claimed.{claims_live, entries_live}
 use Rattle.run_laws.proofs.Runs.Events.{Happens}
 use Rattle.run_laws.proofs.Runs.Faultless.{recorded_faultless}
 use Rattle.run_laws.proofs.Runs.Kept.{GoesOnBy, with_queued}
 use Rattle.run_laws.proofs.States.Frames.{IsGood}
 use Rattle.run_laws.proofs.States.Rules.{States}
 use Rattle.run_laws.proofs.States.Standing.{Standing, standing_begun, right_event, standing_kept, standing_queued}
-use Rattle.run_laws.proofs.Steps.Faults.{is_touch, fault_among, NoFaults, no_fault}
+use Rattle.run_laws.proofs.Steps.Faults.{NoFaults, no_fault}
 use Rattle.run_laws.proofs.Tokens.Runs.{tokens_begun, tokens_kept, tokens_queued}
 use Rattle.run_laws.proofs.Tokens.Sums.{OneTokenEach}
 
@@ -36,9 +38,9 @@ pub record Keeps (set : Set) (states : States) (threads : ℕ) (w : World) (past
     0 where
   pub stands : Standing set states w past
   pub told : Telling w past
-  pub unarmed : NoneArmed past
   pub locks : LocksAgree states w past
-  pub held : Held states w
+  pub held : Held set states w
+  pub claims : Claimed set states w
   pub tokens : OneTokenEach states w
   pub sees : Sees set states w
   pub room : Roomy set states w
@@ -56,9 +58,9 @@ keeps_begun set states threads =
     record {
       stands = standing_begun set states threads;
       told = telling_begun set threads;
-      unarmed = λ n. refl;
       locks = locks_begun set states threads;
       held = held_begun set states threads;
+      claims = claimed_begun set states threads;
       tokens = tokens_begun set states threads;
       sees = sees_begun set states threads;
       room = roomy_begun set states threads;
@@ -75,47 +77,62 @@ module _ (set : Set) (states : States) (threads : ℕ) (w : World) (past : List 
     (keeps : Keeps set states threads w past) where
   -- what is known of the world, for what happens to uses
   pub known_world : KnownWorld set states w past
-  known_world = record { good = good; stands = keeps.stands; kept = keeps.held; sees = keeps.sees }
+  known_world =
+      record {
+        good = good;
+        stands = keeps.stands;
+        kept = keeps.held;
+        sees = keeps.sees;
+        lends = roomy_lends set states w keeps.room;
+      }
 
   -- every event of a run goes on
-  pub goes_on_by : (actor : Actor) (c : Change) → actor.root ≡ root_of (slice_get w.threads actor.thread)
-      → Happens set w actor.thread false c → GoesOnBy set w past actor false c
+  pub goes_on_by : (actor : Actor) (c : Change)
+      → actor.root ≡ root_of (slice_get w.threads actor.thread)
+      → Happens set w actor.thread c → GoesOnBy set w past actor c
   goes_on_by actor c root happens =
-      let touches : fault_among is_touch past actor c.actions ≡ None =
-      touches_none set states w past good keeps.stands keeps.sees actor c keeps.held
-      (top_holding set states w past keeps.stands keeps.held actor.thread) happens in
       let none : NoFaults past actor c.actions = record {
-        locks = lock_faults_none set states w past good keeps.stands keeps.locks actor c root happens;
-        touches = touches;
-        calls = call_faults_none set states w past good keeps.stands keeps.held keeps.room
-            keeps.tokens actor c happens touches;
-        completions =
-            completion_faults_none set states w past good keeps.stands keeps.held keeps.unarmed
-            actor c
+        locks = lock_faults_none set states w past good keeps.stands keeps.locks actor c root
+            happens;
+        touches = touches_none set states w past good keeps.stands keeps.sees actor c keeps.held
+            (top_holding set states w past keeps.stands keeps.held actor.thread)
+            (claims_live set states w past good keeps.stands keeps.held keeps.claims actor.thread)
+            (entries_live set states w past good keeps.stands keeps.held keeps.claims) happens;
+        calls = call_faults_none set states w past good keeps.stands keeps.held keeps.room actor c
+            happens;
+        completions = completion_faults_none set states w past good keeps.stands keeps.held actor c
             happens;
       } in
       record {
         happens = happens;
         root = root;
         quiet = no_fault past actor c.actions none;
-        within = within_bounds set states w actor.thread keeps.falls past c good keeps.stands keeps.held
-            (falls_event set states w actor.thread keeps.falls past c good keeps.stands happens) happens;
+        within = within_bounds set states w actor.thread keeps.falls past c good keeps.stands
+            keeps.held
+            keeps.claims
+            (falls_event set states w actor.thread keeps.falls past c good keeps.stands happens)
+            happens;
       }
 
-  pub keeps_event : (actor : Actor) (c : Change) → GoesOnBy set w past actor false c
+  pub keeps_event : (actor : Actor) (c : Change) → GoesOnBy set w past actor c
       → Keeps set states threads c.world (recorded past actor c.actions)
   keeps_event actor c on =
       record {
         stands = standing_kept set states w past good keeps.stands actor c on;
-        told = telling_happens set good.sound w past actor false c keeps.told on.happens on.quiet on.within;
-        unarmed = unarmed_event set good.quiet past actor keeps.unarmed w false c on.happens;
+        told = telling_happens set good.sound w past actor c keeps.told on.happens on.quiet
+            on.within;
         locks = locks_kept set states w past good keeps.stands keeps.locks actor c on;
-        held = held_kept set states w past good keeps.stands keeps.held keeps.tokens actor c on;
+        held = held_kept set states w past good keeps.stands keeps.held keeps.tokens actor c
+            (top_lent set states w keeps.sees actor.thread) on;
+        claims = claimed_kept set states w past good keeps.stands keeps.claims keeps.locks
+            keeps.told.locks keeps.held actor c on;
         tokens = tokens_kept set states w past good keeps.stands keeps.tokens actor c on;
         sees = sees_event set states w past good keeps.stands keeps.sees actor.thread c on.happens;
-        room = roomy_kept set states w past good keeps.stands keeps.held keeps.room keeps.tokens
-            actor c on;
-        falls = falls_event set states w actor.thread keeps.falls past c good keeps.stands on.happens;
+        room = roomy_kept set states w past good keeps.stands keeps.held keeps.room keeps.claims
+            actor c
+            on;
+        falls = falls_event set states w actor.thread keeps.falls past c good keeps.stands
+            on.happens;
         «uses» = uses_event set states w past actor c known_world keeps.«uses» on.happens on.quiet;
         once = once_kept set past actor keeps.once w c keeps.stands.tells on.happens;
         faultless = recorded_faultless past actor c.actions keeps.faultless on.quiet;
@@ -125,23 +142,26 @@ module _ (set : Set) (states : States) (threads : ℕ) (w : World) (past : List 
       }
 
   -- where a DPC is queued or isn't
-  pub keeps_queued : (d : ℕ) (queued : Bool) → Keeps set states threads (with_queued w d queued) past
+  pub keeps_queued : (d : ℕ) (queued : Bool) → Keeps set states threads (with_queued w d queued)
+      past
   keeps_queued d queued =
       record {
         stands = standing_queued set states w past good keeps.stands d queued;
         told = telling_queued w past d queued keeps.told;
-        unarmed = keeps.unarmed;
         locks = keeps.locks;
         held = record { rights = keeps.held.rights; walks = keeps.held.walks };
+        claims = record {
+          balanced = record {
+            backed = keeps.claims.balanced.backed;
+            entered = keeps.claims.balanced.entered;
+            standing = keeps.claims.balanced.standing;
+            once = keeps.claims.balanced.once;
+          };
+          apart = keeps.claims.apart;
+        };
         tokens = tokens_queued states w d queued keeps.tokens;
         sees = keeps.sees;
-        room = record {
-          frames = keeps.room.frames;
-          waiting = record {
-            queues = keeps.room.waiting.queues;
-            starts = keeps.room.waiting.starts;
-          };
-        };
+        room = roomy_queued set states w d queued keeps.room;
         falls = keeps.falls;
         «uses» = record { traced = keeps.«uses».traced; live = keeps.«uses».live };
         once = keeps.once;

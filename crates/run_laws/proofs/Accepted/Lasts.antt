@@ -12,9 +12,8 @@ use Rattle.run_laws.proofs.Certificates.Steps.{frame_due}
 use Rattle.run_laws.proofs.Certificates.Tally.{tally_begun}
 use Rattle.run_laws.proofs.Pending.Entries.{EntriesSay, entries_event}
 use Rattle.run_laws.proofs.Pending.Events.{Attends, attend_event, attends_begun, attends_queued}
-use Rattle.run_laws.specs.CancelsNothing.{NoCancels, is_cancel}
-use Rattle.run_laws.proofs.Runs.Events.{MakesNothing, cancel_makes_nothing, stops_run, Happens, Sets, sets_nothing, queues, Concerns, a_thread, no_thread, concerns, set_in, answers_none, past_with, Answers, refuses_stopped, refuses_over, goes_on_with, stops_for, stops_wrong, answers}
-use Rattle.run_laws.proofs.Runs.Kept.{GoesOnBy, kept_quiet_run}
+use Rattle.run_laws.proofs.Runs.Events.{stops_run, Happens, Sets, sets_nothing, queues, Concerns, a_thread, no_thread, concerns, set_in, answers_none, past_with, Answers, refuses_stopped, refuses_over, goes_on_with, stops_for, stops_wrong, answers}
+use Rattle.run_laws.proofs.Runs.Kept.{GoesOnBy, kept_run}
 use Rattle.run_laws.proofs.States.Frames.{IsGood}
 use Rattle.run_laws.proofs.States.Rules.{States}
 use Rattle.run_laws.proofs.States.Standing.{right_event}
@@ -28,55 +27,44 @@ module _ (set : Set) (states : States) (good : IsGood set states) (threads : ℕ
     pub says : EntriesSay r.past
 
   -- what an event on it is answered: it isn't refused for want of room, and the run goes on
-  pub record GoesOn (r : Run) (t : ℕ) (of_cancel : Bool) (c : Change) (a : Answered) : Type 0 where
+  pub record GoesOn (r : Run) (t : ℕ) (c : Change) (a : Answered) : Type 0 where
     pub is : a ≡ goes set r t (past_with r t c) c
-    pub by : GoesOnBy set r.world r.past (actor_on r t) of_cancel c
+    pub by : GoesOnBy set r.world r.past (actor_on r t) c
     pub right : stops_run c.reply ≡ false
 
   module _ (r : Run) (lasting : Lasts r) where
-    -- a call of IoCancelIrp does too
-    by_event : (t : ℕ) (of_cancel : Bool) (c : Change) → Happens set r.world t of_cancel c
-        → GoesOnBy set r.world r.past (actor_on r t) of_cancel c
-    by_event t false c happens =
+    by_event : (t : ℕ) (c : Change) → Happens set r.world t c
+        → GoesOnBy set r.world r.past (actor_on r t) c
+    by_event t c happens =
         goes_on_by set states threads r.world r.past good lasting.keeps (actor_on r t) c refl
         happens
-    by_event t true c happens =
-        let makes : MakesNothing c = cancel_makes_nothing set r.world t c happens in
-        record {
-          happens = happens;
-          root = refl;
-          quiet = rw makes.actions refl;
-          within = makes.within;
-        }
 
-    right_reply : (t : ℕ) (of_cancel : Bool) (c : Change) → Happens set r.world t of_cancel c
-        → stops_run c.reply ≡ false
-    right_reply t false c happens =
+    right_reply : (t : ℕ) (c : Change) → Happens set r.world t c → stops_run c.reply ≡ false
+    right_reply t c happens =
         (right_event set states r.world r.past good lasting.keeps.stands t c happens).1
-    right_reply t true c happens = (cancel_makes_nothing set r.world t c happens).right
 
-    goes_on_answer : (t : ℕ) (of_cancel : Bool) (c : Change) (a : Answered)
-        → Happens set r.world t of_cancel c → Answers set r t c a → GoesOn r t of_cancel c a
-    goes_on_answer t of_cancel c a happens (refuses_stopped stopped) =
+    goes_on_answer : (t : ℕ) (c : Change) (a : Answered)
+        → Happens set r.world t c → Answers set r t c a → GoesOn r t c a
+    goes_on_answer t c a happens (refuses_stopped stopped) =
         let no : true ≡ false = sym stopped ∙ lasting.on in cc
-    goes_on_answer t of_cancel c a happens (refuses_over on quiet over) =
-        let no : true ≡ false = sym over ∙ (by_event t of_cancel c happens).within in cc
-    goes_on_answer t of_cancel c a happens (goes_on_with on quiet within) =
+    goes_on_answer t c a happens (refuses_over on quiet over) =
+        let no : true ≡ false = sym over ∙ (by_event t c happens).within in cc
+    goes_on_answer t c a happens (goes_on_with on quiet within) =
         record {
           is = refl;
-          by = by_event t of_cancel c happens;
-          right = right_reply t of_cancel c happens;
+          by = by_event t c happens;
+          right = right_reply t c happens;
         }
-    goes_on_answer t of_cancel c a happens (stops_for bug on fault) =
-        let no : Some bug ≡ None = sym fault ∙ (by_event t of_cancel c happens).quiet in cc
-    goes_on_answer t of_cancel c a happens (stops_wrong place on reply) =
-        let no : true ≡ false = sym (ap stops_run reply) ∙ right_reply t of_cancel c happens in cc
+    goes_on_answer t c a happens (stops_for bug on fault) =
+        let no : Some bug ≡ None = sym fault ∙ (by_event t c happens).quiet in cc
+    goes_on_answer t c a happens (stops_wrong place on reply) =
+        let no : true ≡ false = sym (ap stops_run reply) ∙ right_reply t c happens in cc
 
     pub goes_on_at : (t : ℕ) (e : Event) → thread_of e ≡ Some t
-        → Happens set r.world t (is_cancel e) (effect set r.world e)
-        → GoesOn r t (is_cancel e) (effect set r.world e) (step set r e)
+        → Happens set r.world t (effect set r.world e)
+        → GoesOn r t (effect set r.world e) (step set r e)
     goes_on_at t e is happens =
-        goes_on_answer t (is_cancel e) (effect set r.world e) (step set r e) happens
+        goes_on_answer t (effect set r.world e) (step set r e) happens
         (answers set r t e is)
 
     -- no reply stops the run
@@ -88,7 +76,7 @@ module _ (set : Set) (states : States) (good : IsGood set states) (threads : ℕ
 
     right_concerned : (e : Event) → Concerns set r.world e → stops_run (step set r e).reply ≡ false
     right_concerned e (a_thread t is happens) =
-        let on : GoesOn r t (is_cancel e) (effect set r.world e) (step set r e) =
+        let on : GoesOn r t (effect set r.world e) (step set r e) =
         goes_on_at t e is happens in
         ap (λ (a : Answered). stops_run a.reply) on.is ∙ on.right
     right_concerned e (no_thread is of) =
@@ -98,7 +86,7 @@ module _ (set : Set) (states : States) (good : IsGood set states) (threads : ℕ
     pub right_answer : (e : Event) → stops_run (step set r e).reply ≡ false
     right_answer e = right_concerned e (concerns set r.world e)
 
-    lasts_with : (t : ℕ) (c : Change) → GoesOnBy set r.world r.past (actor_on r t) false c
+    lasts_with : (t : ℕ) (c : Change) → GoesOnBy set r.world r.past (actor_on r t) c
         → Lasts (goes set r t (past_with r t c) c).run
     lasts_with t c by =
         let later : Keeps set states threads c.world (past_with r t c) =
@@ -109,8 +97,11 @@ module _ (set : Set) (states : States) (good : IsGood set states) (threads : ℕ
           attends = attend_event set states r.world r.past r.tags r.activations (actor_on r t)
               (known_world set states threads r.world r.past good lasting.keeps) lasting.attends c
               by.happens refl
-              by.quiet later.held lasting.keeps.«uses» later.«uses»;
-          says = entries_event set states r.world r.past (actor_on r t) lasting.keeps.«uses» r.tags c
+              by.quiet
+              (known_world set states threads c.world (past_with r t c) good later)
+              lasting.keeps.«uses» later.«uses»;
+          says = entries_event set states r.world r.past (actor_on r t) lasting.keeps.«uses» r.tags
+              c
               (known_world set states threads r.world r.past good lasting.keeps) lasting.attends
               by.happens refl
               lasting.says;
@@ -127,32 +118,29 @@ module _ (set : Set) (states : States) (good : IsGood set states) (threads : ℕ
           keeps = keeps_queued set states threads r.world r.past good lasting.keeps d true;
           tally = tally_queued set r d lasting.tally;
           attends = attends_queued set states r.world r.past r.tags r.activations (actor_on r 0)
-              (known_world set states threads r.world r.past good lasting.keeps) lasting.attends d true
+              (known_world set states threads r.world r.past good lasting.keeps) lasting.attends d
+              true
               lasting.keeps.«uses»;
           says = lasting.says;
         }
 
-    lasts_concerned : (e : Event) → is_cancel e ≡ false → Concerns set r.world e
+    lasts_concerned : (e : Event) → Concerns set r.world e
         → Lasts (step set r e).run
-    lasts_concerned e quiet (a_thread t is happens) =
-        let goes_on : GoesOn r t (is_cancel e) (effect set r.world e) (step set r e) =
+    lasts_concerned e (a_thread t is happens) =
+        let goes_on : GoesOn r t (effect set r.world e) (step set r e) =
         goes_on_at t e is happens in
         subst (λ (a : Answered). Lasts a.run) (sym goes_on.is)
-        (lasts_with t (effect set r.world e)
-        (subst
-        (λ (b : Bool). GoesOnBy set r.world r.past (actor_on r t) b (effect set r.world e)) quiet
-        goes_on.by))
-    lasts_concerned e quiet (no_thread is of) =
+        (lasts_with t (effect set r.world e) goes_on.by)
+    lasts_concerned e (no_thread is of) =
         subst (λ (a : Answered). Lasts a.run) (sym (answers_none set r e is))
         (lasts_set (effect set r.world e) r.stopped refl of)
 
-    lasts_step : (e : Event) → is_cancel e ≡ false → Lasts (step set r e).run
-    lasts_step e quiet = lasts_concerned e quiet (concerns set r.world e)
+    lasts_step : (e : Event) → Lasts (step set r e).run
+    lasts_step e = lasts_concerned e (concerns set r.world e)
 
-  pub lasts : (events : List Event) → NoCancels events → Lasts (run set threads events)
-  lasts events none =
-      kept_quiet_run Lasts set (λ r e quiet lasting. lasts_step r lasting e quiet) threads events
-      none
+  pub lasts : (events : List Event) → Lasts (run set threads events)
+  lasts events =
+      kept_run Lasts set (λ r e lasting. lasts_step r lasting e) threads events
       (record {
         on = refl;
         keeps = keeps_begun set states threads;

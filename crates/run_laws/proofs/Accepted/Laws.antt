@@ -12,7 +12,6 @@ use Rattle.model.specs.Run.{Run, Answered, frames_on, tags_on, step, run}
 use Rattle.model.specs.Set.{Set}
 use Rattle.model.specs.Sound.{IsSound}
 use Rattle.model.specs.Typable.{IsTypable}
-use Rattle.run_laws.specs.CancelsNothing.{CancelsNothing, NoCancels}
 use Rattle.run_laws.specs.Holder.{HasOneHolder, PacketsHaveOneHolder}
 use Rattle.run_laws.specs.Lifetime.{KeepCertificates, ActivationsKeepTheirCertificate}
 use Rattle.run_laws.specs.LockOrder.{LocksAreOrderly}
@@ -28,6 +27,7 @@ use Rattle.run_laws.proofs.Accepted.Trace.{all_right}
 use Rattle.run_laws.proofs.Certificates.Kept.{all_kept, all_one, stands_within}
 use Rattle.run_laws.proofs.Depth.Granted.{is_refused, granted_step}
 use Rattle.run_laws.proofs.Holders.Once.{tops_at_most_once}
+use Rattle.run_laws.proofs.Claims.Once.{lists_live}
 use Rattle.run_laws.proofs.Holders.Runs.{one_holder, live_listed}
 use Rattle.run_laws.proofs.Pending.Entries.{all_say, as_many, has_uses, manager_tag, routine_tag}
 use Rattle.run_laws.proofs.Pending.Returned.{pending_agree}
@@ -45,26 +45,26 @@ lets_go reply right =
       wrong = λ place same. (let no : true ≡ false = sym (ap stops_run same) ∙ right in cc);
     }
 
-module _ (set : Set) (typable : IsTypable set) (sound : IsSound set) (quiet : CancelsNothing set)
-    (threads : ℕ) (events : List Event) (none : NoCancels events) where
+module _ (set : Set) (typable : IsTypable set) (sound : IsSound set)
+    (threads : ℕ) (events : List Event) where
   abbrev states : States
-  states = (led set typable sound quiet).0
+  states = (led set typable sound).0
 
   good : IsGood set states
-  good = record { sound = sound; led = (led set typable sound quiet).1; quiet = quiet }
+  good = record { sound = sound; led = (led set typable sound).1 }
 
   abbrev here : Run
   here = run set threads events
 
   lasting : Lasts set states good threads here
-  lasting = lasts set states good threads events none
+  lasting = lasts set states good threads events
 
   reply_right : (e : Event) → stops_run (reply_to set threads events e) ≡ false
   reply_right e = right_answer set states good threads here lasting e
 
   granted : (t : ℕ) → t < threads → reply_to set threads events (Step t) ≢ Refused
   granted t within same =
-      let on : GoesOn set states good threads here t false (effect set here.world (Step t))
+      let on : GoesOn set states good threads here t (effect set here.world (Step t))
       (step set here (Step t)) =
       goes_on_at set states good threads here lasting t (Step t) refl
       (happens_step set here.world t (slice_get here.world.threads t) refl) in
@@ -75,7 +75,12 @@ module _ (set : Set) (typable : IsTypable set) (sound : IsSound set) (quiet : Ca
       cc
 
   never_stops : NeverStops set threads events
-  never_stops = record { on = lasting.on; replies = λ e. lets_go _ (reply_right e); stepped = granted }
+  never_stops = record {
+    on = lasting.on;
+    replies = λ e. lets_go _ (reply_right e);
+    stepped =
+        granted;
+  }
 
   never_wrong : NeverGoesWrong set threads events
   never_wrong =
@@ -101,7 +106,9 @@ module _ (set : Set) (typable : IsTypable set) (sound : IsSound set) (quiet : Ca
         stand = λ t k a there.
             stands_inside set states here.world.shared.issued (frames_on here.world t) k a
             (lasting.keeps.stands.frames t) there;
-        one = λ n. one_holder here lasting.keeps.stands.tells n states lasting.keeps.held;
+        one = λ n. one_holder here lasting.keeps.stands.tells n set states lasting.keeps.held;
+        once = λ n. lists_live set states here lasting.keeps.stands.tells lasting.keeps.held
+            lasting.keeps.claims n;
         listed = λ n. live_listed here lasting.keeps.stands.tells n;
       }
 
@@ -158,29 +165,29 @@ accepted_tops = at_most_once
 
 -- no bug check at all is about a lock: a law of its own, as its reader asks for it by itself
 pub accepted_locks : LocksAreOrderly
-accepted_locks set typable sound quiet threads events none e bug reply =
-    absurd (((never_stops set typable sound quiet threads events none).replies e).bug bug reply)
+accepted_locks set typable sound threads events e bug reply =
+    absurd (((never_stops set typable sound threads events).replies e).bug bug reply)
 
 pub accepted_agree : AcceptedRunsAgreeOnPending
-accepted_agree set typable sound quiet threads events none =
-    pending_agree (states set typable sound quiet threads events none)
+accepted_agree set typable sound threads events =
+    pending_agree (states set typable sound threads events)
     (run set threads events).world
     (run set threads events).past
-    (lasting set typable sound quiet threads events none).attends.agree
+    (lasting set typable sound threads events).attends.agree
 
 pub accepted_skip_nothing : NothingIsSkipped
 accepted_skip_nothing = skips_nothing
 
 pub accepted_rules : AcceptedRunsKeepTheRules
-accepted_rules set typable sound quiet threads events none =
+accepted_rules set typable sound threads events =
     record {
-      faultless = (lasting set typable sound quiet threads events none).keeps.faultless;
-      right = never_wrong set typable sound quiet threads events none;
-      lasting = never_stops set typable sound quiet threads events none;
-      certificates = keep_certificates set typable sound quiet threads events none;
-      pending = accepted_agree set typable sound quiet threads events none;
-      complete = skips_nothing set typable sound quiet threads events none;
-      holders = has_one_holder set typable sound quiet threads events none;
-      tokens = has_one_token set typable sound quiet threads events none;
-      topped = at_most_once set typable sound quiet threads events none;
+      faultless = (lasting set typable sound threads events).keeps.faultless;
+      right = never_wrong set typable sound threads events;
+      lasting = never_stops set typable sound threads events;
+      certificates = keep_certificates set typable sound threads events;
+      pending = accepted_agree set typable sound threads events;
+      complete = skips_nothing set typable sound threads events;
+      holders = has_one_holder set typable sound threads events;
+      tokens = has_one_token set typable sound threads events;
+      topped = at_most_once set typable sound threads events;
     }

@@ -22,7 +22,8 @@ recorded_right past actor (action ∷ actions) h silent =
     recorded_right (entry past actor action ∷ past) actor actions
     (not_wrong action (or_left (is_wrong action) _ silent), h) (or_right (is_wrong action) _ silent)
 
-pub all_right : (past : List Entry) → NoneWrong past → All (λ (e : Entry). e.action ≢ GoesWrong) past
+pub all_right : (past : List Entry) → NoneWrong past
+    → All (λ (e : Entry). e.action ≢ GoesWrong) past
 all_right [] h k d within = absurd (omega arith)
 all_right (e ∷ past) h zero d within = h.0
 all_right (e ∷ past) h (suc k) d within = all_right past h.1 k d (omega arith)

@@ -1,39 +1,37 @@
 -- Every activation of a run of an accepted set keeps its routine's certificate.
-use Rattle.std.proofs.Common.{◌≡◌, ℕ, zero, suc, ◌+◌, List, [], ◌∷◌, ◌++◌, Some, refl, ap, sym, ◌∙◌, subst, arith, false, true, ◌≤◌}
+use Rattle.std.proofs.Common.{◌≡◌, ℕ, zero, suc, ◌+◌, List, [], ◌∷◌, ◌++◌, Some, refl, ap, sym, ◌∙◌, subst, arith, false, true, ◌≤◌, inl, inr, None}
 use Rattle.std.specs.Prelude.{All, slice_get, slice_set}
-use Rattle.std.proofs.lemmas.List.{set-get_or}
+use Rattle.std.proofs.lemmas.List.{set-get_or, append-nil, append_assoc}
 use Rattle.model.specs.declared.event.Reply.{Reply}
 use Rattle.model.specs.declared.world.Activation.{Activation}
 use Rattle.model.specs.declared.world.Frame.{Frame}
 use Rattle.model.specs.declared.world.Frame.TheVariants.{Routine, Walk, Cancel as CancelFrame}
 use Rattle.model.specs.declared.world.Irql.TheVariants.{Passive, Dispatch as DispatchLevel}
 use Rattle.model.specs.Action.{Action}
-use Rattle.model.specs.Certificate.{certificate_of}
 use Rattle.model.specs.Effect.{Outcome, told_to, top_of}
-use Rattle.model.specs.Events.{Change, unchanged, rooted, serves_request, settled, standing, with_stack, with_thread, dpc_activation}
+use Rattle.model.specs.Events.{Change, unchanged, rooted, serves_request, settled, standing, with_stack, with_thread, dpc_activation, cancelling}
 use Rattle.model.specs.Run.{Run, actor_on, activations_after, frames_on, goes, tags_after, tags_on, top_tag}
 use Rattle.model.specs.Set.{Set}
 use Rattle.model.specs.declared.event.Reply.TheVariants.{Idle}
 use Rattle.model.specs.Trace.{Entry, Tag, Managing, Activated, recorded}
 use Rattle.run_laws.specs.Lifetime.{AreOneRoutine, IsOneRoutine, KeepsCertificate, StandsWithin}
-use Rattle.run_laws.proofs.Certificates.Owed.{executed_in, Follows, follows_idle, follows_step}
+use Rattle.run_laws.proofs.Certificates.Owed.{executed_in, Follows, follows_idle, follows_step, Pays, IsFresh, follows_stop}
 use Rattle.run_laws.proofs.Certificates.Steps.{frame_due, pays, told_alike}
 use Rattle.run_laws.proofs.Certificates.Tags.{Fits, IsKnown, Matched, Named, fits_known, named}
 use Rattle.run_laws.proofs.Certificates.Tally.{AllKnown, Tally, known_kept, one_of_known, turned}
 use Rattle.run_laws.proofs.Lists.{last_of}
-use Rattle.run_laws.proofs.Runs.Events.{StepsFrame, Happens, nothing, steps, issues, past_with, begins, begins_startio}
+use Rattle.run_laws.proofs.Runs.Events.{StepsFrame, Happens, nothing, steps, issues, past_with, begins, begins_startio, begins_cancel}
 use Rattle.run_laws.proofs.Runs.Kept.{with_queued}
 use Rattle.run_laws.proofs.Runs.Threads.{frames_there, frames_put}
 use Rattle.run_laws.proofs.States.Entering.{begins_request, begins_dpc, startio_activation}
-use Rattle.run_laws.proofs.States.Frames.{IsGood, due}
-use Rattle.run_laws.proofs.States.Never.{keeps_below}
+use Rattle.run_laws.proofs.States.Frames.{IsGood}
 use Rattle.run_laws.proofs.States.Rules.{States}
 use Rattle.run_laws.proofs.States.Standing.{Standing, on_top, startio_enters}
-use Rattle.run_laws.proofs.Steps.Below.{standing_is}
+use Rattle.run_laws.proofs.Steps.Below.{stood}
 use Rattle.std.proofs.lemmas.Option.{get_or_from_slice_get}
-use Rattle.model.specs.declared.world.Irql.{Irql}
 use Rattle.model.specs.declared.world.Thread.{Thread}
 use Rattle.model.specs.World.{Shared, World}
+use Rattle.model.specs.declared.world.CancelStep.TheVariants.{Acquire as AcquireStep}
 
 -- the tags of a thread whose top frame is known
 record TopTag (given : List Tag) (below : List Frame) (f : Frame) (row : List Tag) : Type 0 where
@@ -46,7 +44,8 @@ record TopTag (given : List Tag) (below : List Frame) (f : Frame) (row : List Ta
 top_matched : (given : List Tag) (below : List Frame) (f : Frame) (row : List Tag)
     → Matched given (below ++ f ∷ []) row → TopTag given below f row
 top_matched given [] f [] h = absurd h
-top_matched given [] f (tag ∷ []) h = record { tags = []; tag = tag; is = refl; others = tt; fits = h.0 }
+top_matched given [] f (tag ∷ []) h =
+    record { tags = []; tag = tag; is = refl; others = tt; fits = h.0 }
 top_matched given [] f (tag ∷ other ∷ row) h = absurd h.1
 top_matched given (g ∷ below) f [] h = absurd h
 top_matched given (g ∷ below) f (tag ∷ row) h =
@@ -82,7 +81,8 @@ tags_same set given past number (Walk n ∷ frames) (Activated g driver routine 
     absurd h.0
 tags_same set given past number (CancelFrame c ∷ frames) (Managing ∷ row) h =
     ap (λ (tags : List Tag). Managing ∷ tags) (tags_same set given past number frames row h.1)
-tags_same set given past number (CancelFrame c ∷ frames) (Activated g driver routine serving ∷ row) h =
+tags_same set given past number (CancelFrame c ∷ frames) (Activated g driver routine serving ∷ row)
+    h =
     absurd h.0
 
 count_same : (number : ℕ) (frames : List Frame) → activations_after number frames frames ≡ number
@@ -95,7 +95,8 @@ idle_known : (given row : List Tag) → Matched given [] row → IsKnown given (
 idle_known given [] h = tt
 idle_known given (tag ∷ row) h = absurd h
 
-follows_as : (set : Set) (given : List Tag) (past : List Entry) (number n : ℕ) (old old_now : List Frame)
+follows_as : (set : Set) (given : List Tag) (past : List Entry) (number n : ℕ)
+    (old old_now : List Frame)
     (row row_now : List Tag) (tag tag_now : Tag) (frames frames_now : List Frame) → old ≡ old_now
     → row ≡ row_now
     → tag ≡ tag_now → frames ≡ frames_now
@@ -104,6 +105,29 @@ follows_as : (set : Set) (given : List Tag) (past : List Entry) (number n : ℕ)
 follows_as set given past number n old old_now row row_now tag tag_now frames frames_now one two
     three four h =
     rw (sym one, sym two, sym three, sym four) h
+
+-- the top frame is gone, and the I/O manager's below it
+stops_follow : (set : Set) (given : List Tag) (past : List Entry) (number n : ℕ)
+    (others : List Frame) (k : ℕ) (below : List Frame) (f : Frame) (row : List Tag)
+    → below ≡ others ++ Walk k ∷ [] → (top : TopTag given below f row) → n ≤ frame_due set f
+    → Follows (frame_due set) set given past number (below ++ f ∷ []) row top.tag n others
+stops_follow set given past number n others k below f row is top paid =
+    let walk : TopTag given others (Walk k) top.tags =
+    top_matched given others (Walk k) top.tags
+    (subst (λ (frames : List Frame). Matched given frames top.tags) is top.others) in
+    let frames : others ++ Walk k ∷ f ∷ [] ≡ below ++ f ∷ [] =
+    sym (ap (λ (lower : List Frame). lower ++ f ∷ []) is
+    ∙ append_assoc others (Walk k ∷ []) (f ∷ [])) in
+    let tags : walk.tags ++ walk.tag ∷ top.tag ∷ [] ≡ row =
+    sym (top.is ∙ ap (λ (lower : List Tag). lower ++ top.tag ∷ []) walk.is
+    ∙ append_assoc walk.tags (walk.tag ∷ []) (top.tag ∷ [])) in
+    follows_as set given past number n (others ++ Walk k ∷ f ∷ []) (below ++ f ∷ [])
+    (walk.tags ++ walk.tag ∷ top.tag ∷ []) row top.tag top.tag (others ++ []) others frames tags
+    refl
+    (append-nil others)
+    (follows_stop (frame_due set) set given past number others (Walk k) f walk.tags walk.tag top.tag
+    n
+    (told_alike set None others) walk.others paid)
 
 module _ (set : Set) (states : States) (good : IsGood set states) (r : Run) (t : ℕ)
     (stands : Standing set states r.world r.past) (tally : Tallied set r) where
@@ -122,28 +146,38 @@ module _ (set : Set) (states : States) (good : IsGood set states) (r : Run) (t :
       top_matched tally.given h.below h.frame row matched in
       let acting : top_tag row ≡ top.tag = top_is row top.tags top.tag top.is in
       let later : List Entry = past_with r t c in
-      let after : standing set h.below o ≡ told_to set h.below o.told ++ o.frames =
-      standing_is set r.world.shared t (top_of h.below) h.frame o h.below h.comes
-      (keeps_below set states r.world.shared t (top_of h.below) h.frame o
-      (on_top set states r.world r.past good stands t h) h.comes) in
+      let paid : Pays (frame_due set) set h.frame (executed_in o.actions) o.frames =
+      pays set states r.world.shared t (top_of h.below) h.frame o
+      (on_top set states r.world r.past good stands t h) h.comes in
       let follows : Follows (frame_due set) set tally.given later r.activations
       h.thread.frames.items row (top_tag row)
       (executed_in o.actions) (standing set h.below o) =
-      follows_as set tally.given later r.activations (executed_in o.actions) (h.below ++ h.frame ∷ [])
-      h.thread.frames.items (top.tags ++ top.tag ∷ []) row top.tag (top_tag row)
-      (told_to set h.below o.told ++ o.frames) (standing set h.below o) (sym h.frames) (sym top.is)
-      (sym acting)
-      (sym after)
-      (follows_step (frame_due set) set tally.given later r.activations h.below
-      (told_to set h.below o.told) h.frame
-      top.tags top.tag (executed_in o.actions) o.frames (told_alike set o.told h.below) top.others
-      top.fits
-      (pays set states r.world.shared t (top_of h.below) h.frame o
-      (on_top set states r.world r.past good stands t h) h.comes))
+      elim (stood set r.world.shared t h.below h.frame o h.comes) [
+        | inl kept ↦
+            follows_as set tally.given later r.activations (executed_in o.actions)
+            (h.below ++ h.frame ∷ [])
+            h.thread.frames.items (top.tags ++ top.tag ∷ []) row top.tag (top_tag row)
+            (told_to set h.below o.told ++ o.frames) (standing set h.below o) (sym h.frames)
+            (sym top.is) (sym acting) (sym kept)
+            (follows_step (frame_due set) set tally.given later r.activations h.below
+            (told_to set h.below o.told) h.frame
+            top.tags top.tag (executed_in o.actions) o.frames (told_alike set o.told h.below)
+            top.others top.fits paid)
+        | inr gone ↦
+            follows_as set tally.given later r.activations (executed_in o.actions)
+            (h.below ++ h.frame ∷ []) h.thread.frames.items row row top.tag (top_tag row)
+            gone.others (standing set h.below o) (sym h.frames) refl (sym acting) (sym gone.stands)
+            (stops_follow set tally.given later r.activations (executed_in o.actions) gone.others
+            gone.n h.below h.frame row gone.below_is top
+            (subst (λ (frames : List Frame). Pays (frame_due set) set h.frame
+            (executed_in o.actions)
+            frames) gone.frames paid))
+      ]
       in
       rw (
         frames_there r.world t h.thread h.found,
-        frames_put r.world t o.shared (with_stack h.thread (standing set h.below o)) h.thread h.found,
+        frames_put r.world t o.shared (with_stack h.thread (standing set h.below o)) h.thread
+            h.found,
       )
       (turned (frame_due set) set r.world c.world r.tags r.activations r.past (actor_on r t)
       o.actions h.thread
@@ -152,22 +186,23 @@ module _ (set : Set) (states : States) (good : IsGood set states) (r : Run) (t :
       (fits_known tally.given top.tag h.frame top.fits))
       follows)
 
-  -- a routine begins on an idle thread, with its certificate left
-  begins_tally : (thread : Thread) (s : Shared) (level : Irql) (a : Activation) (actions : List Action)
+  -- a frame stands on an idle thread: a routine's with its certificate left
+  begins_tally : (thread after : Thread) (s : Shared) (f : Frame) (actions : List Action)
       (reply : Reply)
       → slice_get r.world.threads t ≡ Some thread → thread.frames.items ≡ []
+      → after.frames.items ≡ f ∷ []
       → executed_in actions ≡ 0
-      → due set a ≤ certificate_of set a.driver a.routine
+      → IsFresh (frame_due set) set f
       → Tallied set
       (goes set r t (recorded r.past (actor_on r t) actions)
       (record {
-        world = with_thread r.world t s (rooted thread level a);
+        world = with_thread r.world t s after;
         actions = actions;
         reply = reply;
         over = false;
       })).run
-  begins_tally thread s level a actions reply found idle silent enough =
-      let now : World = with_thread r.world t s (rooted thread level a) in
+  begins_tally thread after s f actions reply found idle items silent fresh =
+      let now : World = with_thread r.world t s after in
       let row : List Tag = tags_on r t in
       let here : frames_on r.world t ≡ [] = frames_there r.world t thread found ∙ idle in
       let matched : Matched tally.given [] row =
@@ -176,21 +211,21 @@ module _ (set : Set) (states : States) (good : IsGood set states) (r : Run) (t :
       let acting : IsKnown tally.given (top_tag row) = idle_known tally.given row matched in
       let follows : Follows (frame_due set) set tally.given later r.activations thread.frames.items
       row (top_tag row) 0
-      (Routine a ∷ []) =
+      after.frames.items =
       follows_as set tally.given later r.activations 0 [] thread.frames.items row row
       (top_tag row) (top_tag row)
-      (Routine a ∷ []) (Routine a ∷ []) (sym idle) refl refl refl
+      (f ∷ []) after.frames.items (sym idle) refl refl (sym items)
       (follows_idle (frame_due set) set tally.given later r.activations row (top_tag row)
-      (Routine a ∷ []) matched (enough, tt))
+      (f ∷ []) matched (fresh, tt))
       in
       rw (
         frames_there r.world t thread found,
-        frames_put r.world t s (rooted thread level a) thread found,
+        frames_put r.world t s after thread found,
       )
       (turned (frame_due set) set r.world now r.tags r.activations r.past (actor_on r t) actions
-      thread (rooted thread level a) tally found refl acting
+      thread after tally found refl acting
       (subst (λ (n : ℕ). Follows (frame_due set) set tally.given later r.activations
-      thread.frames.items row (top_tag row) n (Routine a ∷ [])) (sym silent) follows))
+      thread.frames.items row (top_tag row) n after.frames.items) (sym silent) follows))
 
   nothing_tally : Tallied set (goes set r t r.past (unchanged r.world Idle)).run
   nothing_tally =
@@ -205,23 +240,31 @@ module _ (set : Set) (states : States) (good : IsGood set states) (r : Run) (t :
       ap (λ (new : List Tag). slice_set r.tags t new) row ∙ set-get_or r.tags t [] in
       rw (tags, count_same r.activations (frames_on r.world t)) tally
 
-  pub tally_kept : (c : Change) → Happens set r.world t false c
+  pub tally_kept : (c : Change) → Happens set r.world t c
       → Tallied set (goes set r t (past_with r t c) c).run
   tally_kept c (nothing reply right) = nothing_tally
   tally_kept c (steps h) = steps_tally h
   tally_kept c (issues h) =
       let n : ℕ = r.world.shared.issued in
-      begins_tally h.thread c.world.shared Passive (serves_request set h.d h.device h.major n) c.actions
-      c.reply h.found h.idle refl
+      let a : Activation = serves_request set h.d h.device h.major n in
+      begins_tally h.thread (rooted h.thread Passive a) c.world.shared (Routine a) c.actions
+      c.reply h.found h.idle refl refl
       (begins_request set states good (n + 1) n (omega arith) h.d h.device h.major h.there).due
   tally_kept c (begins h) =
-      begins_tally h.thread c.world.shared DispatchLevel (dpc_activation set h.d h.routine) [] c.reply
-      h.found h.idle refl
+      let a : Activation = dpc_activation set h.d h.routine in
+      begins_tally h.thread (rooted h.thread DispatchLevel a) c.world.shared (Routine a) [] c.reply
+      h.found h.idle refl refl
       (begins_dpc set states good r.world.shared.issued h.d h.routine h.there).due
   tally_kept c (begins_startio h) =
-      begins_tally h.thread c.world.shared DispatchLevel (startio_activation set h.d h.routine h.n) []
-      c.reply h.found h.idle refl
+      let a : Activation = startio_activation set h.d h.routine h.n in
+      begins_tally h.thread (rooted h.thread DispatchLevel a) c.world.shared (Routine a) [] c.reply
+      h.found h.idle refl refl
       (startio_enters set states r.world r.past good stands t h).due
+  tally_kept c (begins_cancel h) =
+      begins_tally h.thread (cancelling h.thread h.level h.n) r.world.shared
+      (CancelFrame (record { packet = h.n; next = AcquireStep })) [] c.reply h.found h.idle refl
+      refl
+      tt
 
 -- where a DPC is queued
 pub tally_queued : (set : Set) (r : Run) (d : ℕ) → Tallied set r
@@ -242,7 +285,8 @@ known_all : (given : List Tag) (past : List Entry) (P : Tag → Type 0)
     → AllKnown given past → All (λ (e : Entry). P e.actor.tag) past
 known_all given [] P each h k d within = absurd (omega arith)
 known_all given (e ∷ past) P each h zero d within = each e.actor.tag h.0
-known_all given (e ∷ past) P each h (suc k) d within = known_all given past P each h.1 k d (omega arith)
+known_all given (e ∷ past) P each h (suc k) d within =
+    known_all given past P each h.1 k d (omega arith)
 
 module _ (set : Set) (r : Run) (tally : Tallied set r) where
   one_tag : (tag : Tag) → IsKnown tally.given tag → IsOneRoutine r.past tag
@@ -253,15 +297,18 @@ module _ (set : Set) (r : Run) (tally : Tallied set r) where
       tally.known
 
   tag_kept : (tag : Tag) → IsKnown tally.given tag → KeepsCertificate set r.past tag
-  tag_kept tag known = known_kept (frame_due set) set r.world r.tags r.activations r.past tag tally known
+  tag_kept tag known =
+      known_kept (frame_due set) set r.world r.tags r.activations r.past tag tally known
 
   pub all_kept : All (λ (e : Entry). KeepsCertificate set r.past e.actor.tag) r.past
-  all_kept = known_all tally.given r.past (λ tag. KeepsCertificate set r.past tag) tag_kept tally.known
+  all_kept = known_all tally.given r.past (λ tag. KeepsCertificate set r.past tag) tag_kept
+      tally.known
 
   pub all_one : All (λ (e : Entry). IsOneRoutine r.past e.actor.tag) r.past
   all_one = known_all tally.given r.past (λ tag. IsOneRoutine r.past tag) one_tag tally.known
 
-  pub stands_within : (t k : ℕ) (a : Activation) → slice_get (frames_on r.world t) k ≡ Some (Routine a)
+  pub stands_within : (t k : ℕ) (a : Activation) → slice_get (frames_on r.world t) k
+      ≡ Some (Routine a)
       → StandsWithin set r t k a
   stands_within t k a found =
       let of_frame : Named tally.given (tags_on r t) k a =

@@ -14,6 +14,7 @@ use Rattle.model.specs.Set.{Set}
 use Rattle.model.specs.Trace.{Entry, Actor, Serving, Tag, Managing, Activated, entry, recorded}
 use Rattle.run_laws.specs.Lifetime.{is_activation, instructions_in, executions}
 use Rattle.run_laws.proofs.Certificates.Tags.{IsAmong, Fits, Matched, Numbered, fresh_tags, fresh_matched, fresh_numbered, fits_more, matched_more, matched_append, among_right, numbered_from}
+use Rattle.model.specs.declared.world.Canceller.{Canceller}
 
 -- a number of one tag
 abbrev pub if_own : ℕ → Tag → ℕ → ℕ
@@ -32,7 +33,8 @@ own_none : (b : Bool) → cond {A = ℕ} b 0 0 ≡ 0
 own_none true = refl
 own_none false = refl
 
-own_sum : (b : Bool) (m n : ℕ) → (if b then m + n else 0) ≡ (if b then m else 0) + (if b then n else 0)
+own_sum : (b : Bool) (m n : ℕ) → (if b then m + n else 0) ≡ (if b then m else 0)
+    + (if b then n else 0)
 own_sum true m n = refl
 own_sum false m n = refl
 
@@ -107,10 +109,12 @@ pub one_routine : (set : Set) (first following : ℕ) (tags : List Tag) (g drive
     → Numbered first tags following → IsAmong (Activated g driver routine serving) tags
     → IsAmong (Activated g d r s) tags → (driver ≡ d) × (routine ≡ r)
 one_routine set first following [] g driver routine d r serving s h one other = absurd one
-one_routine set first following (Managing ∷ tags) g driver routine d r serving s h (inl here) other = cc
+one_routine set first following (Managing ∷ tags) g driver routine d r serving s h (inl here) other =
+    cc
 one_routine set first following (Managing ∷ tags) g driver routine d r serving s h (inr one)
     (inl here) = cc
-one_routine set first following (Managing ∷ tags) g driver routine d r serving s h (inr one) (inr other) =
+one_routine set first following (Managing ∷ tags) g driver routine d r serving s h (inr one)
+    (inr other) =
     one_routine set first following tags g driver routine d r serving s h one other
 one_routine set first following (Activated k x y z ∷ tags) g driver routine d r serving s h
     (inl one) (inl other) =
@@ -170,7 +174,8 @@ module _ (cost : Frame → ℕ) where
   abbrev pub all_owed : ℕ → List Thread → List (List Tag) → ℕ
   all_owed g [] tags = 0
   all_owed g (thread ∷ threads) [] = 0
-  all_owed g (thread ∷ threads) (row ∷ tags) = owed g thread.frames.items row + all_owed g threads tags
+  all_owed g (thread ∷ threads) (row ∷ tags) =
+      owed g thread.frames.items row + all_owed g threads tags
 
   pub owed_append : (g : ℕ) (given : List Tag) (below frames : List Frame) (tags row : List Tag)
       → Matched given below tags → owed g (below ++ frames) (tags ++ row) ≡ owed g below tags + owed
@@ -187,7 +192,8 @@ module _ (cost : Frame → ℕ) where
       (thread after : Thread)
       (row new : List Tag)
       → slice_get threads t ≡ Some thread → slice_get tags t ≡ Some row
-      → all_owed g (slice_set threads t after) (slice_set tags t new) + owed g thread.frames.items row
+      → all_owed g (slice_set threads t after) (slice_set tags t new)
+      + owed g thread.frames.items row
       ≡ all_owed g threads tags + owed g after.frames.items new
   all_owed_set g [] tags t thread after row new found there = cc
   all_owed_set g (x ∷ threads) [] t thread after row new found there = cc
@@ -227,7 +233,8 @@ module _ (cost : Frame → ℕ) where
   self_alike (Walk n) = tt
   self_alike (CancelFrame c) = tt
 
-  alike_kept : (set : Set) (given : List Tag) (past : List Entry) (number : ℕ) (f g : Frame) (tag : Tag)
+  alike_kept : (set : Set) (given : List Tag) (past : List Entry) (number : ℕ) (f g : Frame)
+      (tag : Tag)
       → Alike f g → Fits given tag f → kept_tag set past number f tag g ≡ tag
   alike_kept set given past number (Routine a) (Routine b) tag h fits = refl
   alike_kept set given past number (Walk m) (Walk n) Managing h fits = refl
@@ -236,7 +243,8 @@ module _ (cost : Frame → ℕ) where
   alike_kept set given past number (Routine a) (Walk n) tag h fits = absurd h
   alike_kept set given past number (Walk m) (Routine b) tag h fits = absurd h
   alike_kept set given past number (CancelFrame c) (CancelFrame d) Managing h fits = refl
-  alike_kept set given past number (CancelFrame c) (CancelFrame d) (Activated k driver routine serving) h
+  alike_kept set given past number (CancelFrame c) (CancelFrame d)
+      (Activated k driver routine serving) h
       fits =
       absurd fits
   alike_kept set given past number (Routine a) (CancelFrame d) tag h fits = absurd h
@@ -255,7 +263,8 @@ module _ (cost : Frame → ℕ) where
   alike_counted (CancelFrame c) (Routine b) number h = absurd h
   alike_counted (CancelFrame c) (Walk n) number h = absurd h
 
-  alike_owes : (g : ℕ) (given : List Tag) (tag : Tag) (f now : Frame) → Alike f now → Fits given tag f
+  alike_owes : (g : ℕ) (given : List Tag) (tag : Tag) (f now : Frame) → Alike f now
+      → Fits given tag f
       → if_own g tag (cost now) ≡ if_own g tag (cost f)
   alike_owes g given tag (Routine a) (Routine b) h fits = ap (if_own g tag) h.2
   alike_owes g given Managing (Walk m) (Walk n) h fits = refl
@@ -285,14 +294,16 @@ module _ (cost : Frame → ℕ) where
   alike_fits given tag (CancelFrame c) (Routine b) h fits = absurd h
   alike_fits given tag (CancelFrame c) (Walk n) h fits = absurd h
 
-  owed_alike : (g : ℕ) (given : List Tag) (below now : List Frame) (tags : List Tag) → AllAlike below now
+  owed_alike : (g : ℕ) (given : List Tag) (below now : List Frame) (tags : List Tag)
+      → AllAlike below now
       → Matched given below tags → owed g now tags ≡ owed g below tags
   owed_alike g given [] [] tags h matched = refl
   owed_alike g given [] (e ∷ now) tags h matched = absurd h
   owed_alike g given (f ∷ below) [] tags h matched = absurd h
   owed_alike g given (f ∷ below) (e ∷ now) [] h matched = absurd matched
   owed_alike g given (f ∷ below) (e ∷ now) (tag ∷ tags) h matched =
-      rw (alike_owes g given tag f e h.0 matched.0, owed_alike g given below now tags h.1 matched.1) refl
+      rw (alike_owes g given tag f e h.0 matched.0, owed_alike g given below now tags h.1 matched.1)
+      refl
 
   matched_alike : (given : List Tag) (below now : List Frame) (tags : List Tag) → AllAlike below now
       → Matched given below tags → Matched given now tags
@@ -319,7 +330,8 @@ module _ (cost : Frame → ℕ) where
       (tags_below set given past number below now old frames tags rest alike.1 h.1))
 
   count_below : (number : ℕ) (below now old frames : List Frame) → AllAlike below now
-      → activations_after number (below ++ old) (now ++ frames) ≡ activations_after number old frames
+      → activations_after number (below ++ old) (now ++ frames)
+      ≡ activations_after number old frames
   count_below number [] [] old frames alike = refl
   count_below number [] (g ∷ now) old frames alike = absurd alike
   count_below number (f ∷ below) [] old frames alike = absurd alike
@@ -337,7 +349,7 @@ module _ (cost : Frame → ℕ) where
   AllFresh set (f ∷ frames) = IsFresh set f × AllFresh set frames
 
   -- what a frame's step executes is paid for by what the frame owed; where its routine goes on it
-  -- owes the rest, and every other routine's frame is a fresh one. No frame of IoCancelIrp stands
+  -- owes the rest, and every other routine's frame is a fresh one
   abbrev pub Pays : Set → Frame → ℕ → List Frame → Type 0
   Pays set f n [] = n ≤ cost f
   Pays set (Routine a) n (Routine b ∷ frames) =
@@ -346,7 +358,7 @@ module _ (cost : Frame → ℕ) where
   Pays set (Routine a) n (Walk m ∷ frames) = (n ≤ cost (Routine a)) × AllFresh set frames
   Pays set (Routine a) n (CancelFrame c ∷ frames) = ⊥
   Pays set (Walk k) n (g ∷ frames) = AllFresh set (g ∷ frames)
-  Pays set (CancelFrame c) n (g ∷ frames) = ⊥
+  Pays set (CancelFrame c) n (g ∷ frames) = AllFresh set (g ∷ frames)
 
   fresh_owed : (set : Set) (g : ℕ) (past : List Entry) (number : ℕ) (frames : List Frame)
       → AllFresh set frames
@@ -364,11 +376,13 @@ module _ (cost : Frame → ℕ) where
       omega arith
   fresh_owed set g past number (Walk n ∷ frames) h =
       let others : owed g frames (fresh_tags set past number frames)
-      ≤ allowed set g (fresh_tags set past number frames) = fresh_owed set g past number frames h.1 in
+      ≤ allowed set g (fresh_tags set past number frames) =
+      fresh_owed set g past number frames h.1 in
       omega arith
   fresh_owed set g past number (CancelFrame c ∷ frames) h =
       let others : owed g frames (fresh_tags set past number frames)
-      ≤ allowed set g (fresh_tags set past number frames) = fresh_owed set g past number frames h.1 in
+      ≤ allowed set g (fresh_tags set past number frames) =
+      fresh_owed set g past number frames h.1 in
       omega arith
 
   -- what stands in place of frames: which tags are new, that what was executed is paid for, and
@@ -407,14 +421,16 @@ module _ (cost : Frame → ℕ) where
   -- the top frame alone
   going_on : (set : Set) (given : List Tag) (past : List Entry) (number : ℕ) (tag : Tag) (n : ℕ)
       (a b : Activation)
-      (frames : List Frame) → Fits given tag (Routine a) → Pays set (Routine a) n (Routine b ∷ frames)
+      (frames : List Frame) → Fits given tag (Routine a)
+      → Pays set (Routine a) n (Routine b ∷ frames)
       → Follows set given past number (Routine a ∷ []) (tag ∷ []) tag n (Routine b ∷ frames)
   going_on set given past number tag n a b frames fits pays =
       record {
         new = fresh_tags set past number frames;
         numbered = fresh_numbered set past number frames;
         paid = λ g.
-            let one : if_own g tag n + if_own g tag (cost (Routine b)) ≤ if_own g tag (cost (Routine a)) =
+            let one : if_own g tag n + if_own g tag (cost (Routine b))
+            ≤ if_own g tag (cost (Routine a)) =
             own_add (is_activation g tag) n (cost (Routine b)) (cost (Routine a)) pays.0 in
             let others : owed g frames (fresh_tags set past number frames)
             ≤ allowed set g (fresh_tags set past number frames) =
@@ -451,12 +467,15 @@ module _ (cost : Frame → ℕ) where
         );
       }
 
-  -- the top frame is the I/O manager's, and another one is new in its place
-  beginning : (set : Set) (given : List Tag) (past : List Entry) (number k n : ℕ) (f : Frame)
+  -- the top frame is the I/O manager's, and others are new in its place
+  abbrev Begun : Set → List Tag → List Entry → ℕ → ℕ → Frame → List Frame → Type 0
+  Begun set given past number n f frames =
+      Follows set given past number (f ∷ []) (Managing ∷ []) Managing n frames
+
+  walk_begun : (set : Set) (given : List Tag) (past : List Entry) (number k n : ℕ) (f : Frame)
       (frames : List Frame)
-      → AllFresh set (f ∷ frames)
-      → Follows set given past number (Walk k ∷ []) (Managing ∷ []) Managing n (f ∷ frames)
-  beginning set given past number k n f frames fresh =
+      → AllFresh set (f ∷ frames) → Begun set given past number n (Walk k) (f ∷ frames)
+  walk_begun set given past number k n f frames fresh =
       record {
         new = fresh_tags set past number (f ∷ frames);
         numbered = fresh_numbered set past number (f ∷ frames);
@@ -466,8 +485,22 @@ module _ (cost : Frame → ℕ) where
             fresh_owed set g past number (f ∷ frames) fresh in
             omega arith;
         matched =
-            fresh_matched set past number (f ∷ frames) (given ++ fresh_tags set past number (f ∷ frames))
+            fresh_matched set past number (f ∷ frames)
+            (given ++ fresh_tags set past number (f ∷ frames))
             (λ x among. among_right x given (fresh_tags set past number (f ∷ frames)) among);
+      }
+
+  cancel_begun : (set : Set) (given : List Tag) (past : List Entry) (number n : ℕ) (c : Canceller)
+      (f : Frame) (frames : List Frame)
+      → AllFresh set (f ∷ frames) → Begun set given past number n (CancelFrame c) (f ∷ frames)
+  cancel_begun set given past number n c f frames fresh =
+      let walks : Begun set given past number n (Walk c.packet) (f ∷ frames) =
+      walk_begun set given past number c.packet n f frames fresh in
+      record {
+        new = walks.new;
+        numbered = walks.numbered;
+        paid = walks.paid;
+        matched = walks.matched;
       }
 
   follows_top : (set : Set) (given : List Tag) (past : List Entry) (number : ℕ) (f : Frame)
@@ -488,53 +521,80 @@ module _ (cost : Frame → ℕ) where
       going_on set given past number tag n a b frames fits pays
   follows_top set given past number (Routine a) tag n (Walk m ∷ frames) fits pays =
       walking_on set given past number a tag n m frames pays.0 pays.1
+  follows_top set given past number (Routine a) tag n (CancelFrame c ∷ frames) fits pays =
+      absurd pays
   follows_top set given past number (Walk k) (Activated h driver routine serving) n (g ∷ frames)
       fits pays =
       absurd fits
-  follows_top set given past number (Walk k) Managing n (Routine b ∷ frames) fits pays =
-      beginning set given past number k n (Routine b) frames pays
-  follows_top set given past number (Walk k) Managing n (Walk m ∷ frames) fits pays =
-      beginning set given past number k n (Walk m) frames pays
-  follows_top set given past number (Walk k) Managing n (CancelFrame c ∷ frames) fits pays =
-      beginning set given past number k n (CancelFrame c) frames pays
-  follows_top set given past number (Routine a) tag n (CancelFrame c ∷ frames) fits pays = absurd pays
-  follows_top set given past number (CancelFrame c) tag n (g ∷ frames) fits pays = absurd pays
+  follows_top set given past number (Walk k) Managing n (g ∷ frames) fits pays =
+      walk_begun set given past number k n g frames pays
+  follows_top set given past number (CancelFrame c) (Activated h driver routine serving) n
+      (g ∷ frames) fits pays =
+      absurd fits
+  follows_top set given past number (CancelFrame c) Managing n (g ∷ frames) fits pays =
+      cancel_begun set given past number n c g frames pays
 
-  -- a step of the top frame, over frames that go on as they were
+  -- over frames that go on as they were
+  follows_over : (set : Set) (given : List Tag) (past : List Entry) (number : ℕ)
+      (below now old frames : List Frame) (tags row : List Tag) (tag : Tag) (n : ℕ)
+      → AllAlike below now → Matched given below tags
+      → Follows set given past number old row tag n frames
+      → Follows set given past number (below ++ old) (tags ++ row) tag n (now ++ frames)
+  follows_over set given past number below now old frames tags row tag n alike others top =
+      let after : List Tag = tags_after set past number old row frames in
+      let whole : tags_after set past number (below ++ old) (tags ++ row) (now ++ frames)
+      ≡ tags ++ after =
+      tags_below set given past number below now old frames tags row alike others
+      in
+      record {
+        new = top.new;
+        numbered = rw (count_below number below now old frames alike) top.numbered;
+        paid = λ g. rw whole
+            (let later : owed g (now ++ frames) (tags ++ after) ≡ owed g now tags
+            + owed g frames after =
+            owed_append g given now frames tags after
+            (matched_alike given below now tags alike others)
+            in
+            let told : owed g now tags ≡ owed g below tags =
+            owed_alike g given below now tags alike others in
+            let before : owed g (below ++ old) (tags ++ row) ≡ owed g below tags + owed g old row =
+            owed_append g given below old tags row others in
+            let paid : if_own g tag n + owed g frames after ≤ owed g old row
+            + allowed set g top.new =
+            top.paid g in
+            omega arith);
+        matched = rw whole
+            (matched_append (given ++ top.new) now frames tags after
+            (matched_more given top.new now tags (matched_alike given below now tags alike others))
+            top.matched);
+      }
+
+  -- a step of the top frame
   pub follows_step : (set : Set) (given : List Tag) (past : List Entry) (number : ℕ)
       (below now : List Frame) (f : Frame)
       (tags : List Tag) (tag : Tag) (n : ℕ) (frames : List Frame)
       → AllAlike below now → Matched given below tags → Fits given tag f → Pays set f n frames
       → Follows set given past number (below ++ f ∷ []) (tags ++ tag ∷ []) tag n (now ++ frames)
   follows_step set given past number below now f tags tag n frames alike others fits pays =
-      let top : Follows set given past number (f ∷ []) (tag ∷ []) tag n frames =
-      follows_top set given past number f tag n frames fits pays in
-      let row : tags_after set past number (below ++ f ∷ []) (tags ++ tag ∷ []) (now ++ frames)
-      ≡ tags ++ tags_after set past number (f ∷ []) (tag ∷ []) frames =
-      tags_below set given past number below now (f ∷ []) frames tags (tag ∷ []) alike others
-      in
-      record {
-        new = top.new;
-        numbered = rw (count_below number below now (f ∷ []) frames alike) top.numbered;
-        paid = λ g. rw row
-            (let after : owed g (now ++ frames)
-            (tags ++ tags_after set past number (f ∷ []) (tag ∷ []) frames)
-            ≡ owed g now tags + owed g frames (tags_after set past number (f ∷ []) (tag ∷ []) frames) =
-            owed_append g given now frames tags (tags_after set past number (f ∷ []) (tag ∷ []) frames)
-            (matched_alike given below now tags alike others)
-            in
-            let told : owed g now tags ≡ owed g below tags =
-            owed_alike g given below now tags alike others in
-            let before : owed g (below ++ f ∷ []) (tags ++ tag ∷ []) ≡ owed g below tags + owed g
-            (f ∷ []) (tag ∷ []) =
-            owed_append g given below (f ∷ []) tags (tag ∷ []) others in
-            let paid : if_own g tag n + owed g frames
-            (tags_after set past number (f ∷ []) (tag ∷ []) frames)
-            ≤ owed g (f ∷ []) (tag ∷ []) + allowed set g top.new = top.paid g in
-            omega arith);
-        matched = rw row
-            (matched_append (given ++ top.new) now frames tags
-            (tags_after set past number (f ∷ []) (tag ∷ []) frames)
-            (matched_more given top.new now tags (matched_alike given below now tags alike others))
-            top.matched);
-      }
+      follows_over set given past number below now (f ∷ []) frames tags (tag ∷ []) tag n alike
+      others
+      (follows_top set given past number f tag n frames fits pays)
+
+  -- with which the frame below it is gone too
+  pub follows_stop : (set : Set) (given : List Tag) (past : List Entry) (number : ℕ)
+      (below : List Frame) (g f : Frame) (tags : List Tag) (lower tag : Tag) (n : ℕ)
+      → AllAlike below below → Matched given below tags → n ≤ cost f
+      → Follows set given past number (below ++ g ∷ f ∷ []) (tags ++ lower ∷ tag ∷ []) tag n
+      (below ++ [])
+  follows_stop set given past number below g f tags lower tag n alike others paid =
+      follows_over set given past number below below (g ∷ f ∷ []) [] tags (lower ∷ tag ∷ []) tag n
+      alike others
+      (record {
+        new = [];
+        numbered = refl;
+        paid = λ x.
+            let one : if_own x tag n ≤ if_own x tag (cost f) =
+            own_le (is_activation x tag) n (cost f) paid in
+            omega arith;
+        matched = tt;
+      })

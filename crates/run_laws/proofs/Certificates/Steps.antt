@@ -21,21 +21,21 @@ use Rattle.model.specs.Set.{Set, routine_of, instruction_at, flow_of, lower_of}
 use Rattle.model.specs.World.{Shared, asked_of, current_location, next, register}
 use Rattle.run_laws.proofs.Past.Packets.{named}
 use Rattle.run_laws.proofs.Certificates.Owed.{executed_in, Alike, AllAlike, self_alike, Pays}
-use Rattle.run_laws.proofs.States.Entering.{begins_lower, begins_back}
+use Rattle.run_laws.proofs.States.Entering.{begins_lower, begins_back, begins_lent}
 use Rattle.run_laws.proofs.States.Frames.{state_of, due, due_of, due_in, due_is, Moved, Runs}
 use Rattle.run_laws.proofs.States.Lacking.{never_lacks}
 use Rattle.run_laws.proofs.States.LoopEnds.{moved_loop, moved_end}
 use Rattle.run_laws.proofs.States.Moves.{falls_plain, is_plain, onto, moved, plain_open, plain_left, some_due}
-use Rattle.run_laws.proofs.States.Never.{never_stands}
 use Rattle.run_laws.proofs.States.OnTop.{OnTop, runs}
 use Rattle.run_laws.proofs.States.Remaining.{rest, summed}
 use Rattle.run_laws.proofs.States.Rules.{States}
 use Rattle.run_laws.proofs.States.Told.{told_frame, told_last, told_is}
-use Rattle.run_laws.proofs.Steps.Comes.{Executing, Comes, errs, awaits_lock, computes, opens_loop, turns_loop, pages, touches_gone, looks_at, writes_info, marks_packet, takes_lock, retakes_lock, frees_lock, completes_packet, completes_gone, passes_down, calls_down, returns_status, lets_go, lets_walk, walks_gone, walks_to, walks_up, carries_up, tops_out, ends_dpc, works_on_queues, ends_startio, exchanges, resumes_walk, resumes_gone, resumes_none, stops_walk, stops_none, ends_cancel, lends_to, cancels}
-use Rattle.run_laws.proofs.Steps.Uncancelled.{never_lends}
+use Rattle.run_laws.proofs.Steps.Comes.{Executing, Comes, errs, awaits_lock, computes, opens_loop, turns_loop, pages, touches_gone, looks_at, writes_info, marks_packet, takes_lock, retakes_lock, frees_lock, completes_packet, completes_gone, passes_down, calls_down, returns_status, lets_go, lets_walk, walks_gone, walks_to, walks_up, carries_up, tops_out, ends_dpc, works_on_queues, ends_startio, exchanges, resumes_walk, resumes_gone, resumes_none, stops_walk, stops_none, ends_cancel, lends_to, cancels, Cancels, takes_cancel, retakes_cancel, awaits_cancel, flags_gone, sets_flag, exchanges_gone, finds_empty, finds_none, calls_cancel}
 use Rattle.run_laws.proofs.Steps.Words.{lock_taken, lock_freed}
 use Rattle.run_laws.proofs.States.Queueing.{queue_moves, MovedOn}
 use Rattle.run_laws.proofs.Steps.Queues.{queued_touches}
+use Rattle.model.specs.declared.world.CancelStep.{CancelStep}
+use Rattle.run_laws.proofs.States.Cancelled.{begins_called}
 
 -- what a frame has left to execute
 abbrev pub frame_due : Set → Frame → ℕ
@@ -79,7 +79,8 @@ module _ (set : Set) where
   pub told_alike : (told : Option Status) (below : List Frame)
       → AllAlike (frame_due set) below (told_to set below told)
   told_alike told below =
-      subst (λ (now : List Frame). AllAlike (frame_due set) below now) (sym (told_is set below told))
+      subst (λ (now : List Frame). AllAlike (frame_due set) below now)
+      (sym (told_is set below told))
       (last_alike told below)
 
 -- a lock is taken or freed on the way to the next position
@@ -101,7 +102,8 @@ module _ (set : Set) (states : States) (s : Shared) where
   next_due a i h plain =
       let code : List Instr = h.routine.code in
       let before : due set a ≡ due_in code a = due_is set h.routine a h.stays.is_of in
-      let after : due set (next a) ≡ due_in code (next a) = due_is set h.routine (next a) h.stays.is_of in
+      let after : due set (next a) ≡ due_in code (next a) = due_is set h.routine (next a)
+      h.stays.is_of in
       let same : summed (open_at code (a.position + 1)) (rest (drop (a.position + 1) code))
       ≡ summed (open_at code a.position) (rest (drop (a.position + 1) code)) =
       ap (λ (loops : List ℕ). summed loops (rest (drop (a.position + 1) code)))
@@ -112,7 +114,8 @@ module _ (set : Set) (states : States) (s : Shared) where
       omega arith
 
   -- it goes on, and what it executed is one instruction
-  onwards : (a b : Activation) (n : ℕ) → n ≡ 1 → (1 + due set b ≤ due set a) × (b.driver ≡ a.driver) ×
+  onwards : (a b : Activation) (n : ℕ) → n ≡ 1 → (1 + due set b ≤ due set a) × (b.driver ≡ a.driver)
+      ×
       (b.routine ≡ a.routine)
       → Pays (frame_due set) set (Routine a) n (Routine b ∷ [])
   onwards a b n one h = (let less : 1 + due set b ≤ due set a = h.0 in omega arith, h.1, h.2, tt)
@@ -127,14 +130,16 @@ module _ (set : Set) (states : States) (s : Shared) where
       → Pays (frame_due set) set (Routine a) n (Routine b ∷ [])
   moves_on a b to n one m = onwards a b n one (m.less, m.driver, m.routine)
 
-  ends : (a : Activation) (i : Instr) (n : ℕ) → n ≡ 1 → OnTop set states s (Routine a) → Executing set a i
+  ends : (a : Activation) (i : Instr) (n : ℕ) → n ≡ 1 → OnTop set states s (Routine a)
+      → Executing set a i
       → is_plain (flow_of i) ≡ true → n ≤ due set a
   ends a i n one h at plain =
       let some : 1 ≤ due set a = some_due set states s a i (runs set states s a i h at) plain
       in omega arith
 
   asks_on : (a : Activation) (i : Instr) (lower n : ℕ) (p : Packet) (executed : ℕ) → executed ≡ 1
-      → OnTop set states s (Routine a) → Executing set a i → is_plain (flow_of i) ≡ true → n < s.issued
+      → OnTop set states s (Routine a) → Executing set a i → is_plain (flow_of i) ≡ true
+      → n < s.issued
       → lower_of set a.device ≡ Some lower
       → Pays (frame_due set) set (Routine a) executed (asks set a lower p n)
   asks_on a i lower n p executed one h at plain low below =
@@ -150,11 +155,29 @@ module _ (set : Set) (states : States) (s : Shared) where
         ),
       )
 
+  -- IoCancelIrp executes nothing, and the cancel routine that it calls begins
+  cancel_pays : (t n : ℕ) (step : CancelStep) (o : Outcome)
+      → OnTop set states s (CancelFrame (record { packet = n; next = step }))
+      → Cancels set s t n step o
+      → Pays (frame_due set) set (CancelFrame (record { packet = n; next = step }))
+      (executed_in o.actions) o.frames
+  cancel_pays t n step o h (takes_cancel free) = (tt, tt)
+  cancel_pays t n step o h (retakes_cancel its) = (tt, tt)
+  cancel_pays t n step o h (awaits_cancel owner owned apart) = (tt, tt)
+  cancel_pays t n step o h (flags_gone gone) = omega arith
+  cancel_pays t n step o h (sets_flag p there) = (tt, tt)
+  cancel_pays t n step o h (exchanges_gone gone) = omega arith
+  cancel_pays t n step o h (finds_empty p there empty) = omega arith
+  cancel_pays t n step o h (finds_none p armer there is none) = omega arith
+  cancel_pays t n step o h (calls_cancel p armer routine there is named) =
+      ((begins_called set states s h.good h.fits n p armer routine h.stands there is named).due, tt)
+
   -- every shape
   pub pays : (t : ℕ) (under : Option Frame) (f : Frame) (o : Outcome) → OnTop set states s f
       → Comes set s t under f o → Pays (frame_due set) set f (executed_in o.actions) o.frames
   pays t under f o h (errs a lacks) = absurd (never_lacks set states s a h lacks)
-  pays t under f o h (awaits_lock a i lock owner at taken owned apart) = (omega arith, refl, refl, tt)
+  pays t under f o h (awaits_lock a i lock owner at taken owned apart) =
+      (omega arith, refl, refl, tt)
   pays t under f o h (computes a i b jumped cells at work goes long) =
       moves_on a b (onto set a.driver (state_of states a) i jumped) 1 refl
       (moved set states s a i (runs set states s a i h at) b jumped (rw work refl) goes)
@@ -174,7 +197,8 @@ module _ (set : Set) (states : States) (s : Shared) where
       (moved set states s a i (runs set states s a i h at) b jumped (rw work refl) goes)
   pays t under f o h (writes_info a q r n p info at reads there is) =
       goes_next_on a (Put q r) 1 refl h at refl
-  pays t under f o h (marks_packet a r n p at reads there) = goes_next_on a (Mark r) 1 refl h at refl
+  pays t under f o h (marks_packet a r n p at reads there) =
+      goes_next_on a (Mark r) 1 refl h at refl
   pays t under f o h (exchanges a i b jumped r n p armer at work goes operand reads there how) =
       moves_on a b (onto set a.driver (state_of states a) i jumped) 1 refl
       (moved set states s a i (runs set states s a i h at) b jumped (rw work refl) goes)
@@ -199,7 +223,8 @@ module _ (set : Set) (states : States) (s : Shared) where
   pays t under f o h (passes_down a r n p lower at reads there below) =
       asks_on a (Pass r) lower n p 1 refl h at refl (named s (register a r) n reads) below
   pays t under f o h (calls_down a r completion n p lower at reads there below) =
-      asks_on a (Call r completion) lower n p 1 refl h at refl (named s (register a r) n reads) below
+      asks_on a (Call r completion) lower n p 1 refl h at refl (named s (register a r) n reads)
+      below
   pays t under f o h (returns_status a form status at sort is) = ends a (Ret form) 1 refl h at refl
   pays t under f o h (lets_go a at sort free) = ends a (Ret Continue) 1 refl h at refl
   pays t under f o h (lets_walk a n at sort) = ends a (Ret Continue) 1 refl h at refl
@@ -211,12 +236,12 @@ module _ (set : Set) (states : States) (s : Shared) where
   pays t under f o h (stops_walk a n at above) = ends a (Ret Stop) 1 refl h at refl
   pays t under f o h (stops_none a at above free) = ends a (Ret Stop) 1 refl h at refl
   pays t under f o h (ends_cancel a at sort) = ends a (Ret Void) 1 refl h at refl
-  pays t under f o h (lends_to n p c there set_there sort) = absurd (never_lends h.good.quiet c sort)
-  pays t under f o h (cancels n step made moves) =
-      absurd (never_stands set states s (record { packet = n; next = step }) h)
+  pays t under f o h (cancels n step made moves) = cancel_pays t n step made h moves
   pays t under f o h (walks_gone n gone) = omega arith
   pays t under f o h (walks_to n p c there set_there lends) =
-      (tt, ((begins_back set states s h.good h.fits n p c h.stands there set_there).due, tt))
+      (tt, ((begins_back set states s h.good h.fits n p c h.stands there set_there lends).due, tt))
+  pays t under f o h (lends_to n p c there set_there lends) =
+      (tt, ((begins_lent set states s h.good h.fits n p c h.stands there set_there lends).due, tt))
   pays t under f o h (walks_up n p there none more unmarked) = (tt, tt)
   pays t under f o h (carries_up n p there none more marked) = (tt, tt)
   pays t under f o h (tops_out n p there none last) = omega arith

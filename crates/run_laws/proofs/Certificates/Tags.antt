@@ -26,9 +26,11 @@ among_right tag (x ∷ tags) more h = inr (among_right tag tags more h)
 -- it is the I/O manager's, or among those that were given out
 abbrev pub IsKnown : List Tag → Tag → Type 0
 IsKnown given Managing = ⊤
-IsKnown given (Activated g driver routine serving) = IsAmong (Activated g driver routine serving) given
+IsKnown given (Activated g driver routine serving) =
+    IsAmong (Activated g driver routine serving) given
 
-pub known_left : (given more : List Tag) (tag : Tag) → IsKnown given tag → IsKnown (given ++ more) tag
+pub known_left : (given more : List Tag) (tag : Tag) → IsKnown given tag
+    → IsKnown (given ++ more) tag
 known_left given more Managing h = tt
 known_left given more (Activated g driver routine serving) h = among_left _ given more h
 
@@ -89,7 +91,8 @@ pub record Named (given : List Tag) (tags : List Tag) (k : ℕ) (a : Activation)
   pub there : slice_get tags k ≡ Some (Activated number a.driver a.routine serving)
   pub among : IsAmong (Activated number a.driver a.routine serving) given
 
-named_by : (given : List Tag) (tag : Tag) (tags : List Tag) (a : Activation) → Fits given tag (Routine a)
+named_by : (given : List Tag) (tag : Tag) (tags : List Tag) (a : Activation)
+    → Fits given tag (Routine a)
     → Named given (tag ∷ tags) 0 a
 named_by given Managing tags a h = absurd h
 named_by given (Activated g driver routine serving) tags a h =
@@ -110,7 +113,13 @@ named given (f ∷ frames) (tag ∷ tags) zero a h found =
     named_by given tag tags a (subst (λ (x : Frame). Fits given tag x) is h.0)
 named given (f ∷ frames) (tag ∷ tags) (suc k) a h found =
     let later : Named given tags k a = named given frames tags k a h.1 found in
-    record { number = later.number; serving = later.serving; there = later.there; among = later.among }
+    record {
+      number = later.number;
+      serving = later.serving;
+      there = later.there;
+      among =
+          later.among;
+    }
 
 -- activations are numbered from one number on, and another comes next
 abbrev pub Numbered : ℕ → List Tag → ℕ → Type 0
@@ -119,7 +128,8 @@ Numbered first (Managing ∷ tags) following = Numbered first tags following
 Numbered first (Activated g driver routine serving ∷ tags) following =
     (g ≡ first) × Numbered (first + 1) tags following
 
-pub numbered_append : (first middle following : ℕ) (tags more : List Tag) → Numbered first tags middle
+pub numbered_append : (first middle following : ℕ) (tags more : List Tag)
+    → Numbered first tags middle
     → Numbered middle more following → Numbered first (tags ++ more) following
 numbered_append first middle following [] more h later =
     subst (λ (n : ℕ). Numbered n more following) (sym h) later
@@ -153,11 +163,13 @@ fresh_tags set past number frames = tags_after set past number [] [] frames
 pub fresh_numbered : (set : Set) (past : List Entry) (number : ℕ) (frames : List Frame)
     → Numbered number (fresh_tags set past number frames) (activations_after number [] frames)
 fresh_numbered set past number [] = refl
-fresh_numbered set past number (Routine a ∷ frames) = (refl, fresh_numbered set past (number + 1) frames)
+fresh_numbered set past number (Routine a ∷ frames) =
+    (refl, fresh_numbered set past (number + 1) frames)
 fresh_numbered set past number (Walk n ∷ frames) = fresh_numbered set past number frames
 fresh_numbered set past number (CancelFrame c ∷ frames) = fresh_numbered set past number frames
 
-pub fresh_matched : (set : Set) (past : List Entry) (number : ℕ) (frames : List Frame) (given : List Tag)
+pub fresh_matched : (set : Set) (past : List Entry) (number : ℕ) (frames : List Frame)
+    (given : List Tag)
     → ((tag : Tag) → IsAmong tag (fresh_tags set past number frames) → IsAmong tag given)
     → Matched given frames (fresh_tags set past number frames)
 fresh_matched set past number [] given h = tt

@@ -79,19 +79,24 @@ module _ (cost : Frame → ℕ) where
       (tags_after set (recorded past actor actions) number thread.frames.items
       (slice_index_or tags actor.thread [])
       after.frames.items))
-      (activations_after number thread.frames.items after.frames.items) (recorded past actor actions)
+      (activations_after number thread.frames.items after.frames.items)
+      (recorded past actor actions)
   turned set w now tags number past actor actions thread after tally found is acts follows =
       let t : ℕ = actor.thread in
       let row : List Tag = slice_index_or tags t [] in
       let later : List Entry = recorded past actor actions in
-      let new_row : List Tag = tags_after set later number thread.frames.items row after.frames.items in
-      let there : slice_get tags t ≡ Some row = row_there set w tags number past t thread tally found in
+      let new_row : List Tag = tags_after set later number thread.frames.items row
+      after.frames.items in
+      let there : slice_get tags t ≡ Some row = row_there set w tags number past t thread tally
+      found in
       let within : t < length tags = slice_get_within tags t row there in
-      let frames_are : (k : ℕ) → frames_on now k ≡ frames_of (slice_get (slice_set w.threads t after) k) =
+      let frames_are : (k : ℕ)
+      → frames_on now k ≡ frames_of (slice_get (slice_set w.threads t after) k) =
       λ k. ap (λ (threads : List Thread). frames_of (slice_get threads k)) is in
       record {
         given = tally.given ++ follows.new;
-        rows = length-set tags t new_row ∙ tally.rows ∙ sym (ap length is ∙ length-set w.threads t after);
+        rows = length-set tags t new_row ∙ tally.rows
+            ∙ sym (ap length is ∙ length-set w.threads t after);
         numbered = numbered_append 0 number
             (activations_after number thread.frames.items after.frames.items)
             tally.given follows.new tally.numbered follows.numbered;
@@ -127,7 +132,8 @@ module _ (cost : Frame → ℕ) where
             ≡ all_owed cost g (slice_set w.threads t after) (slice_set tags t new_row) =
             ap (λ (threads : List Thread). all_owed cost g threads (slice_set tags t new_row)) is
             in
-            let paid : if_own g actor.tag (executed_in actions) + owed cost g after.frames.items new_row
+            let paid : if_own g actor.tag (executed_in actions)
+            + owed cost g after.frames.items new_row
             ≤ owed cost g thread.frames.items row + allowed set g follows.new = follows.paid g in
             let owing : executions past g + all_owed cost g w.threads tags
             ≤ allowed set g tally.given = tally.owing g in
@@ -167,7 +173,8 @@ module _ (cost : Frame → ℕ) where
   -- the law, in its own words
   pub known_kept : (set : Set) (w : World) (tags : List (List Tag)) (number : ℕ) (past : List Entry)
       (tag : Tag)
-      → (tally : Tally set w tags number past) → IsKnown tally.given tag → KeepsCertificate set past tag
+      → (tally : Tally set w tags number past) → IsKnown tally.given tag
+      → KeepsCertificate set past tag
   known_kept set w tags number past Managing tally known = tt
   known_kept set w tags number past (Activated g driver routine serving) tally known =
       let owing : executions past g + all_owed cost g w.threads tags ≤ allowed set g tally.given =
@@ -180,7 +187,8 @@ module _ (cost : Frame → ℕ) where
       → Numbered 0 given number
       → IsKnown given one → IsKnown given other → AreOneRoutine one other
   one_of_known set number given Managing other numbered known also = tt
-  one_of_known set number given (Activated g driver routine serving) Managing numbered known also = tt
+  one_of_known set number given (Activated g driver routine serving) Managing numbered known also =
+      tt
   one_of_known set number given (Activated g driver routine serving) (Activated h d r s) numbered
       known also =
       λ same. one_routine set 0 number given g driver routine d r serving s numbered known

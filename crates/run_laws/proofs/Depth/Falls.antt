@@ -1,14 +1,14 @@
 -- The frames of a thread: routines for devices that stand lower and lower, and at most an I/O
--- manager's frame and a completion routine on them. Each step keeps them so.
-use Rattle.std.proofs.Common.{◌≡◌, ℕ, suc, ◌+◌, ◌-◌, ◌<◌, ◌≤◌, List, [], ◌∷◌, ◌++◌, length, Option, None, Some, Bool, false, refl, ap, sym, subst, arith}
+-- manager's frame and a completion routine on them; or one of IoCancelIrp alone. Each step keeps
+-- them so.
+use Rattle.std.proofs.Common.{◌≡◌, ℕ, suc, ◌+◌, ◌-◌, ◌<◌, ◌≤◌, List, [], ◌∷◌, ◌++◌, length, Option, None, Some, Bool, false, refl, ap, sym, subst, arith, true, ◌∙◌}
 use Rattle.std.specs.Prelude.{⊤, slice_get, nat_lt, IfSome, option_and_then}
 use Rattle.std.proofs.lemmas.Bool.{cond_both}
 use Rattle.std.proofs.lemmas.List.{length-append}
 use Rattle.model.specs.declared.instr.Instr.{Instr}
 use Rattle.model.specs.declared.instr.Instr.TheVariants.{Pass, Call, Complete}
 use Rattle.model.specs.declared.set.Device.{Device}
-use Rattle.model.specs.declared.set.Sort.{Sort}
-use Rattle.model.specs.declared.set.Sort.TheVariants.{Dispatch, Dpc, Propagate, StartIo, Hold, Cancel}
+use Rattle.model.specs.declared.set.Sort.TheVariants.{Dispatch}
 use Rattle.model.specs.declared.status.Major.{Major}
 use Rattle.model.specs.declared.status.Status.{Status}
 use Rattle.model.specs.declared.world.Activation.{Activation}
@@ -16,31 +16,49 @@ use Rattle.model.specs.declared.world.Frame.{Frame}
 use Rattle.model.specs.declared.world.Frame.TheVariants.{Routine, Walk, Cancel as CancelFrame}
 use Rattle.model.specs.declared.world.OpenLoop.{OpenLoop}
 use Rattle.model.specs.declared.world.Packet.{Packet}
-use Rattle.model.specs.Effect.{Outcome, answered_in, asks, dispatched, operand_of, told_to, turned}
+use Rattle.model.specs.Effect.{Outcome, answered_in, asks, dispatched, operand_of, told_to, turned, routine_of_device}
 use Rattle.model.specs.LocalRule.{is_completion}
 use Rattle.model.specs.Set.{Set, instruction_at, lower_of, sort_of}
 use Rattle.model.specs.Sound.{DeviceFits}
-use Rattle.model.specs.World.{Shared, asked_of, at_label, current_location, next, outer_loops, with_loops}
+use Rattle.model.specs.World.{Shared, asked_of, at_label, current_location, next, outer_loops, with_loops, entered}
 use Rattle.run_laws.proofs.Devices.{device_fits}
-use Rattle.run_laws.proofs.States.Entering.{IsOfSort}
-use Rattle.run_laws.proofs.States.Frames.{state_of}
+use Rattle.run_laws.proofs.States.Entering.{IsOfSort, IsCompleting}
+use Rattle.run_laws.proofs.States.Frames.{state_of, Serves}
 use Rattle.run_laws.proofs.States.Lacking.{down}
-use Rattle.run_laws.proofs.States.Never.{never_stands}
 use Rattle.run_laws.proofs.States.Obeyed.{completes_one}
 use Rattle.run_laws.proofs.States.OnTop.{OnTop, runs}
 use Rattle.run_laws.proofs.States.Rules.{States}
 use Rattle.run_laws.proofs.States.Stacks.{Stacked}
 use Rattle.run_laws.proofs.States.Told.{told_frame, told_last, told_is}
-use Rattle.run_laws.proofs.Steps.Comes.{GoesTo, onward, jumping, Comes, computes, turns_loop, pages, looks_at, completes_packet, passes_down, calls_down, returns_status, lets_go, lets_walk, ends_dpc, walks_gone, walks_to, walks_up, carries_up, tops_out, works_on_queues, ends_startio, exchanges, resumes_walk, resumes_gone, resumes_none, stops_walk, stops_none, ends_cancel, lends_to, cancels}
+use Rattle.run_laws.proofs.Steps.Comes.{GoesTo, onward, jumping, Comes, computes, turns_loop, pages, looks_at, completes_packet, passes_down, calls_down, returns_status, lets_go, lets_walk, ends_dpc, walks_gone, walks_to, walks_up, carries_up, tops_out, works_on_queues, ends_startio, exchanges, resumes_walk, resumes_gone, resumes_none, stops_walk, stops_none, ends_cancel, lends_to, cancels, Cancels, takes_cancel, calls_cancel}
 use Rattle.run_laws.proofs.States.Queueing.{queue_moves}
+use Rattle.run_laws.proofs.States.Cancelled.{begins_called}
+use Rattle.std.proofs.lemmas.Option.{slice_get_within}
+use Rattle.model.specs.declared.world.Value.TheVariants.{Ref}
+use Rattle.model.specs.declared.world.CancelStep.{CancelStep}
+use Rattle.model.specs.declared.world.Canceller.{Canceller}
 
 -- frames of a thread, the lowest first: routines for lower and lower devices, all under a first
--- one; on an I/O manager's frame at most one stands
+-- one; on an I/O manager's frame at most one stands, and on one of IoCancelIrp none
 abbrev pub Falls : ℕ → List Frame → Type 0
 Falls top [] = ⊤
 Falls top (Routine a ∷ frames) = (a.device < top) × Falls a.device frames
 Falls top (Walk n ∷ frames) = length frames ≤ 1
-Falls top (CancelFrame c ∷ frames) = ⊥
+Falls top (CancelFrame c ∷ frames) = frames ≡ []
+
+-- a frame of IoCancelIrp
+abbrev pub is_cancelling : Frame → Bool
+is_cancelling (Routine a) = false
+is_cancelling (Walk n) = false
+is_cancelling (CancelFrame c) = true
+
+some_frames : (below : List Frame) (f : Frame) → below ++ f ∷ [] ≡ [] → ⊥
+some_frames [] f h = cc
+some_frames (g ∷ below) f h = cc
+
+no_frames : (below frames : List Frame) → below ++ frames ≡ [] → below ≡ []
+no_frames [] frames h = refl
+no_frames (g ∷ below) frames h = cc
 
 -- they are at most two more than the devices
 pub falls_length : (top : ℕ) (frames : List Frame) → Falls top frames → length frames ≤ top + 2
@@ -50,7 +68,19 @@ falls_length top (Routine a ∷ frames) h =
     let others : length frames ≤ a.device + 2 = falls_length a.device frames h.1 in
     omega arith
 falls_length top (Walk n ∷ frames) h = let few : length frames ≤ 1 = h in omega arith
-falls_length top (CancelFrame c ∷ frames) h = absurd h
+falls_length top (CancelFrame c ∷ frames) h = rw h (omega arith)
+
+-- and so are the lower ones of them
+pub falls_before : (top : ℕ) (below frames : List Frame) → Falls top (below ++ frames)
+    → Falls top below
+falls_before top [] frames h = tt
+falls_before top (Routine a ∷ below) frames h = (h.0, falls_before a.device below frames h.1)
+falls_before top (Walk n ∷ below) frames h =
+    let all : length (below ++ frames) ≡ length below
+    + length frames = length-append below frames in
+    let few : length (below ++ frames) ≤ 1 = h in
+    omega arith
+falls_before top (CancelFrame c ∷ below) frames h = no_frames below frames h
 
 module _ (set : Set) where
   -- what a frame's step leaves in its place
@@ -66,59 +96,56 @@ module _ (set : Set) where
   Short (Walk n) (Walk m ∷ []) = ⊤
   Short (Walk n) (Walk m ∷ Routine b ∷ []) = ⊤
   Short (Walk n) _ = ⊥
+  Short (CancelFrame c) [] = ⊤
+  Short (CancelFrame c) (CancelFrame d ∷ []) = ⊤
+  Short (CancelFrame c) (Routine b ∷ []) = b.device < length set.devices
   Short (CancelFrame c) _ = ⊥
 
   -- a routine that stands on an I/O manager's frame is a completion routine, and leaves at most one
   -- frame
-  not_both : (sort : Sort) → is_completion sort ≡ false → sort ≡ Propagate → ⊥
-  not_both Dispatch h g = cc
-  not_both StartIo h g = cc
-  not_both Dpc h g = cc
-  not_both Propagate h g = cc
-  not_both Hold h g = cc
-  not_both Cancel h g = cc
-
-  on_walk : (a : Activation) (frames : List Frame) → IsOfSort set a Propagate → Short (Routine a) frames
+  on_walk : (a : Activation) (frames : List Frame) → IsCompleting set a → Short (Routine a) frames
       → length frames ≤ 1
   on_walk a [] is short = omega arith
   on_walk a (Routine b ∷ []) is short = omega arith
-  on_walk a (Routine b ∷ Walk n ∷ []) is short = absurd (not_both _ short.1 is)
-  on_walk a (Routine b ∷ Routine c ∷ []) is short = absurd (not_both _ (rw short.2 refl) is)
+  on_walk a (Routine b ∷ Walk n ∷ []) is short = let no : true ≡ false = sym is ∙ short.1 in cc
+  on_walk a (Routine b ∷ Routine c ∷ []) is short =
+      let no : true ≡ false = sym is ∙ ap is_completion short.2 in cc
   on_walk a (Routine b ∷ Walk n ∷ g ∷ frames) is short = absurd short
   on_walk a (Routine b ∷ Routine c ∷ g ∷ frames) is short = absurd short
   on_walk a (Walk n ∷ frames) is short = absurd short
   on_walk a (CancelFrame c ∷ frames) is short = absurd short
   on_walk a (Routine b ∷ CancelFrame c ∷ frames) is short = absurd short
 
-  -- frames in place of the lowest
-  first_falls : (top : ℕ) (f : Frame) (frames : List Frame) → Falls top (f ∷ []) → Short f frames
+  -- frames in place of the lowest, but for one of IoCancelIrp
+  first_falls : (top : ℕ) (f : Frame) (frames : List Frame) → is_cancelling f ≡ false
+      → Falls top (f ∷ []) → Short f frames
       → Falls top frames
-  first_falls top (Routine a) [] h short = tt
-  first_falls top (Routine a) (Routine b ∷ []) h short =
+  first_falls top (Routine a) [] other h short = tt
+  first_falls top (Routine a) (Routine b ∷ []) other h short =
       let same : b.device ≡ a.device = short in let l : a.device < top = h.0 in (omega arith, tt)
-  first_falls top (Routine a) (Routine b ∷ Walk n ∷ []) h short =
+  first_falls top (Routine a) (Routine b ∷ Walk n ∷ []) other h short =
       let same : b.device ≡ a.device = short.0 in
       let l : a.device < top = h.0 in
       (omega arith, omega arith)
-  first_falls top (Routine a) (Routine b ∷ Routine c ∷ []) h short =
+  first_falls top (Routine a) (Routine b ∷ Routine c ∷ []) other h short =
       let same : b.device ≡ a.device = short.0 in
       let l : a.device < top = h.0 in
       let less : c.device < a.device = short.1 in
       (omega arith, (omega arith, tt))
-  first_falls top (Routine a) (Routine b ∷ Walk n ∷ g ∷ frames) h short = absurd short
-  first_falls top (Routine a) (Routine b ∷ Routine c ∷ g ∷ frames) h short = absurd short
-  first_falls top (Routine a) (Walk n ∷ frames) h short = absurd short
-  first_falls top (Routine a) (CancelFrame c ∷ frames) h short = absurd short
-  first_falls top (Routine a) (Routine b ∷ CancelFrame c ∷ frames) h short = absurd short
-  first_falls top (CancelFrame c) frames h short = absurd h
-  first_falls top (Walk n) [] h short = tt
-  first_falls top (Walk n) (Walk m ∷ []) h short = omega arith
-  first_falls top (Walk n) (Walk m ∷ Routine b ∷ []) h short = omega arith
-  first_falls top (Walk n) (Walk m ∷ Walk k ∷ frames) h short = absurd short
-  first_falls top (Walk n) (Walk m ∷ Routine b ∷ g ∷ frames) h short = absurd short
-  first_falls top (Walk n) (Routine b ∷ frames) h short = absurd short
-  first_falls top (Walk n) (CancelFrame c ∷ frames) h short = absurd short
-  first_falls top (Walk n) (Walk m ∷ CancelFrame c ∷ frames) h short = absurd short
+  first_falls top (Routine a) (Routine b ∷ Walk n ∷ g ∷ frames) other h short = absurd short
+  first_falls top (Routine a) (Routine b ∷ Routine c ∷ g ∷ frames) other h short = absurd short
+  first_falls top (Routine a) (Walk n ∷ frames) other h short = absurd short
+  first_falls top (Routine a) (CancelFrame c ∷ frames) other h short = absurd short
+  first_falls top (Routine a) (Routine b ∷ CancelFrame c ∷ frames) other h short = absurd short
+  first_falls top (CancelFrame c) frames other h short = cc
+  first_falls top (Walk n) [] other h short = tt
+  first_falls top (Walk n) (Walk m ∷ []) other h short = omega arith
+  first_falls top (Walk n) (Walk m ∷ Routine b ∷ []) other h short = omega arith
+  first_falls top (Walk n) (Walk m ∷ Walk k ∷ frames) other h short = absurd short
+  first_falls top (Walk n) (Walk m ∷ Routine b ∷ g ∷ frames) other h short = absurd short
+  first_falls top (Walk n) (Routine b ∷ frames) other h short = absurd short
+  first_falls top (Walk n) (CancelFrame c ∷ frames) other h short = absurd short
+  first_falls top (Walk n) (Walk m ∷ CancelFrame c ∷ frames) other h short = absurd short
 
   too_many : (below : List Frame) (f e : Frame) → length (e ∷ (below ++ f ∷ [])) ≤ 1 → ⊥
   too_many below f e h =
@@ -128,20 +155,54 @@ module _ (set : Set) where
       absurd (omega arith)
 
   -- frames in place of the top one
-  falls_on : (states : States) (issued top : ℕ) (below : List Frame) (f : Frame) (frames : List Frame)
+  falls_on : (states : States) (issued top : ℕ) (below : List Frame) (f : Frame)
+      (frames : List Frame)
+      → is_cancelling f ≡ false
       → Stacked set states issued (below ++ f ∷ []) → Falls top (below ++ f ∷ []) → Short f frames
       → Falls top (below ++ frames)
-  falls_on states issued top [] f frames stands h short = first_falls top f frames h short
-  falls_on states issued top (Routine g ∷ []) f frames stands h short =
-      (h.0, first_falls g.device f frames h.1 short)
-  falls_on states issued top (Routine g ∷ e ∷ below) f frames stands h short =
-      (h.0, falls_on states issued g.device (e ∷ below) f frames stands.1 h.1 short)
-  falls_on states issued top (Walk m ∷ []) (Routine a) frames stands h short =
+  falls_on states issued top [] f frames other stands h short =
+      first_falls top f frames other h short
+  falls_on states issued top (Routine g ∷ []) f frames other stands h short =
+      (h.0, first_falls g.device f frames other h.1 short)
+  falls_on states issued top (Routine g ∷ e ∷ below) f frames other stands h short =
+      (h.0, falls_on states issued g.device (e ∷ below) f frames other stands.1 h.1 short)
+  falls_on states issued top (Walk m ∷ []) (Routine a) frames other stands h short =
       on_walk a frames stands.0.0 short
-  falls_on states issued top (Walk m ∷ []) (Walk n) frames stands h short = absurd stands.0
-  falls_on states issued top (Walk m ∷ []) (CancelFrame c) frames stands h short = absurd stands.0
-  falls_on states issued top (CancelFrame c ∷ below) f frames stands h short = absurd h
-  falls_on states issued top (Walk m ∷ e ∷ below) f frames stands h short = absurd (too_many below f e h)
+  falls_on states issued top (Walk m ∷ []) (Walk n) frames other stands h short = absurd stands.0
+  falls_on states issued top (Walk m ∷ []) (CancelFrame c) frames other stands h short = cc
+  falls_on states issued top (CancelFrame c ∷ below) f frames other stands h short =
+      absurd (some_frames below f h)
+  falls_on states issued top (Walk m ∷ e ∷ below) f frames other stands h short =
+      absurd (too_many below f e h)
+
+  -- one of IoCancelIrp stands alone, and leaves itself, or the cancel routine of some device
+  alone : (states : States) (issued : ℕ) (g : Frame) (below : List Frame) (f : Frame)
+      → is_cancelling f ≡ true → Stacked set states issued ((g ∷ below) ++ f ∷ []) → ⊥
+  alone states issued g [] (CancelFrame c) is stands = absurd stands.0
+  alone states issued g [] (Routine a) is stands = cc
+  alone states issued g [] (Walk n) is stands = cc
+  alone states issued g (e ∷ below) f is stands = alone states issued e below f is stands.1
+
+  cancel_falls : (c : Canceller) (frames : List Frame) → Short (CancelFrame c) frames
+      → Falls (length set.devices) frames
+  cancel_falls c [] short = tt
+  cancel_falls c (CancelFrame d ∷ []) short = refl
+  cancel_falls c (Routine b ∷ []) short = (short, tt)
+  cancel_falls c (CancelFrame d ∷ g ∷ frames) short = absurd short
+  cancel_falls c (Routine b ∷ g ∷ frames) short = absurd short
+  cancel_falls c (Walk n ∷ frames) short = absurd short
+
+  falls_for : (states : States) (issued : ℕ) (below : List Frame) (f : Frame) (frames : List Frame)
+      → Stacked set states issued (below ++ f ∷ [])
+      → Falls (length set.devices) (below ++ f ∷ [])
+      → Short f frames → Falls (length set.devices) (below ++ frames)
+  falls_for states issued below (Routine a) frames stands h short =
+      falls_on states issued (length set.devices) below (Routine a) frames refl stands h short
+  falls_for states issued below (Walk n) frames stands h short =
+      falls_on states issued (length set.devices) below (Walk n) frames refl stands h short
+  falls_for states issued [] (CancelFrame c) frames stands h short = cancel_falls c frames short
+  falls_for states issued (g ∷ below) (CancelFrame c) frames stands h short =
+      absurd (alone states issued g below (CancelFrame c) refl stands)
 
   -- a frame that is told a status is for the same device
   answered_for : (a : Activation) (status : Status) (r : Option ℕ)
@@ -149,12 +210,14 @@ module _ (set : Set) where
   answered_for a status None = refl
   answered_for a status (Some r) = refl
 
-  told_falls : (top : ℕ) (told : Option Status) (g : Frame) (frames : List Frame) → Falls top (g ∷ frames)
+  told_falls : (top : ℕ) (told : Option Status) (g : Frame) (frames : List Frame)
+      → Falls top (g ∷ frames)
       → Falls top (told_frame set told g ∷ frames)
   told_falls top None (Routine a) frames h = h
   told_falls top None (Walk n) frames h = h
   told_falls top (Some status) (Walk n) frames h = h
-  told_falls top told (CancelFrame c) frames h = absurd h
+  told_falls top None (CancelFrame c) frames h = h
+  told_falls top (Some status) (CancelFrame c) frames h = h
   told_falls top (Some status) (Routine a) frames h =
       subst (λ (d : ℕ). (d < top) × Falls d frames)
       (sym (answered_for a status
@@ -166,13 +229,14 @@ module _ (set : Set) where
   last_length told (g ∷ []) = refl
   last_length told (g ∷ e ∷ below) = ap suc (last_length told (e ∷ below))
 
-  last_falls : (top : ℕ) (told : Option Status) (below frames : List Frame) → Falls top (below ++ frames)
+  last_falls : (top : ℕ) (told : Option Status) (below frames : List Frame)
+      → Falls top (below ++ frames)
       → Falls top (told_last set told below ++ frames)
   last_falls top told [] frames h = h
   last_falls top told (g ∷ []) frames h = told_falls top told g frames h
   last_falls top told (Routine a ∷ e ∷ below) frames h =
       (h.0, last_falls a.device told (e ∷ below) frames h.1)
-  last_falls top told (CancelFrame c ∷ e ∷ below) frames h = absurd h
+  last_falls top told (CancelFrame c ∷ e ∷ below) frames h = cc
   last_falls top told (Walk n ∷ e ∷ below) frames h =
       let same : length (told_last set told (e ∷ below)) ≡ length (e ∷ below) =
       last_length told (e ∷ below) in
@@ -184,17 +248,21 @@ module _ (set : Set) where
       let few : length ((e ∷ below) ++ frames) ≤ 1 = h in
       omega arith
 
-  pub falls_after : (states : States) (issued top : ℕ) (below : List Frame) (f : Frame)
+  pub falls_after : (states : States) (issued : ℕ) (below : List Frame) (f : Frame)
       (told : Option Status)
-      (frames : List Frame) → Stacked set states issued (below ++ f ∷ []) → Falls top (below ++ f ∷ [])
-      → Short f frames → Falls top (told_to set below told ++ frames)
-  falls_after states issued top below f told frames stands h short =
-      subst (λ (all : List Frame). Falls top (all ++ frames)) (sym (told_is set below told))
-      (last_falls top told below frames (falls_on states issued top below f frames stands h short))
+      (frames : List Frame) → Stacked set states issued (below ++ f ∷ [])
+      → Falls (length set.devices) (below ++ f ∷ [])
+      → Short f frames → Falls (length set.devices) (told_to set below told ++ frames)
+  falls_after states issued below f told frames stands h short =
+      subst (λ (all : List Frame). Falls (length set.devices) (all ++ frames))
+      (sym (told_is set below told))
+      (last_falls (length set.devices) told below frames
+      (falls_for states issued below f frames stands h short))
 
   -- the device under a device is an earlier one
   lower_in : (device lower : ℕ) (o : Option Device) → slice_get set.devices device ≡ o
-      → ((d : Device) → slice_get set.devices device ≡ Some d → DeviceFits (length set.drivers) device d)
+      → ((d : Device) → slice_get set.devices device ≡ Some d
+      → DeviceFits (length set.drivers) device d)
       → option_and_then (λ d. d.lower) o ≡ Some lower → lower < device
   lower_in device lower None there fits is = cc
   lower_in device lower (Some d) there fits is =
@@ -230,6 +298,22 @@ module _ (set : Set) (states : States) (s : Shared) where
       n).device ≡ lower =
       dispatched_for set lower (slice_get set.devices lower) (asked_of (current_location p)) n in
       (refl, omega arith, sort)
+
+  -- IoCancelIrp goes on, ends, or calls a cancel routine for a device that is there
+  cancel_short : (t n : ℕ) (step : CancelStep) (o : Outcome)
+      → OnTop set states s (CancelFrame (record { packet = n; next = step }))
+      → Cancels set s t n step o → Short set (CancelFrame (record { packet = n; next = step }))
+      o.frames
+  cancel_short t n step o h (calls_cancel p armer routine there is named) =
+      let a : Activation =
+      entered (routine_of_device (slice_get set.devices armer.device)) routine armer.device (Ref n)
+      in
+      let served : Serves set a.device a.driver =
+      (begins_called set states s h.good h.fits n p armer routine h.stands there is
+      named).ready.1.serves in
+      slice_get_within set.devices armer.device served.0 served.1
+  cancel_short t n step o h (takes_cancel free) = tt
+  cancel_short t n step o h _ = tt
 
   -- every shape
   pub short : (t : ℕ) (under : Option Frame) (f : Frame) (o : Outcome) → OnTop set states s f
@@ -267,8 +351,7 @@ module _ (set : Set) (states : States) (s : Shared) where
   short t under f o h (stops_none a at above free) = tt
   short t under f o h (ends_cancel a at sort) = tt
   short t under f o h (lends_to n p c there set_there sort) = tt
-  short t under f o h (cancels n step made moves) =
-      absurd (never_stands set states s (record { packet = n; next = step }) h)
+  short t under f o h (cancels n step made moves) = cancel_short t n step made h moves
   short t under f o h (walks_gone n gone) = tt
   short t under f o h (walks_to n p c there set_there lends) = tt
   short t under f o h (walks_up n p there none more unmarked) = tt

@@ -14,7 +14,7 @@ use Rattle.model.specs.Effect.{Outcome, top_of, frame_effect}
 use Rattle.model.specs.Events.{Change, finished_or, standing, top_effect, step_thread, effect}
 use Rattle.model.specs.Set.{Set}
 use Rattle.model.specs.World.{Shared, World, idle_thread}
-use Rattle.run_laws.proofs.Runs.Events.{Happens, nothing, steps, issues, begins, begins_startio}
+use Rattle.run_laws.proofs.Runs.Events.{Happens, nothing, steps, issues, begins, begins_startio, begins_cancel}
 use Rattle.run_laws.proofs.Steps.Comes.{Cancels, takes_cancel, Comes, errs, cancels}
 use Rattle.run_laws.proofs.Steps.Walk.{comes}
 
@@ -41,7 +41,8 @@ finished_granted [] Stepped h = refl
 finished_granted [] _ h = h
 finished_granted (f ∷ frames) reply h = h
 
-granted_top : (set : Set) (w : World) (t : ℕ) (thread : Thread) (below : List Frame) (o : Option Frame)
+granted_top : (set : Set) (w : World) (t : ℕ) (thread : Thread) (below : List Frame)
+    (o : Option Frame)
     → is_refused (top_effect set w t thread below o).reply ≡ false
 granted_top set w t thread below None = refl
 granted_top set w t thread below (Some f) =
@@ -64,10 +65,11 @@ pub granted_step : (set : Set) (w : World) (t : ℕ) → t < length w.threads
 granted_step set w t within = granted_thread set w t (slice_get w.threads t) refl within
 
 -- no event makes a thread or ends one
-pub same_count : (set : Set) (w : World) (t : ℕ) (c : Change) → Happens set w t false c
+pub same_count : (set : Set) (w : World) (t : ℕ) (c : Change) → Happens set w t c
     → length c.world.threads ≡ length w.threads
 same_count set w t c (nothing reply right) = refl
 same_count set w t c (steps h) = length-set w.threads t _
 same_count set w t c (issues h) = length-set w.threads t _
 same_count set w t c (begins h) = length-set w.threads t _
 same_count set w t c (begins_startio h) = length-set w.threads t _
+same_count set w t c (begins_cancel h) = length-set w.threads t _

@@ -1,6 +1,6 @@
 -- No thread of an accepted set ever has more than 18 frames, so no step of a thread that is there
 -- is refused.
-use Rattle.std.proofs.Common.{◌≡◌, ℕ, ◌+◌, ◌<◌, ◌≤◌, List, [], ◌∷◌, ◌++◌, length, Some, false, refl, sym, ◌∙◌, subst, arith, Option}
+use Rattle.std.proofs.Common.{◌≡◌, ℕ, ◌+◌, ◌<◌, ◌≤◌, List, [], ◌∷◌, ◌++◌, length, Some, false, refl, sym, ◌∙◌, subst, arith, Option, true, inl, inr}
 use Rattle.std.specs.Prelude.{slice_get}
 use Rattle.std.proofs.lemmas.Bool.{le-ltb}
 use Rattle.std.proofs.lemmas.Option.{slice_get_within}
@@ -9,29 +9,30 @@ use Rattle.model.specs.declared.world.Frame.{Frame}
 use Rattle.model.specs.declared.world.Irql.TheVariants.{Passive, Dispatch as DispatchLevel}
 use Rattle.model.specs.declared.world.Thread.{Thread}
 use Rattle.model.specs.Effect.{Outcome, top_of}
-use Rattle.model.specs.Events.{Change, rooted, dpc_activation, serves_request, standing, with_stack, with_thread}
+use Rattle.model.specs.Events.{Change, rooted, dpc_activation, serves_request, standing, with_stack, with_thread, cancelling}
 use Rattle.model.specs.Run.{begun, frames_on}
 use Rattle.model.specs.Set.{Set}
 use Rattle.model.specs.Sound.{IsSound}
 use Rattle.model.specs.Trace.{Entry}
 use Rattle.model.specs.Queues.{without_first_to_start}
 use Rattle.model.specs.World.{Shared, World, with_dpc, with_start}
-use Rattle.run_laws.proofs.Depth.Falls.{Falls, falls_length, falls_after, short}
-use Rattle.run_laws.proofs.Runs.Events.{Happens, nothing, steps, issues, begins, begins_startio}
+use Rattle.run_laws.proofs.Depth.Falls.{Falls, falls_length, falls_before, falls_after, short, is_cancelling}
+use Rattle.run_laws.proofs.Runs.Events.{Happens, nothing, steps, issues, begins, begins_startio, begins_cancel}
 use Rattle.run_laws.proofs.Runs.Threads.{frames_there, frames_put, each_frames, idle_frames}
 use Rattle.run_laws.proofs.States.Entering.{begins_dpc, startio_activation}
 use Rattle.run_laws.proofs.States.Frames.{IsGood, Serves}
 use Rattle.run_laws.proofs.States.Rules.{States}
 use Rattle.run_laws.proofs.States.Standing.{Standing, stands_there, on_top, startio_enters}
-use Rattle.run_laws.proofs.Steps.Below.{standing_is}
-use Rattle.run_laws.proofs.Steps.Comes.{walks_gone, Comes}
+use Rattle.run_laws.proofs.Steps.Below.{stood}
+use Rattle.run_laws.proofs.Steps.Comes.{walks_gone, Comes, Cancels, takes_cancel, cancels, works_on_queues}
 use Rattle.model.specs.declared.world.Frame.TheVariants.{Routine, Walk, Cancel as CancelFrame}
 use Rattle.run_laws.proofs.Holders.Counts.{Holding}
 use Rattle.run_laws.proofs.Holders.Sums.{Held}
-use Rattle.run_laws.proofs.States.Never.{keeps_below, never_stands}
 use Rattle.run_laws.proofs.States.OnTop.{OnTop}
 use Rattle.run_laws.proofs.Holders.Runs.{top_holding}
-use Rattle.run_laws.proofs.Holders.Full.{never_full}
+use Rattle.run_laws.proofs.Claims.Full.{OwnApart, never_full, own_apart}
+use Rattle.run_laws.proofs.Claims.Sums.{Claimed}
+use Rattle.model.specs.declared.world.CancelStep.{CancelStep}
 
 -- the frames of every thread stand for lower and lower devices
 abbrev pub AllFall : Set → World → Type 0
@@ -56,6 +57,19 @@ walk_full_of : (set : Set) (s : Shared) (t : ℕ) (under : Option Frame) (n : �
 walk_full_of set s t under n o (walks_gone m gone) = refl
 walk_full_of set s t under n o _ = refl
 
+cancel_full : (set : Set) (s : Shared) (t n : ℕ) (step : CancelStep) (o : Outcome)
+    → Cancels set s t n step o → o.full ≡ false
+cancel_full set s t n step o (takes_cancel free) = refl
+cancel_full set s t n step o _ = refl
+
+cancel_full_of : (set : Set) (s : Shared) (t : ℕ) (under : Option Frame) (f : Frame) (o : Outcome)
+    → is_cancelling f ≡ true → Comes set s t under f o → o.full ≡ false
+cancel_full_of set s t under f o is (cancels n step made moves) =
+    cancel_full set s t n step made moves
+cancel_full_of set s t under f o is (works_on_queues a i b queues starts actions full at queued) =
+    cc
+cancel_full_of set s t under f o is _ = refl
+
 module _ (set : Set) (states : States) (w : World) (t : ℕ) (falls : AllFall set w) where
   falls_put : (s : Shared) (thread after : Thread) → slice_get w.threads t ≡ Some thread
       → Falls (length set.devices) after.frames.items → AllFall set (with_thread w t s after)
@@ -64,8 +78,9 @@ module _ (set : Set) (states : States) (w : World) (t : ℕ) (falls : AllFall se
       (λ k apart. falls k)
 
   -- an event keeps them
-  pub falls_event : (past : List Entry) (c : Change) → IsGood set states → Standing set states w past
-      → Happens set w t false c → AllFall set c.world
+  pub falls_event : (past : List Entry) (c : Change) → IsGood set states
+      → Standing set states w past
+      → Happens set w t c → AllFall set c.world
   falls_event past c good stands (nothing reply right) = falls
   falls_event past c good stands (steps h) =
       let o : Outcome = h.outcome in
@@ -73,14 +88,19 @@ module _ (set : Set) (states : States) (w : World) (t : ℕ) (falls : AllFall se
       subst (λ (frames : List Frame). Falls (length set.devices) frames)
       (frames_there w t h.thread h.found ∙ h.frames) (falls t) in
       let after : Falls (length set.devices) (standing set h.below o) =
-      subst (λ (frames : List Frame). Falls (length set.devices) frames)
-      (sym (standing_is set w.shared t (top_of h.below) h.frame o h.below h.comes
-      (keeps_below set states w.shared t (top_of h.below) h.frame o
-      (on_top set states w past good stands t h) h.comes)))
-      (falls_after set states w.shared.issued (length set.devices) h.below h.frame o.told o.frames
-      (stands_there set states w past good stands t h) before
-      (short set states w.shared t (top_of h.below) h.frame o
-      (on_top set states w past good stands t h) h.comes))
+      elim (stood set w.shared t h.below h.frame o h.comes) [
+        | inl kept ↦
+            subst (λ (frames : List Frame). Falls (length set.devices) frames) (sym kept)
+            (falls_after set states w.shared.issued h.below h.frame o.told o.frames
+            (stands_there set states w past good stands t h) before
+            (short set states w.shared t (top_of h.below) h.frame o
+            (on_top set states w past good stands t h) h.comes))
+        | inr gone ↦
+            subst (λ (frames : List Frame). Falls (length set.devices) frames) (sym gone.stands)
+            (falls_before (length set.devices) gone.others (Walk gone.n ∷ [])
+            (subst (λ (frames : List Frame). Falls (length set.devices) frames) gone.below_is
+            (falls_before (length set.devices) h.below (h.frame ∷ []) before)))
+      ]
       in
       falls_put o.shared h.thread (with_stack h.thread (standing set h.below o)) h.found after
   falls_event past c good stands (issues h) =
@@ -104,25 +124,30 @@ module _ (set : Set) (states : States) (w : World) (t : ℕ) (falls : AllFall se
             slice_get_within set.devices h.d served.0 served.1),
         tt,
       )
+  falls_event past c good stands (begins_cancel h) =
+      falls_put w.shared h.thread (cancelling h.thread h.level h.n) h.found refl
 
   -- no list is full
   not_full : (s : Shared) (past : List Entry) (under : Option Frame) (f : Frame) (o : Outcome)
-      → Holding states s past f → OnTop set states s f → Comes set s t under f o → o.full ≡ false
-  not_full s past under (Routine a) o holding top c =
-      never_full set states s past a holding t under o top c
-  not_full s past under (Walk n) o holding top c = walk_full_of set s t under n o c
-  not_full s past under (CancelFrame c) o holding top comes =
-      absurd (never_stands set states s c top)
+      → Holding set states s past f → OwnApart set states s f → OnTop set states s f
+      → Comes set s t under f o → o.full ≡ false
+  not_full s past under (Routine a) o holding apart top c =
+      never_full set states s past a holding apart t under o top c
+  not_full s past under (Walk n) o holding apart top c = walk_full_of set s t under n o c
+  not_full s past under (CancelFrame c) o holding apart top comes =
+      cancel_full_of set s t under (CancelFrame c) o refl comes
 
   -- and passes no bound
-  pub within_bounds : (past : List Entry) (c : Change) → IsGood set states → Standing set states w past
-      → Held states w → AllFall set c.world → Happens set w t false c
+  pub within_bounds : (past : List Entry) (c : Change) → IsGood set states
+      → Standing set states w past
+      → Held set states w → Claimed set states w → AllFall set c.world → Happens set w t c
       → c.over ≡ false
-  within_bounds past c good stands held later (nothing reply right) = refl
-  within_bounds past c good stands held later (issues h) = refl
-  within_bounds past c good stands held later (begins h) = refl
-  within_bounds past c good stands held later (begins_startio h) = refl
-  within_bounds past c good stands held later (steps h) =
+  within_bounds past c good stands held claimed later (nothing reply right) = refl
+  within_bounds past c good stands held claimed later (issues h) = refl
+  within_bounds past c good stands held claimed later (begins h) = refl
+  within_bounds past c good stands held claimed later (begins_startio h) = refl
+  within_bounds past c good stands held claimed later (begins_cancel h) = refl
+  within_bounds past c good stands held claimed later (steps h) =
       let few : length (frames_on c.world t) ≤ 18 = few_frames set c.world t good.sound later in
       let same : frames_on c.world t ≡ standing set h.below h.outcome =
       frames_put w t h.outcome.shared (with_stack h.thread (standing set h.below h.outcome))
@@ -130,5 +155,7 @@ module _ (set : Set) (states : States) (w : World) (t : ℕ) (falls : AllFall se
       let less : length (standing set h.below h.outcome) ≤ 18 =
       subst (λ (frames : List Frame). length frames ≤ 18) same few in
       rw (not_full w.shared past (top_of h.below) h.frame h.outcome
-      (top_holding set states w past stands held t h) (on_top set states w past good stands t h) h.comes)
+      (top_holding set states w past stands held t h)
+      (own_apart set states w past good stands held claimed t h)
+      (on_top set states w past good stands t h) h.comes)
       (le-ltb MAX_FRAMES (length (standing set h.below h.outcome)) (omega arith))

@@ -30,7 +30,8 @@ thread_le : (count : Frame → ℕ) (threads : List Thread) (k : ℕ) (o : Optio
 thread_le count threads k None found = omega arith
 thread_le count threads k (Some thread) found = stack_le count threads k thread found
 
-threads_le : (count : Frame → ℕ) (threads : List Thread) (t k : ℕ) (thread : Thread) (o : Option Thread)
+threads_le : (count : Frame → ℕ) (threads : List Thread) (t k : ℕ) (thread : Thread)
+    (o : Option Thread)
     → slice_get threads t ≡ Some thread → slice_get threads k ≡ o → t ≢ k
     → stack_sum count (frames_of o) + stack_sum count thread.frames.items ≤ thread_sum count threads
 threads_le count threads t k thread None found there apart =
@@ -53,17 +54,17 @@ one_held (Some p) = held_bit p.completing
 
 module _ (set : Set) (states : States) (w : World) (past : List Entry)
     (stands : Standing set states w past)
-    (kept : Held states w) where
+    (kept : Held set states w) where
   abbrev rights_in : ℕ → List Frame → ℕ
   rights_in n frames = stack_sum (λ g. frame_rights states g n) frames
 
   module _ (t : ℕ) (h : StepsFrame set w t) (n : ℕ) where
     apart_of : (more : ℕ) → 1 ≤ more
         → more + frame_rights states h.frame n
-        ≤ thread_sum (λ f. frame_rights states f n) w.threads + times_waiting w.shared n
+        ≤ thread_sum (λ f. frame_rights states f n) w.threads + times_waiting set w.shared n
         → IsApart states w.shared h.frame n
     apart_of more some both =
-        let all : thread_sum (λ f. frame_rights states f n) w.threads + times_waiting w.shared n
+        let all : thread_sum (λ f. frame_rights states f n) w.threads + times_waiting set w.shared n
         ≡ unheld (find w.shared.packets n) =
         kept.rights n in
         let one : unheld (find w.shared.packets n) + held (find w.shared.packets n) ≤ 1 =
@@ -79,17 +80,20 @@ module _ (set : Set) (states : States) (w : World) (past : List Entry)
 
     pub apart_below : 1 ≤ rights_in n h.below → IsApart states w.shared h.frame n
     apart_below some =
-        let le : rights_in n h.thread.frames.items ≤ thread_sum (λ f. frame_rights states f n) w.threads =
+        let le : rights_in n h.thread.frames.items
+        ≤ thread_sum (λ f. frame_rights states f n) w.threads =
         stack_le (λ g. frame_rights states g n) w.threads t h.thread h.found in
         let split : rights_in n h.thread.frames.items ≡ rights_in n h.below + rights_in n
         (h.frame ∷ []) = parts in
         apart_of (rights_in n h.below) some (omega arith)
 
-    pub apart_waiting : 1 ≤ times_waiting w.shared n → IsApart states w.shared h.frame n
+    pub apart_waiting : 1 ≤ times_waiting set w.shared n → IsApart states w.shared h.frame n
     apart_waiting some =
-        let le : frame_rights states h.frame n ≤ thread_sum (λ f. frame_rights states f n) w.threads =
-        top_le (λ f. frame_rights states f n) w.threads t h.thread h.below h.frame h.found h.frames in
-        apart_of (times_waiting w.shared n) some (omega arith)
+        let le : frame_rights states h.frame n
+        ≤ thread_sum (λ f. frame_rights states f n) w.threads =
+        top_le (λ f. frame_rights states f n) w.threads t h.thread h.below h.frame h.found h.frames
+        in
+        apart_of (times_waiting set w.shared n) some (omega arith)
 
     pub apart_other : (k : ℕ) → t ≢ k → 1 ≤ rights_in n (frames_on w k)
         → IsApart states w.shared h.frame n
@@ -103,9 +107,9 @@ module _ (set : Set) (states : States) (w : World) (past : List Entry)
         apart_of (rights_in n (frames_on w k)) some (omega arith)
 
   -- no packet that isn't issued yet waits in a list or slot, and no frame has the right to one
-  pub waiting_not_yet : (n : ℕ) → 1 ≤ times_waiting w.shared n → w.shared.issued ≢ n
+  pub waiting_not_yet : (n : ℕ) → 1 ≤ times_waiting set w.shared n → w.shared.issued ≢ n
   waiting_not_yet n some same =
-      let all : thread_sum (λ f. frame_rights states f n) w.threads + times_waiting w.shared n
+      let all : thread_sum (λ f. frame_rights states f n) w.threads + times_waiting set w.shared n
       ≡ unheld (find w.shared.packets n) =
       kept.rights n in
       let none : find w.shared.packets n ≡ None =
@@ -117,7 +121,7 @@ module _ (set : Set) (states : States) (w : World) (past : List Entry)
   not_yet k n some same =
       let le : rights_in n (frames_on w k) ≤ thread_sum (λ f. frame_rights states f n) w.threads =
       thread_le (λ g. frame_rights states g n) w.threads k (slice_get w.threads k) refl in
-      let all : thread_sum (λ f. frame_rights states f n) w.threads + times_waiting w.shared n
+      let all : thread_sum (λ f. frame_rights states f n) w.threads + times_waiting set w.shared n
       ≡ unheld (find w.shared.packets n) =
       kept.rights n in
       let none : find w.shared.packets n ≡ None =

@@ -12,7 +12,7 @@ use Rattle.model.specs.Trace.{Entry, Actor, recorded}
 use Rattle.model.specs.World.{Shared, World}
 use Rattle.run_laws.specs.TopsOnce.{times_topped}
 use Rattle.run_laws.proofs.Past.Packets.{Tells, found, untopped}
-use Rattle.run_laws.proofs.Runs.Events.{Happens, nothing, steps, issues, begins, begins_startio}
+use Rattle.run_laws.proofs.Runs.Events.{Happens, nothing, steps, issues, begins, begins_startio, begins_cancel}
 use Rattle.run_laws.proofs.Steps.Comes.{Cancels, takes_cancel, Comes, tops_out, works_on_queues, cancels}
 use Rattle.run_laws.proofs.Steps.Queues.{queued_touches}
 
@@ -33,8 +33,10 @@ module _ (set : Set) (past : List Entry) (actor : Actor) (once : ToppedOnce past
   once_step s under f o tells (tops_out n p there without first) m =
       elim (eqb_tells n m) [
         | inl same ↦
-            let free : topped past n ≡ false = untopped s past n p tells (found s n (Some p) there) in
-            let here : topped past m ≡ false = subst (λ (x : ℕ). topped past x ≡ false) same.1 free in
+            let free : topped past n ≡ false = untopped s past n p tells (found s n (Some p) there)
+            in
+            let here : topped past m ≡ false = subst (λ (x : ℕ). topped past x ≡ false) same.1 free
+            in
             let zero_times : times_topped past m ≡ 0 = rw here at (once m) in
             rw (same.0, zero_times) refl
         | inr apart ↦
@@ -50,14 +52,17 @@ module _ (set : Set) (past : List Entry) (actor : Actor) (once : ToppedOnce past
       let before : times_topped past m ≡ (if topped past m then 1 else 0) = once m in
       omega arith
 
-  pub once_kept : (w : World) (c : Change) → Tells w.shared past → Happens set w actor.thread false c
+  pub once_kept : (w : World) (c : Change) → Tells w.shared past → Happens set w actor.thread c
       → ToppedOnce (recorded past actor c.actions)
   once_kept w c tells (nothing reply right) = once
-  once_kept w c tells (steps h) = once_step w.shared (top_frame h.below) h.frame h.outcome tells h.comes
+  once_kept w c tells (steps h) =
+      once_step w.shared (top_frame h.below) h.frame h.outcome tells h.comes
   once_kept w c tells (begins h) = once
   once_kept w c tells (begins_startio h) = once
+  once_kept w c tells (begins_cancel h) = once
   once_kept w c tells (issues h) =
-      λ m. (let before : times_topped past m ≡ (if topped past m then 1 else 0) = once m in omega arith)
+      λ m. (let before : times_topped past m ≡ (if topped past m then 1 else 0) = once m in omega
+      arith)
 
 pub tops_at_most_once : (past : List Entry) → ToppedOnce past → (n : ℕ) → times_topped past n ≤ 1
 tops_at_most_once past once n = at_most_one (topped past n) (times_topped past n) (once n)

@@ -17,11 +17,13 @@ pub times_pushed : (entries : List ℕ) (m n : ℕ)
     → times_in (entries ++ m ∷ []) n ≡ times_in entries n + (if nat_eq m n then 1 else 0)
 times_pushed [] m n = omega arith
 times_pushed (k ∷ entries) m n =
-    let others : times_in (entries ++ m ∷ []) n ≡ times_in entries n + (if nat_eq m n then 1 else 0) =
+    let others : times_in (entries ++ m ∷ []) n ≡ times_in entries n
+    + (if nat_eq m n then 1 else 0) =
     times_pushed entries m n in
     omega arith
 
-on_put : (lists : List (List ℕ)) (q : ℕ) (before after : List ℕ) (n : ℕ) → slice_get lists q ≡ Some before
+on_put : (lists : List (List ℕ)) (q : ℕ) (before after : List ℕ) (n : ℕ)
+    → slice_get lists q ≡ Some before
     → times_on (slice_set lists q after) n + times_in before n ≡ times_on lists n + times_in after n
 on_put [] q before after n there = cc
 on_put (entries ∷ lists) zero before after n there =
@@ -43,7 +45,8 @@ queued_put (lists ∷ queues) (suc d) before after n there =
     ≡ times_queued queues n + times_on after n = queued_put queues d before after n there in
     omega arith
 
-pub times_put : (s : Shared) (d q : ℕ) (before after : List ℕ) (n : ℕ) → queue_of s d q ≡ Some before
+pub times_put : (s : Shared) (d q : ℕ) (before after : List ℕ) (n : ℕ)
+    → queue_of s d q ≡ Some before
     → times_queued (with_queue s d q after).queues n + times_in before n
     ≡ times_queued s.queues n + times_in after n
 times_put s d q before after n there =
@@ -59,19 +62,23 @@ times_put s d q before after n there =
     rw same (omega arith)
 
 -- a queue is one of all
-on_le : (lists : List (List ℕ)) (q : ℕ) (entries : List ℕ) (n : ℕ) → slice_get lists q ≡ Some entries
+on_le : (lists : List (List ℕ)) (q : ℕ) (entries : List ℕ) (n : ℕ)
+    → slice_get lists q ≡ Some entries
     → times_in entries n ≤ times_on lists n
 on_le [] q entries n there = cc
-on_le (other ∷ lists) zero entries n there = let same : other ≡ entries = cc in rw same (omega arith)
+on_le (other ∷ lists) zero entries n there =
+    let same : other ≡ entries = cc in rw same (omega arith)
 on_le (other ∷ lists) (suc q) entries n there =
     let le : times_in entries n ≤ times_on lists n = on_le lists q entries n there in omega arith
 
 queued_le : (queues : List (List (List ℕ))) (d : ℕ) (lists : List (List ℕ)) (n : ℕ)
     → slice_get queues d ≡ Some lists → times_on lists n ≤ times_queued queues n
 queued_le [] d lists n there = cc
-queued_le (other ∷ queues) zero lists n there = let same : other ≡ lists = cc in rw same (omega arith)
+queued_le (other ∷ queues) zero lists n there =
+    let same : other ≡ lists = cc in rw same (omega arith)
 queued_le (other ∷ queues) (suc d) lists n there =
-    let le : times_on lists n ≤ times_queued queues n = queued_le queues d lists n there in omega arith
+    let le : times_on lists n ≤ times_queued queues n = queued_le queues d lists n there in omega
+    arith
 
 pub times_le : (s : Shared) (d q : ℕ) (entries : List ℕ) (n : ℕ) → queue_of s d q ≡ Some entries
     → times_in entries n ≤ times_queued s.queues n
@@ -85,7 +92,7 @@ times_le s d q entries n there =
 -- a queue after one is changed: that one, or one as it was
 pub queue_after : (s : Shared) (d q : ℕ) (before after : List ℕ) (e k : ℕ) (entries : List ℕ)
     → queue_of s d q ≡ Some before → queue_of (with_queue s d q after) e k ≡ Some entries
-    → ((d ≡ e) × (entries ≡ after)) ⊎ (queue_of s e k ≡ Some entries)
+    → ((d ≡ e) × (q ≡ k) × (entries ≡ after)) ⊎ (queue_of s e k ≡ Some entries)
 queue_after s d q before after e k entries there h =
     let row : (lists : List (List ℕ)) × (slice_get s.queues d ≡ Some lists)
     × (slice_get lists q ≡ Some before) = queue_row s d q before there in
@@ -105,9 +112,10 @@ queue_after s d q before after e k entries there h =
                 rw (← its) (set_same row.0 q before after row.2) in
                 let both : Some entries ≡ Some after = sym one ∙ last in
                 let equal : entries ≡ after = cc in
-                inl (here, equal)
+                inl (here, its, equal)
             | inr other ↦
-                let kept : slice_get row.0 k ≡ Some entries = sym (set_other row.0 q k after other) ∙ one in
+                let kept : slice_get row.0 k ≡ Some entries = sym (set_other row.0 q k after other)
+                ∙ one in
                 inr (rw (← here, row.1) kept)
           ]
       | inr apart ↦
@@ -118,7 +126,8 @@ queue_after s d q before after e k entries there h =
 -- before the first event
 none_on : (count n : ℕ) → times_on (replicate count []) n ≡ 0
 none_on zero n = refl
-none_on (suc count) n = let others : times_on (replicate count []) n ≡ 0 = none_on count n in omega arith
+none_on (suc count) n =
+    let others : times_on (replicate count []) n ≡ 0 = none_on count n in omega arith
 
 pub none_queued : (devices n : ℕ) → times_queued (replicate devices (replicate MAX_QUEUES [])) n ≡ 0
 none_queued zero n = refl

@@ -1,12 +1,15 @@
--- The rights of a frame's registers, as they are written.
-use Rattle.std.proofs.Common.{◌≡◌, ℕ, zero, suc, ◌+◌, ◌-◌, ◌<◌, ◌≤◌, true, false, List, [], ◌∷◌, length, refl, arith, ap, ◌∙◌}
+-- The packets that a frame's registers of some kinds name, and those that they have rights to, as
+-- they
+-- are written.
+use Rattle.std.proofs.Common.{◌≡◌, ℕ, zero, suc, ◌+◌, ◌-◌, ◌<◌, ◌≤◌, true, false, List, [], ◌∷◌, length, refl, arith, ap, ◌∙◌, Option, Some, None, is_some, Bool, cond}
 use Rattle.std.specs.Prelude.{nat_eq, replicate, slice_set, slice_index_or, if◌then◌else◌}
 use Rattle.std.specs.List.{list_any}
 use Rattle.std.proofs.lemmas.Bool.{eq-eqb}
+use Rattle.model.specs.declared.set.QueueName.{QueueName}
 use Rattle.model.specs.declared.limits.TheConstants.{REGISTERS}
 use Rattle.model.specs.declared.abs.Abs.{Abs}
 use Rattle.model.specs.declared.abs.Kind.{Kind}
-use Rattle.model.specs.declared.abs.Kind.TheVariants.{Blank as BlankKind, New, Own, Listed, Cancelling}
+use Rattle.model.specs.declared.abs.Kind.TheVariants.{Blank as BlankKind, Num as NumKind, New, Own, Listed, Armed, Taken, Cancelling, View}
 use Rattle.model.specs.declared.set.Sort.{Sort}
 use Rattle.model.specs.declared.set.Sort.TheVariants.{Dispatch, Dpc, Propagate, StartIo, Hold, Cancel}
 use Rattle.model.specs.declared.status.Status.{Status}
@@ -16,9 +19,10 @@ use Rattle.model.specs.declared.world.Value.{Value}
 use Rattle.model.specs.declared.world.Value.TheVariants.{Blank, Ref, Status as StatusValue}
 use Rattle.model.specs.LocalRule.{is_dropped}
 use Rattle.model.specs.Kinds.{is_packet, is_right, left_behind}
-use Rattle.model.specs.Set.{Set}
-use Rattle.run_laws.specs.Holder.{right, rights, frame_rights}
+use Rattle.model.specs.Set.{Set, cancels_for}
+use Rattle.run_laws.specs.Holder.{named_as, named_in, right, rights, frame_rights}
 use Rattle.run_laws.proofs.Lists.{copied}
+use Rattle.run_laws.proofs.States.NoViews.{left_none}
 use Rattle.run_laws.proofs.States.Entering.{first_state, Begins, Enters}
 use Rattle.run_laws.proofs.States.Kinds.{HasKinds, Suits}
 use Rattle.run_laws.proofs.States.Rules.{States}
@@ -30,43 +34,216 @@ no_right k v n h = rw h refl
 pub one_right : (k : Kind) (v : Value) (n : ℕ) → is_right k ≡ true → v ≡ Ref n → right k v n ≡ 1
 one_right k v n is h = rw (is, h, eq-eqb n n refl) refl
 
--- a register that has no right gets a value, or a kind and a value without one
+-- a packet's register isn't a status
+no_status : (issued : ℕ) (k : Kind) (status : Status) → is_packet k ≡ true
+    → Suits issued k (StatusValue status) → ⊥
+no_status issued New status is h = let no : StatusValue status ≡ Ref h.0 = h.1 in cc
+no_status issued Own status is h = let no : StatusValue status ≡ Ref h.0 = h.1 in cc
+no_status issued (Listed name) status is h = let no : StatusValue status ≡ Ref h.0 = h.1 in cc
+no_status issued (Armed name) status is h = let no : StatusValue status ≡ Ref h.0 = h.1 in cc
+no_status issued (Taken name) status is h = let no : StatusValue status ≡ Ref h.0 = h.1 in cc
+no_status issued (Cancelling name) status is h = let no : StatusValue status ≡ Ref h.0 = h.1 in cc
+no_status issued View status is h = let no : StatusValue status ≡ Ref h.0 = h.1 in cc
+no_status issued _ status is h = cc
+
+-- kinds of packets
+abbrev pub OfPackets : (Kind → Bool) → Type 0
+OfPackets f = (k : Kind) → is_packet k ≡ false → f k ≡ false
+
+pub right_packets : OfPackets is_right
+right_packets New h = cc
+right_packets Own h = cc
+right_packets (Listed name) h = cc
+right_packets (Cancelling name) h = cc
+right_packets _ h = refl
+
+pub none_either : (b : Bool) → cond {A = ℕ} b 0 0 ≡ 0
+none_either true = refl
+none_either false = refl
+
+pub named_none : (f : Kind → Bool) (k : Kind) (v : Value) (n : ℕ) → f k ≡ false
+    → named_as f k v n ≡ 0
+named_none f k v n h = rw h refl
+
+module _ (f : Kind → Bool) where
+  -- a register that names no packet gets a value, or a kind and a value without one
+  pub named_write : (issued : ℕ) (kinds : List Kind) (values : List Value) (r : ℕ) (k : Kind)
+      (v : Value) (n : ℕ)
+      → HasKinds issued kinds values
+      → f (slice_index_or kinds r BlankKind) ≡ false → f k ≡ false
+      → named_in f (slice_set kinds r k) (slice_set values r v) n ≡ named_in f kinds values n
+  named_write issued [] [] r k v n h free is = refl
+  named_write issued [] (w ∷ values) r k v n h free is = absurd h
+  named_write issued (j ∷ kinds) [] r k v n h free is = absurd h
+  named_write issued (j ∷ kinds) (w ∷ values) zero k v n h free is = rw (free, is) refl
+  named_write issued (j ∷ kinds) (w ∷ values) (suc r) k v n h free is =
+      ap (λ (sum : ℕ). named_as f j w n + sum) (named_write issued kinds values r k v n h.1 free is)
+
+  -- a register's name goes, and another one comes
+  pub named_both : (issued : ℕ) (kinds : List Kind) (values : List Value) (r : ℕ) (k : Kind)
+      (v : Value) (n : ℕ)
+      → HasKinds issued kinds values → r < length kinds
+      → named_in f (slice_set kinds r k) (slice_set values r v) n
+      + named_as f (slice_index_or kinds r BlankKind) (slice_index_or values r Blank) n
+      ≡ named_in f kinds values n + named_as f k v n
+  named_both issued [] [] r k v n h within = absurd (omega arith)
+  named_both issued [] (w ∷ values) r k v n h within = absurd h
+  named_both issued (j ∷ kinds) [] r k v n h within = absurd h
+  named_both issued (j ∷ kinds) (w ∷ values) zero k v n h within = omega arith
+  named_both issued (j ∷ kinds) (w ∷ values) (suc r) k v n h within =
+      let others : named_in f (slice_set kinds r k) (slice_set values r v) n
+      + named_as f (slice_index_or kinds r BlankKind) (slice_index_or values r Blank) n
+      ≡ named_in f kinds values n + named_as f k v n =
+      named_both issued kinds values r k v n h.1 (omega arith)
+      in
+      omega arith
+
+  no_name : (k : Kind) (n : ℕ) → named_as f k Blank n ≡ 0
+  no_name k n = none_either (f k)
+
+  pub named_turn : (issued : ℕ) (kinds : List Kind) (values : List Value) (r : ℕ) (k : Kind) (n : ℕ)
+      → HasKinds issued kinds values
+      → named_in f (slice_set kinds r k) values n
+      + named_as f (slice_index_or kinds r BlankKind) (slice_index_or values r Blank) n
+      ≡ named_in f kinds values n + named_as f k (slice_index_or values r Blank) n
+  named_turn issued [] [] r k n h =
+      let blank : named_as f BlankKind Blank n ≡ 0 = no_name BlankKind n in
+      let other : named_as f k Blank n ≡ 0 = no_name k n in
+      omega arith
+  named_turn issued [] (w ∷ values) r k n h = absurd h
+  named_turn issued (j ∷ kinds) [] r k n h = absurd h
+  named_turn issued (j ∷ kinds) (w ∷ values) zero k n h = omega arith
+  named_turn issued (j ∷ kinds) (w ∷ values) (suc r) k n h =
+      let others : named_in f (slice_set kinds r k) values n
+      + named_as f (slice_index_or kinds r BlankKind) (slice_index_or values r Blank) n
+      ≡ named_in f kinds values n + named_as f k (slice_index_or values r Blank) n =
+      named_turn issued kinds values r k n h.1
+      in
+      omega arith
+
+  -- one register's name is among all
+  pub named_le : (issued : ℕ) (kinds : List Kind) (values : List Value) (r n : ℕ)
+      → HasKinds issued kinds values
+      → named_as f (slice_index_or kinds r BlankKind) (slice_index_or values r Blank) n
+      ≤ named_in f kinds values n
+  named_le issued [] [] r n h =
+      let blank : named_as f BlankKind Blank n ≡ 0 = no_name BlankKind n in omega arith
+  named_le issued [] (w ∷ values) r n h = absurd h
+  named_le issued (j ∷ kinds) [] r n h = absurd h
+  named_le issued (j ∷ kinds) (w ∷ values) zero n h = omega arith
+  named_le issued (j ∷ kinds) (w ∷ values) (suc r) n h =
+      let others : named_as f (slice_index_or kinds r BlankKind) (slice_index_or values r Blank) n
+      ≤ named_in f kinds values n =
+      named_le issued kinds values r n h.1 in
+      omega arith
+
+  pub named_nowhere : (kinds : List Kind) (values : List Value) (n : ℕ)
+      → list_any f kinds ≡ false → named_in f kinds values n ≡ 0
+  named_nowhere [] values n h = refl
+  named_nowhere (k ∷ kinds) [] n h = refl
+  named_nowhere (k ∷ kinds) (v ∷ values) n h =
+      let one : named_as f k v n ≡ 0 = named_none f k v n (or_left (f k) (list_any f kinds) h) in
+      let others : named_in f kinds values n ≡ 0 =
+      named_nowhere kinds values n (or_right (f k) (list_any f kinds) h) in
+      omega arith
+
+  module _ (packets : OfPackets f) where
+    -- a move takes the name along
+    left_name : (k : Kind) (v : Value) (n : ℕ) → named_as f (left_behind k) v n ≡ 0
+    left_name k v n =
+        named_none f (left_behind k) v n
+        (left_none f (packets BlankKind refl) (packets NumKind refl) k)
+
+    pub named_move : (issued : ℕ) (kinds : List Kind) (values : List Value) (r q n : ℕ)
+        → HasKinds issued kinds values
+        → r < length kinds
+        → f (slice_index_or kinds r BlankKind) ≡ false
+        → HasKinds issued (slice_set kinds r (slice_index_or kinds q BlankKind))
+        (slice_set values r (slice_index_or values q Blank))
+        → named_in f (slice_set (slice_set kinds r (slice_index_or kinds q BlankKind)) q
+        (left_behind (slice_index_or kinds q BlankKind)))
+        (slice_set values r (slice_index_or values q Blank)) n
+        ≡ named_in f kinds values n
+    named_move issued kinds values r q n h within free moved =
+        let k : Kind = slice_index_or kinds q BlankKind in
+        let v : Value = slice_index_or values q Blank in
+        let ks : List Kind = slice_set kinds r k in
+        let vs : List Value = slice_set values r v in
+        let both : named_in f ks vs n
+        + named_as f (slice_index_or kinds r BlankKind) (slice_index_or values r Blank) n
+        ≡ named_in f kinds values n + named_as f k v n =
+        named_both issued kinds values r k v n h within
+        in
+        let none : named_as f (slice_index_or kinds r BlankKind) (slice_index_or values r Blank) n
+        ≡ 0 =
+        named_none f (slice_index_or kinds r BlankKind) (slice_index_or values r Blank) n free
+        in
+        let turn : named_in f (slice_set ks q (left_behind k)) vs n
+        + named_as f (slice_index_or ks q BlankKind) (slice_index_or vs q Blank) n
+        ≡ named_in f ks vs n + named_as f (left_behind k) (slice_index_or vs q Blank) n =
+        named_turn issued ks vs q (left_behind k) n moved
+        in
+        let left : named_as f (left_behind k) (slice_index_or vs q Blank) n ≡ 0 =
+        left_name k (slice_index_or vs q Blank) n in
+        let there : named_as f (slice_index_or ks q BlankKind) (slice_index_or vs q Blank) n
+        ≡ named_as f k v n =
+        rw (copied kinds r q BlankKind, copied values r q Blank) refl in
+        omega arith
+
+    -- a register that is told a status names no packet
+    not_told : (issued : ℕ) (k : Kind) (status : Status) (b : Bool) → is_packet k ≡ b
+        → Suits issued k (StatusValue status) → f k ≡ false
+    not_told issued k status false is h = packets k is
+    not_told issued k status true is h = absurd (no_status issued k status is h)
+
+    pub named_told : (issued : ℕ) (kinds : List Kind) (values : List Value) (r : ℕ)
+        (status : Status)
+        (n : ℕ)
+        → HasKinds issued kinds (slice_set values r (StatusValue status))
+        → named_in f kinds (slice_set values r (StatusValue status)) n ≡ named_in f kinds values n
+    named_told issued [] values r status n h = refl
+    named_told issued (k ∷ kinds) [] r status n h = refl
+    named_told issued (k ∷ kinds) (v ∷ values) zero status n h =
+        rw (not_told issued k status (is_packet k) refl h.0) refl
+    named_told issued (k ∷ kinds) (v ∷ values) (suc r) status n h =
+        ap (λ (sum : ℕ). named_as f k v n + sum) (named_told issued kinds values r status n h.1)
+
+    -- a routine that begins, handed a packet or nothing
+    blank_names : (count n : ℕ)
+        → named_in f (replicate count BlankKind) (replicate count Blank) n ≡ 0
+    blank_names zero n = refl
+    blank_names (suc count) n =
+        let first : named_as f BlankKind Blank n ≡ 0 = no_name BlankKind n in
+        let others : named_in f (replicate count BlankKind) (replicate count Blank) n ≡ 0 =
+        blank_names count n in
+        omega arith
+
+    pub handed_names : (k : Kind) (v : Value) (n : ℕ)
+        → named_in f (k ∷ replicate (REGISTERS - 1) BlankKind)
+        (v ∷ replicate (REGISTERS - 1) Blank) n ≡ named_as f k v n
+    handed_names k v n =
+        let others : named_in f (replicate (REGISTERS - 1) BlankKind)
+        (replicate (REGISTERS - 1) Blank) n ≡ 0 = blank_names (REGISTERS - 1) n in
+        omega arith
+
+-- and rights: a register that has no right gets a value, or a kind and a value without one
 pub rights_write : (issued : ℕ) (kinds : List Kind) (values : List Value) (r : ℕ) (k : Kind)
     (v : Value) (n : ℕ)
     → HasKinds issued kinds values
     → is_right (slice_index_or kinds r BlankKind) ≡ false → is_right k ≡ false
     → rights (slice_set kinds r k) (slice_set values r v) n ≡ rights kinds values n
-rights_write issued [] [] r k v n h free is = refl
-rights_write issued [] (w ∷ values) r k v n h free is = absurd h
-rights_write issued (j ∷ kinds) [] r k v n h free is = absurd h
-rights_write issued (j ∷ kinds) (w ∷ values) zero k v n h free is = rw (free, is) refl
-rights_write issued (j ∷ kinds) (w ∷ values) (suc r) k v n h free is =
-    ap (λ (sum : ℕ). right j w n + sum) (rights_write issued kinds values r k v n h.1 free is)
+rights_write issued kinds values r k v n h free is =
+    named_write is_right issued kinds values r k v n h free is
 
--- a register's right goes, and another one comes
 pub rights_both : (issued : ℕ) (kinds : List Kind) (values : List Value) (r : ℕ) (k : Kind)
     (v : Value) (n : ℕ)
     → HasKinds issued kinds values → r < length kinds
-    → rights (slice_set kinds r k) (slice_set values r v) n + right (slice_index_or kinds r BlankKind)
+    → rights (slice_set kinds r k) (slice_set values r v) n
+    + right (slice_index_or kinds r BlankKind)
     (slice_index_or values r Blank) n
     ≡ rights kinds values n + right k v n
-rights_both issued [] [] r k v n h within = absurd (omega arith)
-rights_both issued [] (w ∷ values) r k v n h within = absurd h
-rights_both issued (j ∷ kinds) [] r k v n h within = absurd h
-rights_both issued (j ∷ kinds) (w ∷ values) zero k v n h within = omega arith
-rights_both issued (j ∷ kinds) (w ∷ values) (suc r) k v n h within =
-    let others : rights (slice_set kinds r k) (slice_set values r v) n + right
-    (slice_index_or kinds r BlankKind)
-    (slice_index_or values r Blank) n
-    ≡ rights kinds values n + right k v n =
-    rights_both issued kinds values r k v n h.1 (omega arith)
-    in
-    omega arith
-
-no_name : (k : Kind) (n : ℕ) → right k Blank n ≡ 0
-no_name New n = refl
-no_name Own n = refl
-no_name _ n = refl
+rights_both issued kinds values r k v n h within =
+    named_both is_right issued kinds values r k v n h within
 
 pub rights_turn : (issued : ℕ) (kinds : List Kind) (values : List Value) (r : ℕ) (k : Kind) (n : ℕ)
     → HasKinds issued kinds values
@@ -74,36 +251,13 @@ pub rights_turn : (issued : ℕ) (kinds : List Kind) (values : List Value) (r : 
     (slice_index_or values r Blank)
     n
     ≡ rights kinds values n + right k (slice_index_or values r Blank) n
-rights_turn issued [] [] r k n h = rw (no_name k n) refl
-rights_turn issued [] (w ∷ values) r k n h = absurd h
-rights_turn issued (j ∷ kinds) [] r k n h = absurd h
-rights_turn issued (j ∷ kinds) (w ∷ values) zero k n h = omega arith
-rights_turn issued (j ∷ kinds) (w ∷ values) (suc r) k n h =
-    let others : rights (slice_set kinds r k) values n + right (slice_index_or kinds r BlankKind)
-    (slice_index_or values r Blank) n
-    ≡ rights kinds values n + right k (slice_index_or values r Blank) n =
-    rights_turn issued kinds values r k n h.1
-    in
-    omega arith
+rights_turn issued kinds values r k n h = named_turn is_right issued kinds values r k n h
 
--- one register's right is among all
 pub right_le : (issued : ℕ) (kinds : List Kind) (values : List Value) (r n : ℕ)
     → HasKinds issued kinds values
-    → right (slice_index_or kinds r BlankKind) (slice_index_or values r Blank) n ≤ rights kinds values n
-right_le issued [] [] r n h = omega arith
-right_le issued [] (w ∷ values) r n h = absurd h
-right_le issued (j ∷ kinds) [] r n h = absurd h
-right_le issued (j ∷ kinds) (w ∷ values) zero n h = omega arith
-right_le issued (j ∷ kinds) (w ∷ values) (suc r) n h =
-    let others : right (slice_index_or kinds r BlankKind) (slice_index_or values r Blank) n
-    ≤ rights kinds values n =
-    right_le issued kinds values r n h.1 in
-    omega arith
-
--- a move takes the right along
-left_right : (k : Kind) (v : Value) (n : ℕ) → right (left_behind k) v n ≡ 0
-left_right New v n = refl
-left_right _ v n = refl
+    → right (slice_index_or kinds r BlankKind) (slice_index_or values r Blank) n
+    ≤ rights kinds values n
+right_le issued kinds values r n h = named_le is_right issued kinds values r n h
 
 pub rights_move : (issued : ℕ) (kinds : List Kind) (values : List Value) (r q n : ℕ)
     → HasKinds issued kinds values
@@ -116,45 +270,14 @@ pub rights_move : (issued : ℕ) (kinds : List Kind) (values : List Value) (r q 
     (slice_set values r (slice_index_or values q Blank)) n
     ≡ rights kinds values n
 rights_move issued kinds values r q n h within free moved =
-    let k : Kind = slice_index_or kinds q BlankKind in
-    let v : Value = slice_index_or values q Blank in
-    let ks : List Kind = slice_set kinds r k in
-    let vs : List Value = slice_set values r v in
-    let both : rights ks vs n + right (slice_index_or kinds r BlankKind) (slice_index_or values r Blank) n
-    ≡ rights kinds values n + right k v n =
-    rights_both issued kinds values r k v n h within
-    in
-    let none : right (slice_index_or kinds r BlankKind) (slice_index_or values r Blank) n ≡ 0 =
-    no_right (slice_index_or kinds r BlankKind) (slice_index_or values r Blank) n free
-    in
-    let turn : rights (slice_set ks q (left_behind k)) vs n + right (slice_index_or ks q BlankKind)
-    (slice_index_or vs q Blank) n
-    ≡ rights ks vs n + right (left_behind k) (slice_index_or vs q Blank) n =
-    rights_turn issued ks vs q (left_behind k) n moved
-    in
-    let left : right (left_behind k) (slice_index_or vs q Blank) n ≡ 0 =
-    left_right k (slice_index_or vs q Blank) n in
-    let there : right (slice_index_or ks q BlankKind) (slice_index_or vs q Blank) n ≡ right k v n =
-    rw (copied kinds r q BlankKind, copied values r q Blank) refl in
-    omega arith
+    named_move is_right right_packets issued kinds values r q n h within free moved
 
--- a register that is told a status has no right
-not_told : (issued : ℕ) (k : Kind) (status : Status) → Suits issued k (StatusValue status)
-    → is_right k ≡ false
-not_told issued New status h = let no : StatusValue status ≡ Ref h.0 = h.1 in cc
-not_told issued Own status h = let no : StatusValue status ≡ Ref h.0 = h.1 in cc
-not_told issued (Listed name) status h = let no : StatusValue status ≡ Ref h.0 = h.1 in cc
-not_told issued (Cancelling name) status h = let no : StatusValue status ≡ Ref h.0 = h.1 in cc
-not_told issued _ status h = refl
-
-pub rights_told : (issued : ℕ) (kinds : List Kind) (values : List Value) (r : ℕ) (status : Status) (n : ℕ)
+pub rights_told : (issued : ℕ) (kinds : List Kind) (values : List Value) (r : ℕ) (status : Status)
+    (n : ℕ)
     → HasKinds issued kinds (slice_set values r (StatusValue status))
     → rights kinds (slice_set values r (StatusValue status)) n ≡ rights kinds values n
-rights_told issued [] values r status n h = refl
-rights_told issued (k ∷ kinds) [] r status n h = refl
-rights_told issued (k ∷ kinds) (v ∷ values) zero status n h = rw (not_told issued k status h.0) refl
-rights_told issued (k ∷ kinds) (v ∷ values) (suc r) status n h =
-    ap (λ (sum : ℕ). right k v n + sum) (rights_told issued kinds values r status n h.1)
+rights_told issued kinds values r status n h =
+    named_told is_right right_packets issued kinds values r status n h
 
 -- a register that may be written over has no right, and no register that may be left behind
 pub not_right : (k : Kind) → is_packet k ≡ false → is_right k ≡ false
@@ -186,11 +309,7 @@ no_rights (k ∷ kinds) (v ∷ values) n h =
 
 -- a routine begins with a right to the packet that it is handed, if it is to serve it
 blank_rights : (count n : ℕ) → rights (replicate count BlankKind) (replicate count Blank) n ≡ 0
-blank_rights zero n = refl
-blank_rights (suc count) n =
-    let others : rights (replicate count BlankKind) (replicate count Blank) n ≡ 0 =
-    blank_rights count n in
-    omega arith
+blank_rights count n = blank_names is_right right_packets count n
 
 abbrev pub handed_over : Sort → ℕ → ℕ → ℕ
 handed_over Dispatch m n = if nat_eq m n then 1 else 0
@@ -198,48 +317,52 @@ handed_over StartIo m n = if nat_eq m n then 1 else 0
 handed_over Dpc m n = 0
 handed_over Propagate m n = 0
 handed_over Hold m n = if nat_eq m n then 1 else 0
-handed_over Cancel m n = 0
+handed_over Cancel m n = if nat_eq m n then 1 else 0
 
-first_rights : (sort : Sort) (m n : ℕ)
-    → rights (first_state sort).kinds (Ref m ∷ replicate (REGISTERS - 1) Blank) n ≡ handed_over sort m n
-first_rights Dispatch m n =
+handed_rights : (k : Kind) (m n : ℕ) → is_right k ≡ true
+    → rights (k ∷ replicate (REGISTERS - 1) BlankKind) (Ref m ∷ replicate (REGISTERS - 1) Blank) n
+    ≡ (if nat_eq m n then 1 else 0)
+handed_rights k m n is =
     let others : rights (replicate (REGISTERS - 1) BlankKind) (replicate (REGISTERS - 1) Blank) n
     ≡ 0 = blank_rights (REGISTERS - 1) n in
-    omega arith
-first_rights StartIo m n =
-    let others : rights (replicate (REGISTERS - 1) BlankKind) (replicate (REGISTERS - 1) Blank) n
-    ≡ 0 = blank_rights (REGISTERS - 1) n in
-    omega arith
-first_rights Dpc m n =
-    let others : rights (replicate (REGISTERS - 1) BlankKind) (replicate (REGISTERS - 1) Blank) n
-    ≡ 0 = blank_rights (REGISTERS - 1) n in
-    omega arith
-first_rights Propagate m n =
-    let others : rights (replicate (REGISTERS - 1) BlankKind) (replicate (REGISTERS - 1) Blank) n
-    ≡ 0 = blank_rights (REGISTERS - 1) n in
-    omega arith
-first_rights Hold m n =
-    let others : rights (replicate (REGISTERS - 1) BlankKind) (replicate (REGISTERS - 1) Blank) n
-    ≡ 0 = blank_rights (REGISTERS - 1) n in
-    omega arith
-first_rights Cancel m n =
-    let others : rights (replicate (REGISTERS - 1) BlankKind) (replicate (REGISTERS - 1) Blank) n
-    ≡ 0 = blank_rights (REGISTERS - 1) n in
-    omega arith
+    rw is (omega arith)
 
-pub begun_rights : (set : Set) (states : States) (issued : ℕ) (a : Activation) (sort : Sort) (m n : ℕ)
+handed_none : (k : Kind) (m n : ℕ) → is_right k ≡ false
+    → rights (k ∷ replicate (REGISTERS - 1) BlankKind) (Ref m ∷ replicate (REGISTERS - 1) Blank) n
+    ≡ 0
+handed_none k m n is =
+    let others : rights (replicate (REGISTERS - 1) BlankKind) (replicate (REGISTERS - 1) Blank) n
+    ≡ 0 = blank_rights (REGISTERS - 1) n in
+    rw is (omega arith)
+
+first_rights : (sort : Sort) (name : Option QueueName) (m n : ℕ)
+    → (sort ≡ Cancel → is_some name ≡ true)
+    → rights (first_state sort name).kinds (Ref m ∷ replicate (REGISTERS - 1) Blank) n
+    ≡ handed_over sort m n
+first_rights Dispatch name m n named = handed_rights New m n refl
+first_rights StartIo name m n named = handed_rights Own m n refl
+first_rights Dpc name m n named = handed_none BlankKind m n refl
+first_rights Propagate name m n named = handed_none View m n refl
+first_rights Hold name m n named = handed_rights New m n refl
+first_rights Cancel None m n named = let no : false ≡ true = named refl in cc
+first_rights Cancel (Some list) m n named = handed_rights (Cancelling list) m n refl
+
+pub begun_rights : (set : Set) (states : States) (issued : ℕ) (a : Activation) (sort : Sort)
+    (m n : ℕ)
     → Begins set states issued a sort m → frame_rights states (Routine a) n ≡ handed_over sort m n
 begun_rights set states issued a sort m n begins =
+    let name : Option QueueName = cancels_for set a.driver a.routine in
     ap (λ (state : Abs). rights state.kinds a.registers n) begins.start
-    ∙ ap (λ (values : List Value). rights (first_state sort).kinds values n) begins.registers
-    ∙ first_rights sort m n
+    ∙ ap (λ (values : List Value). rights (first_state sort name).kinds values n) begins.registers
+    ∙ first_rights sort name m n (λ is. begins.named (begins.of_sort ∙ is))
 
 -- a DPC routine begins with none
 pub dpc_rights : (set : Set) (states : States) (issued : ℕ) (a : Activation) (n : ℕ)
     → Enters set states issued a Dpc Blank → frame_rights states (Routine a) n ≡ 0
 dpc_rights set states issued a n enters =
     ap (λ (state : Abs). rights state.kinds a.registers n) enters.start
-    ∙ ap (λ (values : List Value). rights (first_state Dpc).kinds values n) enters.registers
+    ∙ ap (λ (values : List Value). rights (first_state Dpc
+    (cancels_for set a.driver a.routine)).kinds values n) enters.registers
     ∙ (let others : rights (replicate (REGISTERS - 1) BlankKind) (replicate (REGISTERS - 1) Blank) n
     ≡ 0 = blank_rights (REGISTERS - 1) n in
     omega arith)

@@ -1,46 +1,56 @@
 -- In every run of an accepted set each live packet has one holder, and no packet tops out twice.
-use Rattle.std.proofs.Common.{length, ◌≡◌, ℕ, zero, suc, ◌+◌, ◌-◌, ◌≤◌, List, [], ◌∷◌, ◌++◌, Option, None, Some, Bool, true, false, refl, ap, ◌∙◌, arith}
+use Rattle.std.proofs.Common.{length, ◌≡◌, ℕ, zero, suc, ◌+◌, ◌-◌, ◌≤◌, List, [], ◌∷◌, ◌++◌, Option, None, Some, Bool, true, false, refl, ap, ◌∙◌, arith, inl, inr, sym, append-nil, take, append_assoc}
 use Rattle.std.specs.Prelude.{◌&&◌, not, is_none, nat_eq, nat_lt, replicate, slice_get, slice_set, if◌then◌else◌}
-use Rattle.std.proofs.lemmas.Bool.{ltb-false}
+use Rattle.std.proofs.lemmas.Bool.{ltb-false, cases_Bool}
+use Rattle.model.specs.declared.instr.Instr.TheVariants.{Ret}
+use Rattle.model.specs.declared.instr.Return.TheVariants.{Stop}
+use Rattle.model.specs.declared.limits.TheConstants.{MAX_QUEUES}
 use Rattle.model.specs.declared.set.Sort.TheVariants.{Dispatch, StartIo}
 use Rattle.model.specs.declared.status.Status.{Status}
 use Rattle.model.specs.declared.world.Activation.{Activation}
+use Rattle.model.specs.declared.world.CancelStep.TheVariants.{Acquire as AcquireStep}
 use Rattle.model.specs.declared.world.Frame.{Frame}
 use Rattle.model.specs.declared.world.Frame.TheVariants.{Routine, Walk, Cancel as CancelFrame}
 use Rattle.model.specs.declared.world.Irql.TheVariants.{Passive, Dispatch as DispatchLevel}
 use Rattle.model.specs.declared.world.Packet.{Packet}
 use Rattle.model.specs.declared.world.Thread.{Thread}
-use Rattle.model.specs.Effect.{Outcome, operand_of, answered_in, top_of}
-use Rattle.model.specs.Events.{Change, standing, with_stack, rooted, serves_request, dpc_activation}
-use Rattle.model.specs.Fault.{armed, first_fault, topped}
+use Rattle.model.specs.Effect.{Outcome, operand_of, answered_in, top_of, kept_below, told_to}
+use Rattle.model.specs.Events.{Change, standing, with_stack, rooted, serves_request, dpc_activation, cancelling}
+use Rattle.model.specs.Fault.{first_fault, topped}
+use Rattle.model.specs.LocalRule.{is_hold}
+use Rattle.model.specs.Queues.{StartState, idle, without_first_to_start}
 use Rattle.model.specs.Run.{Run, begun}
-use Rattle.model.specs.Set.{Set, instruction_at}
+use Rattle.model.specs.Set.{Set, instruction_at, sort_of}
 use Rattle.model.specs.Trace.{Entry, Actor}
-use Rattle.model.specs.World.{World, idle_thread, new_packet, packet_of, with_start}
-use Rattle.run_laws.specs.Holder.{times_at, times_queued, times_started, times_waiting, frame_rights, frame_walks, stack_sum, thread_sum, holders, alive, is_live}
-use Rattle.run_laws.proofs.Holders.Counts.{Holding, new_unheld, new_held}
+use Rattle.model.specs.World.{World, idle_thread, new_packet, packet_of, with_start, Shared}
+use Rattle.run_laws.specs.Holder.{times_at, times_started, times_waiting, frame_rights, frame_walks, stack_sum, thread_sum, holders, alive, is_live, all_walking, times_plain, walking}
+use Rattle.run_laws.proofs.Holders.Counts.{Holding, new_unheld, new_held, new_waits}
+use Rattle.run_laws.proofs.Holders.Lent.{IsLent, stops_hold}
+use Rattle.run_laws.proofs.Holders.Plain.{none_plain}
 use Rattle.run_laws.proofs.Holders.Rights.{begun_rights, rights_told, dpc_rights}
+use Rattle.run_laws.proofs.Holders.Started.{none_started, started_put, times_first}
 use Rattle.run_laws.proofs.Holders.Steps.{HoldStep, hold, completion_faults}
-use Rattle.run_laws.proofs.Holders.Sums.{Held, unheld, held, stack_append, thread_set, top_le, first_frame, last_sum}
+use Rattle.run_laws.proofs.Holders.Sums.{Held, unheld, held, stack_append, thread_set, top_le, first_frame}
+use Rattle.run_laws.proofs.Holders.Waits.{FreesSlot}
+use Rattle.run_laws.proofs.Holders.Walking.{first_walking, last_walking, none_walking, walking_from, walking_on, walking_set, walking_top, walks_under}
+use Rattle.run_laws.proofs.Lists.{last_split}
 use Rattle.run_laws.proofs.Past.LivePackets.{find, find_place, find_above}
 use Rattle.run_laws.proofs.Past.Packets.{Tells}
-use Rattle.run_laws.proofs.Runs.Events.{StepsFrame, Happens, nothing, steps, issues, begins, begins_startio}
+use Rattle.run_laws.proofs.Runs.Events.{StepsFrame, Happens, nothing, steps, issues, begins, begins_startio, begins_cancel}
 use Rattle.run_laws.proofs.Runs.Kept.{GoesOnBy}
 use Rattle.run_laws.proofs.States.Entering.{begins_request, begins_dpc, startio_activation}
 use Rattle.run_laws.proofs.States.Fine.{StepLeaves, leaves_fine}
-use Rattle.run_laws.proofs.States.Frames.{IsGood, Ready, state_of}
-use Rattle.run_laws.proofs.States.Never.{keeps_below}
+use Rattle.run_laws.proofs.States.Frames.{IsGood, Ready, state_of, Runs}
+use Rattle.run_laws.proofs.States.Obeyed.{returns_by}
+use Rattle.run_laws.proofs.States.OnTop.{OnTop, runs}
 use Rattle.run_laws.proofs.States.Rules.{States}
 use Rattle.run_laws.proofs.States.Stacks.{Stands, Stacked, Replaces}
 use Rattle.run_laws.proofs.States.Standing.{Standing, stands_there, on_top, startio_enters}
-use Rattle.run_laws.proofs.States.Told.{told_frame, told_last, last_same, standing_last}
+use Rattle.run_laws.proofs.States.Told.{told_frame, told_last, last_same, told_is}
+use Rattle.run_laws.proofs.Steps.Below.{cancel_takes, stood}
+use Rattle.run_laws.proofs.Steps.Comes.{stops_walk, Comes, errs, cancels}
 use Rattle.run_laws.proofs.Steps.Faults.{is_completion, is_touch, fault_among, quiet_among}
-use Rattle.model.specs.declared.limits.TheConstants.{MAX_QUEUES}
-use Rattle.run_laws.proofs.Holders.Queued.{none_queued}
-use Rattle.run_laws.proofs.Holders.Started.{none_started, started_put, times_first}
-use Rattle.run_laws.proofs.Holders.Waits.{FreesSlot}
 use Rattle.run_laws.proofs.Tokens.Sums.{OneTokenEach, token_slot}
-use Rattle.model.specs.Queues.{StartState, idle, without_first_to_start}
 
 -- a frame that is told a status has the same rights, and is the I/O manager's where it was
 module _ (set : Set) (states : States) (issued n : ℕ) where
@@ -60,7 +70,8 @@ module _ (set : Set) (states : States) (issued n : ℕ) where
   frame_told_rights None (CancelFrame c) h = refl
   frame_told_rights (Some status) (CancelFrame c) h = refl
   frame_told_rights (Some status) (Routine a) h =
-      answered_rights a status (operand_of (instruction_at set a.driver a.routine (a.position - 1))) h
+      answered_rights a status (operand_of (instruction_at set a.driver a.routine (a.position - 1)))
+      h
 
   last_rights : (below : List Frame) (f : Frame) (told : Option Status)
       → Stacked set states issued (below ++ f ∷ [])
@@ -75,20 +86,6 @@ module _ (set : Set) (states : States) (issued n : ℕ) where
   last_rights (g ∷ e ∷ below) f told h to =
       ap (λ (sum : ℕ). frame_rights states g n + sum) (last_rights (e ∷ below) f told h.1 to)
 
-  frame_told_walks : (told : Option Status) (g : Frame)
-      → frame_walks (told_frame set told g) n ≡ frame_walks g n
-  frame_told_walks None (Routine a) = refl
-  frame_told_walks None (Walk m) = refl
-  frame_told_walks (Some status) (Walk m) = refl
-  frame_told_walks None (CancelFrame c) = refl
-  frame_told_walks (Some status) (CancelFrame c) = refl
-  frame_told_walks (Some status) (Routine a) = refl
-
-  last_walks : (below : List Frame) (told : Option Status)
-      → stack_sum (λ g. frame_walks g n) (told_last set told below)
-      ≡ stack_sum (λ g. frame_walks g n) below
-  last_walks below told = last_sum set (λ g. frame_walks g n) told (frame_told_walks told) below
-
   -- where frames stand in place of the top one, nothing is told or they return
   last_after : (below : List Frame) (f : Frame) (told : Option Status) (frames : List Frame)
       → Stacked set states issued (below ++ f ∷ []) → Replaces set states issued f told frames
@@ -100,23 +97,6 @@ module _ (set : Set) (states : States) (issued n : ℕ) where
   last_after below f (Some status) (e ∷ frames) h to = let no : Some status ≡ None = to.0 in cc
 
 -- frames in place of the top one
-top_replaced : (count : Frame → ℕ) (threads : List Thread) (t : ℕ) (thread after : Thread)
-    (below lower : List Frame)
-    (f : Frame) (frames : List Frame) (before now : ℕ)
-    → slice_get threads t ≡ Some thread → thread.frames.items ≡ below ++ f ∷ []
-    → thread_sum count threads ≡ before
-    → after.frames.items ≡ lower ++ frames → stack_sum count lower ≡ stack_sum count below
-    → stack_sum count frames + before ≡ count f + now → thread_sum count (slice_set threads t after) ≡ now
-top_replaced count threads t thread after below lower f frames before now found items sum new same even =
-    let set : thread_sum count (slice_set threads t after) + stack_sum count thread.frames.items
-    ≡ thread_sum count threads + stack_sum count after.frames.items =
-    thread_set count threads t thread after found in
-    let old : stack_sum count thread.frames.items ≡ stack_sum count below + stack_sum count (f ∷ []) =
-    ap (stack_sum count) items ∙ stack_append count below (f ∷ []) in
-    let later : stack_sum count after.frames.items ≡ stack_sum count lower + stack_sum count frames =
-    ap (stack_sum count) new ∙ stack_append count lower frames in
-    omega arith
-
 pub top_changed : (count : Frame → ℕ) (threads : List Thread) (t : ℕ) (thread after : Thread)
     (below lower : List Frame) (f : Frame) (frames : List Frame)
     → slice_get threads t ≡ Some thread → thread.frames.items ≡ below ++ f ∷ []
@@ -127,38 +107,121 @@ top_changed count threads t thread after below lower f frames found items new sa
     let set : thread_sum count (slice_set threads t after) + stack_sum count thread.frames.items
     ≡ thread_sum count threads + stack_sum count after.frames.items =
     thread_set count threads t thread after found in
-    let old : stack_sum count thread.frames.items ≡ stack_sum count below + stack_sum count (f ∷ []) =
+    let old : stack_sum count thread.frames.items ≡ stack_sum count below
+    + stack_sum count (f ∷ []) =
     ap (stack_sum count) items ∙ stack_append count below (f ∷ []) in
-    let later : stack_sum count after.frames.items ≡ stack_sum count lower + stack_sum count frames =
+    let later : stack_sum count after.frames.items ≡ stack_sum count lower
+    + stack_sum count frames =
     ap (stack_sum count) new ∙ stack_append count lower frames in
     omega arith
+
+-- what the I/O manager's frames count after a step that a completion routine stops: both its frame
+-- and that below it are gone, which was lent
+module _ (set : Set) (states : States) (s : Shared) (t : ℕ) (below : List Frame) where
+  stopped_others : (others : List Frame) (k : ℕ) (a : Activation) (n : ℕ)
+      → is_hold (sort_of set a.driver a.routine) ≡ true
+      → walking set (others ++ Walk k ∷ Routine a ∷ []) n ≡ walking set others n
+  stopped_others others k a n lent =
+      let under : Option Frame = top_of others in
+      let on : walking set (others ++ Walk k ∷ Routine a ∷ []) n + walks_under under n
+      ≡ walking set others n + walking_from set under (Walk k ∷ Routine a ∷ []) n =
+      walking_on set others (Walk k ∷ Routine a ∷ []) n in
+      let from : walking_from set under (Walk k ∷ Routine a ∷ []) n ≡ walks_under under n + 0 =
+      rw lent refl in
+      omega arith
+
+  stopped_walks : (under : Option Frame) (f : Frame) (o : Outcome) → top_of below ≡ under
+      → OnTop set states s f → Comes set s t under f o → o.taken_below ≡ true → (n : ℕ)
+      → (walking set (standing set below o) n ≡ walking set (below ++ f ∷ []) n) × (o.shared ≡ s)
+  stopped_walks under f o top on (stops_walk a k at sort) taken n =
+      let h : Runs set states s a (Ret Stop) = runs set states s a (Ret Stop) on at in
+      let lent : is_hold (sort_of set a.driver a.routine) ≡ true =
+      stops_hold (sort_of set a.driver a.routine) sort
+      (returns_by (state_of states a) (sort_of set a.driver a.routine) set a.driver Stop
+      h.obeys).of_form in
+      let others : List Frame = take (length below - 1) below in
+      let split : below ++ Routine a ∷ [] ≡ others ++ Walk k ∷ Routine a ∷ [] =
+      ap (λ (frames : List Frame). frames ++ Routine a ∷ []) (last_split below (Walk k) top)
+      ∙ append_assoc others (Walk k ∷ []) (Routine a ∷ []) in
+      let gone : walking set (standing set below o) n ≡ walking set others n =
+      ap (λ (frames : List Frame). walking set frames n) (append-nil others) in
+      let stood : walking set (below ++ Routine a ∷ []) n
+      ≡ walking set (others ++ Walk k ∷ Routine a ∷ []) n =
+      ap (λ (frames : List Frame). walking set frames n) split in
+      let same : walking set (others ++ Walk k ∷ Routine a ∷ []) n ≡ walking set others n =
+      stopped_others others k a n lent in
+      (omega arith, refl)
+  stopped_walks under f o top on (errs a lacks) taken n = cc
+  stopped_walks under f o top on (cancels m step made moves) taken n =
+      let no : true ≡ false = sym taken ∙ cancel_takes set s t m step made moves in cc
+  stopped_walks under f o top on _ taken n = cc
+
+  -- and after every step
+  walks_after : (f : Frame) (o : Outcome) → OnTop set states s f
+      → Comes set s t (top_of below) f o → HoldStep set states s (top_of below) f o → (n : ℕ)
+      → walking set (standing set below o) n + held (find s.packets n)
+      ≡ walking set (below ++ f ∷ []) n + held (find o.shared.packets n)
+  walks_after f o on comes step n =
+      elim (cases_Bool o.taken_below) [
+        | inl taken ↦
+            let both : (walking set (standing set below o) n ≡ walking set (below ++ f ∷ []) n)
+            × (o.shared ≡ s) = stopped_walks (top_of below) f o refl on comes taken n in
+            let same : walking set (standing set below o) n ≡ walking set (below ++ f ∷ []) n =
+            both.0 in
+            let packets : held (find o.shared.packets n) ≡ held (find s.packets n) =
+            ap (λ (x : Shared). held (find x.packets n)) both.1 in
+            omega arith
+        | inr stays ↦
+            let stood : standing set below o ≡ told_last set o.told below ++ o.frames =
+            ap (λ (taken : Bool). told_to set (kept_below below taken) o.told ++ o.frames) stays
+            ∙ ap (λ (frames : List Frame). frames ++ o.frames) (told_is set below o.told) in
+            let now : walking set (standing set below o) n ≡ walking set (below ++ o.frames) n =
+            ap (λ (frames : List Frame). walking set frames n) stood
+            ∙ last_walking set o.told below o.frames n in
+            let after : walking set (below ++ o.frames) n + walks_under (top_of below) n
+            ≡ walking set below n + walking_from set (top_of below) o.frames n =
+            walking_on set below o.frames n in
+            let before : walking set (below ++ f ∷ []) n + walks_under (top_of below) n
+            ≡ walking set below n + walking_from set (top_of below) (f ∷ []) n =
+            walking_on set below (f ∷ []) n in
+            let even : walking_from set (top_of below) o.frames n + held (find s.packets n)
+            ≡ walking_from set (top_of below) (f ∷ []) n + held (find o.shared.packets n) =
+            step.walks stays n in
+            omega arith
+      ]
 
 -- the rights of a frame that steps are to live packets
 pub top_holding : (set : Set) (states : States) (w : World) (past : List Entry)
     → Standing set states w past
-    → Held states w → (t : ℕ) (h : StepsFrame set w t) → Holding states w.shared past h.frame
+    → Held set states w → (t : ℕ) (h : StepsFrame set w t)
+    → Holding set states w.shared past h.frame
 top_holding set states w past stands kept t h =
     record {
       tells = stands.tells;
       rights = λ n.
-          let le : frame_rights states h.frame n ≤ thread_sum (λ f. frame_rights states f n) w.threads =
-          top_le (λ f. frame_rights states f n) w.threads t h.thread h.below h.frame h.found h.frames in
-          let all : thread_sum (λ f. frame_rights states f n) w.threads + times_waiting w.shared n
+          let le : frame_rights states h.frame n
+          ≤ thread_sum (λ f. frame_rights states f n) w.threads =
+          top_le (λ f. frame_rights states f n) w.threads t h.thread h.below h.frame h.found
+          h.frames in
+          let all : thread_sum (λ f. frame_rights states f n) w.threads
+          + times_waiting set w.shared n
           ≡ unheld (find w.shared.packets n) =
           kept.rights n in
           omega arith;
       waiting = λ n.
-          let le : frame_rights states h.frame n ≤ thread_sum (λ f. frame_rights states f n) w.threads =
-          top_le (λ f. frame_rights states f n) w.threads t h.thread h.below h.frame h.found h.frames in
-          let all : thread_sum (λ f. frame_rights states f n) w.threads + times_waiting w.shared n
+          let le : frame_rights states h.frame n
+          ≤ thread_sum (λ f. frame_rights states f n) w.threads =
+          top_le (λ f. frame_rights states f n) w.threads t h.thread h.below h.frame h.found
+          h.frames in
+          let all : thread_sum (λ f. frame_rights states f n) w.threads
+          + times_waiting set w.shared n
           ≡ unheld (find w.shared.packets n) =
           kept.rights n in
           omega arith;
       walks = λ n.
-          let le : frame_walks h.frame n ≤ thread_sum (λ f. frame_walks f n) w.threads =
-          top_le (λ f. frame_walks f n) w.threads t h.thread h.below h.frame h.found h.frames in
-          let all : thread_sum (λ f. frame_walks f n) w.threads ≡ held (find w.shared.packets n) =
-          kept.walks n in
+          let le : frame_walks h.frame n ≤ all_walking set w.threads n =
+          walking_top set w.threads t h.thread h.below h.frame n h.found h.frames in
+          let all : all_walking set w.threads n ≡ held (find w.shared.packets n) = kept.walks n in
           omega arith;
     }
 
@@ -176,7 +239,7 @@ frees_slot set states w tokens t h = frees_of h.frame refl
 
 -- what an event does to the rights
 module _ (set : Set) (states : States) (w : World) (past : List Entry) (good : IsGood set states)
-    (stands : Standing set states w past) (kept : Held states w) where
+    (stands : Standing set states w past) (kept : Held set states w) where
   -- a routine begins on an idle thread
   begun_on : (count : Frame → ℕ) (t : ℕ) (thread after : Thread) (f : Frame)
       → slice_get w.threads t ≡ Some thread
@@ -189,54 +252,87 @@ module _ (set : Set) (states : States) (w : World) (past : List Entry) (good : I
       first_frame count w.threads t thread after f found idle items in
       omega arith
 
+  -- the rights of all after a step
+  rights_after : (t : ℕ) (h : StepsFrame set w t)
+      → StepLeaves set states w.shared h.frame h.outcome → (n : ℕ)
+      → thread_sum (λ f. frame_rights states f n)
+      (slice_set w.threads t (with_stack h.thread (standing set h.below h.outcome)))
+      + frame_rights states h.frame n
+      ≡ thread_sum (λ f. frame_rights states f n) w.threads
+      + stack_sum (λ f. frame_rights states f n) h.outcome.frames
+  rights_after t h leaves n =
+      let o : Outcome = h.outcome in
+      let count : Frame → ℕ = λ f. frame_rights states f n in
+      let after : Thread = with_stack h.thread (standing set h.below o) in
+      elim (stood set w.shared t h.below h.frame o h.comes) [
+        | inl new ↦
+            top_changed count w.threads t h.thread after h.below (told_last set o.told h.below)
+            h.frame
+            o.frames h.found h.frames
+            (new ∙ ap (λ (frames : List Frame). frames ++ o.frames) (told_is set h.below o.told))
+            (last_after set states w.shared.issued n h.below h.frame o.told o.frames
+            (stands_there set states w past good stands t h) leaves.stands)
+        | inr stops ↦
+            let gone : stack_sum count o.frames ≡ 0 = ap (stack_sum count) stops.frames in
+            let parts : stack_sum count h.below ≡ stack_sum count stops.others + 0 =
+            ap (stack_sum count) stops.below_is
+            ∙ stack_append count stops.others (Walk stops.n ∷ []) in
+            let changed : thread_sum count (slice_set w.threads t after) + count h.frame
+            ≡ thread_sum count w.threads + stack_sum count [] =
+            top_changed count w.threads t h.thread after h.below stops.others h.frame
+            [] h.found h.frames
+            (stops.stands ∙ sym (append-nil stops.others)) (omega arith) in
+            omega arith
+      ]
+
   held_happens : OneTokenEach states w → (actor : Actor) (c : Change)
-      → Happens set w actor.thread false c
-      → first_fault past actor c.actions ≡ None → Held states c.world
-  held_happens tokens actor c (nothing reply right) quiet = kept
-  held_happens tokens actor c (steps h) quiet =
+      → ((h : StepsFrame set w actor.thread) → IsLent set states (top_of h.below) h.frame)
+      → Happens set w actor.thread c
+      → first_fault past actor c.actions ≡ None → Held set states c.world
+  held_happens tokens actor c lent (nothing reply right) quiet = kept
+  held_happens tokens actor c lent (steps h) quiet =
       let o : Outcome = h.outcome in
       let t : ℕ = actor.thread in
-      let under : Option Frame = top_of h.below in
-      let on_thread : Stacked set states w.shared.issued (h.below ++ h.frame ∷ []) =
-      stands_there set states w past good stands t h in
+      let on : OnTop set states w.shared h.frame = on_top set states w past good stands t h in
       let leaves : StepLeaves set states w.shared h.frame o =
-      leaves_fine set states w.shared past actor stands.tells under h.frame o
-      (on_top set states w past good stands t h)
-      quiet h.comes in
-      let step : HoldStep states w.shared h.frame o =
-      hold set states w.shared past actor under h.frame o (on_top set states w past good stands t h)
-      (top_holding set states w past stands kept t h) (frees_slot set states w tokens t h) h.comes
+      leaves_fine set states w.shared past actor stands.tells (top_of h.below) h.frame o on quiet
+      h.comes in
+      let step : HoldStep set states w.shared (top_of h.below) h.frame o =
+      hold set states w.shared past actor (top_of h.below) h.frame o on
+      (top_holding set states w past stands kept t h) (frees_slot set states w tokens t h) (lent h)
+      h.comes
       (quiet_among is_touch past actor o.actions quiet) in
       let after : Thread = with_stack h.thread (standing set h.below o) in
-      let lower : List Frame = told_last set o.told h.below in
-      let new : standing set h.below o ≡ lower ++ o.frames =
-      standing_last set w.shared t under h.frame o h.below h.comes
-      (keeps_below set states w.shared t under h.frame o (on_top set states w past good stands t h)
-      h.comes) in
       record {
         rights = λ n.
             let before : thread_sum (λ f. frame_rights states f n) w.threads
-            + times_waiting w.shared n ≡ unheld (find w.shared.packets n) = kept.rights n in
+            + times_waiting set w.shared n ≡ unheld (find w.shared.packets n) = kept.rights n in
             let changed : thread_sum (λ f. frame_rights states f n)
             (slice_set w.threads t after) + frame_rights states h.frame n
             ≡ thread_sum (λ f. frame_rights states f n) w.threads
             + stack_sum (λ f. frame_rights states f n) o.frames =
-            top_changed (λ f. frame_rights states f n) w.threads t h.thread after h.below lower h.frame
-            o.frames h.found h.frames new
-            (last_after set states w.shared.issued n h.below h.frame o.told o.frames on_thread
-            leaves.stands) in
+            rights_after t h leaves n in
             let even : stack_sum (λ g. frame_rights states g n) o.frames
-            + times_waiting o.shared n + unheld (find w.shared.packets n)
-            ≡ frame_rights states h.frame n + times_waiting w.shared n
+            + times_waiting set o.shared n + unheld (find w.shared.packets n)
+            ≡ frame_rights states h.frame n + times_waiting set w.shared n
             + unheld (find o.shared.packets n) = step.rights n in
             omega arith;
-        walks = λ n. top_replaced (λ f. frame_walks f n) w.threads t h.thread after h.below lower
-            h.frame o.frames
-            (held (find w.shared.packets n)) (held (find o.shared.packets n)) h.found h.frames
-            (kept.walks n) new
-            (last_walks set states w.shared.issued n h.below o.told) (step.walks n);
+        walks = λ n.
+            let before : all_walking set w.threads n ≡ held (find w.shared.packets n) =
+            kept.walks n in
+            let changed : all_walking set (slice_set w.threads t after) n
+            + walking set h.thread.frames.items n
+            ≡ all_walking set w.threads n + walking set (standing set h.below o) n =
+            walking_set set w.threads t h.thread after n h.found in
+            let stood : walking set h.thread.frames.items n
+            ≡ walking set (h.below ++ h.frame ∷ []) n =
+            ap (λ (frames : List Frame). walking set frames n) h.frames in
+            let even : walking set (standing set h.below o) n + held (find w.shared.packets n)
+            ≡ walking set (h.below ++ h.frame ∷ []) n + held (find o.shared.packets n) =
+            walks_after set states w.shared t h.below h.frame o on h.comes step n in
+            omega arith;
       }
-  held_happens tokens actor c (issues h) quiet =
+  held_happens tokens actor c lent (issues h) quiet =
       let m : ℕ = w.shared.issued in
       let a : Activation = serves_request set h.d h.device h.major m in
       let p : Packet = new_packet m h.d h.major h.argument h.device.stack in
@@ -249,8 +345,11 @@ module _ (set : Set) (states : States) (w : World) (past : List Entry) (good : I
             let packets : unheld (find (w.shared.packets ++ p ∷ []) n)
             ≡ (if nat_eq m n then 1 else 0) + unheld (find w.shared.packets n) =
             new_unheld w.shared p stands.tells.rises refl refl n in
+            let waits : times_waiting set c.world.shared n ≡ times_waiting set w.shared n =
+            new_waits w.shared p stands.tells.rises refl refl set c.world.shared refl refl refl refl
+            n in
             let before : thread_sum (λ f. frame_rights states f n) w.threads
-            + times_waiting w.shared n ≡ unheld (find w.shared.packets n) = kept.rights n in
+            + times_waiting set w.shared n ≡ unheld (find w.shared.packets n) = kept.rights n in
             let sum : thread_sum (λ f. frame_rights states f n)
             (slice_set w.threads actor.thread after)
             ≡ frame_rights states (Routine a) n
@@ -259,13 +358,18 @@ module _ (set : Set) (states : States) (w : World) (past : List Entry) (good : I
             h.idle refl _ _ refl refl in
             omega arith;
         walks = λ n.
-            let packets : held (find (w.shared.packets ++ p ∷ []) n) ≡ held (find w.shared.packets n) =
+            let packets : held (find (w.shared.packets ++ p ∷ []) n)
+            ≡ held (find w.shared.packets n) =
             new_held w.shared p stands.tells.rises refl refl n in
-            begun_on (λ f. frame_walks f n) actor.thread h.thread after (Routine a) h.found h.idle refl
-            (held (find w.shared.packets n)) (held (find (w.shared.packets ++ p ∷ []) n))
-            (kept.walks n) (omega arith);
+            let sum : all_walking set (slice_set w.threads actor.thread after) n
+            ≡ 0 + all_walking set w.threads n =
+            first_walking set w.threads actor.thread h.thread after (Routine a) n h.found h.idle
+            refl in
+            let before : all_walking set w.threads n ≡ held (find w.shared.packets n) =
+            kept.walks n in
+            omega arith;
       }
-  held_happens tokens actor c (begins h) quiet =
+  held_happens tokens actor c lent (begins h) quiet =
       let a : Activation = dpc_activation set h.d h.routine in
       let after : Thread = rooted h.thread DispatchLevel a in
       record {
@@ -274,7 +378,7 @@ module _ (set : Set) (states : States) (w : World) (past : List Entry) (good : I
             dpc_rights set states w.shared.issued a n
             (begins_dpc set states good w.shared.issued h.d h.routine h.there) in
             let before : thread_sum (λ f. frame_rights states f n) w.threads
-            + times_waiting w.shared n ≡ unheld (find w.shared.packets n) = kept.rights n in
+            + times_waiting set w.shared n ≡ unheld (find w.shared.packets n) = kept.rights n in
             let sum : thread_sum (λ f. frame_rights states f n)
             (slice_set w.threads actor.thread after)
             ≡ frame_rights states (Routine a) n
@@ -282,13 +386,16 @@ module _ (set : Set) (states : States) (w : World) (past : List Entry) (good : I
             begun_on (λ f. frame_rights states f n) actor.thread h.thread after (Routine a) h.found
             h.idle refl _ _ refl refl in
             omega arith;
-        walks =
-            λ n. begun_on (λ f. frame_walks f n) actor.thread h.thread after (Routine a) h.found
-            h.idle refl
-            (held (find w.shared.packets n)) (held (find w.shared.packets n)) (kept.walks n)
-            (omega arith);
+        walks = λ n.
+            let sum : all_walking set (slice_set w.threads actor.thread after) n
+            ≡ 0 + all_walking set w.threads n =
+            first_walking set w.threads actor.thread h.thread after (Routine a) n h.found h.idle
+            refl in
+            let before : all_walking set w.threads n ≡ held (find w.shared.packets n) =
+            kept.walks n in
+            omega arith;
       }
-  held_happens tokens actor c (begins_startio h) quiet =
+  held_happens tokens actor c lent (begins_startio h) quiet =
       let a : Activation = startio_activation set h.d h.routine h.n in
       let after : Thread = rooted h.thread DispatchLevel a in
       let start : StartState = without_first_to_start h.start in
@@ -298,7 +405,7 @@ module _ (set : Set) (states : States) (w : World) (past : List Entry) (good : I
             begun_rights set states w.shared.issued a StartIo h.n n
             (startio_enters set states w past good stands actor.thread h) in
             let before : thread_sum (λ f. frame_rights states f n) w.threads
-            + times_waiting w.shared n ≡ unheld (find w.shared.packets n) = kept.rights n in
+            + times_waiting set w.shared n ≡ unheld (find w.shared.packets n) = kept.rights n in
             let put : times_started (with_start w.shared h.d start).starts n + times_at h.start n
             ≡ times_started w.shared.starts n + times_at start n =
             started_put w.shared.starts h.d h.start start n h.has in
@@ -311,28 +418,55 @@ module _ (set : Set) (states : States) (w : World) (past : List Entry) (good : I
             begun_on (λ f. frame_rights states f n) actor.thread h.thread after (Routine a) h.found
             h.idle refl _ _ refl refl in
             omega arith;
-        walks =
-            λ n. begun_on (λ f. frame_walks f n) actor.thread h.thread after (Routine a) h.found
-            h.idle refl
-            (held (find w.shared.packets n)) (held (find w.shared.packets n)) (kept.walks n)
-            (omega arith);
+        walks = λ n.
+            let sum : all_walking set (slice_set w.threads actor.thread after) n
+            ≡ 0 + all_walking set w.threads n =
+            first_walking set w.threads actor.thread h.thread after (Routine a) n h.found h.idle
+            refl in
+            let before : all_walking set w.threads n ≡ held (find w.shared.packets n) =
+            kept.walks n in
+            omega arith;
+      }
+  -- IoCancelIrp begins: its frame has no packet
+  held_happens tokens actor c lent (begins_cancel h) quiet =
+      let f : Frame = CancelFrame (record { packet = h.n; next = AcquireStep }) in
+      let after : Thread = cancelling h.thread h.level h.n in
+      record {
+        rights = λ n.
+            let before : thread_sum (λ f. frame_rights states f n) w.threads
+            + times_waiting set w.shared n ≡ unheld (find w.shared.packets n) = kept.rights n in
+            let sum : thread_sum (λ f. frame_rights states f n)
+            (slice_set w.threads actor.thread after)
+            ≡ 0 + thread_sum (λ f. frame_rights states f n) w.threads =
+            begun_on (λ f. frame_rights states f n) actor.thread h.thread after f h.found
+            h.idle refl _ _ refl refl in
+            omega arith;
+        walks = λ n.
+            let sum : all_walking set (slice_set w.threads actor.thread after) n
+            ≡ 0 + all_walking set w.threads n =
+            first_walking set w.threads actor.thread h.thread after f n h.found h.idle refl in
+            let before : all_walking set w.threads n ≡ held (find w.shared.packets n) =
+            kept.walks n in
+            omega arith;
       }
 
   pub held_kept : OneTokenEach states w → (actor : Actor) (c : Change)
-      → GoesOnBy set w past actor false c
-      → Held states c.world
-  held_kept tokens actor c on = held_happens tokens actor c on.happens on.quiet
+      → ((h : StepsFrame set w actor.thread) → IsLent set states (top_of h.below) h.frame)
+      → GoesOnBy set w past actor c
+      → Held set states c.world
+  held_kept tokens actor c lent on = held_happens tokens actor c lent on.happens on.quiet
 
-  pub completion_faults_none : ((n : ℕ) → armed past n ≡ false) → (actor : Actor) (c : Change)
-      → Happens set w actor.thread false c → fault_among is_completion past actor c.actions ≡ None
-  completion_faults_none unarmed actor c (nothing reply right) = refl
-  completion_faults_none unarmed actor c (steps h) =
-      completion_faults set states w.shared past actor (top_of h.below) h.frame h.outcome unarmed
+  pub completion_faults_none : (actor : Actor) (c : Change)
+      → Happens set w actor.thread c → fault_among is_completion past actor c.actions ≡ None
+  completion_faults_none actor c (nothing reply right) = refl
+  completion_faults_none actor c (steps h) =
+      completion_faults set states w.shared past actor (top_of h.below) h.frame h.outcome
       (on_top set states w past good stands actor.thread h)
       (top_holding set states w past stands kept actor.thread h) h.comes
-  completion_faults_none unarmed actor c (issues h) = refl
-  completion_faults_none unarmed actor c (begins h) = refl
-  completion_faults_none unarmed actor c (begins_startio h) = refl
+  completion_faults_none actor c (issues h) = refl
+  completion_faults_none actor c (begins h) = refl
+  completion_faults_none actor c (begins_startio h) = refl
+  completion_faults_none actor c (begins_cancel h) = refl
 
 -- before the first event
 pub idle_sum : (count : Frame → ℕ) (threads : ℕ)
@@ -342,41 +476,22 @@ idle_sum count (suc threads) =
     let others : thread_sum count (replicate threads idle_thread) ≡ 0 =
     idle_sum count threads in omega arith
 
-pub held_begun : (set : Set) (states : States) (threads : ℕ) → Held states (begun set threads).world
+pub held_begun : (set : Set) (states : States) (threads : ℕ)
+    → Held set states (begun set threads).world
 held_begun set states threads =
     record {
       rights = λ n.
           let none : thread_sum (λ f. frame_rights states f n) (replicate threads idle_thread) ≡ 0 =
           idle_sum (λ f. frame_rights states f n) threads in
-          let empty : times_queued (replicate (length set.devices) (replicate MAX_QUEUES [])) n ≡ 0 =
-          none_queued (length set.devices) n in
+          let empty : times_plain set 0 (replicate (length set.devices) (replicate MAX_QUEUES [])) n
+          ≡ 0 = none_plain set n 0 (length set.devices) in
           let idle_ones : times_started (replicate (length set.devices) idle) n ≡ 0 =
           none_started (length set.devices) n in
           omega arith;
-      walks = λ n. idle_sum (λ f. frame_walks f n) threads;
+      walks = λ n. none_walking set threads n;
     }
 
 -- in the words of the law
-stack_both : (one other : Frame → ℕ) (frames : List Frame)
-    → stack_sum (λ f. one f + other f) frames ≡ stack_sum one frames + stack_sum other frames
-stack_both one other [] = refl
-stack_both one other (f ∷ frames) =
-    let others : stack_sum (λ g. one g + other g) frames ≡ stack_sum one frames + stack_sum other frames =
-    stack_both one other frames in
-    omega arith
-
-thread_both : (one other : Frame → ℕ) (threads : List Thread)
-    → thread_sum (λ f. one f + other f) threads ≡ thread_sum one threads + thread_sum other threads
-thread_both one other [] = refl
-thread_both one other (thread ∷ threads) =
-    let here : stack_sum (λ f. one f + other f) thread.frames.items
-    ≡ stack_sum one thread.frames.items + stack_sum other thread.frames.items =
-    stack_both one other thread.frames.items in
-    let others : thread_sum (λ f. one f + other f) threads ≡ thread_sum one threads + thread_sum
-    other threads =
-    thread_both one other threads in
-    omega arith
-
 alive_bit : (b : Bool) → (if b then 0 else 1) + (if b then 1 else 0) ≡ 1
 alive_bit true = refl
 alive_bit false = refl
@@ -402,23 +517,20 @@ module _ (r : Run) (tells : Tells r.world.shared r.past) (n : ℕ) where
       (λ late. find_above 0 r.world.shared.packets r.world.shared.issued n tells.rises
       (ltb-false n r.world.shared.issued late))
 
-  pub one_holder : (states : States) → Held states r.world
-      → holders states r.world.threads n + times_waiting r.world.shared n
+  pub one_holder : (set : Set) (states : States) → Held set states r.world
+      → holders set states r.world.threads n + times_waiting set r.world.shared n
       ≡ (if is_live r n then 1 else 0)
-  one_holder states kept =
-      let both : holders states r.world.threads n
-      ≡ thread_sum (λ f. frame_rights states f n) r.world.threads
-      + thread_sum (λ f. frame_walks f n) r.world.threads =
-      thread_both (λ f. frame_rights states f n) (λ f. frame_walks f n) r.world.threads in
+  one_holder set states kept =
       let rights_are : thread_sum (λ f. frame_rights states f n) r.world.threads
-      + times_waiting r.world.shared n
+      + times_waiting set r.world.shared n
       ≡ unheld (find r.world.shared.packets n) = kept.rights n in
-      let walks_are : thread_sum (λ f. frame_walks f n) r.world.threads
+      let walks_are : all_walking set r.world.threads n
       ≡ held (find r.world.shared.packets n) =
       kept.walks n in
       let parts : unheld (find r.world.shared.packets n) + held (find r.world.shared.packets n)
       ≡ alive (find r.world.shared.packets n) = alive_parts (find r.world.shared.packets n) in
       let same : alive (packet_of r.world.shared n) ≡ alive (find r.world.shared.packets n) =
       ap alive (find_place r.world.shared.packets n) in
-      let listed : alive (packet_of r.world.shared n) ≡ (if is_live r n then 1 else 0) = live_listed in
+      let listed : alive (packet_of r.world.shared n)
+      ≡ (if is_live r n then 1 else 0) = live_listed in
       omega arith

@@ -2,13 +2,13 @@
 -- each live packet has one right, or one frame of the I/O manager.
 use Rattle.std.proofs.Common.{◌≡◌, ◌≢◌, ℕ, zero, suc, ◌+◌, ◌≤◌, List, [], ◌∷◌, ◌++◌, Option, None, Some, Bool, true, false, cond, refl, ap, ◌∙◌, arith}
 use Rattle.std.specs.Prelude.{slice_get, slice_set, if◌then◌else◌}
+use Rattle.model.specs.declared.status.Status.{Status}
 use Rattle.model.specs.declared.world.Frame.{Frame}
 use Rattle.model.specs.declared.world.Packet.{Packet}
 use Rattle.model.specs.declared.world.Thread.{Thread}
-use Rattle.model.specs.declared.status.Status.{Status}
 use Rattle.model.specs.Set.{Set}
 use Rattle.model.specs.World.{World}
-use Rattle.run_laws.specs.Holder.{times_waiting, frame_rights, frame_walks, stack_sum, thread_sum}
+use Rattle.run_laws.specs.Holder.{all_walking, times_waiting, frame_rights, stack_sum, thread_sum}
 use Rattle.run_laws.proofs.Past.LivePackets.{find}
 use Rattle.run_laws.proofs.States.Rules.{States}
 use Rattle.run_laws.proofs.States.Told.{told_frame, told_last}
@@ -22,13 +22,13 @@ abbrev pub held : Option Packet → ℕ
 held None = 0
 held (Some p) = if p.completing then 1 else 0
 
--- the packets that are held by a register or wait in a list or slot, and those that the I/O
--- manager has
-pub record Held (states : States) (w : World) : Type 0 where
+-- the packets that are held by a register or wait in a list, a slot or by their cancel word, and
+-- those that the I/O manager has
+pub record Held (set : Set) (states : States) (w : World) : Type 0 where
   pub rights : (n : ℕ)
-      → thread_sum (λ f. frame_rights states f n) w.threads + times_waiting w.shared n
+      → thread_sum (λ f. frame_rights states f n) w.threads + times_waiting set w.shared n
       ≡ unheld (find w.shared.packets n)
-  pub walks : (n : ℕ) → thread_sum (λ f. frame_walks f n) w.threads ≡ held (find w.shared.packets n)
+  pub walks : (n : ℕ) → all_walking set w.threads n ≡ held (find w.shared.packets n)
 
 -- sums over frames and threads
 pub stack_append : (count : Frame → ℕ) (xs ys : List Frame) → stack_sum count (xs ++ ys)
@@ -44,7 +44,8 @@ pub thread_set : (count : Frame → ℕ) (threads : List Thread) (t : ℕ) (thre
     → thread_sum count (slice_set threads t after) + stack_sum count thread.frames.items
     ≡ thread_sum count threads + stack_sum count after.frames.items
 thread_set count [] t thread after found = cc
-thread_set count (x ∷ threads) zero thread after found = let one : x ≡ thread = cc in rw one (omega arith)
+thread_set count (x ∷ threads) zero thread after found =
+    let one : x ≡ thread = cc in rw one (omega arith)
 thread_set count (x ∷ threads) (suc t) thread after found =
     let others : thread_sum count (slice_set threads t after) + stack_sum count thread.frames.items
     ≡ thread_sum count threads + stack_sum count after.frames.items =
@@ -92,7 +93,8 @@ pub top_le : (count : Frame → ℕ) (threads : List Thread) (t : ℕ) (thread :
 top_le count threads t thread below f found frames =
     let all : stack_sum count thread.frames.items ≤ thread_sum count threads =
     stack_le count threads t thread found in
-    let parts : stack_sum count thread.frames.items ≡ stack_sum count below + stack_sum count (f ∷ []) =
+    let parts : stack_sum count thread.frames.items ≡ stack_sum count below
+    + stack_sum count (f ∷ []) =
     ap (stack_sum count) frames ∙ stack_append count below (f ∷ [])
     in
     omega arith
@@ -118,7 +120,8 @@ held_apart (Some p) h = bit_apart p.completing h
 pub two_le : (count : Frame → ℕ) (threads : List Thread) (t k : ℕ) (one other : Thread)
     → slice_get threads t
     ≡ Some one → slice_get threads k ≡ Some other → t ≢ k
-    → stack_sum count one.frames.items + stack_sum count other.frames.items ≤ thread_sum count threads
+    → stack_sum count one.frames.items + stack_sum count other.frames.items
+    ≤ thread_sum count threads
 two_le count [] t k one other found there apart = cc
 two_le count (x ∷ threads) zero zero one other found there apart = absurd (apart refl)
 two_le count (x ∷ threads) zero (suc k) one other found there apart =
@@ -149,10 +152,12 @@ walked_bit : (p : Packet) (b : Bool) → p.completing ≡ b → 1 ≤ (if b then
 walked_bit p true is h = (p, refl, is)
 walked_bit p false is h = absurd (omega arith)
 
-pub own_if : (o : Option Packet) → 1 ≤ unheld o → (p : Packet) × (o ≡ Some p) × (p.completing ≡ false)
+pub own_if : (o : Option Packet) → 1 ≤ unheld o → (p : Packet) × (o ≡ Some p)
+    × (p.completing ≡ false)
 own_if None h = absurd (omega arith)
 own_if (Some p) h = own_bit p p.completing refl h
 
-pub walked_if : (o : Option Packet) → 1 ≤ held o → (p : Packet) × (o ≡ Some p) × (p.completing ≡ true)
+pub walked_if : (o : Option Packet) → 1 ≤ held o → (p : Packet) × (o ≡ Some p)
+    × (p.completing ≡ true)
 walked_if None h = absurd (omega arith)
 walked_if (Some p) h = walked_bit p p.completing refl h

@@ -1,36 +1,40 @@
 -- What the instructions about queues do to the rights of a routine's frame: a packet goes from a
 -- register to a list or to the current slot, or from one of these to a register.
-use Rattle.std.proofs.Common.{◌≡◌, ℕ, ◌+◌, ◌<◌, List, [], ◌∷◌, ◌++◌, length, Option, None, Some, Bool, true, false, refl, ap, ◌∙◌, arith}
-use Rattle.std.specs.Prelude.{⊤, nat_eq, slice_set, if◌then◌else◌}
+use Rattle.std.proofs.Common.{◌≡◌, ℕ, ◌+◌, ◌<◌, List, ◌∷◌, length, Option, None, Some, Bool, true, false, refl, ap, ◌∙◌, arith, eqb-true, slice_get, subst, sym}
+use Rattle.std.specs.Prelude.{⊤, nat_eq, slice_set, if◌then◌else◌, ◌||◌}
 use Rattle.model.specs.declared.abs.Abs.{Abs}
 use Rattle.model.specs.declared.abs.Kind.{Kind}
-use Rattle.model.specs.declared.abs.Kind.TheVariants.{Blank as BlankKind, Own}
+use Rattle.model.specs.declared.abs.Kind.TheVariants.{Blank as BlankKind, Own, Listed, Taken, Cancelling}
 use Rattle.model.specs.declared.abs.Rule.{Rule}
-use Rattle.model.specs.declared.abs.Rule.TheVariants.{Dropped, Token}
+use Rattle.model.specs.declared.abs.Rule.TheVariants.{Dropped, Token, CancelState}
 use Rattle.model.specs.declared.instr.Instr.{Instr}
-use Rattle.model.specs.declared.instr.Instr.TheVariants.{Begin, Insert, Next, Remove, Start, Take}
+use Rattle.model.specs.declared.instr.Instr.TheVariants.{Begin, Insert, Next, Remove, Start, Take, Unlink}
 use Rattle.model.specs.declared.limits.TheConstants.{REGISTERS}
+use Rattle.model.specs.declared.set.QueueName.TheVariants.{Declared}
 use Rattle.model.specs.declared.world.Activation.{Activation}
 use Rattle.model.specs.declared.world.Frame.{Frame}
 use Rattle.model.specs.declared.world.Frame.TheVariants.{Routine, Walk, Cancel as CancelFrame}
 use Rattle.model.specs.declared.world.Value.TheVariants.{Ref}
 use Rattle.model.specs.Action.{Action}
-use Rattle.model.specs.LocalRule.{an_owned_one, demanded, free_kind, handed, handed_at_label, kind_of, least_of, unless}
+use Rattle.model.specs.Effect.{routine_of_device}
 use Rattle.model.specs.Kinds.{is_packet, is_right, kind_inserted, kind_removed}
-use Rattle.model.specs.Queues.{StartState, inserted, next_started, started, with_slot}
-use Rattle.model.specs.Set.{Set, flow_of, label_of}
+use Rattle.model.specs.LocalRule.{an_owned_one, demanded, free_kind, handed, handed_at_label, kind_of, least_of, unless, unlink_kind}
+use Rattle.model.specs.Queues.{StartState, inserted, next_started, started, with_slot, unlinked}
+use Rattle.model.specs.Set.{Set, flow_of, label_of, cancel_routine_of}
 use Rattle.model.specs.Sound.{OperandFits}
-use Rattle.model.specs.World.{Shared, at_label, next, register, start_of, with_queue, with_register, with_start}
-use Rattle.run_laws.specs.Holder.{frame_rights, right, rights, times_at, times_in, times_in_slot, times_queued, times_started, times_waiting}
+use Rattle.model.specs.World.{Shared, at_label, next, register, start_of, with_queue, with_register, with_start, queue_of}
+use Rattle.run_laws.specs.Holder.{frame_rights, right, rights, times_at, times_in, times_in_slot, times_started, times_waiting, names, times_plain}
 use Rattle.run_laws.proofs.Holders.Counts.{reads_ref}
-use Rattle.run_laws.proofs.Holders.Queued.{times_pushed, times_put}
+use Rattle.run_laws.proofs.Holders.Plain.{plain_in, plain_counts, plain_put, plain_skips}
+use Rattle.run_laws.proofs.Holders.Queued.{times_pushed}
 use Rattle.run_laws.proofs.Holders.Rights.{no_right, not_right, rights_both, rights_turn}
 use Rattle.run_laws.proofs.Holders.Started.{started_put, times_given, times_next, times_slot}
-use Rattle.run_laws.proofs.States.Never.{never_unlinks}
 use Rattle.run_laws.proofs.Lists.{all_at}
-use Rattle.run_laws.proofs.States.Frames.{Runs, state_of}
+use Rattle.run_laws.proofs.States.Frames.{Runs, state_of, Serves}
+use Rattle.run_laws.proofs.States.Listed.{KindFits, HasCancel}
 use Rattle.run_laws.proofs.States.Moves.{arrives, arrives_next, has_next}
 use Rattle.run_laws.proofs.States.Obeyed.{inserts_right}
+use Rattle.run_laws.proofs.States.OnTop.{listed_fits}
 use Rattle.run_laws.proofs.States.Rules.{States, first_none, granted, second_none, unbroken}
 use Rattle.run_laws.proofs.Steps.Comes.{Queued, Reads, inserts, jumping, puts_in, removes, removes_none, starts_next, starts_packet, takes_none, takes_out, unlinks}
 
@@ -77,60 +81,125 @@ module _ (set : Set) (states : States) (s : Shared) (a : Activation) (i : Instr)
   kinds_with k = slice_set (state_of states a).kinds r k
 
   -- a queue without a cancel routine takes the packet out of its register, and gives it back whole
-  pub inserts_blank : (q : ℕ)
+  pub inserts_blank : (q : ℕ) → cancel_routine_of set a.driver q ≡ None
       → (handed set a.driver (state_of states a) (Insert r q)).kinds ≡ kinds_with BlankKind
-  inserts_blank q =
-      ap (λ (cancel : Option ℕ). kinds_with (kind_inserted cancel q))
-      (h.good.quiet.queues a.driver q)
+  inserts_blank q none =
+      ap (λ (cancel : Option ℕ). kinds_with (kind_inserted cancel q)) none
 
-  pub removes_own : (q label : ℕ)
+  pub removes_own : (q label : ℕ) → cancel_routine_of set a.driver q ≡ None
       → (handed set a.driver (state_of states a) (Remove r q label)).kinds ≡ kinds_with Own
-  removes_own q label =
-      ap (λ (cancel : Option ℕ). kinds_with (kind_removed cancel q))
-      (h.good.quiet.queues a.driver q)
+  removes_own q label none =
+      ap (λ (cancel : Option ℕ). kinds_with (kind_removed cancel q)) none
 
-  -- a register's right goes
+  -- one with a cancel routine leaves it where it is, and gives no right to one that is taken off
+  pub inserts_listed : (q cancel : ℕ) → cancel_routine_of set a.driver q ≡ Some cancel
+      → (handed set a.driver (state_of states a) (Insert r q)).kinds
+      ≡ kinds_with (Listed (Declared q))
+  inserts_listed q cancel is =
+      ap (λ (routine : Option ℕ). kinds_with (kind_inserted routine q)) is
+
+  pub removes_taken : (q label cancel : ℕ) → cancel_routine_of set a.driver q ≡ Some cancel
+      → (handed set a.driver (state_of states a) (Remove r q label)).kinds
+      ≡ kinds_with (Taken (Declared q))
+  removes_taken q label cancel is =
+      ap (λ (routine : Option ℕ). kinds_with (kind_removed routine q)) is
+
+  -- a register's packet becomes of another kind
+  pub rights_turned : (k : Kind) → has_next (flow_of i) ≡ true
+      → (handed set a.driver (state_of states a) i).kinds ≡ kinds_with k → (n : ℕ)
+      → frame_rights states (Routine (next a)) n
+      + right (kind_of (state_of states a) r) (register a r) n
+      ≡ frame_rights states (Routine a) n + right k (register a r) n
+  rights_turned k on kinds n =
+      let turn : rights (kinds_with k) a.registers n
+      + right (kind_of (state_of states a) r) (register a r) n
+      ≡ rights (state_of states a).kinds a.registers n + right k (register a r) n =
+      rights_turn s.issued (state_of states a).kinds a.registers r k n h.stays.kinds in
+      let now : frame_rights states (Routine (next a)) n ≡ rights (kinds_with k) a.registers n =
+      ap (λ (state : Abs). rights state.kinds a.registers n) (arrives_next set states s a i h on)
+      ∙ ap (λ (kinds : List Kind). rights kinds a.registers n) kinds in
+      omega arith
+
+  -- it keeps its right, loses it, or gets one
+  pub rights_stay : (k : Kind) → has_next (flow_of i) ≡ true
+      → (handed set a.driver (state_of states a) i).kinds ≡ kinds_with k
+      → is_right k ≡ is_right (kind_of (state_of states a) r) → (n : ℕ)
+      → frame_rights states (Routine (next a)) n ≡ frame_rights states (Routine a) n
+  rights_stay k on kinds same n =
+      let turned : frame_rights states (Routine (next a)) n
+      + right (kind_of (state_of states a) r) (register a r) n
+      ≡ frame_rights states (Routine a) n + right k (register a r) n = rights_turned k on kinds n in
+      let equal : right k (register a r) n
+      ≡ right (kind_of (state_of states a) r) (register a r) n =
+      ap (λ (b : Bool). if b then names (register a r) n else 0) same in
+      omega arith
+
+  pub rights_lost : (k : Kind) (m : ℕ) → has_next (flow_of i) ≡ true
+      → (handed set a.driver (state_of states a) i).kinds ≡ kinds_with k → is_right k ≡ false
+      → is_right (kind_of (state_of states a) r) ≡ true → Reads s a r m → (n : ℕ)
+      → frame_rights states (Routine (next a)) n + (if nat_eq m n then 1 else 0)
+      ≡ frame_rights states (Routine a) n
+  rights_lost k m on kinds none own reads n =
+      let turned : frame_rights states (Routine (next a)) n
+      + right (kind_of (state_of states a) r) (register a r) n
+      ≡ frame_rights states (Routine a) n + right k (register a r) n = rights_turned k on kinds n in
+      let gone : right (kind_of (state_of states a) r) (register a r) n
+      ≡ (if nat_eq m n then 1 else 0) =
+      rw (own, reads_ref s (register a r) m reads) refl in
+      let after : right k (register a r) n ≡ 0 = no_right k (register a r) n none in
+      omega arith
+
+  pub rights_won : (k : Kind) (m : ℕ) → has_next (flow_of i) ≡ true
+      → (handed set a.driver (state_of states a) i).kinds ≡ kinds_with k → is_right k ≡ true
+      → is_right (kind_of (state_of states a) r) ≡ false → Reads s a r m → (n : ℕ)
+      → frame_rights states (Routine (next a)) n
+      ≡ frame_rights states (Routine a) n + (if nat_eq m n then 1 else 0)
+  rights_won k m on kinds one free reads n =
+      let turned : frame_rights states (Routine (next a)) n
+      + right (kind_of (state_of states a) r) (register a r) n
+      ≡ frame_rights states (Routine a) n + right k (register a r) n = rights_turned k on kinds n in
+      let before : right (kind_of (state_of states a) r) (register a r) n ≡ 0 =
+      no_right (kind_of (state_of states a) r) (register a r) n free in
+      let after : right k (register a r) n ≡ (if nat_eq m n then 1 else 0) =
+      rw (one, reads_ref s (register a r) m reads) refl in
+      omega arith
+
+  -- a register's packet is given away
   pub rights_given : (m : ℕ) → has_next (flow_of i) ≡ true
       → (handed set a.driver (state_of states a) i).kinds ≡ kinds_with BlankKind
       → is_right (kind_of (state_of states a) r) ≡ true → Reads s a r m → (n : ℕ)
       → frame_rights states (Routine (next a)) n + (if nat_eq m n then 1 else 0)
       ≡ frame_rights states (Routine a) n
-  rights_given m on kinds own reads n =
-      let turn : rights (kinds_with BlankKind) a.registers n
+  rights_given m on kinds own reads n = rights_lost BlankKind m on kinds refl own reads n
+
+  -- a register is given a packet
+  pub rights_put : (k : Kind) (m : ℕ) → has_next (flow_of i) ≡ true
+      → (handed set a.driver (state_of states a) i).kinds ≡ kinds_with k
+      → is_right (kind_of (state_of states a) r) ≡ false → r < REGISTERS → (n : ℕ)
+      → frame_rights states (Routine (next (with_register a r (Ref m)))) n
+      ≡ frame_rights states (Routine a) n + right k (Ref m) n
+  rights_put k m on kinds free small n =
+      let long : length (state_of states a).kinds ≡ REGISTERS = h.stays.sixteen in
+      let none : right (kind_of (state_of states a) r) (register a r) n ≡ 0 =
+      no_right (kind_of (state_of states a) r) (register a r) n free in
+      let both : rights (kinds_with k) (slice_set a.registers r (Ref m)) n
       + right (kind_of (state_of states a) r) (register a r) n
-      ≡ rights (state_of states a).kinds a.registers n + 0 =
-      rights_turn s.issued (state_of states a).kinds a.registers r BlankKind n h.stays.kinds in
-      let gone : right (kind_of (state_of states a) r) (register a r) n
-      ≡ (if nat_eq m n then 1 else 0) =
-      rw (own, reads_ref s (register a r) m reads) refl in
-      let now : frame_rights states (Routine (next a)) n
-      ≡ rights (kinds_with BlankKind) a.registers n =
-      ap (λ (state : Abs). rights state.kinds a.registers n) (arrives_next set states s a i h on)
-      ∙ ap (λ (kinds : List Kind). rights kinds a.registers n) kinds in
+      ≡ rights (state_of states a).kinds a.registers n + right k (Ref m) n =
+      rights_both s.issued (state_of states a).kinds a.registers r k (Ref m) n h.stays.kinds
+      (omega arith) in
+      let now : frame_rights states (Routine (next (with_register a r (Ref m)))) n
+      ≡ rights (kinds_with k) (slice_set a.registers r (Ref m)) n =
+      ap (λ (state : Abs). rights state.kinds (slice_set a.registers r (Ref m)) n)
+      (arrives_next set states s a i h on)
+      ∙ ap (λ (kinds : List Kind). rights kinds (slice_set a.registers r (Ref m)) n) kinds in
       omega arith
 
-  -- a register gets one
   pub rights_taken : (m : ℕ) → has_next (flow_of i) ≡ true
       → (handed set a.driver (state_of states a) i).kinds ≡ kinds_with Own
       → is_right (kind_of (state_of states a) r) ≡ false → r < REGISTERS → (n : ℕ)
       → frame_rights states (Routine (next (with_register a r (Ref m)))) n
       ≡ frame_rights states (Routine a) n + (if nat_eq m n then 1 else 0)
-  rights_taken m on kinds free small n =
-      let long : length (state_of states a).kinds ≡ REGISTERS = h.stays.sixteen in
-      let none : right (kind_of (state_of states a) r) (register a r) n ≡ 0 =
-      no_right (kind_of (state_of states a) r) (register a r) n free in
-      let both : rights (kinds_with Own) (slice_set a.registers r (Ref m)) n
-      + right (kind_of (state_of states a) r) (register a r) n
-      ≡ rights (state_of states a).kinds a.registers n + right Own (Ref m) n =
-      rights_both s.issued (state_of states a).kinds a.registers r Own (Ref m) n h.stays.kinds
-      (omega arith) in
-      let now : frame_rights states (Routine (next (with_register a r (Ref m)))) n
-      ≡ rights (kinds_with Own) (slice_set a.registers r (Ref m)) n =
-      ap (λ (state : Abs). rights state.kinds (slice_set a.registers r (Ref m)) n)
-      (arrives_next set states s a i h on)
-      ∙ ap (λ (kinds : List Kind). rights kinds (slice_set a.registers r (Ref m)) n) kinds in
-      let new : right Own (Ref m) n ≡ (if nat_eq m n then 1 else 0) = refl in
-      omega arith
+  rights_taken m on kinds free small n = rights_put Own m on kinds free small n
 
   -- it gets none, and the routine jumps
   pub rights_missed : (label : ℕ) → label_of i ≡ Some label
@@ -151,40 +220,176 @@ module _ (set : Set) (states : States) (s : Shared) (a : Activation) (i : Instr)
       ∙ ap (λ (kinds : List Kind). rights kinds a.registers n) kinds in
       omega arith
 
+-- the driver of an activation is that of its device
+pub device_driver : (set : Set) (device driver : ℕ) → Serves set device driver
+    → routine_of_device (slice_get set.devices device) ≡ driver
+device_driver set device driver serves = ap routine_of_device serves.1 ∙ serves.2
+
+-- a packet that is taken off a queue wherever it stands was in a register that has the right to it,
+-- and the queue has a cancel routine
+unlinked_right : (q : ℕ) (k : Kind) → unlink_kind (Declared q) k ≡ None → is_right k ≡ true
+unlinked_right q (Listed name) h = refl
+unlinked_right q (Cancelling name) h = refl
+unlinked_right q _ h = cc
+
+same_queue : (p q : ℕ) → unless (nat_eq p q) CancelState ≡ None → p ≡ q
+same_queue p q h = eqb-true p q (granted (nat_eq p q) CancelState h)
+
+either_queue : (p q : ℕ) → unless (nat_eq p q || false) CancelState ≡ None → p ≡ q
+either_queue p q h = same_queue p q (by (nat_eq p q) h)
+  where
+    by : (b : Bool) → unless (b || false) CancelState ≡ None → unless b CancelState ≡ None
+    by true h = refl
+    by false h = h
+
+unlinked_cancel : (set : Set) (driver : ℕ) (locks : List Bool) (q : ℕ) (k : Kind)
+    → unlink_kind (Declared q) k ≡ None → KindFits set driver locks k → HasCancel set driver q
+unlinked_cancel set driver locks q (Listed (Declared p)) h fits =
+    subst (λ (x : ℕ). HasCancel set driver x) (either_queue p q h) fits.0
+unlinked_cancel set driver locks q (Cancelling (Declared p)) h fits =
+    subst (λ (x : ℕ). HasCancel set driver x) (same_queue p q h) fits
+unlinked_cancel set driver locks q _ h fits = cc
+
 -- so each packet is held as often after the instruction as before it
+module _ (set : Set) (states : States) (s : Shared) (a : Activation) where
+  abbrev pub plain_at : ℕ → List ℕ → ℕ → ℕ
+  plain_at q entries n =
+      plain_in set (routine_of_device (slice_get set.devices a.device)) q entries n
+
+  -- a queue of the device is changed that has no cancel routine, or that has one
+  pub counts_here : (i : Instr) → Runs set states s a i → (q : ℕ) (entries : List ℕ)
+      → cancel_routine_of set a.driver q ≡ None → (n : ℕ)
+      → plain_at q entries n ≡ times_in entries n
+  counts_here i h q entries none n =
+      plain_counts set n (routine_of_device (slice_get set.devices a.device)) q entries
+      (ap (λ (driver : ℕ). cancel_routine_of set driver q)
+      (device_driver set a.device a.driver h.stays.serves) ∙ none)
+
+  skips_here : (i : Instr) → Runs set states s a i → (q cancel : ℕ) (entries : List ℕ)
+      → cancel_routine_of set a.driver q ≡ Some cancel → (n : ℕ) → plain_at q entries n ≡ 0
+  skips_here i h q cancel entries is n =
+      plain_skips set n (routine_of_device (slice_get set.devices a.device)) q cancel entries
+      (ap (λ (driver : ℕ). cancel_routine_of set driver q)
+      (device_driver set a.device a.driver h.stays.serves) ∙ is)
+
+  abbrev Even : Activation → List (List (List ℕ)) → ℕ → Type 0
+  Even b queues n =
+      frame_rights states (Routine b) n
+      + times_waiting set (record s { queues = queues; starts = s.starts }) n
+      ≡ frame_rights states (Routine a) n + times_waiting set s n
+
+  inserted_rights : (r q m : ℕ) (entries : List ℕ) → Runs set states s a (Insert r q)
+      → Reads s a r m → queue_of s a.device q ≡ Some entries → (cancel : Option ℕ)
+      → cancel_routine_of set a.driver q ≡ cancel → (n : ℕ)
+      → Even (next a) (with_queue s a.device q (inserted entries m)).queues n
+  inserted_rights r q m entries h reads there None is n =
+      let gone : frame_rights states (Routine (next a)) n + (if nat_eq m n then 1 else 0)
+      ≡ frame_rights states (Routine a) n =
+      rights_given set states s a (Insert r q) h r m refl
+      (inserts_blank set states s a (Insert r q) h r q is)
+      (gives_right (kind_of (state_of states a) r) _ h.obeys) reads n in
+      let put : times_plain set 0 (with_queue s a.device q (inserted entries m)).queues n
+      + plain_at q entries n
+      ≡ times_plain set 0 s.queues n + plain_at q (inserted entries m) n =
+      plain_put set n s a.device q entries (inserted entries m) there in
+      let before : plain_at q entries n ≡ times_in entries n =
+      counts_here (Insert r q) h q entries is n in
+      let after : plain_at q (inserted entries m) n ≡ times_in (inserted entries m) n =
+      counts_here (Insert r q) h q (inserted entries m) is n in
+      let pushed : times_in (inserted entries m) n
+      ≡ times_in entries n + (if nat_eq m n then 1 else 0) = times_pushed entries m n in
+      omega arith
+  inserted_rights r q m entries h reads there (Some cancel) is n =
+      let same : frame_rights states (Routine (next a)) n ≡ frame_rights states (Routine a) n =
+      rights_stay set states s a (Insert r q) h r (Listed (Declared q)) refl
+      (inserts_listed set states s a (Insert r q) h r q cancel is)
+      (sym (gives_right (kind_of (state_of states a) r) _ h.obeys)) n in
+      let put : times_plain set 0 (with_queue s a.device q (inserted entries m)).queues n
+      + plain_at q entries n
+      ≡ times_plain set 0 s.queues n + plain_at q (inserted entries m) n =
+      plain_put set n s a.device q entries (inserted entries m) there in
+      let before : plain_at q entries n ≡ 0 =
+      skips_here (Insert r q) h q cancel entries is n in
+      let after : plain_at q (inserted entries m) n ≡ 0 =
+      skips_here (Insert r q) h q cancel (inserted entries m) is n in
+      omega arith
+
+  removed_rights : (r q label m : ℕ) (entries : List ℕ) → Runs set states s a (Remove r q label)
+      → queue_of s a.device q ≡ Some (m ∷ entries) → (cancel : Option ℕ)
+      → cancel_routine_of set a.driver q ≡ cancel → (n : ℕ)
+      → Even (next (with_register a r (Ref m))) (with_queue s a.device q entries).queues n
+  removed_rights r q label m entries h there None is n =
+      let won : frame_rights states (Routine (next (with_register a r (Ref m)))) n
+      ≡ frame_rights states (Routine a) n + (if nat_eq m n then 1 else 0) =
+      rights_taken set states s a (Remove r q label) h r m refl
+      (removes_own set states s a (Remove r q label) h r q label is)
+      (free_removed _ _ (kind_of (state_of states a) r) h.obeys)
+      (all_at OperandFits h.routine.code a.position (Remove r q label) h.known.operands h.here) n in
+      let put : times_plain set 0 (with_queue s a.device q entries).queues n
+      + plain_at q (m ∷ entries) n
+      ≡ times_plain set 0 s.queues n + plain_at q entries n =
+      plain_put set n s a.device q (m ∷ entries) entries there in
+      let before : plain_at q (m ∷ entries) n ≡ times_in (m ∷ entries) n =
+      counts_here (Remove r q label) h q (m ∷ entries) is n in
+      let after : plain_at q entries n ≡ times_in entries n =
+      counts_here (Remove r q label) h q entries is n in
+      let first : times_in (m ∷ entries) n ≡ (if nat_eq m n then 1 else 0) + times_in entries n =
+      refl in
+      omega arith
+  removed_rights r q label m entries h there (Some cancel) is n =
+      let same : frame_rights states (Routine (next (with_register a r (Ref m)))) n
+      ≡ frame_rights states (Routine a) n + right (Taken (Declared q)) (Ref m) n =
+      rights_put set states s a (Remove r q label) h r (Taken (Declared q)) m refl
+      (removes_taken set states s a (Remove r q label) h r q label cancel is)
+      (free_removed _ _ (kind_of (state_of states a) r) h.obeys)
+      (all_at OperandFits h.routine.code a.position (Remove r q label) h.known.operands h.here) n in
+      let none : right (Taken (Declared q)) (Ref m) n ≡ 0 = refl in
+      let put : times_plain set 0 (with_queue s a.device q entries).queues n
+      + plain_at q (m ∷ entries) n
+      ≡ times_plain set 0 s.queues n + plain_at q entries n =
+      plain_put set n s a.device q (m ∷ entries) entries there in
+      let before : plain_at q (m ∷ entries) n ≡ 0 =
+      skips_here (Remove r q label) h q cancel (m ∷ entries) is n in
+      let after : plain_at q entries n ≡ 0 =
+      skips_here (Remove r q label) h q cancel entries is n in
+      omega arith
+
+  -- one that is taken off wherever it stands: the queue has a cancel routine
+  unlinked_rights : (r q m : ℕ) (entries : List ℕ) → Runs set states s a (Unlink r q)
+      → queue_of s a.device q ≡ Some entries → (n : ℕ)
+      → Even (next a) (with_queue s a.device q (unlinked entries m)).queues n
+  unlinked_rights r q m entries h there n =
+      let rule : unlink_kind (Declared q) (kind_of (state_of states a) r) ≡ None =
+      first_none _ _ h.obeys in
+      let has : HasCancel set a.driver q =
+      unlinked_cancel set a.driver (state_of states a).locks q (kind_of (state_of states a) r) rule
+      (listed_fits set states s a (Unlink r q) h r) in
+      let same : frame_rights states (Routine (next a)) n ≡ frame_rights states (Routine a) n =
+      rights_stay set states s a (Unlink r q) h r Own refl refl
+      (sym (unlinked_right q (kind_of (state_of states a) r) rule)) n in
+      let put : times_plain set 0 (with_queue s a.device q (unlinked entries m)).queues n
+      + plain_at q entries n
+      ≡ times_plain set 0 s.queues n + plain_at q (unlinked entries m) n =
+      plain_put set n s a.device q entries (unlinked entries m) there in
+      let before : plain_at q entries n ≡ 0 =
+      skips_here (Unlink r q) h q has.0 entries has.1 n in
+      let after : plain_at q (unlinked entries m) n ≡ 0 =
+      skips_here (Unlink r q) h q has.0 (unlinked entries m) has.1 n in
+      omega arith
+
 pub queued_rights : (set : Set) (states : States) (s : Shared) (a : Activation) (i : Instr)
     → Runs set states s a i → FreesSlot states s (Routine a)
     → {b : Activation} {queues : List (List (List ℕ))} {lists : List StartState}
     {actions : List Action} {full : Bool} → Queued s a i b queues lists actions full → (n : ℕ)
     → frame_rights states (Routine b) n
-    + times_waiting (record s { queues = queues; starts = lists }) n
-    ≡ frame_rights states (Routine a) n + times_waiting s n
+    + times_waiting set (record s { queues = queues; starts = lists }) n
+    ≡ frame_rights states (Routine a) n + times_waiting set s n
 queued_rights set states s a i h frees (inserts r q m entries reads there) n =
-    let gone : frame_rights states (Routine (next a)) n + (if nat_eq m n then 1 else 0)
-    ≡ frame_rights states (Routine a) n =
-    rights_given set states s a (Insert r q) h r m refl
-    (inserts_blank set states s a (Insert r q) h r q)
-    (gives_right (kind_of (state_of states a) r) _ h.obeys) reads n in
-    let put : times_queued (with_queue s a.device q (inserted entries m)).queues n
-    + times_in entries n
-    ≡ times_queued s.queues n + times_in (inserted entries m) n =
-    times_put s a.device q entries (inserted entries m) n there in
-    let pushed : times_in (entries ++ m ∷ []) n
-    ≡ times_in entries n + (if nat_eq m n then 1 else 0) = times_pushed entries m n in
-    omega arith
+    inserted_rights set states s a r q m entries h reads there (cancel_routine_of set a.driver q)
+    refl n
 queued_rights set states s a i h frees (removes r q label m entries there) n =
-    let won : frame_rights states (Routine (next (with_register a r (Ref m)))) n
-    ≡ frame_rights states (Routine a) n + (if nat_eq m n then 1 else 0) =
-    rights_taken set states s a (Remove r q label) h r m refl
-    (removes_own set states s a (Remove r q label) h r q label)
-    (free_removed _ _ (kind_of (state_of states a) r) h.obeys)
-    (all_at OperandFits h.routine.code a.position (Remove r q label) h.known.operands h.here) n in
-    let put : times_queued (with_queue s a.device q entries).queues n + times_in (m ∷ entries) n
-    ≡ times_queued s.queues n + times_in entries n =
-    times_put s a.device q (m ∷ entries) entries n there in
-    let first : times_in (m ∷ entries) n ≡ (if nat_eq m n then 1 else 0) + times_in entries n =
-    refl in
-    omega arith
+    removed_rights set states s a r q label m entries h there (cancel_routine_of set a.driver q)
+    refl n
 queued_rights set states s a i h frees (removes_none r q label there) n =
     let same : frame_rights states (Routine (at_label a label)) n
     ≡ frame_rights states (Routine a) n =
@@ -192,7 +397,7 @@ queued_rights set states s a i h frees (removes_none r q label there) n =
     (free_removed _ _ (kind_of (state_of states a) r) h.obeys) n in
     omega arith
 queued_rights set states s a i h frees (unlinks r q m entries reads there) n =
-    absurd (never_unlinks set states s a r q h)
+    unlinked_rights set states s a r q m entries h there n
 queued_rights set states s a i h frees (starts_packet r m start reads there) n =
     let gone : frame_rights states (Routine (next a)) n + (if nat_eq m n then 1 else 0)
     ≡ frame_rights states (Routine a) n =

@@ -1,9 +1,13 @@
 -- In every run of an accepted set frames see what they should, and no packet is touched after it
 -- has topped out.
-use Rattle.std.proofs.Common.{◌≡◌, ℕ, suc, ◌+◌, ◌-◌, ◌≤◌, ◌⊎◌, inl, inr, List, [], ◌∷◌, ◌++◌, length, take, Option, None, Some, refl, ap, sym, ◌∙◌, subst, arith, false}
+use Rattle.run_laws.proofs.States.NoViews.{is_deferred}
+use Rattle.run_laws.proofs.Holders.Walking.{walking_le, walking_last, walking_on, walking_from, walks_under}
+use Rattle.run_laws.proofs.Holders.Lent.{IsLent}
+use Rattle.model.specs.LocalRule.{is_hold}
+use Rattle.std.proofs.Common.{◌≡◌, ℕ, suc, ◌+◌, ◌-◌, ◌≤◌, ◌⊎◌, inl, inr, List, [], ◌∷◌, ◌++◌, length, take, Option, None, Some, refl, ap, sym, ◌∙◌, subst, arith, false, true}
 use Rattle.std.specs.Prelude.{slice_get}
 use Rattle.std.proofs.lemmas.Bool.{eq-eqb}
-use Rattle.model.specs.declared.set.Sort.TheVariants.{Dpc, StartIo}
+use Rattle.model.specs.declared.set.Sort.TheVariants.{Dpc, StartIo, Hold, Dispatch}
 use Rattle.model.specs.declared.status.Status.{Status}
 use Rattle.model.specs.declared.world.Activation.{Activation}
 use Rattle.model.specs.declared.world.CancelStep.{CancelStep}
@@ -13,38 +17,39 @@ use Rattle.model.specs.declared.world.Irql.TheVariants.{Passive, Dispatch as Dis
 use Rattle.model.specs.declared.world.Packet.{Packet}
 use Rattle.model.specs.declared.world.Thread.{Thread}
 use Rattle.model.specs.Effect.{Outcome, told_to, top_of}
-use Rattle.model.specs.Events.{Change, rooted, serves_request, standing, with_stack, with_thread, dpc_activation}
+use Rattle.model.specs.Events.{Change, rooted, serves_request, standing, with_stack, with_thread, dpc_activation, cancelling}
 use Rattle.model.specs.Run.{begun, frames_on}
-use Rattle.model.specs.Set.{Set}
+use Rattle.model.specs.Set.{Set, sort_of}
 use Rattle.model.specs.Trace.{Entry, Actor}
 use Rattle.model.specs.World.{Shared, World}
-use Rattle.run_laws.specs.Holder.{frame_walks, stack_sum, thread_sum}
+use Rattle.run_laws.specs.Holder.{frame_walks, all_walking, walking}
 use Rattle.run_laws.proofs.Holders.Counts.{Holding}
-use Rattle.run_laws.proofs.Holders.Sums.{Held, held, stack_append, stack_le, walked_if}
+use Rattle.run_laws.proofs.Holders.Sums.{Held, held, walked_if}
 use Rattle.run_laws.proofs.Lists.{last_split}
-use Rattle.run_laws.proofs.Live.Sees.{deferred_sort, Seen, AllSeen, seen_append, seen_below, seen_top, told_seen}
-use Rattle.run_laws.proofs.Live.Steps.{UnderLives, seen, touch_faults}
+use Rattle.run_laws.proofs.Live.Sees.{deferred_sort, Seen, AllSeen, seen_append, seen_below, seen_top, told_seen, lent_refers}
+use Rattle.run_laws.proofs.Live.Steps.{UnderLives, seen, touch_faults, ClaimsLive, EntriesLive}
 use Rattle.run_laws.proofs.Past.LivePackets.{find}
 use Rattle.run_laws.proofs.Past.Packets.{found}
-use Rattle.run_laws.proofs.Runs.Events.{StepsFrame, Happens, nothing, steps, issues, begins, begins_startio}
+use Rattle.run_laws.proofs.Runs.Events.{StepsFrame, Happens, nothing, steps, issues, begins, begins_startio, begins_cancel}
 use Rattle.run_laws.proofs.Runs.Threads.{frames_there, each_frames, idle_frames}
 use Rattle.run_laws.proofs.States.Entering.{begins_request, begins_dpc, startio_activation}
 use Rattle.run_laws.proofs.States.Frames.{IsGood}
-use Rattle.run_laws.proofs.States.Never.{keeps_below}
 use Rattle.run_laws.proofs.States.Rules.{States}
 use Rattle.run_laws.proofs.States.Standing.{Standing, on_top, startio_enters}
 use Rattle.run_laws.proofs.States.Told.{last_under}
 use Rattle.run_laws.proofs.Steps.Comes.{Cancels, takes_cancel, Comes, returns_status, cancels}
-use Rattle.run_laws.proofs.Steps.Below.{standing_is}
+use Rattle.run_laws.proofs.Steps.Below.{stood}
 use Rattle.run_laws.proofs.Steps.Faults.{fault_among, is_touch}
 
 -- the frames of every thread see what they should
 abbrev pub Sees : Set → States → World → Type 0
 Sees set states w = (t : ℕ) → AllSeen set states None (frames_on w t)
 
-pub sees_begun : (set : Set) (states : States) (threads : ℕ) → Sees set states (begun set threads).world
+pub sees_begun : (set : Set) (states : States) (threads : ℕ)
+    → Sees set states (begun set threads).world
 sees_begun set states threads =
-    λ t. subst (λ (frames : List Frame). AllSeen set states None frames) (sym (idle_frames threads t)) tt
+    λ t. subst (λ (frames : List Frame). AllSeen set states None frames)
+    (sym (idle_frames threads t)) tt
 
 -- the frame below is the last one of those below
 last_is : (f : Frame) (below : List Frame) → last_under (Some f) below ≡ top_of (f ∷ below)
@@ -57,40 +62,59 @@ pub last_is_top : (below : List Frame) → last_under None below ≡ top_of belo
 last_is_top [] = refl
 last_is_top (f ∷ below) = last_is f below
 
--- the packet of the I/O manager's frame below is live
-pub walk_counts : (threads : List Thread) (t : ℕ) (thread : Thread) (below : List Frame) (f : Frame)
-    (n : ℕ)
-    → slice_get threads t ≡ Some thread → thread.frames.items ≡ below ++ f ∷ []
-    → top_of below ≡ Some (Walk n)
-    → 1 ≤ thread_sum (λ g. frame_walks g n) threads
-walk_counts threads t thread below f n there frames top =
-    let count : Frame → ℕ = λ g. frame_walks g n in
-    let all : stack_sum count thread.frames.items ≤ thread_sum count threads =
-    stack_le count threads t thread there in
-    let parts : stack_sum count thread.frames.items ≡ stack_sum count below + stack_sum count (f ∷ []) =
-    ap (stack_sum count) frames ∙ stack_append count below (f ∷ []) in
+-- the packet of the I/O manager's frame below is live, if it isn't lent
+pub walk_counts : (set : Set) (threads : List Thread) (t : ℕ) (thread : Thread) (below : List Frame)
+    (a : Activation) (n : ℕ)
+    → slice_get threads t ≡ Some thread → thread.frames.items ≡ below ++ Routine a ∷ []
+    → top_of below ≡ Some (Walk n) → is_hold (sort_of set a.driver a.routine) ≡ false
+    → 1 ≤ all_walking set threads n
+walk_counts set threads t thread below a n there frames top free =
+    let all : walking set thread.frames.items n ≤ all_walking set threads n =
+    walking_le set threads t thread n there in
+    let same : walking set thread.frames.items n ≡ walking set (below ++ Routine a ∷ []) n =
+    ap (λ (items : List Frame). walking set items n) frames in
     let others : List Frame = take (length below - 1) below in
-    let last : stack_sum count below ≡ stack_sum count others + stack_sum count (Walk n ∷ []) =
-    ap (stack_sum count) (last_split below (Walk n) top) ∙ stack_append count others (Walk n ∷ []) in
-    let one : stack_sum count (Walk n ∷ []) ≡ 1 = rw (eq-eqb n n refl) refl in
+    let split : below ≡ others ++ Walk n ∷ [] = last_split below (Walk n) top in
+    let last : frame_walks (Walk n) n ≤ walking set (others ++ Walk n ∷ []) n =
+    walking_last set others (Walk n) n in
+    let one : frame_walks (Walk n) n ≡ 1 = rw (eq-eqb n n refl) refl in
+    let below_is : walking set below n ≡ walking set (others ++ Walk n ∷ []) n =
+    ap (λ (items : List Frame). walking set items n) split in
+    let on : walking set (below ++ Routine a ∷ []) n + walks_under (top_of below) n
+    ≡ walking set below n + walking_from set (top_of below) (Routine a ∷ []) n =
+    walking_on set below (Routine a ∷ []) n in
+    let under : walks_under (top_of below) n ≡ 1 = rw top one in
+    let from : 1 ≤ walking_from set (top_of below) (Routine a ∷ []) n =
+    rw (top, free) (rw one (omega arith)) in
     omega arith
 
-under_lives : (states : States) (w : World) (t : ℕ) (thread : Thread) (below : List Frame) (f : Frame)
-    (o : Option Frame) → Held states w → slice_get w.threads t ≡ Some thread
-    → thread.frames.items ≡ below ++ f ∷ [] → top_of below ≡ o → UnderLives w.shared o
-under_lives states w t thread below f None kept there frames top = tt
-under_lives states w t thread below f (Some (Routine b)) kept there frames top = tt
-under_lives states w t thread below f (Some (CancelFrame c)) kept there frames top = tt
-under_lives states w t thread below f (Some (Walk n)) kept there frames top =
-    λ gone.
-    let some : 1 ≤ thread_sum (λ g. frame_walks g n) w.threads =
-    walk_counts w.threads t thread below f n there frames top in
-    let all : thread_sum (λ g. frame_walks g n) w.threads ≡ held (find w.shared.packets n) =
-    kept.walks n in
+under_lives : (set : Set) (states : States) (w : World) (t : ℕ) (thread : Thread)
+    (below : List Frame) (f : Frame) (o : Option Frame) → Held set states w
+    → slice_get w.threads t ≡ Some thread → thread.frames.items ≡ below ++ f ∷ []
+    → top_of below ≡ o → UnderLives set w.shared o f
+under_lives set states w t thread below (Routine a) (Some (Walk n)) kept there frames top =
+    λ free gone.
+    let some : 1 ≤ all_walking set w.threads n =
+    walk_counts set w.threads t thread below a n there frames top free in
+    let all : all_walking set w.threads n ≡ held (find w.shared.packets n) = kept.walks n in
     let its : (p : Packet) × (find w.shared.packets n ≡ Some p) × _ =
     walked_if (find w.shared.packets n) (omega arith) in
     let no : None ≡ Some its.0 = sym (found w.shared n None gone) ∙ its.1 in
     cc
+under_lives set states w t thread below (Routine a) None kept there frames top = tt
+under_lives set states w t thread below (Routine a) (Some (Routine b)) kept there frames top = tt
+under_lives set states w t thread below (Routine a) (Some (CancelFrame c)) kept there frames top =
+    tt
+under_lives set states w t thread below (Walk m) None kept there frames top = tt
+under_lives set states w t thread below (Walk m) (Some (Routine b)) kept there frames top = tt
+under_lives set states w t thread below (Walk m) (Some (Walk n)) kept there frames top = tt
+under_lives set states w t thread below (Walk m) (Some (CancelFrame c)) kept there frames top = tt
+under_lives set states w t thread below (CancelFrame c) None kept there frames top = tt
+under_lives set states w t thread below (CancelFrame c) (Some (Routine b)) kept there frames top =
+    tt
+under_lives set states w t thread below (CancelFrame c) (Some (Walk n)) kept there frames top = tt
+under_lives set states w t thread below (CancelFrame c) (Some (CancelFrame d)) kept there frames top =
+    tt
 
 -- where something is told, no frame stands in place of the one that ran; IoCancelIrp tells nothing
 cancel_tells : (set : Set) (s : Shared) (t n : ℕ) (step : CancelStep) (o : Outcome)
@@ -106,44 +130,56 @@ told_or_on set s t under f o (cancels n step made moves) =
     inl (cancel_tells set s t n step made moves)
 told_or_on set s t under f o _ = inl refl
 
-frames_seen : (set : Set) (states : States) (below : List Frame) (told : Option Status) (frames : List Frame)
-    → (told ≡ None) ⊎ (frames ≡ []) → AllSeen set states None below → AllSeen set states (last_under None below) frames
+frames_seen : (set : Set) (states : States) (below : List Frame) (told : Option Status)
+    (frames : List Frame)
+    → (told ≡ None) ⊎ (frames ≡ []) → AllSeen set states None below
+    → AllSeen set states (last_under None below) frames
     → AllSeen set states None (told_to set below told ++ frames)
-frames_seen set states below told frames (inl none) h new = rw none (seen_append set states None below frames h new)
+frames_seen set states below told frames (inl none) h new =
+    rw none (seen_append set states None below frames h new)
 frames_seen set states below told frames (inr none) h new =
-    rw none (seen_append set states None (told_to set below told) [] (told_seen set states None told below h) tt)
+    rw none (seen_append set states None (told_to set below told) []
+    (told_seen set states None told below h) tt)
 
 module _ (set : Set) (states : States) (w : World) (past : List Entry) (good : IsGood set states)
     (stands : Standing set states w past) (sees : Sees set states w) where
   -- the frame that steps sees what it stands on
   top_seen : (t : ℕ) (h : StepsFrame set w t) → AllSeen set states None (h.below ++ h.frame ∷ [])
   top_seen t h =
-      subst (λ (frames : List Frame). AllSeen set states None frames) (frames_there w t h.thread h.found
+      subst (λ (frames : List Frame). AllSeen set states None frames)
+      (frames_there w t h.thread h.found
       ∙ h.frames) (sees t)
 
   sees_put : (t : ℕ) (s : Shared) (thread after : Thread) → slice_get w.threads t ≡ Some thread
       → AllSeen set states None after.frames.items → Sees set states (with_thread w t s after)
   sees_put t s thread after there new =
-      each_frames w t s after (λ k frames. AllSeen set states None frames) thread there new (λ k apart. sees k)
+      each_frames w t s after (λ k frames. AllSeen set states None frames) thread there new
+      (λ k apart. sees k)
 
   -- an event keeps it
-  pub sees_event : (t : ℕ) (c : Change) → Happens set w t false c → Sees set states c.world
+  pub sees_event : (t : ℕ) (c : Change) → Happens set w t c → Sees set states c.world
   sees_event t c (nothing reply right) = sees
   sees_event t c (steps h) =
       let o : Outcome = h.outcome in
       let here : AllSeen set states None (h.below ++ h.frame ∷ []) = top_seen t h in
       let new : AllSeen set states (last_under None h.below) o.frames =
       seen set states w.shared t (last_under None h.below) (top_of h.below) h.frame o
-      (on_top set states w past good stands t h) (seen_top set states None h.below (h.frame ∷ []) here).0
+      (on_top set states w past good stands t h) (seen_top set states None h.below (h.frame ∷ [])
+      here).0
       h.comes in
       sees_put t o.shared h.thread (with_stack h.thread (standing set h.below o)) h.found
-      (subst (λ (frames : List Frame). AllSeen set states None frames)
-      (sym (standing_is set w.shared t (top_of h.below) h.frame o h.below h.comes
-      (keeps_below set states w.shared t (top_of h.below) h.frame o
-      (on_top set states w past good stands t h) h.comes)))
-      (frames_seen set states h.below o.told o.frames
-      (told_or_on set w.shared t (top_of h.below) h.frame o h.comes)
-      (seen_below set states None h.below (h.frame ∷ []) here) new))
+      (elim (stood set w.shared t h.below h.frame o h.comes) [
+        | inl is ↦
+            subst (λ (frames : List Frame). AllSeen set states None frames) (sym is)
+            (frames_seen set states h.below o.told o.frames
+            (told_or_on set w.shared t (top_of h.below) h.frame o h.comes)
+            (seen_below set states None h.below (h.frame ∷ []) here) new)
+        | inr stops ↦
+            subst (λ (frames : List Frame). AllSeen set states None frames) (sym stops.stands)
+            (seen_below set states None stops.others (Walk stops.n ∷ [])
+            (subst (λ (frames : List Frame). AllSeen set states None frames) stops.below_is
+            (seen_below set states None h.below (h.frame ∷ []) here)))
+      ])
   sees_event t c (issues h) =
       sees_put t c.world.shared h.thread
       (rooted h.thread Passive (serves_request set h.d h.device h.major w.shared.issued))
@@ -160,6 +196,8 @@ module _ (set : Set) (states : States) (w : World) (past : List Entry) (good : I
             (begins_dpc set states good w.shared.issued h.d h.routine h.there).of_sort refl),
         tt,
       )
+  sees_event t c (begins_cancel h) =
+      sees_put t w.shared h.thread (cancelling h.thread h.level h.n) h.found (tt, tt)
   sees_event t c (begins_startio h) =
       let a : Activation = startio_activation set h.d h.routine h.n in
       sees_put t c.world.shared h.thread (rooted h.thread DispatchLevel a) h.found (
@@ -169,18 +207,47 @@ module _ (set : Set) (states : States) (w : World) (past : List Entry) (good : I
       )
 
   -- and touches live packets alone
-  pub touches_none : (actor : Actor) (c : Change) → Held states w
-      → ((h : StepsFrame set w actor.thread) → Holding states w.shared past h.frame)
-      → Happens set w actor.thread false c → fault_among is_touch past actor c.actions ≡ None
-  touches_none actor c kept holding (nothing reply right) = refl
-  touches_none actor c kept holding (issues h) = refl
-  touches_none actor c kept holding (begins h) = refl
-  touches_none actor c kept holding (begins_startio h) = refl
-  touches_none actor c kept holding (steps h) =
+  pub touches_none : (actor : Actor) (c : Change) → Held set states w
+      → ((h : StepsFrame set w actor.thread) → Holding set states w.shared past h.frame)
+      → ((h : StepsFrame set w actor.thread) → ClaimsLive states w.shared h.frame)
+      → EntriesLive w.shared
+      → Happens set w actor.thread c → fault_among is_touch past actor c.actions ≡ None
+  touches_none actor c kept holding claims entries_live (nothing reply right) = refl
+  touches_none actor c kept holding claims entries_live (issues h) = refl
+  touches_none actor c kept holding claims entries_live (begins h) = refl
+  touches_none actor c kept holding claims entries_live (begins_startio h) = refl
+  touches_none actor c kept holding claims entries_live (begins_cancel h) = refl
+  touches_none actor c kept holding claims entries_live (steps h) =
       touch_faults set states w.shared past actor (top_of h.below) h.frame h.outcome stands.tells
       (on_top set states w past good stands actor.thread h) (holding h)
       (subst (λ (under : Option Frame). Seen set states under h.frame) (last_is_top h.below)
       (seen_top set states None h.below (h.frame ∷ []) (top_seen actor.thread h)).0)
-      (under_lives states w actor.thread h.thread h.below h.frame (top_of h.below) kept h.found
+      (under_lives set states w actor.thread h.thread h.below h.frame (top_of h.below) kept h.found
       h.frames refl)
-      h.comes
+      (claims h) entries_live h.comes
+
+-- a completion routine that is lent a packet was handed that of the I/O manager's frame below it
+module _ (set : Set) (states : States) where
+  seen_lent : (under : Option Frame) (f : Frame) → Seen set states under f
+      → IsLent set states under f
+  seen_lent under (Walk n) h = tt
+  seen_lent under (CancelFrame c) h = tt
+  seen_lent None (Routine a) h =
+      λ is. absurd (elim h [
+        | inl other ↦ let no : Hold ≡ Dispatch = sym is ∙ other in cc
+        | inr deferred ↦ let no : false ≡ true = sym (ap is_deferred is) ∙ deferred in cc
+      ])
+  seen_lent (Some (Routine b)) (Routine a) h =
+      λ is. (let no : Hold ≡ Dispatch = sym is ∙ h in cc)
+  seen_lent (Some (Walk n)) (Routine a) h = λ is. (n, refl, lent_refers set states n a h.1)
+  seen_lent (Some (CancelFrame c)) (Routine a) h = absurd h
+
+  pub top_lent : (w : World) → Sees set states w → (t : ℕ) (h : StepsFrame set w t)
+      → IsLent set states (top_of h.below) h.frame
+  top_lent w sees t h =
+      subst (λ (under : Option Frame). IsLent set states under h.frame) (last_is_top h.below)
+      (seen_lent (last_under None h.below) h.frame
+      (seen_top set states None h.below (h.frame ∷ [])
+      (subst (λ (frames : List Frame). AllSeen set states None frames)
+      (frames_there w t h.thread h.found
+      ∙ h.frames) (sees t))).0)

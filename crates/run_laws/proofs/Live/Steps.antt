@@ -1,13 +1,17 @@
 -- Each step keeps what frames see, and touches live packets alone: a register that has a packet has
 -- the right to it, or refers to the packet of the I/O manager's frame below, and that frame holds
 -- its packet.
-use Rattle.std.proofs.Common.{◌+◌, ◌≤◌, ◌≡◌, ℕ, ◌-◌, ◌<◌, List, [], ◌∷◌, ◌++◌, Option, None, Some, Bool, true, false, refl, ap, sym, ◌∙◌, subst, inl, inr, arith}
+use Rattle.model.specs.declared.instr.Return.TheVariants.{Continue}
+use Rattle.run_laws.proofs.States.Cancelled.{begins_called}
+use Rattle.model.specs.declared.world.CancelStep.{CancelStep}
+use Rattle.run_laws.proofs.Holders.Lent.{back_unheld, hold_sort}
+use Rattle.std.proofs.Common.{◌+◌, ◌≤◌, ◌≡◌, ℕ, ◌-◌, ◌<◌, List, [], ◌∷◌, ◌++◌, Option, None, Some, Bool, true, false, refl, ap, sym, ◌∙◌, subst, inl, inr, arith, ◌⊎◌, Continue, slice_get}
 use Rattle.std.specs.Prelude.{⊤, nat_lt}
-use Rattle.std.proofs.lemmas.Bool.{eq-eqb, cond_both}
+use Rattle.std.proofs.lemmas.Bool.{eq-eqb, cond_both, cases_Bool}
 use Rattle.model.specs.declared.abs.Kind.{Kind}
 use Rattle.model.specs.declared.abs.Kind.TheVariants.{Blank as BlankKind, Num as NumKind, Lower as LowerKind, New, Own, Listed, Armed, Taken, Cancelling, View}
 use Rattle.model.specs.declared.instr.Instr.{Instr}
-use Rattle.model.specs.declared.set.Sort.TheVariants.{Dispatch}
+use Rattle.model.specs.declared.set.Sort.TheVariants.{Dispatch, Hold, Cancel}
 use Rattle.model.specs.declared.world.Activation.{Activation}
 use Rattle.model.specs.declared.world.Frame.{Frame}
 use Rattle.model.specs.declared.world.Frame.TheVariants.{Routine, Walk, Cancel as CancelFrame}
@@ -19,27 +23,25 @@ use Rattle.model.specs.declared.event.Bug.{Bug}
 use Rattle.model.specs.declared.event.BugCheck.TheVariants.{IrqlNotLessOrEqual}
 use Rattle.model.specs.declared.event.Subject.TheVariants.{Packet as PacketSubject}
 use Rattle.model.specs.Action.{Executes, Action, Touches}
-use Rattle.model.specs.Effect.{completes_with, Outcome, asks, turned}
+use Rattle.model.specs.Effect.{completes_with, Outcome, asks, turned, routine_of_device}
 use Rattle.model.specs.Fault.{bug_if, fault_of, first_or}
-use Rattle.model.specs.LocalRule.{kind_of}
-use Rattle.model.specs.Kinds.{is_packet, is_right, is_view}
+use Rattle.model.specs.LocalRule.{kind_of, is_hold}
+use Rattle.model.specs.Kinds.{is_packet, is_right, is_view, is_new, is_exchanged}
 use Rattle.model.specs.Set.{flow_of, Set, lower_of, member, sort_of}
 use Rattle.model.specs.Trace.{Entry, Actor}
-use Rattle.model.specs.World.{Shared, asked_of, at_label, current_location, next, outer_loops, packet_of, packet_in, register, with_loops}
+use Rattle.model.specs.World.{Shared, asked_of, at_label, current_location, next, outer_loops, packet_of, packet_in, register, with_loops, queue_of, entered}
 use Rattle.run_laws.proofs.Holders.Counts.{Holding, right_lives, walk_lives}
-use Rattle.run_laws.proofs.Live.Sees.{begins_views, view_refers, Views, RefersTo, Seen, AllSeen, IsDeferred}
-use Rattle.run_laws.proofs.States.Never.{never_stands}
-use Rattle.run_laws.proofs.States.NoViews.{deferred_no_view, handed_views, is_queued, HasNoView, no_view_at, dispatch_no_view}
+use Rattle.run_laws.proofs.Live.Sees.{view_refers, Views, RefersTo, Seen, AllSeen, IsDeferred, News, propagate_sees, hold_sees, lent_refers, deferred_sort}
+use Rattle.run_laws.proofs.States.NoViews.{deferred_no_view, handed_views, HasNoView, no_view_at, dispatch_no_view, handed_news, hold_no_view}
 use Rattle.run_laws.proofs.Past.Packets.{Tells, found, named, untopped}
-use Rattle.run_laws.proofs.States.Entering.{begins_back, IsOfSort, begins_lower, sort_there}
+use Rattle.run_laws.proofs.States.Entering.{begins_back, IsOfSort, begins_lower, sort_there, begins_lent}
 use Rattle.run_laws.proofs.States.Frames.{Runs, state_of}
 use Rattle.run_laws.proofs.States.Kinds.{packet_ref, packet_wanted}
 use Rattle.run_laws.proofs.States.Lacking.{never_lacks}
-use Rattle.run_laws.proofs.States.OnTop.{OnTop, never_listed, runs, value_suits}
+use Rattle.run_laws.proofs.States.OnTop.{OnTop, runs, value_suits}
 use Rattle.run_laws.proofs.States.Rules.{States}
-use Rattle.run_laws.proofs.Steps.Comes.{removes_none, removes, inserts, starts_packet, takes_out, takes_none, puts_in, starts_next, unlinks, Queued, GoesTo, onward, jumping, Executing, Reads, Comes, errs, awaits_lock, computes, opens_loop, turns_loop, pages, touches_gone, looks_at, writes_info, marks_packet, exchanges, takes_lock, retakes_lock, frees_lock, completes_packet, completes_gone, passes_down, calls_down, returns_status, lets_go, lets_walk, resumes_walk, resumes_gone, resumes_none, stops_walk, stops_none, walks_gone, walks_to, lends_to, walks_up, carries_up, tops_out, ends_dpc, ends_cancel, works_on_queues, ends_startio, cancels}
+use Rattle.run_laws.proofs.Steps.Comes.{removes_none, removes, inserts, starts_packet, takes_out, takes_none, puts_in, starts_next, unlinks, Queued, GoesTo, onward, jumping, Executing, Reads, Comes, errs, awaits_lock, computes, opens_loop, turns_loop, pages, touches_gone, looks_at, writes_info, marks_packet, exchanges, takes_lock, retakes_lock, frees_lock, completes_packet, completes_gone, passes_down, calls_down, returns_status, lets_go, lets_walk, resumes_walk, resumes_gone, resumes_none, stops_walk, stops_none, walks_gone, walks_to, lends_to, walks_up, carries_up, tops_out, ends_dpc, ends_cancel, works_on_queues, ends_startio, cancels, Cancels, takes_cancel, retakes_cancel, awaits_cancel, sets_flag, calls_cancel}
 use Rattle.run_laws.proofs.Steps.Faults.{fault_among, is_touch}
-use Rattle.run_laws.proofs.Steps.Uncancelled.{never_lends}
 use Rattle.run_laws.proofs.Steps.Words.{packet_operand}
 use Rattle.run_laws.proofs.States.Moves.{falls_next, has_next}
 use Rattle.run_laws.proofs.States.HandedOver.{queued_hold, touching_copies, next_hold, keeps_copies, copies, goes_hold}
@@ -47,25 +49,26 @@ use Rattle.run_laws.proofs.Steps.Locking.{freed_word, taken_word, LockWord}
 use Rattle.run_laws.proofs.States.LoopEnds.{moved_end, moved_loop}
 use Rattle.model.specs.declared.set.Sort.{Sort}
 use Rattle.model.specs.Queues.{StartState}
-use Rattle.model.specs.declared.instr.Instr.TheVariants.{Begin, Call, Pass, Complete, Mark, Insert, Put, End, Loop, Start, Unlink}
+use Rattle.model.specs.declared.instr.Instr.TheVariants.{Begin, Call, Pass, Complete, Mark, Insert, Put, End, Loop, Start, Unlink, Ret}
 use Rattle.run_laws.proofs.Holders.Sums.{own_if, unheld}
 use Rattle.run_laws.proofs.Past.LivePackets.{find}
-use Rattle.run_laws.specs.Holder.{frame_rights, times_queued, times_waiting, times_in}
+use Rattle.run_laws.specs.Holder.{times_in}
 use Rattle.run_laws.proofs.States.Queueing.{queue_moves, MovedOn}
-use Rattle.run_laws.proofs.Holders.Queued.{times_le}
 
 -- a routine that goes on sees what it saw
 goes_seen : (set : Set) (states : States) (under : Option Frame) (a b : Activation)
     → b.driver ≡ a.driver → b.routine ≡ a.routine
-    → ((m : ℕ) → Views states m a → Views states m b) → Seen set states under (Routine a)
-    → Seen set states under (Routine b)
-goes_seen set states None a b driver routine views h =
+    → ((m : ℕ) → Views states m a → Views states m b)
+    → ((m : ℕ) → News states m a → News states m b)
+    → Seen set states under (Routine a) → Seen set states under (Routine b)
+goes_seen set states None a b driver routine views news h =
     elim h [ inl is ↦ inl (rw (driver, routine) is) | inr is ↦ inr (rw (driver, routine) is) ]
-goes_seen set states (Some (Routine c)) a b driver routine views h = rw (driver, routine) h
-goes_seen set states (Some (Walk m)) a b driver routine views h = views m h
-goes_seen set states (Some (CancelFrame c)) a b driver routine views h = h
+goes_seen set states (Some (Routine c)) a b driver routine views news h = rw (driver, routine) h
+goes_seen set states (Some (Walk m)) a b driver routine views news h = (views m h.0, news m h.1)
+goes_seen set states (Some (CancelFrame c)) a b driver routine views news h = h
 
-walk_seen : (set : Set) (states : States) (under : Option Frame) (n : ℕ) → Seen set states under (Walk n)
+walk_seen : (set : Set) (states : States) (under : Option Frame) (n : ℕ)
+    → Seen set states under (Walk n)
 walk_seen set states None n = tt
 walk_seen set states (Some (Routine a)) n = tt
 walk_seen set states (Some (Walk m)) n = tt
@@ -96,7 +99,10 @@ module _ (set : Set) (states : States) (s : Shared) where
       → Seen set states under (Routine (next a))
   next_seen under a i run leads plain h =
       goes_seen set states under a (next a) refl refl
-      (λ m views. next_hold is_view handed_views (RefersTo m) set states s a tt i run leads plain views) h
+      (λ m views. next_hold is_view handed_views (RefersTo m) set states s a tt i run leads plain
+      views)
+      (λ m news. next_hold is_new handed_news (RefersTo m) set states s a tt i run leads plain news)
+      h
 
   moves_seen : (under : Option Frame) (a : Activation) (i : Instr) (b : Activation) (jumped : Bool)
       → Runs set states s a i → GoesTo a i b jumped
@@ -104,15 +110,19 @@ module _ (set : Set) (states : States) (s : Shared) where
   moves_seen under a i b jumped run goes h =
       let same : (b.driver ≡ a.driver) × (b.routine ≡ a.routine) = goes_same a i b jumped goes in
       goes_seen set states under a b same.0 same.1
-      (λ m views. goes_hold is_view handed_views (RefersTo m) set states s a tt i b jumped run goes views)
-      h
+      (λ m views. goes_hold is_view handed_views (RefersTo m) set states s a tt i b jumped run goes
+      views)
+      (λ m news. goes_hold is_new handed_news (RefersTo m) set states s a tt i b jumped run goes
+      news) h
 
   -- the same values in registers of the same kinds
-  same_seen : (under : Option Frame) (a b : Activation) → b.driver ≡ a.driver → b.routine ≡ a.routine
+  same_seen : (under : Option Frame) (a b : Activation) → b.driver ≡ a.driver
+      → b.routine ≡ a.routine
       → state_of states b ≡ state_of states a → b.registers ≡ a.registers
       → Seen set states under (Routine a) → Seen set states under (Routine b)
   same_seen under a b driver routine state registers h =
-      goes_seen set states under a b driver routine (λ m views. rw (state, registers) views) h
+      goes_seen set states under a b driver routine (λ m views. rw (state, registers) views)
+      (λ m news. rw (state, registers) news) h
 
   lock_seen : (under : Option Frame) (a : Activation) (i : Instr) → OnTop set states s (Routine a)
       → Executing set a i → LockWord i → Seen set states under (Routine a)
@@ -135,6 +145,28 @@ module _ (set : Set) (states : States) (s : Shared) where
     ),
   )
 
+  -- a step of IoCancelIrp: its frame stands on none, and a cancel routine's in its place
+  cancels_seen : (t : ℕ) (under : Option Frame) (n : ℕ) (step : CancelStep) (o : Outcome)
+      → OnTop set states s (CancelFrame (record { packet = n; next = step }))
+      → Seen set states under (CancelFrame (record { packet = n; next = step }))
+      → Cancels set s t n step o → AllSeen set states under o.frames
+  cancels_seen t (Some g) n step o h sees moves = absurd sees
+  cancels_seen t None n step o h sees (calls_cancel p armer routine there word named) = (
+    inr (deferred_sort set
+        (entered (routine_of_device (slice_get set.devices armer.device)) routine armer.device
+        (Ref n))
+        Cancel
+        (begins_called set states s h.good h.fits n p armer routine h.stands there word
+        named).of_sort
+        refl),
+    tt,
+  )
+  cancels_seen t None n step o h sees (takes_cancel free) = (tt, tt)
+  cancels_seen t None n step o h sees (retakes_cancel its) = (tt, tt)
+  cancels_seen t None n step o h sees (awaits_cancel owner owned other) = (tt, tt)
+  cancels_seen t None n step o h sees (sets_flag p there) = (tt, tt)
+  cancels_seen t None n step o h sees _ = tt
+
   -- every shape
   pub seen : (t : ℕ) (under top : Option Frame) (f : Frame) (o : Outcome) → OnTop set states s f
       → Seen set states under f
@@ -151,7 +183,8 @@ module _ (set : Set) (states : States) (s : Shared) where
   seen t under top f o h sees (turns_loop a l at inner) =
       let same : Turns a (turned a l) = turned_same a l in (
         same_seen under a (turned a l) same.driver same.routine
-            (moved_end set states s a (runs set states s a End h at) l inner).arrives same.registers sees,
+            (moved_end set states s a (runs set states s a End h at) l inner).arrives same.registers
+            sees,
         tt,
       )
   seen t under top f o h sees (pages a i b cell cells at work goes long) =
@@ -180,22 +213,29 @@ module _ (set : Set) (states : States) (s : Shared) where
       let run : Runs set states s a i = runs set states s a i h at in
       let on : MovedOn set states s a i b queues starts = queue_moves set states s a i run queued in (
         goes_seen set states under a b on.moved.driver on.moved.routine
-            (λ m views. queued_hold is_view handed_views (RefersTo m) set states s a i tt run queued views)
+            (λ m views. queued_hold is_view handed_views (RefersTo m) set states s a i tt run queued
+            views)
+            (λ m news. queued_hold is_new handed_news (RefersTo m) set states s a i tt run queued
+            news)
             sees,
         tt,
       )
   seen t under top f o h sees (completes_packet a r status n p at reads there) = (
-    next_seen under a (Complete r status) (runs set states s a (Complete r status) h at) refl refl sees,
+    next_seen under a (Complete r status) (runs set states s a (Complete r status) h at) refl refl
+        sees,
     (tt, tt),
   )
   seen t under top f o h sees (completes_gone a r status n at reads gone) = (
-    next_seen under a (Complete r status) (runs set states s a (Complete r status) h at) refl refl sees,
+    next_seen under a (Complete r status) (runs set states s a (Complete r status) h at) refl refl
+        sees,
     tt,
   )
   seen t under top f o h sees (passes_down a r n p lower at reads there below) =
-      asks_seen under a (Pass r) lower n p h at refl refl (named s (register a r) n reads) below sees
+      asks_seen under a (Pass r) lower n p h at refl refl (named s (register a r) n reads) below
+      sees
   seen t under top f o h sees (calls_down a r completion n p lower at reads there below) =
-      asks_seen under a (Call r completion) lower n p h at refl refl (named s (register a r) n reads) below sees
+      asks_seen under a (Call r completion) lower n p h at refl refl
+      (named s (register a r) n reads) below sees
   seen t under top f o h sees (returns_status a form status at sort is) = tt
   seen t under top f o h sees (lets_go a at sort free) = tt
   seen t under top f o h sees (lets_walk a n at sort) = tt
@@ -211,38 +251,59 @@ module _ (set : Set) (states : States) (s : Shared) where
   seen t under top f o h sees (walks_to n p c there set_there lends) = (
     walk_seen set states under n,
     (
-      begins_views set states s.issued (completes_with set c n) n
-          (begins_back set states s h.good h.fits n p c h.stands there set_there),
+      propagate_sees set states s.issued (completes_with set c n) n
+          (begins_back set states s h.good h.fits n p c h.stands there set_there lends),
       tt,
     ),
   )
-  seen t under top f o h sees (lends_to n p c there set_there lends) =
-      absurd (never_lends h.good.quiet c lends)
-  seen t under top f o h sees (cancels n step made moves) = absurd (never_stands set states s _ h)
-  seen t under top f o h sees (walks_up n p there none more unmarked) = (walk_seen set states under n, tt)
-  seen t under top f o h sees (carries_up n p there none more marked) = (walk_seen set states under n, tt)
+  seen t under top f o h sees (lends_to n p c there set_there lends) = (
+    walk_seen set states under n,
+    (
+      hold_sees set states s.issued (completes_with set c n) n
+          (begins_lent set states s h.good h.fits n p c h.stands there set_there lends),
+      tt,
+    ),
+  )
+  seen t under top f o h sees (cancels n step made moves) =
+      cancels_seen t under n step o h sees moves
+  seen t under top f o h sees (walks_up n p there none more unmarked) =
+      (walk_seen set states under n, tt)
+  seen t under top f o h sees (carries_up n p there none more marked) =
+      (walk_seen set states under n, tt)
   seen t under top f o h sees (tops_out n p there none last) = tt
 
--- a packet in a register that has no right to it is on its way up
-only_view : (k : Kind) → is_queued k ≡ false → is_packet k ≡ true → is_right k ≡ false
-    → is_view k ≡ true
-only_view View unlisted is free = refl
-only_view New unlisted is free = cc
-only_view Own unlisted is free = cc
-only_view BlankKind unlisted is free = cc
-only_view NumKind unlisted is free = cc
-only_view LowerKind unlisted is free = cc
-only_view (Listed name) unlisted is free = cc
-only_view (Armed name) unlisted is free = cc
-only_view (Taken name) unlisted is free = cc
-only_view (Cancelling name) unlisted is free = cc
+-- a packet in a register that has no right to it is on its way up, or may be cancelled
+only_view : (k : Kind) → is_packet k ≡ true → is_right k ≡ false
+    → (is_view k ≡ true) ⊎ (is_exchanged k ≡ true)
+only_view View is free = inl refl
+only_view (Armed name) is free = inr refl
+only_view (Taken name) is free = inr refl
+only_view New is free = cc
+only_view Own is free = cc
+only_view (Listed name) is free = cc
+only_view (Cancelling name) is free = cc
+only_view BlankKind is free = cc
+only_view NumKind is free = cc
+only_view LowerKind is free = cc
 
--- the packet of the I/O manager's frame below, if it is one, is live
-abbrev pub UnderLives : Shared → Option Frame → Type 0
-UnderLives s None = ⊤
-UnderLives s (Some (Routine b)) = ⊤
-UnderLives s (Some (Walk n)) = packet_of s n ≡ None → ⊥
-UnderLives s (Some (CancelFrame c)) = ⊤
+-- one that may be cancelled is live, and so is one that stands in a queue
+abbrev pub ClaimsLive : States → Shared → Frame → Type 0
+ClaimsLive states s (Routine a) =
+    (r n : ℕ) → is_exchanged (kind_of (state_of states a) r) ≡ true → register a r ≡ Ref n
+    → 1 ≤ unheld (find s.packets n)
+ClaimsLive states s (Walk n) = ⊤
+ClaimsLive states s (CancelFrame c) = ⊤
+
+abbrev pub EntriesLive : Shared → Type 0
+EntriesLive s =
+    (d q n : ℕ) (entries : List ℕ) → queue_of s d q ≡ Some entries → 1 ≤ times_in entries n
+    → 1 ≤ unheld (find s.packets n)
+
+-- the packet of the I/O manager's frame below, if it is one that didn't lend it, is live
+abbrev pub UnderLives : Set → Shared → Option Frame → Frame → Type 0
+UnderLives set s (Some (Walk n)) (Routine a) =
+    is_hold (sort_of set a.driver a.routine) ≡ false → packet_of s n ≡ None → ⊥
+UnderLives set s _ f = ⊤
 
 module _ (set : Set) (states : States) (s : Shared) (past : List Entry) where
   none_views : (a : Activation) (i : Instr) (r : ℕ) → Runs set states s a i
@@ -250,11 +311,13 @@ module _ (set : Set) (states : States) (s : Shared) (past : List Entry) where
   none_views a i r h none view =
       let no : true ≡ false = sym view ∙ no_view_at (state_of states a).kinds r none in cc
 
-  sort_is : (a : Activation) (i : Instr) (sort : Sort) → (h : Runs set states s a i) → IsOfSort set a sort
+  sort_is : (a : Activation) (i : Instr) (sort : Sort) → (h : Runs set states s a i)
+      → IsOfSort set a sort
       → h.routine.sort ≡ sort
   sort_is a i sort h is = sym (sort_there set a.driver a.routine h.routine h.stays.is_of) ∙ is
 
-  dispatch_views : (a : Activation) (i : Instr) (r : ℕ) → Runs set states s a i → IsOfSort set a Dispatch
+  dispatch_views : (a : Activation) (i : Instr) (r : ℕ) → Runs set states s a i
+      → IsOfSort set a Dispatch
       → is_view (kind_of (state_of states a) r) ≡ true → ⊥
   dispatch_views a i r h is view =
       none_views a i r h
@@ -269,11 +332,18 @@ module _ (set : Set) (states : States) (s : Shared) (past : List Entry) where
       (sort_of set a.driver a.routine) (sort_is a i (sort_of set a.driver a.routine) h refl) is
       (h.known.follows.arrives a.position h.stays.within)) view
 
+  hold_views : (a : Activation) (i : Instr) (r : ℕ) → Runs set states s a i → IsOfSort set a Hold
+      → is_view (kind_of (state_of states a) r) ≡ true → ⊥
+  hold_views a i r h is view =
+      none_views a i r h
+      (hold_no_view (member set a.driver a.routine h.routine) a.position (state_of states a)
+      (sort_is a i Hold h is) (h.known.follows.arrives a.position h.stays.within)) view
+
   refers_same : (m n : ℕ) (v : Value) → v ≡ Ref n → RefersTo m v → n ≡ m
   refers_same m n v is refers = subst (λ (x : Value). RefersTo m x) is refers
 
   view_lives : (under : Option Frame) (a : Activation) (i : Instr) (r n : ℕ) → Runs set states s a i
-      → Seen set states under (Routine a) → UnderLives s under
+      → Seen set states under (Routine a) → UnderLives set s under (Routine a)
       → is_view (kind_of (state_of states a) r) ≡ true
       → register a r ≡ Ref n → packet_of s n ≡ None → ⊥
   view_lives None a i r n h seen live view refers gone =
@@ -281,21 +351,35 @@ module _ (set : Set) (states : States) (s : Shared) (past : List Entry) where
         | inl is ↦ dispatch_views a i r h is view
         | inr is ↦ deferred_views a i r h is view
       ]
-  view_lives (Some (Routine b)) a i r n h seen live view refers gone = dispatch_views a i r h seen view
+  view_lives (Some (Routine b)) a i r n h seen live view refers gone =
+      dispatch_views a i r h seen view
   view_lives (Some (Walk m)) a i r n h seen live view refers gone =
       let same : n ≡ m =
-      refers_same m n (register a r) refers (view_refers states m a seen r view) in
-      live (ap (packet_of s) (sym same) ∙ gone)
+      refers_same m n (register a r) refers (view_refers states m a seen.0 r view) in
+      elim (cases_Bool (is_hold (sort_of set a.driver a.routine))) [
+        | inl holds ↦ absurd (hold_views a i r h (hold_sort (sort_of set a.driver a.routine) holds)
+            view)
+        | inr free ↦ live free (ap (packet_of s) (sym same) ∙ gone)
+      ]
   view_lives (Some (CancelFrame c)) a i r n h seen live view refers gone = seen
+
+  unheld_lives : (n : ℕ) → 1 ≤ unheld (find s.packets n) → packet_of s n ≡ None → ⊥
+  unheld_lives n some gone =
+      let own : (p : Packet) × (find s.packets n ≡ Some p) × (p.completing ≡ false) =
+      own_if (find s.packets n) some in
+      let no : None ≡ Some own.0 = sym (found s n None gone) ∙ own.1 in
+      cc
 
   -- the packet that an instruction works on
   operand_lives : (under : Option Frame) (a : Activation) (i : Instr) (r n : ℕ) (b : Bool)
-      → OnTop set states s (Routine a) → Holding states s past (Routine a) → Executing set a i
-      → Seen set states under (Routine a) → UnderLives s under → packet_operand i ≡ Some r → Reads s a r n
+      → OnTop set states s (Routine a) → Holding set states s past (Routine a) → Executing set a i
+      → Seen set states under (Routine a) → UnderLives set s under (Routine a)
+      → ClaimsLive states s (Routine a) → packet_operand i ≡ Some r → Reads s a r n
       → is_right (kind_of (state_of states a) r) ≡ b → packet_of s n ≡ None → ⊥
-  operand_lives under a i r n true h holding at seen live operand reads right gone =
-      right_lives states s past a holding (runs set states s a i h at).stays.kinds r n right reads gone
-  operand_lives under a i r n false h holding at seen live operand reads right gone =
+  operand_lives under a i r n true h holding at seen live claims operand reads right gone =
+      right_lives set states s past a holding (runs set states s a i h at).stays.kinds r n right
+      reads gone
+  operand_lives under a i r n false h holding at seen live claims operand reads right gone =
       let run : Runs set states s a i = runs set states s a i h at in
       let packet : is_packet (kind_of (state_of states a) r) ≡ true =
       packet_wanted (state_of states a) _ set a.driver i r run.obeys operand in
@@ -304,10 +388,11 @@ module _ (set : Set) (states : States) (s : Shared) (past : List Entry) where
       (value_suits set states s a i r run) in
       let both : Some ref.0 ≡ Some n = sym ref.2 ∙ reads in
       let same : ref.0 ≡ n = cc in
-      view_lives under a i r n run seen live
-      (only_view (kind_of (state_of states a) r) (never_listed set states s a i run r) packet
-      right)
-      (ref.1 ∙ ap (λ (m : ℕ). Ref m) same) gone
+      let refers : register a r ≡ Ref n = ref.1 ∙ ap (λ (m : ℕ). Ref m) same in
+      elim (only_view (kind_of (state_of states a) r) packet right) [
+        | inl view ↦ view_lives under a i r n run seen live view refers gone
+        | inr claimed ↦ unheld_lives n (claims r n claimed refers) gone
+      ]
 
   -- a packet that is there hasn't topped out
   touched_one : (actor : Actor) (n : ℕ) (p : Packet) → Tells s past → packet_of s n ≡ Some p
@@ -334,79 +419,106 @@ module _ (set : Set) (states : States) (s : Shared) (past : List Entry) where
       (untopped s past n own.0 tells own.1)
 
   queued_faults : (actor : Actor) (under : Option Frame) (a : Activation) (i : Instr)
-      → OnTop set states s (Routine a) → Holding states s past (Routine a)
-      → Seen set states under (Routine a) → UnderLives s under → Executing set a i
+      → OnTop set states s (Routine a) → Holding set states s past (Routine a)
+      → Seen set states under (Routine a) → UnderLives set s under (Routine a)
+      → ClaimsLive states s (Routine a) → EntriesLive s → Executing set a i
       → {b : Activation} {queues : List (List (List ℕ))} {lists : List StartState}
       {actions : List Action} {full : Bool} → Queued s a i b queues lists actions full
       → fault_among is_touch past actor (Executes ∷ actions) ≡ None
-  queued_faults actor under a i h holding seen live at (inserts r q n entries reads there) =
+  queued_faults actor under a i h holding seen live claims entries_live at
+      (inserts r q n entries reads there) =
       first_only _ (under_one actor n (packet_of s n) holding.tells refl
-      (operand_lives under a (Insert r q) r n _ h holding at seen live refl reads refl))
-  queued_faults actor under a i h holding seen live at (removes r q label n entries there) =
-      let le : times_in (n ∷ entries) n ≤ times_queued s.queues n =
-      times_le s a.device q (n ∷ entries) n there in
+      (operand_lives under a (Insert r q) r n _ h holding at seen live claims refl reads refl))
+  queued_faults actor under a i h holding seen live claims entries_live at
+      (removes r q label n entries there) =
       let one : times_in (n ∷ entries) n ≡ 1 + times_in entries n = rw (eq-eqb n n refl) refl in
-      let all : frame_rights states (Routine a) n + times_waiting s n ≤ unheld (find s.packets n) =
-      holding.waiting n in
-      first_only _ (queued_lives n holding.tells (omega arith) actor)
-  queued_faults actor under a i h holding seen live at (removes_none r q label there) = refl
-  queued_faults actor under a i h holding seen live at (unlinks r q n entries reads there) =
+      first_only _ (queued_lives n holding.tells
+      (entries_live a.device q n (n ∷ entries) there (omega arith)) actor)
+  queued_faults actor under a i h holding seen live claims entries_live at
+      (removes_none r q label there) = refl
+  queued_faults actor under a i h holding seen live claims entries_live at
+      (unlinks r q n entries reads there) =
       first_only _ (under_one actor n (packet_of s n) holding.tells refl
-      (operand_lives under a (Unlink r q) r n _ h holding at seen live refl reads refl))
-  queued_faults actor under a i h holding seen live at (starts_packet r n start reads there) =
+      (operand_lives under a (Unlink r q) r n _ h holding at seen live claims refl reads refl))
+  queued_faults actor under a i h holding seen live claims entries_live at
+      (starts_packet r n start reads there) =
       first_only _ (under_one actor n (packet_of s n) holding.tells refl
-      (operand_lives under a (Start r) r n _ h holding at seen live refl reads refl))
-  queued_faults actor under a i h holding seen live at (takes_out r label n start there slot) = refl
-  queued_faults actor under a i h holding seen live at (takes_none r label start there slot) = refl
-  queued_faults actor under a i h holding seen live at (puts_in r n start reads there) =
+      (operand_lives under a (Start r) r n _ h holding at seen live claims refl reads refl))
+  queued_faults actor under a i h holding seen live claims entries_live at
+      (takes_out r label n start there slot) = refl
+  queued_faults actor under a i h holding seen live claims entries_live at
+      (takes_none r label start there slot) = refl
+  queued_faults actor under a i h holding seen live claims entries_live at
+      (puts_in r n start reads there) =
       first_only _ (under_one actor n (packet_of s n) holding.tells refl
-      (operand_lives under a (Begin r) r n _ h holding at seen live refl reads refl))
-  queued_faults actor under a i h holding seen live at (starts_next start there) = refl
+      (operand_lives under a (Begin r) r n _ h holding at seen live claims refl reads refl))
+  queued_faults actor under a i h holding seen live claims entries_live at (starts_next start there) =
+      refl
+
+  -- a step of IoCancelIrp touches none
+  cancel_touches : (actor : Actor) (n : ℕ) (step : CancelStep) (o : Outcome)
+      → Cancels set s actor.thread n step o → fault_among is_touch past actor o.actions ≡ None
+  cancel_touches actor n step o (takes_cancel free) = refl
+  cancel_touches actor n step o _ = refl
 
   -- so no step touches one that has
   pub touch_faults : (actor : Actor) (under : Option Frame) (f : Frame) (o : Outcome) → Tells s past
-      → OnTop set states s f → Holding states s past f → Seen set states under f → UnderLives s under
+      → OnTop set states s f → Holding set states s past f → Seen set states under f
+      → UnderLives set s under f
+      → ClaimsLive states s f → EntriesLive s
       → Comes set s actor.thread under f o → fault_among is_touch past actor o.actions ≡ None
-  touch_faults actor under f o tells h holding seen live
+  touch_faults actor under f o tells h holding seen live claims entries_live
       (touches_gone a i r n at touching on operand reads gone) =
-      absurd (operand_lives under a i r n _ h holding at seen live operand reads refl gone)
-  touch_faults actor under f o tells h holding seen live
+      absurd (operand_lives under a i r n _ h holding at seen live claims operand reads refl gone)
+  touch_faults actor under f o tells h holding seen live claims entries_live
       (looks_at a i b jumped r n p at work goes operand reads there jumps) =
       first_only _ (touched_one actor n p tells there)
-  touch_faults actor under f o tells h holding seen live (writes_info a q r n p info at reads there is) =
+  touch_faults actor under f o tells h holding seen live claims entries_live
+      (writes_info a q r n p info at reads there is) =
       first_only _ (touched_one actor n p tells there)
-  touch_faults actor under f o tells h holding seen live (marks_packet a r n p at reads there) =
+  touch_faults actor under f o tells h holding seen live claims entries_live
+      (marks_packet a r n p at reads there) =
       first_only _ (touched_one actor n p tells there)
-  touch_faults actor under f o tells h holding seen live
+  touch_faults actor under f o tells h holding seen live claims entries_live
       (exchanges a i b jumped r n p armer at work goes operand reads there how) =
       first_only _ (touched_one actor n p tells there)
-  touch_faults actor under f o tells h holding seen live (resumes_walk a n p at sort there) =
+  touch_faults actor under f o tells h holding seen live claims entries_live
+      (resumes_walk a n p at sort there) =
       first_only _ (touched_one actor n p tells there)
-  touch_faults actor under f o tells h holding seen live (resumes_gone a n at sort gone) =
-      absurd (live gone)
-  touch_faults actor under f o tells h holding seen live (lends_to n p c there set_there lends) =
+  touch_faults actor under f o tells h holding seen live claims entries_live
+      (resumes_gone a n at sort gone) =
+      absurd (unheld_lives n (back_unheld set states s past a holding
+      (runs set states s a (Ret Continue) h at) sort n (lent_refers set states n a seen.1)) gone)
+  touch_faults actor under f o tells h holding seen live claims entries_live
+      (lends_to n p c there set_there lends) =
       first_only _ (touched_one actor n p tells there)
-  touch_faults actor under f o tells h holding seen live (cancels n step made moves) =
-      absurd (never_stands set states s _ h)
-  touch_faults actor under f o tells h holding seen live
+  touch_faults actor under f o tells h holding seen live claims entries_live
+      (cancels n step made moves) =
+      cancel_touches actor n step o moves
+  touch_faults actor under f o tells h holding seen live claims entries_live
       (passes_down a r n p lower at reads there below) =
       first_only _ (touched_one actor n p tells there)
-  touch_faults actor under f o tells h holding seen live
+  touch_faults actor under f o tells h holding seen live claims entries_live
       (calls_down a r completion n p lower at reads there below) =
       first_only _ (touched_one actor n p tells there)
-  touch_faults actor under f o tells h holding seen live (lets_walk a n at sort) =
-      first_only _ (under_one actor n (packet_of s n) tells refl live)
-  touch_faults actor under f o tells h holding seen live (walks_gone n gone) =
-      absurd (walk_lives states s past n holding gone)
-  touch_faults actor under f o tells h holding seen live (walks_to n p c there set_there lends) =
+  touch_faults actor under f o tells h holding seen live claims entries_live
+      (lets_walk a n at sort) =
+      first_only _ (under_one actor n (packet_of s n) tells refl (live (ap is_hold sort)))
+  touch_faults actor under f o tells h holding seen live claims entries_live (walks_gone n gone) =
+      absurd (walk_lives set states s past n holding gone)
+  touch_faults actor under f o tells h holding seen live claims entries_live
+      (walks_to n p c there set_there lends) =
       first_only _ (touched_one actor n p tells there)
-  touch_faults actor under f o tells h holding seen live (walks_up n p there none more unmarked) =
+  touch_faults actor under f o tells h holding seen live claims entries_live
+      (walks_up n p there none more unmarked) =
       first_only _ (touched_one actor n p tells there)
-  touch_faults actor under f o tells h holding seen live (carries_up n p there none more marked) =
+  touch_faults actor under f o tells h holding seen live claims entries_live
+      (carries_up n p there none more marked) =
       first_only _ (touched_one actor n p tells there)
-  touch_faults actor under f o tells h holding seen live (tops_out n p there none last) =
+  touch_faults actor under f o tells h holding seen live claims entries_live
+      (tops_out n p there none last) =
       first_only _ (touched_one actor n p tells there)
-  touch_faults actor under f o tells h holding seen live
+  touch_faults actor under f o tells h holding seen live claims entries_live
       (works_on_queues a i b queues starts actions full at queued) =
-      queued_faults actor under a i h holding seen live at queued
-  touch_faults actor under f o tells h holding seen live _ = refl
+      queued_faults actor under a i h holding seen live claims entries_live at queued
+  touch_faults actor under f o tells h holding seen live claims entries_live _ = refl

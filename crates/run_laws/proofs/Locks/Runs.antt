@@ -1,9 +1,9 @@
 -- Locks and levels are kept in every run of an accepted set: every thread holds the locks that the
 -- state of its top frame says.
-use Rattle.std.proofs.Common.{◌≡◌, ◌≢◌, ◌+◌, ◌-◌, ℕ, List, [], ◌∷◌, ◌++◌, Option, None, Some, Bool, false, refl, ap, sym, ◌∙◌, subst, arith}
+use Rattle.std.proofs.Common.{inl, inr, ◌≡◌, ◌≢◌, ◌+◌, ◌-◌, ℕ, List, [], ◌∷◌, ◌++◌, Option, None, Some, Bool, false, refl, ap, sym, ◌∙◌, subst, arith}
 use Rattle.std.specs.Prelude.{slice_get}
 use Rattle.std.proofs.lemmas.Bool.{ne_eqb}
-use Rattle.std.proofs.lemmas.List.{append-nil}
+use Rattle.std.proofs.lemmas.List.{append-nil, append_assoc}
 use Rattle.model.specs.declared.event.Lock.{Lock}
 use Rattle.model.specs.declared.status.Status.{Status}
 use Rattle.model.specs.declared.set.Sort.TheVariants.{Dispatch, Dpc, StartIo}
@@ -16,7 +16,7 @@ use Rattle.model.specs.declared.world.Thread.{Thread}
 use Rattle.model.specs.declared.world.Value.TheVariants.{Blank, Ref}
 use Rattle.model.specs.Action.{Action, Acquires, Releases, Issues}
 use Rattle.model.specs.Effect.{Outcome, operand_of, answered_in, top_of}
-use Rattle.model.specs.Events.{Change, standing, with_thread, with_stack, rooted, with_new_packet, serves_request, dpc_activation}
+use Rattle.model.specs.Events.{Change, standing, with_thread, with_stack, rooted, with_new_packet, serves_request, dpc_activation, cancelling}
 use Rattle.model.specs.Fault.{holds_after, holds}
 use Rattle.model.specs.Run.{begun, root_of, frames_on}
 use Rattle.model.specs.Set.{Set, instruction_at}
@@ -25,17 +25,17 @@ use Rattle.model.specs.Queues.{without_first_to_start}
 use Rattle.model.specs.World.{Shared, World, with_dpc, with_start}
 use Rattle.run_laws.proofs.Locks.Says.{frame_says, top_says, free_says}
 use Rattle.run_laws.proofs.Locks.Steps.{begun_says, own, lock_faults}
-use Rattle.run_laws.proofs.Runs.Events.{StepsFrame, Happens, nothing, steps, issues, begins, begins_startio}
+use Rattle.run_laws.proofs.Runs.Events.{StepsFrame, Happens, nothing, steps, issues, begins, begins_startio, begins_cancel}
 use Rattle.run_laws.proofs.Runs.Kept.{GoesOnBy}
 use Rattle.run_laws.proofs.Runs.Threads.{frames_there, each_frames, idle_frames}
 use Rattle.run_laws.proofs.States.Entering.{begins_request, begins_dpc, startio_activation}
 use Rattle.run_laws.proofs.States.Frames.{state_of, IsGood}
-use Rattle.run_laws.proofs.States.Never.{keeps_below}
 use Rattle.run_laws.proofs.States.Roots.{Low}
 use Rattle.run_laws.proofs.States.Rules.{States}
 use Rattle.run_laws.proofs.States.Stacks.{Stands, Stacked}
 use Rattle.run_laws.proofs.States.Standing.{Standing, stands_there, on_top, low_there, startio_enters}
-use Rattle.run_laws.proofs.States.Told.{told_frame, told_last, standing_last}
+use Rattle.run_laws.proofs.States.Told.{told_frame, told_last, told_is}
+use Rattle.run_laws.proofs.Steps.Below.{stood}
 use Rattle.run_laws.proofs.Steps.Faults.{is_of_locks, fault_among}
 
 -- every thread holds the locks that the state of its top frame says
@@ -43,7 +43,8 @@ abbrev pub LocksAgree : States → World → List Entry → Type 0
 LocksAgree states w past = (t : ℕ) (l : Lock) → holds past t l ≡ top_says states (frames_on w t) l
 
 -- actions of one thread leave the locks of others
-other_holds : (action : Action) (l : Lock) (before : Bool) → holds_after action false l before ≡ before
+other_holds : (action : Action) (l : Lock) (before : Bool)
+    → holds_after action false l before ≡ before
 other_holds (Acquires m) l before = refl
 other_holds (Releases m) l before = refl
 other_holds _ l before = refl
@@ -74,11 +75,13 @@ module _ (set : Set) (states : States) (issued : ℕ) (l : Lock) where
   below_says (Routine b) (CancelFrame c) h = absurd h
   below_says (CancelFrame c) g h = absurd h
 
-  says_below : (below : List Frame) (f : Frame) → Stacked set states issued (below ++ f ∷ [])
+  says_below : (below : List Frame) (f : Frame) (above : List Frame)
+      → Stacked set states issued (below ++ f ∷ above)
       → top_says states below l ≡ false
-  says_below [] f h = refl
-  says_below (g ∷ []) f h = below_says f g h.0
-  says_below (g ∷ e ∷ below) f h = says_below (e ∷ below) f h.1
+  says_below [] f above h = refl
+  says_below (g ∷ []) f [] h = below_says f g h.0
+  says_below (g ∷ []) f (e ∷ above) h = below_says f g h.0
+  says_below (g ∷ e ∷ below) f above h = says_below (e ∷ below) f above h.1
 
   -- a frame that is told something says the same
   answered_says : (a : Activation) (status : Status) (r : Option ℕ)
@@ -106,13 +109,14 @@ module _ (set : Set) (states : States) (issued : ℕ) (l : Lock) where
   says_after : (below : List Frame) (f : Frame) (told : Option Status) (frames : List Frame)
       → Stacked set states issued (below ++ f ∷ [])
       → top_says states (told_last set told below ++ frames) l ≡ top_says states frames l
-  says_after below f told [] h = rw append-nil (last_says told below ∙ says_below below f h)
+  says_after below f told [] h = rw append-nil (last_says told below ∙ says_below below f [] h)
   says_after below f told (g ∷ frames) h = says_top (told_last set told below) g frames
 
 -- every event keeps that, and has no bug check about locks
 module _ (set : Set) (states : States) (w : World) (past : List Entry) (good : IsGood set states)
     (stands : Standing set states w past) (agree : LocksAgree states w past) where
-  own_top : (t : ℕ) (h : StepsFrame set w t) (l : Lock) → holds past t l ≡ frame_says states h.frame l
+  own_top : (t : ℕ) (h : StepsFrame set w t) (l : Lock)
+      → holds past t l ≡ frame_says states h.frame l
   own_top t h l =
       agree t l
       ∙ ap (λ (frames : List Frame). top_says states frames l) (frames_there w t h.thread h.found
@@ -131,22 +135,40 @@ module _ (set : Set) (states : States) (w : World) (past : List Entry) (good : I
       thread found own
       (λ k apart l. other_threads past actor k actions l apart ∙ agree k l)
 
-  locks_happen : (actor : Actor) (c : Change) → Happens set w actor.thread false c
+  -- the thread that steps: those of the frames in place of the one that ran, or none where none is,
+  -- as the frame below then says none
+  stepped_locks : (actor : Actor) (h : StepsFrame set w actor.thread) (l : Lock)
+      → holds (recorded past actor h.outcome.actions) actor.thread l
+      ≡ top_says states (standing set h.below h.outcome) l
+  stepped_locks actor h l =
+      let o : Outcome = h.outcome in
+      let stacked : Stacked set states w.shared.issued (h.below ++ h.frame ∷ []) =
+      stands_there set states w past good stands actor.thread h in
+      let now : holds (recorded past actor o.actions) actor.thread l ≡ top_says states o.frames l =
+      own set states w.shared past actor (top_of h.below) h.frame o
+      (on_top set states w past good stands actor.thread h) (own_top actor.thread h) h.comes l in
+      elim (stood set w.shared actor.thread h.below h.frame o h.comes) [
+        | inl kept ↦
+            now ∙ sym (says_after set states w.shared.issued l h.below h.frame o.told o.frames
+            stacked)
+            ∙ ap (λ (frames : List Frame). top_says states frames l)
+            (sym (kept ∙ ap (λ (below : List Frame). below ++ o.frames)
+            (told_is set h.below o.told)))
+        | inr gone ↦
+            now ∙ ap (λ (frames : List Frame). top_says states frames l) gone.frames
+            ∙ sym (says_below set states w.shared.issued l gone.others (Walk gone.n) (h.frame ∷ [])
+            (subst (λ (frames : List Frame). Stacked set states w.shared.issued frames)
+            (ap (λ (below : List Frame). below ++ h.frame ∷ []) gone.below_is
+            ∙ append_assoc gone.others (Walk gone.n ∷ []) (h.frame ∷ [])) stacked))
+            ∙ ap (λ (frames : List Frame). top_says states frames l) (sym gone.stands)
+      ]
+
+  locks_happen : (actor : Actor) (c : Change) → Happens set w actor.thread c
       → LocksAgree states c.world (recorded past actor c.actions)
   locks_happen actor c (nothing reply right) = agree
   locks_happen actor c (steps h) =
-      let o : Outcome = h.outcome in
-      let under : Option Frame = top_of h.below in
-      agree_after actor o.actions o.shared h.thread (with_stack h.thread (standing set h.below o)) h.found
-      (λ l. own set states w.shared past actor under h.frame o
-      (on_top set states w past good stands actor.thread h)
-      (own_top actor.thread h) h.comes l
-      ∙ sym (says_after set states w.shared.issued l h.below h.frame o.told o.frames
-      (stands_there set states w past good stands actor.thread h))
-      ∙ ap (λ (frames : List Frame). top_says states frames l)
-      (sym (standing_last set w.shared actor.thread under h.frame o h.below h.comes
-      (keeps_below set states w.shared actor.thread under h.frame o
-      (on_top set states w past good stands actor.thread h) h.comes))))
+      agree_after actor h.outcome.actions h.outcome.shared h.thread
+      (with_stack h.thread (standing set h.below h.outcome)) h.found (stepped_locks actor h)
   locks_happen actor c (issues h) =
       let n : ℕ = w.shared.issued in
       let a : Activation = serves_request set h.d h.device h.major n in
@@ -157,7 +179,7 @@ module _ (set : Set) (states : States) (w : World) (past : List Entry) (good : I
       ∙ ap (λ (frames : List Frame). top_says states frames l)
       (frames_there w actor.thread h.thread h.found ∙ h.idle)
       ∙ sym (begun_says set states (n + 1) a Dispatch (Ref n) l
-      (begins_request set states good (n + 1) n (omega arith) h.d h.device h.major h.there)))
+      (begins_request set states good (n + 1) n (omega arith) h.d h.device h.major h.there) refl))
   locks_happen actor c (begins h) =
       let a : Activation = dpc_activation set h.d h.routine in
       agree_after actor [] (with_dpc w.shared h.d false) h.thread (rooted h.thread DispatchLevel a)
@@ -166,7 +188,7 @@ module _ (set : Set) (states : States) (w : World) (past : List Entry) (good : I
       ∙ ap (λ (frames : List Frame). top_says states frames l)
       (frames_there w actor.thread h.thread h.found ∙ h.idle)
       ∙ sym (begun_says set states w.shared.issued a Dpc Blank l
-      (begins_dpc set states good w.shared.issued h.d h.routine h.there)))
+      (begins_dpc set states good w.shared.issued h.d h.routine h.there) refl))
   locks_happen actor c (begins_startio h) =
       let a : Activation = startio_activation set h.d h.routine h.n in
       agree_after actor [] (with_start w.shared h.d (without_first_to_start h.start)) h.thread
@@ -175,15 +197,20 @@ module _ (set : Set) (states : States) (w : World) (past : List Entry) (good : I
       ∙ ap (λ (frames : List Frame). top_says states frames l)
       (frames_there w actor.thread h.thread h.found ∙ h.idle)
       ∙ sym (begun_says set states w.shared.issued a StartIo (Ref h.n) l
-      (startio_enters set states w past good stands actor.thread h)))
+      (startio_enters set states w past good stands actor.thread h) refl))
+  locks_happen actor c (begins_cancel h) =
+      agree_after actor [] w.shared h.thread (cancelling h.thread h.level h.n) h.found
+      (λ l. agree actor.thread l
+      ∙ ap (λ (frames : List Frame). top_says states frames l)
+      (frames_there w actor.thread h.thread h.found ∙ h.idle))
 
-  pub locks_kept : (actor : Actor) (c : Change) → GoesOnBy set w past actor false c
+  pub locks_kept : (actor : Actor) (c : Change) → GoesOnBy set w past actor c
       → LocksAgree states c.world (recorded past actor c.actions)
   locks_kept actor c on = locks_happen actor c on.happens
 
   pub lock_faults_none : (actor : Actor) (c : Change)
       → actor.root ≡ root_of (slice_get w.threads actor.thread)
-      → Happens set w actor.thread false c → fault_among is_of_locks past actor c.actions ≡ None
+      → Happens set w actor.thread c → fault_among is_of_locks past actor c.actions ≡ None
   lock_faults_none actor c root (nothing reply right) = refl
   lock_faults_none actor c root (steps h) =
       lock_faults set states w.shared past actor (top_of h.below) h.frame h.outcome
@@ -193,6 +220,7 @@ module _ (set : Set) (states : States) (w : World) (past : List Entry) (good : I
   lock_faults_none actor c root (issues h) = refl
   lock_faults_none actor c root (begins h) = refl
   lock_faults_none actor c root (begins_startio h) = refl
+  lock_faults_none actor c root (begins_cancel h) = refl
 
 -- before the first event
 pub locks_begun : (set : Set) (states : States) (threads : ℕ)

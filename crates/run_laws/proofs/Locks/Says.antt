@@ -15,6 +15,8 @@ use Rattle.model.specs.declared.instr.Instr.{Instr}
 use Rattle.model.specs.declared.instr.Instr.TheVariants.{Mark, Acquire, Release, AcquireCancel, ReleaseCancel, Pass, Call, IfPending}
 use Rattle.model.specs.declared.set.Sort.{Sort}
 use Rattle.model.specs.declared.world.Activation.{Activation}
+use Rattle.model.specs.declared.world.CancelStep.{CancelStep}
+use Rattle.model.specs.declared.world.CancelStep.TheVariants.{Acquire as AcquireStep, SetFlag, Exchange}
 use Rattle.model.specs.declared.world.Frame.{Frame}
 use Rattle.model.specs.declared.world.Frame.TheVariants.{Routine, Walk, Cancel as CancelFrame}
 use Rattle.model.specs.Effect.{spin_lock}
@@ -31,10 +33,16 @@ abbrev pub state_says : Abs → ℕ → Lock → Bool
 state_says s d SystemCancel = s.cancel
 state_says s d (Spin l) = nat_eq d l.device && is_held s l.number
 
+-- those that IoCancelIrp has before a step: the system cancel spin lock, once it took it
+abbrev pub cancelling_says : CancelStep → Lock → Bool
+cancelling_says AcquireStep l = false
+cancelling_says SetFlag l = is_lock SystemCancel l
+cancelling_says Exchange l = is_lock SystemCancel l
+
 abbrev pub frame_says : States → Frame → Lock → Bool
 frame_says states (Routine a) l = state_says (states a.driver a.routine a.position) a.device l
 frame_says states (Walk n) l = false
-frame_says states (CancelFrame c) l = false
+frame_says states (CancelFrame c) l = cancelling_says c.next l
 
 -- of a thread's frames the top one says it
 abbrev pub top_says : States → List Frame → Lock → Bool
@@ -49,10 +57,18 @@ none_index [] n none = refl
 none_index (h ∷ held) zero none = or_left _ _ none
 none_index (h ∷ held) (suc n) none = none_index held n (or_right _ _ none)
 
-says_none : (s : Abs) (d : ℕ) (l : Lock) → s.cancel ≡ false → holds_spin_lock s ≡ false
+pub says_none : (s : Abs) (d : ℕ) (l : Lock) → s.cancel ≡ false → holds_spin_lock s ≡ false
     → state_says s d l ≡ false
 says_none s d SystemCancel cancel spin = cancel
-says_none s d (Spin l) cancel spin = rw (none_index s.locks l.number spin) (and_false (nat_eq d l.device))
+says_none s d (Spin l) cancel spin =
+    rw (none_index s.locks l.number spin) (and_false (nat_eq d l.device))
+
+-- where no spin lock of the device is held, it may be the system cancel spin lock alone
+pub says_cancel : (s : Abs) (d : ℕ) (l : Lock) → s.cancel ≡ true → holds_spin_lock s ≡ false
+    → state_says s d l ≡ is_lock SystemCancel l
+says_cancel s d SystemCancel cancel spin = cancel
+says_cancel s d (Spin l) cancel spin =
+    rw (none_index s.locks l.number spin) (and_false (nat_eq d l.device))
 
 pub free_says : (s : Abs) (d : ℕ) (l : Lock) → holds_lock s ≡ false → state_says s d l ≡ false
 free_says s d l free = says_none s d l (or_left _ _ free) (or_right _ _ free)
@@ -62,7 +78,8 @@ abbrev pub is_locking : Work → Bool
 is_locking Locking = true
 is_locking _ = false
 
-marked_says : (s : Abs) (r d : ℕ) (l : Lock) (k : Kind) → state_says (marked s r k) d l ≡ state_says s d l
+marked_says : (s : Abs) (r d : ℕ) (l : Lock) (k : Kind)
+    → state_says (marked s r k) d l ≡ state_says s d l
 marked_says s r d l New = refl
 marked_says s r d l _ = refl
 
@@ -89,7 +106,8 @@ label_says s _ d l = refl
 
 -- a lock is said or not said from now on, and each other as before
 abbrev pub SaysNow : Abs → Abs → ℕ → Lock → Bool → Type 0
-SaysNow s to d lock b = (l : Lock) → state_says to d l ≡ (if is_lock lock l then b else state_says s d l)
+SaysNow s to d lock b =
+    (l : Lock) → state_says to d l ≡ (if is_lock lock l then b else state_says s d l)
 
 held_set : (locks : List Bool) (m n : ℕ) (b : Bool) → m < length locks
     → slice_index_or (slice_set locks m b) n false
@@ -132,35 +150,36 @@ pub record Locks (s to : Abs) (d : ℕ) (lock : Lock) (held : Bool) : Type 0 whe
   pub before : state_says s d lock ≡ held
   pub now : SaysNow s to d lock (if held then false else true)
 
-module _ (s : Abs) (a : Activation) (sort : Sort) (set : Set) (eight : length s.locks ≡ SPIN_LOCKS) where
-  pub taken : (i : Instr) (lock : Lock) → lock_taken a i ≡ Some lock → OperandFits i
-      → refuses s i sort set a.driver ≡ None → Locks s (handed set a.driver s i) a.device lock false
-  taken (Acquire m) lock is small rule =
-      let same : spin_lock a m ≡ lock = cc in
-      let low : m < SPIN_LOCKS = small in
-      rw (← same) (record {
-        before = own_device a.device (is_held s m) false (unbroken _ _ rule);
-        now = spin_says s a.device m true (rw eight low);
-      })
-  taken AcquireCancel lock is small rule =
-      let same : SystemCancel ≡ lock = cc in
-      rw (← same) (record { before = unbroken _ _ rule; now = cancel_says s a.device true })
-  taken _ lock is small rule = cc
+module _ (s : Abs) (a : Activation) (sort : Sort) (set : Set) (eight : length s.locks ≡ SPIN_LOCKS)
+  where
+    pub taken : (i : Instr) (lock : Lock) → lock_taken a i ≡ Some lock → OperandFits i
+        → refuses s i sort set a.driver ≡ None → Locks s (handed set a.driver s i) a.device lock false
+    taken (Acquire m) lock is small rule =
+        let same : spin_lock a m ≡ lock = cc in
+        let low : m < SPIN_LOCKS = small in
+        rw (← same) (record {
+          before = own_device a.device (is_held s m) false (unbroken _ _ rule);
+          now = spin_says s a.device m true (rw eight low);
+        })
+    taken AcquireCancel lock is small rule =
+        let same : SystemCancel ≡ lock = cc in
+        rw (← same) (record { before = unbroken _ _ rule; now = cancel_says s a.device true })
+    taken _ lock is small rule = cc
 
-  pub freed : (i : Instr) (lock : Lock) → lock_freed a i ≡ Some lock → OperandFits i
-      → refuses s i sort set a.driver ≡ None → Locks s (handed set a.driver s i) a.device lock true
-  freed (Release m) lock is small rule =
-      let same : spin_lock a m ≡ lock = cc in
-      let low : m < SPIN_LOCKS = small in
-      rw (← same) (record {
-        before = own_device a.device (is_held s m) true
-            (not_false _ (unbroken _ _ (first_none _ _ rule)));
-        now = released_says s set a.driver a.device m (rw eight low);
-      })
-  freed ReleaseCancel lock is small rule =
-      let same : SystemCancel ≡ lock = cc in
-      rw (← same) (record {
-        before = not_false _ (unbroken _ _ rule);
-        now = cancel_says s a.device false;
-      })
-  freed _ lock is small rule = cc
+    pub freed : (i : Instr) (lock : Lock) → lock_freed a i ≡ Some lock → OperandFits i
+        → refuses s i sort set a.driver ≡ None → Locks s (handed set a.driver s i) a.device lock true
+    freed (Release m) lock is small rule =
+        let same : spin_lock a m ≡ lock = cc in
+        let low : m < SPIN_LOCKS = small in
+        rw (← same) (record {
+          before = own_device a.device (is_held s m) true
+              (not_false _ (unbroken _ _ (first_none _ _ rule)));
+          now = released_says s set a.driver a.device m (rw eight low);
+        })
+    freed ReleaseCancel lock is small rule =
+        let same : SystemCancel ≡ lock = cc in
+        rw (← same) (record {
+          before = not_false _ (unbroken _ _ rule);
+          now = cancel_says s a.device false;
+        })
+    freed _ lock is small rule = cc

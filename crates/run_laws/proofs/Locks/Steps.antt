@@ -1,6 +1,6 @@
 -- A thread holds the locks that the state of its top frame says, and every step of that frame keeps
 -- that; so no step has a bug check about locks or paged cells.
-use Rattle.std.proofs.Common.{inr, inl, ◌≡◌, ℕ, List, [], ◌∷◌, Option, None, Some, Bool, true, false, refl, ap, sym, ◌∙◌}
+use Rattle.std.proofs.Common.{inr, inl, ◌≡◌, ℕ, List, [], ◌∷◌, Option, None, Some, Bool, true, false, refl, ap, sym, ◌∙◌, is_some}
 use Rattle.std.specs.Prelude.{◌&&◌, not, nat_eq, slice_get, if◌then◌else◌}
 use Rattle.std.specs.List.{list_any}
 use Rattle.std.proofs.lemmas.Bool.{eq-eqb}
@@ -18,38 +18,40 @@ use Rattle.model.specs.declared.set.Sort.{Sort}
 use Rattle.model.specs.declared.set.Sort.TheVariants.{Dispatch, Dpc, Propagate, StartIo, Hold, Cancel}
 use Rattle.model.specs.declared.world.Activation.{Activation}
 use Rattle.model.specs.declared.world.Frame.{Frame}
-use Rattle.model.specs.declared.world.Frame.TheVariants.{Routine}
+use Rattle.model.specs.declared.world.Frame.TheVariants.{Routine, Cancel as CancelFrame}
 use Rattle.model.specs.declared.world.Packet.{Packet}
 use Rattle.model.specs.declared.world.Value.{Value}
 use Rattle.model.specs.declared.world.Value.TheVariants.{Ref}
 use Rattle.model.specs.Effect.{Outcome, turned, dispatched, completes_with}
 use Rattle.model.specs.Fault.{is_lock, holds, acquired, is_dispatch_level, at_dispatch, bug_if, first_or}
-use Rattle.model.specs.LocalRule.{holds_lock, handed, level_fault, refuses}
-use Rattle.model.specs.Set.{Set, flow_of, sort_of, lower_of}
+use Rattle.model.specs.LocalRule.{holds_lock, handed, level_fault, refuses, holds_spin_lock}
+use Rattle.model.specs.Set.{Set, flow_of, sort_of, lower_of, cancels_for}
 use Rattle.model.specs.Sound.{OperandFits}
 use Rattle.model.specs.Trace.{Entry, Actor, recorded}
 use Rattle.model.specs.World.{Shared, register, next, current_location, asked_of}
 use Rattle.run_laws.proofs.Lists.{all_at}
-use Rattle.run_laws.proofs.Locks.Says.{state_says, frame_says, top_says, free_says, is_locking, handed_says, label_says, Locks, taken, freed}
+use Rattle.run_laws.proofs.Locks.Says.{state_says, frame_says, top_says, free_says, is_locking, handed_says, label_says, Locks, taken, freed, says_none, says_cancel}
 use Rattle.run_laws.proofs.Past.Packets.{named}
-use Rattle.run_laws.proofs.States.Entering.{first_state, Enters, begins_lower, begins_back}
+use Rattle.run_laws.proofs.States.Entering.{first_state, Enters, begins_lower, begins_back, begins_lent}
 use Rattle.run_laws.proofs.States.Frames.{state_of, Moved, Runs}
 use Rattle.run_laws.proofs.States.LoopEnds.{moved_end}
 use Rattle.run_laws.proofs.States.Moves.{onto, has_next, falls_next, arrives, arrives_next}
-use Rattle.run_laws.proofs.States.Never.{never_stands}
 use Rattle.run_laws.proofs.States.Obeyed.{sends_down, completes_one, returns_by}
 use Rattle.run_laws.proofs.States.OnTop.{OnTop, runs}
 use Rattle.run_laws.proofs.States.Roots.{Low}
 use Rattle.run_laws.proofs.States.Rules.{States, first_none, second_none, unbroken}
-use Rattle.run_laws.proofs.Steps.Comes.{Queued, Reads, GoesTo, onward, jumping, Comes, computes, opens_loop, turns_loop, pages, touches_gone, looks_at, writes_info, marks_packet, takes_lock, retakes_lock, frees_lock, completes_packet, completes_gone, passes_down, calls_down, returns_status, lets_go, lets_walk, ends_dpc, walks_to, works_on_queues, ends_startio, exchanges, resumes_walk, resumes_gone, resumes_none, stops_walk, stops_none, ends_cancel, lends_to, cancels}
+use Rattle.run_laws.proofs.Steps.Comes.{Queued, Reads, GoesTo, onward, jumping, Comes, computes, opens_loop, turns_loop, pages, touches_gone, looks_at, writes_info, marks_packet, takes_lock, retakes_lock, frees_lock, completes_packet, completes_gone, passes_down, calls_down, returns_status, lets_go, lets_walk, ends_dpc, walks_to, works_on_queues, ends_startio, exchanges, resumes_walk, resumes_gone, resumes_none, stops_walk, stops_none, ends_cancel, lends_to, cancels, Cancels, takes_cancel, retakes_cancel, awaits_cancel, flags_gone, sets_flag, exchanges_gone, finds_empty, finds_none, calls_cancel}
 use Rattle.run_laws.proofs.Steps.Faults.{is_of_locks, fault_among}
 use Rattle.run_laws.proofs.Steps.Locking.{taken_word, freed_word}
-use Rattle.run_laws.proofs.Steps.Uncancelled.{never_lends}
 use Rattle.run_laws.proofs.Steps.Words.{Work, Locking, Paging, Forwarding, work_of, is_touching, packet_operand, lock_taken, lock_freed}
 use Rattle.model.specs.Queues.{StartState}
 use Rattle.run_laws.proofs.States.Queueing.{queue_moves, MovedOn}
 use Rattle.run_laws.proofs.Steps.Queues.{queued_work, queued_touches}
 use Rattle.model.specs.Action.{Action}
+use Rattle.model.specs.declared.set.QueueName.{QueueName}
+use Rattle.model.specs.declared.event.Lock.TheVariants.{SystemCancel}
+use Rattle.model.specs.declared.world.CancelStep.{CancelStep}
+use Rattle.run_laws.proofs.States.Cancelled.{begins_called}
 
 -- where an activation goes on after an instruction that is about no lock, the same locks are said
 module _ (set : Set) (states : States) (s : Shared) (a : Activation) (i : Instr)
@@ -74,7 +76,8 @@ module _ (set : Set) (states : States) (s : Shared) (a : Activation) (i : Instr)
       ∙ handed_says set a.driver (state_of states a) i a.device l quiet
 
 onto_says : (set : Set) (driver : ℕ) (s : Abs) (i : Instr) (jumped : Bool) (d : ℕ) (l : Lock)
-    → is_locking (work_of i) ≡ false → state_says (onto set driver s i jumped) d l ≡ state_says s d l
+    → is_locking (work_of i) ≡ false → state_says (onto set driver s i jumped) d l
+    ≡ state_says s d l
 onto_says set driver s i false d l quiet = handed_says set driver s i d l quiet
 onto_says set driver s i true d l quiet = label_says s i d l
 
@@ -83,21 +86,41 @@ queued_quiet : {s : Shared} {a b : Activation} {i : Instr} {queues : List (List 
     → Queued s a i b queues lists actions full → is_locking (work_of i) ≡ false
 queued_quiet queued = ap is_locking (queued_work queued)
 
--- a routine that begins says no lock
-module _ (set : Set) (states : States) where
-  first_says : (sort : Sort) (d : ℕ) (l : Lock) → state_says (first_state sort) d l ≡ false
-  first_says Dispatch d l = free_says (first_state Dispatch) d l refl
-  first_says StartIo d l = free_says (first_state StartIo) d l refl
-  first_says Dpc d l = free_says (first_state Dpc) d l refl
-  first_says Propagate d l = free_says (first_state Propagate) d l refl
-  first_says Hold d l = free_says (first_state Hold) d l refl
-  first_says Cancel d l = free_says (first_state Cancel) d l refl
+-- a routine that begins says no spin lock of a device
+first_spin : (sort : Sort) (name : Option QueueName)
+    → holds_spin_lock (first_state sort name) ≡ false
+first_spin Dispatch name = refl
+first_spin StartIo name = refl
+first_spin Dpc name = refl
+first_spin Propagate name = refl
+first_spin Hold name = refl
+first_spin Cancel None = refl
+first_spin Cancel (Some list) = refl
 
+named_cancel : (name : Option QueueName) → is_some name ≡ true
+    → (first_state Cancel name).cancel ≡ true
+named_cancel None h = cc
+named_cancel (Some list) h = refl
+
+-- so it says no lock, but for a cancel routine, which says the system cancel spin lock
+module _ (set : Set) (states : States) where
   pub begun_says : (issued : ℕ) (a : Activation) (sort : Sort) (first : Value) (l : Lock)
       → Enters set states issued a sort first
+      → (first_state sort (cancels_for set a.driver a.routine)).cancel ≡ false
       → frame_says states (Routine a) l ≡ false
-  begun_says issued a sort first l begins =
-      ap (λ state. state_says state a.device l) begins.start ∙ first_says sort a.device l
+  begun_says issued a sort first l begins free =
+      ap (λ state. state_says state a.device l) begins.start
+      ∙ says_none (first_state sort (cancels_for set a.driver a.routine)) a.device l free
+      (first_spin sort (cancels_for set a.driver a.routine))
+
+  cancelled_says : (issued : ℕ) (a : Activation) (first : Value) (l : Lock)
+      → Enters set states issued a Cancel first
+      → frame_says states (Routine a) l ≡ is_lock SystemCancel l
+  cancelled_says issued a first l begins =
+      let name : Option QueueName = cancels_for set a.driver a.routine in
+      ap (λ state. state_says state a.device l) begins.start
+      ∙ says_cancel (first_state Cancel name) a.device l
+      (named_cancel name (begins.named begins.of_sort)) (first_spin Cancel name)
 
 -- a paged cell is touched by a dispatch routine, and while no lock is held
 abbrev LevelFree : Abs → Sort → Type 0
@@ -123,20 +146,24 @@ touch_quiet Locking is = cc
 touch_quiet _ is = refl
 
 -- where a packet is sent down the caller holds no lock, nor does the routine that begins
-sends : (set : Set) (states : States) (s : Shared) (a : Activation) (i : Instr) → Runs set states s a i
-    → (r lower n : ℕ) (p : Packet) → work_of i ≡ Forwarding → packet_operand i ≡ Some r → Reads s a r n
+sends : (set : Set) (states : States) (s : Shared) (a : Activation) (i : Instr)
+    → Runs set states s a i
+    → (r lower n : ℕ) (p : Packet) → work_of i ≡ Forwarding → packet_operand i ≡ Some r
+    → Reads s a r n
     → lower_of set a.device ≡ Some lower → (l : Lock)
     → frame_says states (Routine a) l
     ≡ frame_says states
-    (Routine (dispatched set lower (slice_get set.devices lower) (asked_of (current_location p)) n)) l
+    (Routine (dispatched set lower (slice_get set.devices lower) (asked_of (current_location p)) n))
+    l
 sends set states s a i h r lower n p is operand reads below l =
     free_says (state_of states a) a.device l
     (sends_down (state_of states a) (sort_of set a.driver a.routine) set a.driver i r h.obeys is
     operand).free
     ∙ sym (begun_says set states s.issued
-    (dispatched set lower (slice_get set.devices lower) (asked_of (current_location p)) n) Dispatch (Ref n) l
+    (dispatched set lower (slice_get set.devices lower) (asked_of (current_location p)) n) Dispatch
+    (Ref n) l
     (begins_lower set states h.good s.issued n (named s (register a r) n reads) a.device lower
-    (asked_of (current_location p)) below))
+    (asked_of (current_location p)) below) refl)
 
 -- and none is held where a routine returns
 returns : (set : Set) (states : States) (s : Shared) (a : Activation) (form : Return)
@@ -156,34 +183,79 @@ now_held : (t : ℕ) (same said before b : Bool) → before ≡ said
     → (if nat_eq t t && same then b else before) ≡ (if same then b else said)
 now_held t same said before b h = rw (eq-eqb t t refl, h) refl
 
+now_its_own : (same : Bool) → (if same then true else false) ≡ same
+now_its_own true = refl
+now_its_own false = refl
+
+now_free : (same : Bool) → (if same then false else same) ≡ false
+now_free true = refl
+now_free false = refl
+
 module _ (set : Set) (states : States) (s : Shared) (past : List Entry) (actor : Actor) where
   abbrev pub Agrees : Frame → Type 0
   Agrees f = (l : Lock) → holds past actor.thread l ≡ frame_says states f l
 
-  module _ (a : Activation) (i : Instr) (h : Runs set states s a i) (agrees : Agrees (Routine a)) where
-    locks_taken : (lock : Lock) → lock_taken a i ≡ Some lock
-        → Locks (state_of states a) (handed set a.driver (state_of states a) i) a.device lock false
-    locks_taken lock takes =
-        taken (state_of states a) a (sort_of set a.driver a.routine) set h.stays.eight i lock takes
-        (operand set states s a i h) h.obeys
+  module _ (a : Activation) (i : Instr) (h : Runs set states s a i) (agrees : Agrees (Routine a))
+    where
+      locks_taken : (lock : Lock) → lock_taken a i ≡ Some lock
+          → Locks (state_of states a) (handed set a.driver (state_of states a) i) a.device lock false
+      locks_taken lock takes =
+          taken (state_of states a) a (sort_of set a.driver a.routine) set h.stays.eight i lock takes
+          (operand set states s a i h) h.obeys
 
-    locks_freed : (lock : Lock) → lock_freed a i ≡ Some lock
-        → Locks (state_of states a) (handed set a.driver (state_of states a) i) a.device lock true
-    locks_freed lock frees =
-        freed (state_of states a) a (sort_of set a.driver a.routine) set h.stays.eight i lock frees
-        (operand set states s a i h) h.obeys
+      locks_freed : (lock : Lock) → lock_freed a i ≡ Some lock
+          → Locks (state_of states a) (handed set a.driver (state_of states a) i) a.device lock true
+      locks_freed lock frees =
+          freed (state_of states a) a (sort_of set a.driver a.routine) set h.stays.eight i lock frees
+          (operand set states s a i h) h.obeys
 
-    own_now : (lock : Lock) (held b : Bool) → has_next (flow_of i) ≡ true
-        → ((l : Lock) → state_says (handed set a.driver (state_of states a) i) a.device l
-        ≡ (if is_lock lock l then b else state_says (state_of states a) a.device l)) → (l : Lock)
-        → (if nat_eq actor.thread actor.thread && is_lock lock l then b else holds past actor.thread l)
-        ≡ frame_says states (Routine (next a)) l
-    own_now lock held b on now l =
-        now_held actor.thread (is_lock lock l) (state_says (state_of states a) a.device l)
-        (holds past actor.thread l) b
-        (agrees l)
-        ∙ sym (now l)
-        ∙ ap (λ state. state_says state a.device l) (sym (arrives_next set states s a i h on))
+      own_now : (lock : Lock) (held b : Bool) → has_next (flow_of i) ≡ true
+          → ((l : Lock) → state_says (handed set a.driver (state_of states a) i) a.device l
+          ≡ (if is_lock lock l then b else state_says (state_of states a) a.device l)) → (l : Lock)
+          → (if nat_eq actor.thread actor.thread && is_lock lock l then b else holds past actor.thread
+          l)
+          ≡ frame_says states (Routine (next a)) l
+      own_now lock held b on now l =
+          now_held actor.thread (is_lock lock l) (state_says (state_of states a) a.device l)
+          (holds past actor.thread l) b
+          (agrees l)
+          ∙ sym (now l)
+          ∙ ap (λ state. state_says state a.device l) (sym (arrives_next set states s a i h on))
+
+  -- the system cancel spin lock, alone held, is freed
+  cancel_freed : ((l : Lock) → holds past actor.thread l ≡ is_lock SystemCancel l) → (l : Lock)
+      → (if nat_eq actor.thread actor.thread && is_lock SystemCancel l then false
+      else holds past actor.thread l)
+      ≡ false
+  cancel_freed agrees l =
+      now_held actor.thread (is_lock SystemCancel l) (is_lock SystemCancel l)
+      (holds past actor.thread l) false (agrees l)
+      ∙ now_free (is_lock SystemCancel l)
+
+  -- the locks after a step of IoCancelIrp: it takes the system cancel spin lock at the first, and
+  -- has it until it frees it or the cancel routine begins, which then has it
+  cancel_own : (n : ℕ) (step : CancelStep) (o : Outcome)
+      → OnTop set states s (CancelFrame (record { packet = n; next = step }))
+      → Agrees (CancelFrame (record { packet = n; next = step }))
+      → Cancels set s actor.thread n step o → (l : Lock)
+      → holds (recorded past actor o.actions) actor.thread l ≡ top_says states o.frames l
+  cancel_own n step o top agrees (takes_cancel free) l =
+      now_held actor.thread (is_lock SystemCancel l) false (holds past actor.thread l) true
+      (agrees l)
+      ∙ now_its_own (is_lock SystemCancel l)
+  cancel_own n step o top agrees (retakes_cancel its) l =
+      now_held actor.thread (is_lock SystemCancel l) false (holds past actor.thread l) true
+      (agrees l)
+      ∙ now_its_own (is_lock SystemCancel l)
+  cancel_own n step o top agrees (awaits_cancel owner owned apart) l = agrees l
+  cancel_own n step o top agrees (flags_gone gone) l = cancel_freed agrees l
+  cancel_own n step o top agrees (sets_flag p there) l = agrees l
+  cancel_own n step o top agrees (exchanges_gone gone) l = cancel_freed agrees l
+  cancel_own n step o top agrees (finds_empty p there empty) l = cancel_freed agrees l
+  cancel_own n step o top agrees (finds_none p armer there is none) l = cancel_freed agrees l
+  cancel_own n step o top agrees (calls_cancel p armer routine there is named) l =
+      agrees l ∙ sym (cancelled_says set states s.issued _ (Ref n) l
+      (begins_called set states s top.good top.fits n p armer routine top.stands there is named))
 
   -- the locks after a step
   pub own : (under : Option Frame) (f : Frame) (o : Outcome) → OnTop set states s f → Agrees f
@@ -217,7 +289,8 @@ module _ (set : Set) (states : States) (s : Shared) (past : List Entry) (actor :
   own under f o top agrees (marks_packet a r n p at reads there) l =
       agrees l ∙ sym
       (quiet_next set states s a (Mark r) (runs set states s a (Mark r) top at) refl refl l)
-  own under f o top agrees (exchanges a i b jumped r n p armer at is goes operand reads there how) l =
+  own under f o top agrees (exchanges a i b jumped r n p armer at is goes operand reads there how)
+      l =
       agrees l ∙ sym
       (quiet_goes set states s a i (runs set states s a i top at) b jumped (rw is refl) goes l)
   own under f o top agrees (takes_lock a i lock at takes free) l =
@@ -244,7 +317,8 @@ module _ (set : Set) (states : States) (s : Shared) (past : List Entry) (actor :
         | inr one ↦ rw one.1 (agrees l ∙ sym says)
       ]
   own under f o top agrees (completes_packet a r status n p at reads there) l =
-      let h : Runs set states s a (Complete r status) = runs set states s a (Complete r status) top at in
+      let h : Runs set states s a (Complete r status) = runs set states s a (Complete r status) top
+      at in
       agrees l ∙ free_says (state_of states a) a.device l
       (completes_one (state_of states a) (sort_of set a.driver a.routine) set a.driver r status
       h.obeys).free
@@ -281,13 +355,14 @@ module _ (set : Set) (states : States) (s : Shared) (past : List Entry) (actor :
       agrees l ∙ returns set states s a Stop (runs set states s a (Ret Stop) top at) l
   own under f o top agrees (ends_cancel a at is) l =
       agrees l ∙ returns set states s a Void (runs set states s a (Ret Void) top at) l
-  own under f o top agrees (lends_to n p c there set_there sort) l =
-      absurd (never_lends top.good.quiet c sort)
   own under f o top agrees (cancels n step made moves) l =
-      absurd (never_stands set states s (record { packet = n; next = step }) top)
+      cancel_own n step made top agrees moves l
   own under f o top agrees (walks_to n p c there set_there lends) l =
       agrees l ∙ sym (begun_says set states s.issued (completes_with set c n) Propagate (Ref n) l
-      (begins_back set states s top.good top.fits n p c top.stands there set_there))
+      (begins_back set states s top.good top.fits n p c top.stands there set_there lends) refl)
+  own under f o top agrees (lends_to n p c there set_there lends) l =
+      agrees l ∙ sym (begun_says set states s.issued (completes_with set c n) Hold (Ref n) l
+      (begins_lent set states s top.good top.fits n p c top.stands there set_there lends) refl)
   own under f o top agrees _ l = agrees l
 
   -- so there is no bug check about locks, nor about a paged cell, since dispatch routines are on
@@ -297,7 +372,8 @@ module _ (set : Set) (states : States) (s : Shared) (past : List Entry) (actor :
   none_held [] none = refl
   none_held (l ∷ locks) none = rw (none l) (none_held locks none)
 
-  low_level : is_dispatch_level actor.root ≡ false → ((l : Lock) → holds past actor.thread l ≡ false)
+  low_level : is_dispatch_level actor.root ≡ false
+      → ((l : Lock) → holds past actor.thread l ≡ false)
       → at_dispatch past actor ≡ false
   low_level low none = rw low (none_held (acquired past) none)
 
@@ -305,6 +381,33 @@ module _ (set : Set) (states : States) (s : Shared) (past : List Entry) (actor :
       → first_or (bug_if b check subject) None ≡ None
   no_bug true check subject h = cc
   no_bug false check subject h = refl
+
+  cancel_frees : ((l : Lock) → holds past actor.thread l ≡ is_lock SystemCancel l)
+      → first_or (bug_if (not (holds past actor.thread SystemCancel)) SpinLockNotOwned
+      (LockSubject SystemCancel)) None ≡ None
+  cancel_frees agrees =
+      no_bug (not (holds past actor.thread SystemCancel)) SpinLockNotOwned
+      (LockSubject SystemCancel)
+      (ap not (agrees SystemCancel))
+
+  -- IoCancelIrp takes the system cancel spin lock when its thread hasn't it, and frees it when it
+  -- has
+  cancel_faults : (n : ℕ) (step : CancelStep) (o : Outcome)
+      → Agrees (CancelFrame (record { packet = n; next = step }))
+      → Cancels set s actor.thread n step o → fault_among is_of_locks past actor o.actions ≡ None
+  cancel_faults n step o agrees (takes_cancel free) =
+      no_bug (holds past actor.thread SystemCancel) SpinLockAlreadyOwned (LockSubject SystemCancel)
+      (agrees SystemCancel)
+  cancel_faults n step o agrees (retakes_cancel its) =
+      no_bug (holds past actor.thread SystemCancel) SpinLockAlreadyOwned (LockSubject SystemCancel)
+      (agrees SystemCancel)
+  cancel_faults n step o agrees (awaits_cancel owner owned apart) = refl
+  cancel_faults n step o agrees (flags_gone gone) = cancel_frees agrees
+  cancel_faults n step o agrees (sets_flag p there) = refl
+  cancel_faults n step o agrees (exchanges_gone gone) = cancel_frees agrees
+  cancel_faults n step o agrees (finds_empty p there empty) = cancel_frees agrees
+  cancel_faults n step o agrees (finds_none p armer there is none) = cancel_frees agrees
+  cancel_faults n step o agrees (calls_cancel p armer routine there is named) = refl
 
   pub lock_faults : (under : Option Frame) (f : Frame) (o : Outcome)
       → Low set actor.root f
@@ -333,5 +436,5 @@ module _ (set : Set) (states : States) (s : Shared) (past : List Entry) (actor :
       (works_on_queues a i b queues starts actions full at queued) =
       elim (queued_touches queued) [ inl none ↦ rw none refl | inr one ↦ rw one.1 refl ]
   lock_faults under f o low top agrees (cancels n step made moves) =
-      absurd (never_stands set states s (record { packet = n; next = step }) top)
+      cancel_faults n step made agrees moves
   lock_faults under f o low top agrees _ = refl

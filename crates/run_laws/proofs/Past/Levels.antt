@@ -28,7 +28,8 @@ module _ (test : Lock → Bool) (l : Lock) (p : test l ≡ true) where
         | inr other ↦ let no : false ≡ true = sym other ∙ same in cc
       ]
   acquired_one m locks false c held same h more = or_second (test m) (list_any test locks) (more h)
-  acquired_one m locks true false held same h more = or_second (test m) (list_any test locks) (more h)
+  acquired_one m locks true false held same h more =
+      or_second (test m) (list_any test locks) (more h)
 
   still_held : (b held : Bool) → cond b false held ≡ true → held ≡ true
   still_held true held h = cc
@@ -36,7 +37,8 @@ module _ (test : Lock → Bool) (l : Lock) (p : test l ≡ true) where
 
   acquired_more : (a : Action) (b held : Bool) (locks : List Lock) → holds_after a b l held ≡ true
       → (held ≡ true → list_any test locks ≡ true) → list_any test (with_acquired a locks) ≡ true
-  acquired_more (Acquires m) b held locks h more = acquired_one m locks b (is_lock m l) held refl h more
+  acquired_more (Acquires m) b held locks h more =
+      acquired_one m locks b (is_lock m l) held refl h more
   acquired_more (Releases m) b held locks h more = more (still_held (b && is_lock m l) held h)
   acquired_more _ b held locks h more = more h
 
@@ -47,7 +49,8 @@ module _ (test : Lock → Bool) (l : Lock) (p : test l ≡ true) where
       acquired_more e.action (nat_eq e.actor.thread t) (holds past t l) (acquired past) h
       (acquired_held past t)
 
-pub holds_some : (past : List Entry) (t : ℕ) (l : Lock) → holds past t l ≡ true → holds_any past t ≡ true
+pub holds_some : (past : List Entry) (t : ℕ) (l : Lock) → holds past t l ≡ true
+    → holds_any past t ≡ true
 holds_some past t l held = acquired_held (λ m. holds past t m) l held past t held
 
 -- a lock among these that passes a test

@@ -49,7 +49,8 @@ pub find_below : (low : ℕ) (ps : List Packet) (high n : ℕ) → Rises low ps 
 find_below low [] high n h l = refl
 find_below low (p ∷ ps) high n h l =
     elim (eqb_tells p.number n) [
-      | inl e ↦ let k : low ≤ p.number = h.0 in let same : p.number ≡ n = e.1 in absurd (omega arith)
+      | inl e ↦ let k : low ≤ p.number = h.0 in let same : p.number
+          ≡ n = e.1 in absurd (omega arith)
       | inr e ↦ rw e.0 (let k : low ≤ p.number =
           h.0 in find_below (suc p.number) ps high n h.1 (omega arith))
     ]
@@ -66,7 +67,8 @@ find_above low (p ∷ ps) high n h l =
     ]
 
 -- a packet is written back under its number
-pub find_set : (ps : List Packet) (n : ℕ) (p q : Packet) → find ps n ≡ Some p → q.number ≡ n → (m : ℕ) →
+pub find_set : (ps : List Packet) (n : ℕ) (p q : Packet) → find ps n ≡ Some p → q.number ≡ n
+    → (m : ℕ) →
     find (slice_set ps (place_of ps n) q) m ≡ (if nat_eq n m then Some q else find ps m)
 find_set [] n p q h s m = cc
 find_set (r ∷ ps) n p q h s m =

@@ -57,7 +57,8 @@ module _ (spin : List (List (Option ℕ))) (m l : OfDevice) (o : Option ℕ) whe
   abbrev Places : List (List (Option ℕ)) → Owner
   Places rows = option_and_then (λ owners. slice_get owners l.number) (slice_get rows l.device)
 
-  owner_spin : (owners : List (Option ℕ)) (before : Option ℕ) → slice_get spin m.device ≡ Some owners
+  owner_spin : (owners : List (Option ℕ)) (before : Option ℕ)
+      → slice_get spin m.device ≡ Some owners
       → slice_get owners m.number ≡ Some before
       → Places (slice_set spin m.device (slice_set owners m.number o))
       ≡ cond {A = Owner} (is_lock (Spin m) (Spin l)) (Some o) (Places spin)
@@ -90,7 +91,8 @@ module _ (locks : Locks) (o before : Option ℕ) where
       rw same (owner_spin locks.spin m l o owners before there at)
 
   owner_set : (m l : Lock) → owner_of locks m ≡ Some before
-      → owner_of (with_owner locks m o) l ≡ cond {A = Owner} (is_lock m l) (Some o) (owner_of locks l)
+      → owner_of (with_owner locks m o) l ≡ cond {A = Owner} (is_lock m l) (Some o)
+      (owner_of locks l)
   owner_set SystemCancel SystemCancel at = refl
   owner_set SystemCancel (Spin l) at = refl
   owner_set (Spin m) SystemCancel at = refl
@@ -125,7 +127,8 @@ module _ (locks : Locks) (past after : List Entry) (m : Lock) (o before : Option
   owned_set t b told now k l =
       elim (lock_tells m l) [
         | inl same ↦
-            let held : holds past k l ≡ is_owner k before = owned k l ∙ (rw (← same.1, there) refl) in
+            let held : holds past k l ≡ is_owner k before = owned k l
+            ∙ (rw (← same.1, there) refl) in
             rw (told k l, owner_set locks o before m l there, same.0, held)
             (one_way (nat_eq t k) b _ _ (now k))
         | inr other ↦
@@ -145,7 +148,8 @@ module _ (locks : Locks) (past after : List Entry) (m : Lock) (o before : Option
 -- free
 pub owned_acquire : (locks : Locks) (past after : List Entry) (t : ℕ) (m : Lock) → Owned locks past
     → owner_of locks m ≡ Some None
-    → ((k : ℕ) (l : Lock) → holds after k l ≡ cond (nat_eq t k && is_lock m l) true (holds past k l))
+    → ((k : ℕ) (l : Lock) → holds after k l ≡ cond (nat_eq t k && is_lock m l) true
+    (holds past k l))
     → Owned (with_owner locks m (Some t)) after
 owned_acquire locks past after t m owned free told =
     owned_set locks past after m (Some t) None owned free t true told (λ k. its (nat_eq t k))
@@ -156,7 +160,8 @@ owned_acquire locks past after t m owned free told =
 
 pub owned_release : (locks : Locks) (past after : List Entry) (t : ℕ) (m : Lock) → Owned locks past
     → owner_of locks m ≡ Some (Some t)
-    → ((k : ℕ) (l : Lock) → holds after k l ≡ cond (nat_eq t k && is_lock m l) false (holds past k l))
+    → ((k : ℕ) (l : Lock) → holds after k l ≡ cond (nat_eq t k && is_lock m l) false
+    (holds past k l))
     → Owned (with_owner locks m None) after
 owned_release locks past after t m owned its told =
     owned_set locks past after m None (Some t) owned its t false told (λ k. none (nat_eq t k))

@@ -110,7 +110,8 @@ module _ (after : List Packet) (issued : ℕ) (tops ends arms : ℕ → Bool) (s
   Of o n = ToldOf o n issued (tops n) (ends n) (arms n) (sizes n) (deeps n)
 
   told_where : (before : ℕ → Option Packet) (n : ℕ) (o : Option Packet)
-      → ((m : ℕ) → find after m ≡ (if nat_eq n m then o else before m)) → Rises 0 after issued → Of o n
+      → ((m : ℕ) → find after m ≡ (if nat_eq n m then o else before m)) → Rises 0 after issued
+      → Of o n
       → ((m : ℕ) → nat_eq n m ≡ false → n ≢ m → Of (before m) m)
       → Told after issued tops ends arms sizes deeps
   told_where before n o finds rises here others =
@@ -140,7 +141,8 @@ module _ (s : Shared) (past : List Entry) (tells : Tells s past) (n : ℕ) (p q 
       let at : find s.packets n ≡ Some p = found s n (Some p) there in
       let same : q.number ≡ n = number ∙ numbered s n p there in
       let low : n < s.issued = found_lt s n p tells.rises at in
-      told_where (with_packet s n q).packets s.issued (topped past) ends arms (stack_size past) deeps
+      told_where (with_packet s n q).packets s.issued (topped past) ends arms (stack_size past)
+      deeps
       (find s.packets) n
       (Some q) (find_set s.packets n p q at same)
       (rises_set 0 s.packets s.issued n p q at same tells.rises)
@@ -154,7 +156,8 @@ module _ (s : Shared) (past : List Entry) (tells : Tells s past) (n : ℕ) (p q 
       (λ m other apart. rw ((others m other).0, (others m other).1, (others m other).2)
       (told_of s past tells m))
 
-  pub tells_kept : Changed p q p.completing (is_some p.armer) p.depth → Tells (with_packet s n q) past
+  pub tells_kept : Changed p q p.completing (is_some p.armer) p.depth
+      → Tells (with_packet s n q) past
   tells_kept changed =
       tells_set (completing past) (armed past) (depth past) changed.number
       (λ before. record {
@@ -248,7 +251,8 @@ module _ (s : Shared) (past : List Entry) (tells : Tells s past) where
 
   -- a packet tops out
   pub tells_top : (n : ℕ) (p : Packet) → packet_of s n ≡ Some p
-      → Told (without_packet s n).packets s.issued (λ m. nat_eq n m || topped past m) (completing past)
+      → Told (without_packet s n).packets s.issued (λ m. nat_eq n m || topped past m)
+      (completing past)
       (armed past) (stack_size past) (depth past)
   tells_top n p there =
       let low : n < s.issued = found_lt s n p tells.rises (found s n (Some p) there) in
@@ -273,13 +277,15 @@ module _ (s : Shared) (past : List Entry) (tells : Tells s past) where
       ]
 
   pub tells_issue : (d : ℕ) (major : Major) (argument stack : ℕ) → 1 ≤ stack
-      → Told (s.packets ++ new_packet s.issued d major argument stack ∷ []) (s.issued + 1) (topped past)
+      → Told (s.packets ++ new_packet s.issued d major argument stack ∷ []) (s.issued + 1)
+      (topped past)
       (completing past) (armed past) (λ m. if nat_eq s.issued m then stack else stack_size past m)
       (λ m. if nat_eq s.issued m then 1 else depth past m)
   tells_issue d major argument stack low =
       let n : ℕ = s.issued in
       let p : Packet = new_packet n d major argument stack in
-      let new : (completing past n ≡ false) × (armed past n ≡ false) = tells.fresh n (omega arith) in
+      let new : (completing past n ≡ false) × (armed past n ≡ false) = tells.fresh n (omega arith)
+      in
       let unseen : topped past n ≡ false = tells.gone n ∙ (rw (lt_false n n (omega arith)) refl) in
       told_where (s.packets ++ p ∷ []) (n + 1) (topped past) (completing past)
       (armed past) (λ m. if nat_eq n m then stack else stack_size past m)

@@ -91,7 +91,8 @@ module _ (set : Set) (w : World) (past : List Entry) (actor : Actor) (tells : Te
       record {
         packets = told_packets set w.shared past actor below h.frame h.outcome tells.packets
             (under_issued w.shared.issued h.below below_issued) h.comes;
-        locks = told_locks set w.shared past actor below h.frame h.outcome tells.locks h.comes quiet;
+        locks = told_locks set w.shared past actor below h.frame h.outcome tells.locks h.comes
+            quiet;
         walks = walks_stepped;
         few = each_frames w actor.thread h.outcome.shared
             (with_stack h.thread (standing set h.below h.outcome))
@@ -101,29 +102,31 @@ module _ (set : Set) (w : World) (past : List Entry) (actor : Actor) (tells : Te
       }
 
 pub telling_happens : (set : Set) → IsSound set
-    → (w : World) (past : List Entry) (actor : Actor) (of_cancel : Bool) (c : Change)
-    → Telling w past → Happens set w actor.thread of_cancel c → first_fault past actor c.actions ≡ None
+    → (w : World) (past : List Entry) (actor : Actor) (c : Change)
+    → Telling w past → Happens set w actor.thread c → first_fault past actor c.actions ≡ None
     → c.over ≡ false
     → Telling c.world (recorded past actor c.actions)
-telling_happens set sound w past actor of_cancel c tells (nothing reply right) quiet within = tells
-telling_happens set sound w past actor of_cancel c tells (steps h) quiet within =
+telling_happens set sound w past actor c tells (nothing reply right) quiet within = tells
+telling_happens set sound w past actor c tells (steps h) quiet within =
     telling_step set w past actor tells h quiet within
-telling_happens set sound w past actor of_cancel c tells (issues h) quiet within =
+telling_happens set sound w past actor c tells (issues h) quiet within =
     let fits : DeviceFits (length set.drivers) h.d h.device =
     device_fits set h.d h.device sound h.there in
     record {
-      packets = tells_issue w.shared past tells.packets h.d h.major h.argument h.device.stack fits.low;
+      packets = tells_issue w.shared past tells.packets h.d h.major h.argument h.device.stack
+          fits.low;
       locks = tells.locks;
       walks = walks_put w actor.thread (with_new_packet w.shared h.d h.device h.major h.argument)
           h.thread
-          (rooted h.thread Passive (serves_request set h.d h.device h.major w.shared.issued)) h.found
+          (rooted h.thread Passive (serves_request set h.d h.device h.major w.shared.issued))
+          h.found
           (omega arith) tells.walks (tt, tt);
       few = each_frames w actor.thread (with_new_packet w.shared h.d h.device h.major h.argument)
           (rooted h.thread Passive (serves_request set h.d h.device h.major w.shared.issued))
           (λ k frames. length frames ≤ MAX_FRAMES) h.thread h.found (omega arith)
           (λ k apart. tells.few k);
     }
-telling_happens set sound w past actor of_cancel c tells (begins h) quiet within =
+telling_happens set sound w past actor c tells (begins h) quiet within =
     record {
       packets = tells.packets;
       locks = tells.locks;
@@ -135,7 +138,7 @@ telling_happens set sound w past actor of_cancel c tells (begins h) quiet within
           (λ k frames. length frames ≤ MAX_FRAMES) h.thread h.found (omega arith)
           (λ k apart. tells.few k);
     }
-telling_happens set sound w past actor of_cancel c tells (begins_startio h) quiet within =
+telling_happens set sound w past actor c tells (begins_startio h) quiet within =
     record {
       packets = tells.packets;
       locks = tells.locks;
@@ -150,7 +153,7 @@ telling_happens set sound w past actor of_cancel c tells (begins_startio h) quie
           (λ k frames. length frames ≤ MAX_FRAMES) h.thread h.found (omega arith)
           (λ k apart. tells.few k);
     }
-telling_happens set sound w past actor of_cancel c tells (begins_cancel h) quiet within =
+telling_happens set sound w past actor c tells (begins_cancel h) quiet within =
     record {
       packets = tells.packets;
       locks = tells.locks;
@@ -182,17 +185,19 @@ telling_begun set threads =
     }
 
 telling_event : (set : Set) → IsSound set
-    → (w : World) (past : List Entry) (actor : Actor) (of_cancel : Bool) (c : Change)
-    → Telling w past → GoesOnBy set w past actor of_cancel c
+    → (w : World) (past : List Entry) (actor : Actor) (c : Change)
+    → Telling w past → GoesOnBy set w past actor c
     → Telling c.world (recorded past actor c.actions)
-telling_event set sound w past actor of_cancel c tells on =
-    telling_happens set sound w past actor of_cancel c tells on.happens on.quiet on.within
+telling_event set sound w past actor c tells on =
+    telling_happens set sound w past actor c tells on.happens on.quiet on.within
 
 -- what is measured of a live packet
-of_packet : (r : Run) (n : ℕ) (p : Packet) → Telling r.world r.past → packet_of r.world.shared n ≡ Some p
+of_packet : (r : Run) (n : ℕ) (p : Packet) → Telling r.world r.past
+    → packet_of r.world.shared n ≡ Some p
     → TellsOfPacket r.past n p
 of_packet r n p tells there =
-    let its : Measured p (completing r.past n) (armed r.past n) (stack_size r.past n) (depth r.past n) =
+    let its : Measured p (completing r.past n) (armed r.past n) (stack_size r.past n)
+    (depth r.past n) =
     tells.packets.live n p (found r.world.shared n (Some p) there) in
     record { completion = its.taken; armed = its.armed; size = its.count; place = its.place }
 
@@ -215,4 +220,5 @@ pub telling_runs : PastTellsOfTheWorld
 telling_runs set sound threads events on =
     past_tells (run set threads events)
     (kept_until Telling set (telling_event set sound)
-    (λ w past d tells. telling_queued w past d true tells) threads events (telling_begun set threads) on)
+    (λ w past d tells. telling_queued w past d true tells) threads events
+    (telling_begun set threads) on)

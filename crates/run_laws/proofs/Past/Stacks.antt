@@ -35,7 +35,8 @@ marked_length (Some l) locations place = length-set locations place (record l { 
 pub shared_length : (o : Option Location) (locations : List Location) (place device : ℕ)
     → length (shared_location o locations place device) ≡ length locations
 shared_length None locations place device = refl
-shared_length (Some l) locations place device = length-set locations place (record l { device = device })
+shared_length (Some l) locations place device =
+    length-set locations place (record l { device = device })
 
 pub changed_info : (p : Packet) (info : ℕ)
     → Changed p (with_info p info) p.completing (is_some p.armer) p.depth

@@ -61,16 +61,21 @@ module _ (set : Set) (s : Shared) (past : List Entry) (actor : Actor) where
       (λ d. d - 1) (changed_lent p)
   told_packets under f o tells low (resumes_walk a n p at sort there) =
       tells_taken s past tells n p (record p { completing = true }) there (changed_back p)
-  told_packets under f o tells low (resumes_gone a n at sort none) = tells_late s past tells n low none
-  told_packets under f o tells low (exchanges a i b jumped r n p armer at work goes is reads there how) =
-      tells_exchanged s past tells n p (with_armer p armer) there (is_some armer) (changed_word p armer)
-  told_packets under f o tells low (cancels n step made moves) = cancel_packets n step made tells moves
+  told_packets under f o tells low (resumes_gone a n at sort none) =
+      tells_late s past tells n low none
+  told_packets under f o tells low
+      (exchanges a i b jumped r n p armer at work goes is reads there how) =
+      tells_exchanged s past tells n p (with_armer p armer) there (is_some armer)
+      (changed_word p armer)
+  told_packets under f o tells low (cancels n step made moves) =
+      cancel_packets n step made tells moves
   told_packets under f o tells low (walks_up n p there without deep unmarked) =
       tells_moved s past tells n p (moved_up (left_location p)) there (λ d. d - 1) (changed_up p)
   told_packets under f o tells low (carries_up n p there without deep marked) =
       tells_moved s past tells n p (mark_current (moved_up (left_location p))) there (λ d. d - 1)
       (changed_marked_up p)
-  told_packets under f o tells low (tops_out n p there without first) = tells_top s past tells n p there
+  told_packets under f o tells low (tops_out n p there without first) =
+      tells_top s past tells n p there
   told_packets under f o tells low (works_on_queues a i b queues starts actions full at queued) =
       elim (queued_touches queued) [ inl none ↦ rw none tells | inr one ↦ rw one.1 tells ]
   told_packets under f o tells low _ = tells
@@ -104,7 +109,8 @@ module _ (set : Set) (s : Shared) (past : List Entry) (actor : Actor) where
   cancel_freed : (actions : List Action) → Owned s.locks past
       → ((k : ℕ) (l : Lock) → holds (recorded past actor actions) k l
       ≡ cond (nat_eq actor.thread k && is_lock SystemCancel l) false (holds past k l))
-      → bug_if (not (holds past actor.thread SystemCancel)) SpinLockNotOwned (LockSubject SystemCancel)
+      → bug_if (not (holds past actor.thread SystemCancel)) SpinLockNotOwned
+      (LockSubject SystemCancel)
       ≡ None
       → Owned (with_owner s.locks SystemCancel None) (recorded past actor actions)
   cancel_freed actions owned told quiet =
@@ -142,7 +148,8 @@ module _ (set : Set) (s : Shared) (past : List Entry) (actor : Actor) where
   told_locks under f o owned (retakes_lock a i lock at takes its) quiet =
       absurd (retaken lock its owned (none_first _ _ quiet))
   told_locks under f o owned (frees_lock a i lock owner at frees there) quiet =
-      freed (recorded past actor (Executes ∷ Releases lock ∷ [])) lock owner there owned (λ k l. refl)
+      freed (recorded past actor (Executes ∷ Releases lock ∷ [])) lock owner there owned
+      (λ k l. refl)
       (holds past actor.thread lock) refl (none_first _ _ quiet)
   told_locks under f o owned (cancels n step made moves) quiet =
       cancel_locks n step made owned moves quiet

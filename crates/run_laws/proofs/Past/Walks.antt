@@ -26,7 +26,8 @@ UnderIssued issued (Some f) = WalkIssued issued f
 abbrev pub WalksIssued : World → Type 0
 WalksIssued w = (t : ℕ) → Each (WalkIssued w.shared.issued) (frames_on w t)
 
-issued_later : (issued more : ℕ) → issued ≤ more → (f : Frame) → WalkIssued issued f → WalkIssued more f
+issued_later : (issued more : ℕ) → issued ≤ more → (f : Frame) → WalkIssued issued f
+    → WalkIssued more f
 issued_later issued more le (Routine a) h = tt
 issued_later issued more le (Walk n) h = let l : n < issued = h in omega arith
 issued_later issued more le (CancelFrame c) h = tt

@@ -46,7 +46,8 @@ AsDuty NoDuty b kinds values = ⊥
 
 pub data Does (set : Set) (states : States) (a : Activation) : Outcome → Type 0 where
   -- one frame goes on, and nothing is told
-  stays_quiet : (after : Shared) (b : Activation) (actions : List Action) (reply : Reply) (full : Bool)
+  stays_quiet : (after : Shared) (b : Activation) (actions : List Action) (reply : Reply)
+      (full : Bool)
       → GoesOnAs states a b
       → list_any is_telling actions ≡ false
       → Does set states a
@@ -61,12 +62,14 @@ pub data Does (set : Set) (states : States) (a : Activation) : Outcome → Type 
       → p.completing ≡ true
       → 1 ≤ frame_rights states (Routine a) n
       → Completed states a (next a) n
-      → Does set states a (leaves after (Routine (next a) ∷ Walk n ∷ []) (Executes ∷ Completes n ∷ []))
+      → Does set states a (leaves after (Routine (next a) ∷ Walk n ∷ [])
+      (Executes ∷ Completes n ∷ []))
   -- a packet that it was handed is passed on, or one that it has is sent down in a location of its
   -- own
   passes_own : (after : Shared) (n : ℕ) (c : Activation) → BeginsServing set states c n
       → 1 ≤ frame_rights states (Routine a) n → GivesDown set states a (next a) n
-      → Does set states a (leaves after (Routine (next a) ∷ Routine c ∷ []) (Executes ∷ Touches n ∷ []))
+      → Does set states a (leaves after (Routine (next a) ∷ Routine c ∷ [])
+      (Executes ∷ Touches n ∷ []))
   calls_own : (after : Shared) (n : ℕ) (p : Packet) (c : Activation) → find after.packets n ≡ Some p
       → BeginsServing set states c n → 1 ≤ frame_rights states (Routine a) n
       → Called set states a (next a) n
@@ -152,7 +155,8 @@ module _ (set : Set) (states : States) (w later_w : World) (past : List Entry) (
     pub agreed : Agreed states later_w (recorded past actor o.actions) v (is_pending status)
 
   pub record StepServes (o : Outcome) : Type 0 where
-    pub serve : AllServe set states later_w (recorded past actor o.actions) under o.frames (tags_for o)
+    pub serve : AllServe set states later_w (recorded past actor o.actions) under o.frames
+        (tags_for o)
     pub goes : ((o.told ≡ None) × (first_served (tags_for o) ≡ Some v)) ⊎ ReturnsFrom o
     pub agree : AllAgree states later_w (recorded past actor o.actions)
 
@@ -191,10 +195,14 @@ module _ (set : Set) (states : States) (w later_w : World) (past : List Entry) (
   asked_serve later b c lower tag is on same names tagged one other =
       subst (λ (x : Tag). AllServe set states later_w later under (Routine b ∷ Routine c ∷ [])
       (actor.tag ∷ x ∷ []))
-      (sym is) (serve_put later (Some lower) b on same names tagged one, (((refl, refl), other), tt))
+      (sym is) (
+        serve_put later (Some lower) b on same names tagged one,
+        (((refl, refl), other), tt),
+      )
 
   -- of the packet of its own use
-  calls_serves : (after : Shared) (p : Packet) (c : Activation) → find after.packets v.packet ≡ Some p
+  calls_serves : (after : Shared) (p : Packet) (c : Activation)
+      → find after.packets v.packet ≡ Some p
       → BeginsServing set states c v.packet
       → GivesDown set states a (next a) v.packet
       → Stepping (leaves after (Routine (next a) ∷ Routine c ∷ [])
@@ -207,12 +215,14 @@ module _ (set : Set) (states : States) (w later_w : World) (past : List Entry) (
       leaves after (Routine (next a) ∷ Routine c ∷ []) (Executes ∷ Touches n ∷ Calls n ∷ []) in
       let later : List Entry = recorded past actor o.actions in
       let lower : Serving = record { packet = n; «use» = uses_opened past } in
-      let current : Current later lower false = called_current states w later_w past actor n h.settles in
+      let current : Current later lower false = called_current states w later_w past actor n
+      h.settles in
       record {
         serve = asked_serve later (next a) c lower (new_tag set later number (Routine c))
             (new_serving set states later number c n lower begins refl current.0) h.on (refl, refl)
             h.names h.tagged
-            (called_serves set states w later_w past actor v a (next a) h.serves_use h.owns p h.settles
+            (called_serves set states w later_w past actor v a (next a) h.serves_use h.owns p
+            h.settles
             (there_then o n p h there) gives)
             (begun_serves set states later_w later lower c n begins refl current);
         goes = inl (refl, h.tagged);
@@ -220,9 +230,11 @@ module _ (set : Set) (states : States) (w later_w : World) (past : List Entry) (
       }
 
   -- of a packet that it owns
-  calls_other : (after : Shared) (n : ℕ) (p : Packet) (c : Activation) → find after.packets n ≡ Some p
+  calls_other : (after : Shared) (n : ℕ) (p : Packet) (c : Activation)
+      → find after.packets n ≡ Some p
       → BeginsServing set states c n → GivesOwn set states a (next a) n
-      → Stepping (leaves after (Routine (next a) ∷ Routine c ∷ []) (Executes ∷ Touches n ∷ Calls n ∷ []))
+      → Stepping (leaves after (Routine (next a) ∷ Routine c ∷ [])
+      (Executes ∷ Touches n ∷ Calls n ∷ []))
       → StepServes (leaves after (Routine (next a) ∷ Routine c ∷ [])
       (Executes ∷ Touches n ∷ Calls n ∷ []))
   calls_other after n p c there begins gives h =
@@ -230,12 +242,14 @@ module _ (set : Set) (states : States) (w later_w : World) (past : List Entry) (
       leaves after (Routine (next a) ∷ Routine c ∷ []) (Executes ∷ Touches n ∷ Calls n ∷ []) in
       let later : List Entry = recorded past actor o.actions in
       let lower : Serving = record { packet = n; «use» = uses_opened past } in
-      let current : Current later lower false = called_current states w later_w past actor n h.settles in
+      let current : Current later lower false = called_current states w later_w past actor n
+      h.settles in
       record {
         serve = asked_serve later (next a) c lower (new_tag set later number (Routine c))
             (new_serving set states later number c n lower begins refl current.0) h.on (refl, refl)
             h.names h.tagged
-            (own_serves set states w later_w past later v a (next a) h.serves_use h.owns lower n gives
+            (own_serves set states w later_w past later v a (next a) h.serves_use h.owns lower n
+            gives
             h.settles.keeps (λ apart. same_recorded past actor o.actions v.packet (rw apart refl)))
             (begun_serves set states later_w later lower c n begins refl current);
         goes = inl (refl, h.tagged);
@@ -251,7 +265,8 @@ module _ (set : Set) (states : States) (w later_w : World) (past : List Entry) (
       record {
         serve = (
           serve_put later None b h.on (same.driver, same.routine) h.names h.tagged
-              (plain_serves set states w later_w past later v a b h.serves_use h.owns h.settles.keeps
+              (plain_serves set states w later_w past later v a b h.serves_use h.owns
+              h.settles.keeps
               (λ fresh refers. silent_uses o silent v.packet) same),
           tt,
         );
@@ -272,21 +287,24 @@ module _ (set : Set) (states : States) (w later_w : World) (past : List Entry) (
         agree = agree_kept states w later_w past actor o.actions h.settles.keeps refl h.agree;
       }
   dispatch_serves o (completes_own after n p there done owned completed) h =
-      let o : Outcome = leaves after (Routine (next a) ∷ Walk n ∷ []) (Executes ∷ Completes n ∷ []) in
+      let o : Outcome = leaves after (Routine (next a) ∷ Walk n ∷ []) (Executes ∷ Completes n ∷ [])
+      in
       let later : List Entry = recorded past actor o.actions in
       record {
         serve = (
           serve_put later None (next a) h.on (refl, refl) h.names h.tagged
               (done_serves set states w later_w past later v a (next a) h.serves_use h.owns n p
               h.settles (silent_uses o refl)
-              (there_then o n p h there) done (h.late (next a) n refl p.pending_returned) completed),
+              (there_then o n p h there) done (h.late (next a) n refl p.pending_returned)
+              completed),
           (refl, tt),
         );
         goes = inl (refl, h.tagged);
         agree = agree_kept states w later_w past actor o.actions h.settles.keeps refl h.agree;
       }
   dispatch_serves o (passes_own after n c begins owned gives) h =
-      let o : Outcome = leaves after (Routine (next a) ∷ Routine c ∷ []) (Executes ∷ Touches n ∷ []) in
+      let o : Outcome = leaves after (Routine (next a) ∷ Routine c ∷ []) (Executes ∷ Touches n ∷ [])
+      in
       let later : List Entry = recorded past actor o.actions in
       let both : (n ≡ v.packet) × Current later v false
       × ServesUse set states later_w later v (next a) (Some v) =
@@ -303,10 +321,12 @@ module _ (set : Set) (states : States) (w later_w : World) (past : List Entry) (
       }
   dispatch_serves o (calls_own after n p c there begins owned (inl gives)) h =
       let packet : n ≡ v.packet =
-      (owned_current set states w later_w past past v a (next a) h.serves_use h.owns n gives.before).0 in
+      (owned_current set states w later_w past past v a (next a) h.serves_use h.owns n
+      gives.before).0 in
       subst (λ (m : ℕ). find after.packets m ≡ Some p → BeginsServing set states c m
       → GivesDown set states a (next a) m
-      → Stepping (leaves after (Routine (next a) ∷ Routine c ∷ []) (Executes ∷ Touches m ∷ Calls m ∷ []))
+      → Stepping (leaves after (Routine (next a) ∷ Routine c ∷ [])
+      (Executes ∷ Touches m ∷ Calls m ∷ []))
       → StepServes (leaves after (Routine (next a) ∷ Routine c ∷ [])
       (Executes ∷ Touches m ∷ Calls m ∷ [])))
       (sym packet) (λ t b gives. calls_serves after p c t b gives) there

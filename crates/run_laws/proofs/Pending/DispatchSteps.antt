@@ -40,15 +40,14 @@ use Rattle.run_laws.proofs.Past.Packets.{found, named, numbered}
 use Rattle.run_laws.proofs.Pending.CompletionSteps.{goes_same, turned_same}
 use Rattle.run_laws.proofs.Pending.DispatchServes.{AsDuty, Does, calls_own, completes_own, marks_own, passes_own, returns_own, stays_quiet}
 use Rattle.run_laws.proofs.Pending.Duties.{owned_up, fresh_rights, Arrived, Dutied, Dutiful, counted, kinds_that, new_fresh, passes_new}
-use Rattle.run_laws.proofs.Pending.LowerStatuses.{lower_ref, lowers_turn, LowerIs, Lowers, lowers_get, lowers_move, lowers_none, lowers_set}
+use Rattle.run_laws.proofs.Pending.LowerStatuses.{lower_ref, lowers_turn, LowerIs, Lowers, lowers_get, lowers_kept, lowers_move, lowers_none, lowers_set}
 use Rattle.run_laws.proofs.Pending.UsesServed.{IsHandedOver, GoesOnAs, BeginsServing, Called, Completed, GivesDown}
 use Rattle.run_laws.proofs.States.Fine.{completion_top, not_gone, touch_top}
 use Rattle.run_laws.proofs.States.Frames.{Runs, state_of}
-use Rattle.run_laws.proofs.States.Kinds.{kinds_turn, still_kinds, label_kinds, number_kinds}
+use Rattle.run_laws.proofs.States.Kinds.{kinds_turn, label_kinds, number_kinds}
 use Rattle.run_laws.proofs.States.Lacking.{down}
 use Rattle.run_laws.proofs.States.Moves.{arrives, arrives_next, falls_next, has_next, onto}
 use Rattle.run_laws.proofs.States.Obeyed.{ReturnsBy, completes_one, nothing_kept, returns_by}
-use Rattle.run_laws.proofs.States.OnTop.{none_listed}
 use Rattle.run_laws.proofs.Steps.Locking.{LockWord, freed_word, taken_word}
 use Rattle.run_laws.proofs.States.Rules.{States, first_none, second_none, unbroken}
 use Rattle.run_laws.proofs.Steps.Comes.{Exchanged, arms_for, disarms, exchanges, resumes_walk, resumes_gone, resumes_none, stops_walk, stops_none, ends_cancel, unlinks, removes_none, removes, inserts, puts_in, starts_next, starts_packet, takes_none, takes_out, Queued, Reads, Comes, Executing, GoesTo, Lacks, Written, awaits_lock, calls_down, completes_gone, completes_packet, computes, errs, frees_lock, jumping, lets_go, lets_walk, looks_at, keeps_all, makes_blank, makes_number, marks_packet, moves_over, onward, opens_loop, pages, passes_down, retakes_lock, returns_status, takes_lock, touches_gone, turns_loop, writes_info, ends_dpc, works_on_queues, ends_startio}
@@ -77,7 +76,8 @@ onto_duty set driver s _ true h = refl
 onto_duty set driver s _ false h = refl
 
 -- kinds of packets that a dispatch routine marks, completes and sends down
-mark_new : (carried : Settled) (k : Kind) → mark_fault carried k ≡ None → is_view k ≡ false → k ≡ New
+mark_new : (carried : Settled) (k : Kind) → mark_fault carried k ≡ None → is_view k ≡ false
+    → k ≡ New
 mark_new carried New h seen = refl
 mark_new carried _ h seen = cc
 
@@ -107,7 +107,8 @@ given_own s r _ is = cc
 -- no lower status is left in a state in which a packet is handed over
 no_lowers : (s : Abs) (r : ℕ) → Dutiful s → kind_of s r ≡ New → kinds_that is_lower s.kinds ≡ 0
 no_lowers s r h is =
-    let fresh : Dutied Fresh s.kinds = subst (λ (d : Duty). Dutied d s.kinds) (new_fresh s r h is) h in
+    let fresh : Dutied Fresh s.kinds = subst (λ (d : Duty). Dutied d s.kinds) (new_fresh s r h is) h
+    in
     fresh.1
 
 -- a status of its own is returned
@@ -125,7 +126,8 @@ no_new (k ∷ kinds) none =
     new_kept k (is_new k) refl (or_left (is_kept k) (list_any is_kept kinds) none) in
     omega arith
 
-with_status : (d : Duty) (kinds : List Kind) (values : List Value) (status : Status) → Dutied d kinds
+with_status : (d : Duty) (kinds : List Kind) (values : List Value) (status : Status)
+    → Dutied d kinds
     → status_fault d status ≡ None → kinds_that is_new kinds ≡ 0
     → AsDuty d (is_pending status) kinds values
 with_status Fresh kinds values status h rule none = let one : kinds_that is_new kinds ≡ 1 =
@@ -150,13 +152,15 @@ status_value Blank status h = cc
 status_value (Num n) status h = cc
 status_value (Ref n) status h = cc
 
-lower_told : (x : Bool) (k : Kind) (v : Value) (status : Status) → k ≡ LowerKind → v ≡ StatusValue status
+lower_told : (x : Bool) (k : Kind) (v : Value) (status : Status) → k ≡ LowerKind
+    → v ≡ StatusValue status
     → LowerIs x k v → is_pending status ≡ x
 lower_told x k v status kind value h = rw (kind, value) at h
 
 with_lower : (d : Duty) (kinds : List Kind) (values : List Value) (r : ℕ) (status : Status)
     → d ≡ GivenDown
-    → slice_index_or kinds r BlankKind ≡ LowerKind → slice_index_or values r Blank ≡ StatusValue status
+    → slice_index_or kinds r BlankKind ≡ LowerKind
+    → slice_index_or values r Blank ≡ StatusValue status
     → AsDuty d (is_pending status) kinds values
 with_lower GivenDown kinds values r status is kind value =
     λ x lowers. lower_told x (slice_index_or kinds r BlankKind) (slice_index_or values r Blank)
@@ -184,7 +188,8 @@ pub record StepsDispatch (set : Set) (states : States) (s : Shared) (past : List
   pub is : sort_of set a.driver a.routine ≡ Dispatch
   pub arrived : Arrived (state_of states a)
   pub unseen : (r : ℕ) → is_view (kind_of (state_of states a) r) ≡ false
-  pub answers : (r : ℕ) (i : Instr) (status : Status) → Executing set a i → operand_of (Some i) ≡ Some r
+  pub answers : (r : ℕ) (i : Instr) (status : Status) → Executing set a i
+      → operand_of (Some i) ≡ Some r
       → (answered set (next a) status).registers ≡ slice_set a.registers r (StatusValue status)
   pub begins : (lower n : ℕ) (p : Packet) → lower_of set a.device ≡ Some lower → n < s.issued
       → BeginsServing set states
@@ -200,13 +205,13 @@ module _ (set : Set) (states : States) (s : Shared) (past : List Entry) (actor :
       → is_giving (work_of i) ≡ false → Written a i registers → Lowers x now.kinds a.registers
       → Lowers x (handed set a.driver now i).kinds registers
   lowers_on x i registers run duty (keeps_all _ same) left =
-      subst (λ (kinds : List Kind). Lowers x kinds a.registers)
-      (sym (still_kinds set a.driver now i (none_listed set states s a i run) same duty)) left
+      lowers_kept x set a.driver now i a.registers same duty left
   lowers_on x i registers run duty (makes_number _ r n is) left =
       subst (λ (kinds : List Kind). Lowers x kinds (slice_set a.registers r (Num n)))
       (sym (number_kinds now (sort_of set a.driver a.routine) set a.driver i r run.obeys is))
       (lowers_set x now.kinds a.registers r NumKind (Num n) left tt)
-  lowers_on x i registers run duty (moves_over r q) left = lowers_move x now.kinds a.registers r q left
+  lowers_on x i registers run duty (moves_over r q) left =
+      lowers_move x now.kinds a.registers r q left
   lowers_on x i registers run duty (makes_blank r) left =
       lowers_set x now.kinds a.registers r BlankKind Blank left tt
 
@@ -252,11 +257,11 @@ module _ (set : Set) (states : States) (s : Shared) (past : List Entry) (actor :
         lowers = λ x left.
             subst (λ (values : List Value). Lowers x (state_of states b).kinds values)
             (sym registers)
-            (subst (λ (kinds : List Kind). Lowers x kinds a.registers)
-            (sym (ap (λ (state : Abs). state.kinds) there
-            ∙ still_kinds set a.driver now i (none_listed set states s a i run) keeps duty)) left);
+            (subst (λ (state : Abs). Lowers x state.kinds a.registers) (sym there)
+            (lowers_kept x set a.driver now i a.registers keeps duty left));
         news = λ m refers.
-            subst (λ (values : List Value). HoldOf is_new (RefersTo m) (state_of states b).kinds values)
+            subst (λ (values : List Value). HoldOf is_new (RefersTo m) (state_of states b).kinds
+            values)
             (sym registers)
             (subst (λ (state : Abs). HoldOf is_new (RefersTo m) state.kinds a.registers) (sym there)
             (handed_hold is_new handed_news (RefersTo m) set a.driver now i a.registers
@@ -270,7 +275,8 @@ module _ (set : Set) (states : States) (s : Shared) (past : List Entry) (actor :
 
   put_there : (n : ℕ) (p q : Packet) → packet_of s n ≡ Some p → q.number ≡ p.number
       → find (with_packet s n q).packets n ≡ Some q
-  put_there n p q there same = found_put s n p q (found s n (Some p) there) (same ∙ numbered s n p there)
+  put_there n p q there same =
+      found_put s n p q (found s n (Some p) there) (same ∙ numbered s n p there)
 
   -- a packet that it was handed
   handed_over : (r n : ℕ) → kind_of now r ≡ New → Reads s a r n → IsHandedOver states a n
@@ -279,7 +285,8 @@ module _ (set : Set) (states : States) (s : Shared) (past : List Entry) (actor :
         fresh = new_fresh now r h.arrived.dutiful is;
         is = λ m refers.
             reads_to m s (register a r) n
-            (hold_get is_new handed_news (RefersTo m) now.kinds a.registers r tt refers (ap is_new is))
+            (hold_get is_new handed_news (RefersTo m) now.kinds a.registers r tt refers
+            (ap is_new is))
             reads;
       }
 
@@ -417,12 +424,14 @@ module _ (set : Set) (states : States) (s : Shared) (past : List Entry) (actor :
   exchanged_as i b jumped p armer at goes (disarms r label) = disarmed_as r label b jumped at goes
 
   -- a packet is given down
-  gives_down : (i : Instr) (r n : ℕ) → Executing set a i → Reads s a r n → has_next (flow_of i) ≡ true
+  gives_down : (i : Instr) (r n : ℕ) → Executing set a i → Reads s a r n
+      → has_next (flow_of i) ≡ true
       → operand_of (Some i) ≡ Some r
       → handed set a.driver now i ≡ given_down now r (kind_of now r) → kind_of now r ≡ New
       → GivesDown set states a (next a) n
   gives_down i r n at reads leads operand given is =
-      let there : state_of states (next a) ≡ record (with_kind now r LowerKind) { duty = GivenDown } =
+      let there : state_of states (next a)
+      ≡ record (with_kind now r LowerKind) { duty = GivenDown } =
       arrives_next set states s a i (h.routine.runs i at) leads ∙ given
       ∙ given_new now r (kind_of now r) is in
       record {
@@ -440,7 +449,8 @@ module _ (set : Set) (states : States) (s : Shared) (past : List Entry) (actor :
       }
 
   -- the packet that it was handed is another one than one that it owns
-  other_handed : (r n : ℕ) (i : Instr) → Executing set a i → kind_of now r ≡ Own → Reads s a r n → (m : ℕ)
+  other_handed : (r n : ℕ) (i : Instr) → Executing set a i → kind_of now r ≡ Own → Reads s a r n
+      → (m : ℕ)
       → now.duty ≡ Fresh → HoldOf is_new (RefersTo m) now.kinds a.registers → nat_eq n m ≡ false
   other_handed r n i at is reads m fresh refers =
       let run : Runs set states s a i = h.routine.runs i at in
@@ -485,7 +495,8 @@ module _ (set : Set) (states : States) (s : Shared) (past : List Entry) (actor :
         other = λ m fresh refers. other_handed r n (Call r f) at is reads m fresh refers;
       })
 
-  completed_by : (r : ℕ) (status : Status) (n : ℕ) → Executing set a (Complete r status) → Reads s a r n
+  completed_by : (r : ℕ) (status : Status) (n : ℕ) → Executing set a (Complete r status)
+      → Reads s a r n
       → (kind_of now r ≡ New) ⊎ (kind_of now r ≡ Own) → Completed states a (next a) n
   completed_by r status n at reads (inl is) =
       inl (
@@ -502,7 +513,8 @@ module _ (set : Set) (states : States) (s : Shared) (past : List Entry) (actor :
   -- a return
   returns_as : (form : Return) (status : Status)
       → ReturnsBy now (sort_of set a.driver a.routine) set a.driver form
-      → status_returned a form ≡ Some status → AsDuty now.duty (is_pending status) now.kinds a.registers
+      → status_returned a form ≡ Some status → AsDuty now.duty (is_pending status) now.kinds
+      a.registers
   returns_as (WithStatus own) status by there =
       let same : own ≡ status = cc in
       subst (λ (x : Status). AsDuty now.duty (is_pending x) now.kinds a.registers) same
@@ -543,7 +555,8 @@ module _ (set : Set) (states : States) (s : Shared) (past : List Entry) (actor :
       (a.loops.items ++ record { start = a.position + 1; turns = turns } ∷ [])))
       (Executes ∷ []) Stepped false
       (next_as (Loop turns)
-      (next (with_loops a (a.loops.items ++ record { start = a.position + 1; turns = turns } ∷ []))) at
+      (next (with_loops a (a.loops.items ++ record { start = a.position + 1; turns = turns } ∷ [])))
+      at
       refl refl refl refl refl refl refl) refl
   dispatch_does below o (turns_loop b l at there) quiet =
       let same : ((turned a l).driver ≡ a.driver) × ((turned a l).routine ≡ a.routine)
@@ -554,7 +567,8 @@ module _ (set : Set) (states : States) (s : Shared) (past : List Entry) (actor :
         driver = same.0;
         routine = same.1;
         duty = ap (λ (state : Abs). state.duty) back;
-        lowers = λ x left. subst (λ (state : Abs). Lowers x state.kinds (turned a l).registers) (sym back)
+        lowers = λ x left. subst (λ (state : Abs). Lowers x state.kinds (turned a l).registers)
+            (sym back)
             (subst (λ (values : List Value). Lowers x now.kinds values) (sym same.2) left);
         news = λ m refers. rw (back, same.2) refers;
       }) refl
@@ -562,12 +576,14 @@ module _ (set : Set) (states : States) (s : Shared) (past : List Entry) (actor :
       stays_quiet (record s { cells = cells }) c (Executes ∷ TouchesPaged cell ∷ []) Stepped false
       (goes_as i c false at (ap is_giving work) goes) refl
   dispatch_does below o (touches_gone b i r n at touching on operand reads gone) quiet =
-      absurd (not_gone s past n h.routine.tells (touch_top past actor n quiet) (named s _ n reads) gone)
+      absurd (not_gone s past n h.routine.tells (touch_top past actor n quiet) (named s _ n reads)
+      gone)
   dispatch_does below o (looks_at b i c jumped r n p at work goes operand reads there jumps) quiet =
       stays_quiet s c (Executes ∷ Touches n ∷ []) Stepped false
       (goes_as i c jumped at (ap is_giving work) goes) refl
   dispatch_does below o (writes_info b q r n p info at reads there number) quiet =
-      stays_quiet (with_packet s n (with_info p info)) (next a) (Executes ∷ Touches n ∷ []) Stepped false
+      stays_quiet (with_packet s n (with_info p info)) (next a) (Executes ∷ Touches n ∷ []) Stepped
+      false
       (next_as (Put q r) (next a) at refl refl refl refl refl refl refl) refl
   dispatch_does below o (marks_packet b r n p at reads there) quiet =
       let run : Runs set states s a (Mark r) = h.routine.runs (Mark r) at in
@@ -594,7 +610,8 @@ module _ (set : Set) (states : States) (s : Shared) (past : List Entry) (actor :
       (Executes ∷ Releases lock ∷ []) Stepped false
       (locks_as i at (freed_word a i lock freed)) refl
   dispatch_does below o (works_on_queues b i c queues starts actions full at queued) quiet =
-      stays_quiet (record s { queues = queues; starts = starts }) c (Executes ∷ actions) Stepped full
+      stays_quiet (record s { queues = queues; starts = starts }) c (Executes ∷ actions) Stepped
+      full
       (queued_as i c queues starts actions full at queued)
       (elim (queued_touches queued) [ inl none ↦ rw none refl | inr one ↦ rw one.1 refl ])
   dispatch_does below o (completes_packet b r status n p at reads there) quiet =
@@ -619,7 +636,8 @@ module _ (set : Set) (states : States) (s : Shared) (past : List Entry) (actor :
   dispatch_does below o (calls_down b r f n p lower at reads there under_it) quiet =
       let is : (kind_of now r ≡ New) ⊎ (kind_of now r ≡ Own) =
       call_owned (kind_of now r) (first_none _ _ (h.routine.runs (Call r f) at).obeys) in
-      calls_own (with_packet s n (sent_down p lower (set_by a f))) n (sent_down p lower (set_by a f))
+      calls_own (with_packet s n (sent_down p lower (set_by a f))) n
+      (sent_down p lower (set_by a f))
       (dispatched set lower (slice_get set.devices lower) (asked_of (current_location p)) n)
       (put_there n p (sent_down p lower (set_by a f)) there refl)
       (h.begins lower n p under_it (named s _ n reads))

@@ -67,8 +67,10 @@ count_set f (j ∷ kinds) (suc r) k within =
     in
     omega arith
 
-count_gone : (f : Kind → Bool) (kinds : List Kind) (r : ℕ) (k : Kind) → f Blank ≡ false → f k ≡ false
-    → kinds_that f (slice_set kinds r k) + counted f (slice_index_or kinds r Blank) ≡ kinds_that f kinds
+count_gone : (f : Kind → Bool) (kinds : List Kind) (r : ℕ) (k : Kind) → f Blank ≡ false
+    → f k ≡ false
+    → kinds_that f (slice_set kinds r k) + counted f (slice_index_or kinds r Blank)
+    ≡ kinds_that f kinds
 count_gone f [] r k blank none = rw blank refl
 count_gone f (j ∷ kinds) zero k blank none = rw none (omega arith)
 count_gone f (j ∷ kinds) (suc r) k blank none =
@@ -132,7 +134,8 @@ dutied_written : (d : Duty) (kinds : List Kind) (r : ℕ) (k : Kind)
     → is_new (slice_index_or kinds r Blank) ≡ false
     → is_new k ≡ false → is_lower k ≡ false → Dutied d kinds → Dutied d (slice_set kinds r k)
 dutied_written d kinds r k free plain low h =
-    let news : kinds_that is_new (slice_set kinds r k) + counted is_new (slice_index_or kinds r Blank)
+    let news : kinds_that is_new (slice_set kinds r k)
+    + counted is_new (slice_index_or kinds r Blank)
     ≡ kinds_that is_new kinds = count_gone is_new kinds r k refl plain in
     let lowers : kinds_that is_lower (slice_set kinds r k) + counted is_lower
     (slice_index_or kinds r Blank)
@@ -141,7 +144,8 @@ dutied_written d kinds r k free plain low h =
     uncounted is_new (slice_index_or kinds r Blank) free in
     dutied_less d kinds (slice_set kinds r k) (omega arith) (omega arith) h
 
-dutied_moved : (d : Duty) (kinds : List Kind) (r q : ℕ) → is_packet (slice_index_or kinds r Blank) ≡ false
+dutied_moved : (d : Duty) (kinds : List Kind) (r q : ℕ)
+    → is_packet (slice_index_or kinds r Blank) ≡ false
     → r < length kinds → Dutied d kinds
     → Dutied d (slice_set (slice_set kinds r (slice_index_or kinds q Blank)) q
     (left_behind (slice_index_or kinds q Blank)))
@@ -168,14 +172,16 @@ fresh_if NoDuty kinds h some = absurd h
 pub new_fresh : (s : Abs) (r : ℕ) → Dutiful s → kind_of s r ≡ New → s.duty ≡ Fresh
 new_fresh s r h is =
     let one : counted is_new (kind_of s r) ≡ 1 = ap (counted is_new) is in
-    let le : counted is_new (kind_of s r) ≤ kinds_that is_new s.kinds = count_one is_new s.kinds r refl in
+    let le : counted is_new (kind_of s r) ≤ kinds_that is_new s.kinds = count_one is_new s.kinds r
+    refl in
     fresh_if s.duty s.kinds h (omega arith)
 
 -- the packet that was handed over is given up: no other one is left
 handed_up : (s : Abs) (r : ℕ) (k : Kind) → Dutiful s → kind_of s r ≡ New → is_new k ≡ false
     → kinds_that is_new (slice_set s.kinds r k) ≡ 0
 handed_up s r k h is new =
-    let fresh : Dutied Fresh s.kinds = subst (λ (d : Duty). Dutied d s.kinds) (new_fresh s r h is) h in
+    let fresh : Dutied Fresh s.kinds = subst (λ (d : Duty). Dutied d s.kinds) (new_fresh s r h is) h
+    in
     let one : counted is_new (kind_of s r) ≡ 1 = ap (counted is_new) is in
     let news : kinds_that is_new (slice_set s.kinds r k) + counted is_new (kind_of s r)
     ≡ kinds_that is_new s.kinds =
@@ -184,7 +190,8 @@ handed_up s r k h is new =
     omega arith
 
 -- a packet that is owned is given up, or one becomes so: the duty stays as it was
-pub owned_up : (s : Abs) (r : ℕ) → Dutiful s → kind_of s r ≡ Own → Dutied s.duty (slice_set s.kinds r Blank)
+pub owned_up : (s : Abs) (r : ℕ) → Dutiful s → kind_of s r ≡ Own
+    → Dutied s.duty (slice_set s.kinds r Blank)
 owned_up s r h is = dutied_written s.duty s.kinds r Blank (rw is refl) refl refl h
 
 marked_dutiful : (s : Abs) (r : ℕ) (k : Kind) → mark_fault s.settled k ≡ None → kind_of s r ≡ k
@@ -260,9 +267,11 @@ handed_dutiful s (Clear r) set driver rule fits long h =
 handed_dutiful s (Load r c) set driver rule fits long h =
     dutied_written s.duty s.kinds r Num (not_new _ (unbroken _ _ rule)) refl refl h
 handed_dutiful s (LoadPaged r c) set driver rule fits long h =
-    dutied_written s.duty s.kinds r Num (not_new _ (unbroken _ _ (second_none _ _ rule))) refl refl h
+    dutied_written s.duty s.kinds r Num (not_new _ (unbroken _ _ (second_none _ _ rule))) refl refl
+    h
 handed_dutiful s (Get r q field) set driver rule fits long h =
-    dutied_written s.duty s.kinds r Num (not_new _ (unbroken _ _ (second_none _ _ rule))) refl refl h
+    dutied_written s.duty s.kinds r Num (not_new _ (unbroken _ _ (second_none _ _ rule))) refl refl
+    h
 handed_dutiful s (Mark r) set driver rule fits long h = marked_dutiful s r (kind_of s r) rule refl h
 handed_dutiful s (Insert r q) set driver rule fits long h =
     let plain = inserted_plain (cancel_routine_of set driver q) q in
@@ -291,7 +300,8 @@ handed_dutiful s (Release lock) set driver rule fits long h =
 handed_dutiful s (Start r) set driver rule fits long h =
     owned_up s r h (inserts_right (kind_of s r) (first_none _ _ rule))
 handed_dutiful s (Take r label) set driver rule fits long h =
-    dutied_written s.duty s.kinds r Own (not_new _ (unbroken _ _ (second_none _ _ rule))) refl refl h
+    dutied_written s.duty s.kinds r Own (not_new _ (unbroken _ _ (second_none _ _ rule))) refl refl
+    h
 handed_dutiful s (Begin r) set driver rule fits long h =
     owned_up s r h (inserts_right (kind_of s r) (first_none _ _ rule))
 handed_dutiful s (Pass r) set driver rule fits long h =
@@ -317,7 +327,8 @@ emptied s r free h =
       dutiful = dutied_written s.duty s.kinds r Blank free refl refl h.dutiful;
     }
 
-label_arrived : (s : Abs) (i : Instr) (set : Set) (driver : ℕ) → refuses s i Dispatch set driver ≡ None
+label_arrived : (s : Abs) (i : Instr) (set : Set) (driver : ℕ)
+    → refuses s i Dispatch set driver ≡ None
     → Arrived s → Arrived (handed_at_label s i)
 label_arrived s (Remove r q label) set driver rule h =
     emptied s r (not_new _ (unbroken _ _ (first_none _ _ (second_none _ _ rule)))) h
@@ -325,7 +336,8 @@ label_arrived s (Take r label) set driver rule h =
     emptied s r (not_new _ (unbroken _ _ (second_none _ _ rule))) h
 label_arrived s (Disarm r label) set driver rule h =
     emptied s r (queued_plain _ (kind_of s r) rule) h
-label_arrived s (IfPending r label) set driver rule h = record { long = h.long; dutiful = h.dutiful }
+label_arrived s (IfPending r label) set driver rule h =
+    record { long = h.long; dutiful = h.dutiful }
 label_arrived s _ set driver rule h = h
 
 pub dispatch_arrived : (m : Member) (p : ℕ) (s : Abs) → m.routine.sort ≡ Dispatch
@@ -358,7 +370,8 @@ handed_right New v issued m true is suits refers =
     rw (suits.1, eq-eqb suits.0 m same) (omega arith)
 handed_right _ v issued m true is suits refers = cc
 
-handed_rights : (kinds : List Kind) (values : List Value) (issued m : ℕ) → HasKinds issued kinds values
+handed_rights : (kinds : List Kind) (values : List Value) (issued m : ℕ)
+    → HasKinds issued kinds values
     → HoldOf is_new (RefersTo m) kinds values → kinds_that is_new kinds ≤ rights kinds values m
 handed_rights [] values issued m h refers = omega arith
 handed_rights (k ∷ kinds) [] issued m h refers = absurd h

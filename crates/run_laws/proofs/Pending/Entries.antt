@@ -3,7 +3,7 @@
 use Rattle.std.proofs.Common.{◌≡◌, ℕ, zero, suc, ◌<◌, ◌≤◌, List, [], ◌∷◌, length, drop, Option, None, Some, true, false, refl, ap, sym, ◌∙◌, subst, arith, inl, inr}
 use Rattle.std.specs.Prelude.{All, nat_eq, nat_lt, slice_get, slice_index_or, if◌then◌else◌}
 use Rattle.std.proofs.lemmas.Bool.{eq-eqb, ltb-true}
-use Rattle.model.specs.declared.set.Sort.TheVariants.{Dispatch, Propagate}
+use Rattle.model.specs.declared.set.Sort.TheVariants.{Dispatch}
 use Rattle.model.specs.declared.world.Activation.{Activation}
 use Rattle.model.specs.declared.world.CancelStep.{CancelStep}
 use Rattle.model.specs.declared.world.Frame.{Frame}
@@ -21,8 +21,10 @@ use Rattle.run_laws.proofs.Past.Packets.{found}
 use Rattle.run_laws.proofs.Pending.Events.{Attends}
 use Rattle.run_laws.proofs.Pending.Serving.{AllServe, FrameServes, MustServe, TagNames, UnderServes, first_served, served}
 use Rattle.run_laws.proofs.Pending.Threads.{TagOf, Tagged, TopServes, tagged_all, top_serves}
-use Rattle.run_laws.proofs.Runs.Events.{Happens, issues, nothing, steps, begins, begins_startio}
+use Rattle.run_laws.proofs.Runs.Events.{Happens, issues, nothing, steps, begins, begins_cancel, begins_startio}
 use Rattle.run_laws.proofs.Runs.Threads.{frames_there}
+use Rattle.model.specs.LocalRule.{is_completion}
+use Rattle.run_laws.proofs.States.Entering.{IsCompleting}
 use Rattle.run_laws.proofs.States.NoViews.{is_deferred}
 use Rattle.run_laws.proofs.States.Rules.{States}
 use Rattle.run_laws.proofs.States.Stacks.{Stacked, Stands}
@@ -55,9 +57,11 @@ must_serve set states w past a over Managing h = h
 must_serve set states w past a over (Activated g d r None) h = absurd h
 must_serve set states w past a over (Activated g d r (Some v)) h = tt
 
-dispatch_serves_use : (set : Set) (states : States) (w : World) (past : List Entry) (under : Option Frame)
+dispatch_serves_use : (set : Set) (states : States) (w : World) (past : List Entry)
+    (under : Option Frame)
     (a : Activation) (over : Option Serving) (tag : Tag) → OnWalk set under a
-    → UnderServes set states w past under a over (served tag) → sort_of set a.driver a.routine ≡ Dispatch
+    → UnderServes set states w past under a over (served tag)
+    → sort_of set a.driver a.routine ≡ Dispatch
     → ServesUse tag
 dispatch_serves_use set states w past None a over tag on h is =
     elim h [
@@ -67,7 +71,7 @@ dispatch_serves_use set states w past None a over tag on h is =
 dispatch_serves_use set states w past (Some (Routine b)) a over tag on h is =
     must_serve set states w past a over tag h
 dispatch_serves_use set states w past (Some (Walk m)) a over tag on h is =
-    let no : Propagate ≡ Dispatch = sym on ∙ is in cc
+    let no : true ≡ false = sym on ∙ ap is_completion is in cc
 dispatch_serves_use set states w past (Some (CancelFrame c)) a over tag on h is = absurd h
 
 -- uses of a live packet
@@ -82,7 +86,8 @@ second_there (u ∷ v ∷ upper) some = tt
 
 module _ (set : Set) (states : States) (w : World) (past : List Entry) (actor : Actor)
     (told : UsesTell w past) where
-  used_there : (n : ℕ) (p : Packet) → packet_of w.shared n ≡ Some p → HasLocation (current_use past n)
+  used_there : (n : ℕ) (p : Packet) → packet_of w.shared n ≡ Some p
+      → HasLocation (current_use past n)
   used_there n p there =
       let used : PacketUses past n p = told.live n p (found w.shared n (Some p) there) in
       let deep : length (uses past n) ≡ p.depth = used.deep in
@@ -118,7 +123,8 @@ module _ (set : Set) (states : States) (w : World) (past : List Entry) (actor : 
     dispatch_serves_use set states w past under a None actor.tag on serves.1 sort,
     (names_activation a.driver a.routine actor.tag serves.0, h),
   )
-  routine_says under below a o on serves (works_on_queues b i c queues starts actions full at queued) h =
+  routine_says under below a o on serves
+      (works_on_queues b i c queues starts actions full at queued) h =
       elim (queued_touches queued) [
         | inl none ↦ rw none (names_activation a.driver a.routine actor.tag serves.0, h)
         | inr one ↦ rw one.1 (tt, (names_activation a.driver a.routine actor.tag serves.0, h))
@@ -172,28 +178,32 @@ module _ (set : Set) (states : States) (w : World) (past : List Entry) (actor : 
   cancel_says n step o _ h = (tt, h)
 
   frame_says : (under below : Option Frame) (f : Frame) (o : Outcome) → FrameOn set under f
-      → FrameServes set states w past under None f actor.tag → Comes set w.shared actor.thread below f o
+      → FrameServes set states w past under None f actor.tag
+      → Comes set w.shared actor.thread below f o
       → EntriesSay past → EntriesSay (recorded past actor o.actions)
-  frame_says under below (Routine a) o on serves comes h = routine_says under below a o on serves comes h
+  frame_says under below (Routine a) o on serves comes h =
+      routine_says under below a o on serves comes h
   frame_says under below (Walk n) o on serves comes h = walk_says below n o comes h
   frame_says under below (CancelFrame c) o on serves (cancels n step made moves) h =
       cancel_says n step made moves h
 
   -- an event's
   pub entries_event : (tags : List (List Tag)) (c : Change) → KnownWorld set states w past
-      → Attends set states w past tags → Happens set w actor.thread false c
+      → Attends set states w past tags → Happens set w actor.thread c
       → actor.tag ≡ top_tag (slice_index_or tags actor.thread []) → EntriesSay past
       → EntriesSay (recorded past actor c.actions)
   entries_event tags c known attends (nothing reply right) acts h = h
   entries_event tags c known attends (issues i) acts h = (tt, h)
   entries_event tags c known attends (begins i) acts h = h
   entries_event tags c known attends (begins_startio i) acts h = h
+  entries_event tags c known attends (begins_cancel i) acts h = h
   entries_event tags c known attends (steps i) acts h =
       let row : List Tag = slice_index_or tags actor.thread [] in
       let top : TopServes set states w past None i.below i.frame row =
       top_serves set states w past None i.below i.frame row
       (subst (λ (all : List Frame). AllServe set states w past None all row)
-      (frames_there w actor.thread i.thread i.found ∙ i.frames) (attends.serves_all actor.thread)) in
+      (frames_there w actor.thread i.thread i.found ∙ i.frames) (attends.serves_all actor.thread))
+      in
       let under : Option Frame = last_under None i.below in
       frame_says under (top_of i.below) i.frame i.outcome
       (known_top set states w past known actor.thread i).on
@@ -211,13 +221,16 @@ module _ (set : Set) (states : States) (w : World) (past : List Entry) where
       let others : length tags ≡ length frames = as_many (Some f) frames tags h.1 in omega arith
 
   tag_of : (a : Activation) (tag : Tag) (tags : List Tag) → TagNames a.driver a.routine tag
-      → (sort_of set a.driver a.routine ≡ Dispatch → ServesUse tag) → RoutineTag set (tag ∷ tags) 0 a
+      → (sort_of set a.driver a.routine ≡ Dispatch → ServesUse tag)
+      → RoutineTag set (tag ∷ tags) 0 a
   tag_of a Managing tags names serves = absurd names
   tag_of a (Activated g driver routine serving) tags names serves =
       record { number = g; serving = serving; there = rw (names.0, names.1) refl; serves = serves }
 
-  pub routine_tag : (issued : ℕ) (under : Option Frame) (frames : List Frame) (tags : List Tag) (k : ℕ)
-      (a : Activation) → AllServe set states w past under frames tags → Stacked set states issued frames
+  pub routine_tag : (issued : ℕ) (under : Option Frame) (frames : List Frame) (tags : List Tag)
+      (k : ℕ)
+      (a : Activation) → AllServe set states w past under frames tags
+      → Stacked set states issued frames
       → ((b : Activation) → slice_get frames 0 ≡ Some (Routine b) → OnWalk set under b)
       → slice_get frames k ≡ Some (Routine a) → RoutineTag set tags k a
   routine_tag issued under [] tags k a h stacked on there = cc
@@ -232,7 +245,8 @@ module _ (set : Set) (states : States) (w : World) (past : List Entry) where
   routine_tag issued under (f ∷ []) (tag ∷ tags) (suc k) a h stacked on there = cc
   routine_tag issued under (f ∷ g ∷ frames) (tag ∷ tags) (suc k) a h stacked on there =
       let later : RoutineTag set tags k a =
-      routine_tag issued (Some f) (g ∷ frames) tags k a h.1 stacked.1 (on_next f g stacked.0) there in
+      routine_tag issued (Some f) (g ∷ frames) tags k a h.1 stacked.1 (on_next f g stacked.0) there
+      in
       record {
         number = later.number;
         serving = later.serving;
@@ -246,7 +260,7 @@ module _ (set : Set) (states : States) (w : World) (past : List Entry) where
       on_next (Routine c) g stands b is = tt
       on_next (Walk n) (Routine c) stands b is =
           let same : c ≡ b =
-          cc in subst (λ (x : Activation). sort_of set x.driver x.routine ≡ Propagate) same
+          cc in subst (λ (x : Activation). IsCompleting set x) same
           stands.0
       on_next (Walk n) _ stands b is = cc
       on_next (CancelFrame c) g stands b is = tt

@@ -10,50 +10,50 @@ use Rattle.model.specs.declared.set.Sort.TheVariants.{Dpc, StartIo}
 use Rattle.model.specs.declared.status.Status.{Status}
 use Rattle.model.specs.declared.world.Activation.{Activation}
 use Rattle.model.specs.declared.world.Frame.{Frame}
-use Rattle.model.specs.declared.world.Frame.TheVariants.{Routine, Walk}
+use Rattle.model.specs.declared.world.Frame.TheVariants.{Routine, Walk, Cancel as CancelFrame}
+use Rattle.model.specs.declared.world.CancelStep.TheVariants.{Acquire as AcquireStep}
+use Rattle.model.specs.LocalRule.{is_hold}
 use Rattle.model.specs.declared.world.Irql.TheVariants.{Passive, Dispatch as DispatchLevel}
 use Rattle.model.specs.declared.world.Packet.{Packet}
 use Rattle.model.specs.declared.world.Thread.{Thread}
 use Rattle.model.specs.Action.{Issues}
 use Rattle.model.specs.Effect.{Outcome, told_to, top_of}
-use Rattle.model.specs.Events.{Change, issued, rooted, serves_request, standing, with_stack, with_thread, dpc_activation, unchanged}
+use Rattle.model.specs.Events.{Change, cancelling, issued, rooted, serves_request, standing, with_stack, with_thread, dpc_activation, unchanged}
 use Rattle.model.specs.Fault.{first_fault}
 use Rattle.model.specs.PendingAgreement.{was_marked}
 use Rattle.model.specs.Run.{begun, frames_on, new_tag, tags_after, top_tag}
 use Rattle.model.specs.Set.{Set}
-use Rattle.model.specs.Trace.{Activated, Actor, Entry, Serving, Tag, current_use, recorded, uses, uses_opened}
+use Rattle.model.specs.Trace.{Activated, Actor, Entry, Managing, Serving, Tag, current_use, recorded, uses, uses_opened}
 use Rattle.model.specs.World.{Shared, World, current_location, idle_thread, is_marked}
-use Rattle.run_laws.specs.Holder.{frame_rights, frame_walks, stack_sum, thread_sum}
+use Rattle.run_laws.specs.Holder.{all_walking, frame_rights, stack_sum}
 use Rattle.run_laws.proofs.Certificates.Kept.{top_is}
 use Rattle.run_laws.proofs.Certificates.Tally.{no_row, no_tags}
 use Rattle.run_laws.proofs.Holders.Apart.{IsApart, apart_below, apart_other, not_yet}
 use Rattle.run_laws.proofs.Holders.Counts.{Holding, walk_held}
 use Rattle.run_laws.proofs.Holders.Runs.{frame_told_rights, top_holding}
-use Rattle.run_laws.proofs.Holders.Sums.{Held, held}
-use Rattle.run_laws.proofs.Live.Kept.{last_is_top, walk_counts}
-use Rattle.run_laws.proofs.Live.Sees.{IsDeferred, deferred_sort}
+use Rattle.run_laws.proofs.Holders.Sums.{held, stack_append}
+use Rattle.run_laws.proofs.Live.Sees.{deferred_sort}
 use Rattle.run_laws.proofs.Past.LivePackets.{find}
-use Rattle.run_laws.proofs.Pending.FramesServe.{Turned, frame_turned}
+use Rattle.run_laws.proofs.Pending.FramesServe.{Turned, frame_turned, same_over}
 use Rattle.run_laws.proofs.Pending.Returned.{AllAgree, agree_begun, agree_kept}
-use Rattle.run_laws.proofs.Pending.Serving.{AllServe, Current, FrameServes, KeepsAgreed, all_kept}
-use Rattle.run_laws.proofs.Pending.Threads.{Tagged, TopServes, all_on, all_told, row_same, tagged_all, tags_kept, top_serves}
+use Rattle.run_laws.proofs.Pending.Serving.{AllServe, Current, FrameServes, KeepsAgreed, all_kept, served}
+use Rattle.run_laws.proofs.Pending.Threads.{Tagged, TopServes, walk_below_serves, all_on, all_told, row_same, tagged_all, tags_kept, top_serves}
 use Rattle.run_laws.proofs.Pending.TopDispatch.{begins_serving}
 use Rattle.run_laws.proofs.Pending.UsesServed.{BeginsServing, Settles, begun_serves, new_serving}
-use Rattle.run_laws.proofs.Runs.Events.{Happens, IssuesPacket, StepsFrame, issues, nothing, steps, begins, begins_startio}
+use Rattle.run_laws.proofs.Runs.Events.{Happens, IssuesPacket, StepsFrame, issues, nothing, steps, begins, begins_cancel, begins_startio}
 use Rattle.run_laws.proofs.Runs.Kept.{with_queued}
 use Rattle.run_laws.proofs.Runs.Threads.{frames_put, frames_there, idle_frames, others_put, thread_put}
 use Rattle.run_laws.proofs.States.Entering.{begins_request, begins_dpc, startio_activation}
 use Rattle.run_laws.proofs.States.Fine.{StepLeaves, leaves_fine}
-use Rattle.run_laws.proofs.States.Never.{keeps_below}
 use Rattle.run_laws.proofs.States.Rules.{States}
 use Rattle.run_laws.proofs.States.Stacks.{Replaces, Stacked, Stands}
 use Rattle.run_laws.proofs.States.Standing.{on_top, stands_there, startio_enters}
-use Rattle.run_laws.proofs.States.Told.{last_same, last_under, standing_last, told_last}
-use Rattle.run_laws.proofs.Steps.Below.{standing_is, takes_below}
+use Rattle.run_laws.proofs.States.Told.{last_same, last_under, told_is, told_last}
+use Rattle.run_laws.proofs.Steps.Below.{StopsBelow, stood}
 use Rattle.run_laws.proofs.Uses.CurrentUses.{Others, agreed_finished, agreed_marked, current_others, linked_agrees, linked_waits}
-use Rattle.run_laws.proofs.Uses.Events.{KnownWorld, agreed_by, event_turns, known_top, linked_by}
+use Rattle.run_laws.proofs.Uses.Events.{KnownWorld, agreed_by, all_carried, event_turns, known_top, linked_by}
 use Rattle.run_laws.proofs.Uses.Fates.{MarksTell, PacketUses, UsesTell}
-use Rattle.run_laws.proofs.Uses.LateMarks.{no_late_walk}
+use Rattle.run_laws.proofs.Uses.LateMarks.{no_late_walk, walks_on}
 use Rattle.run_laws.proofs.Uses.Traced.{SameUses, same_recorded, same_uses}
 
 -- the frames of all threads, with their tags, serve, and every status that was returned is as
@@ -61,7 +61,8 @@ use Rattle.run_laws.proofs.Uses.Traced.{SameUses, same_recorded, same_uses}
 pub record Attends (set : Set) (states : States) (w : World) (past : List Entry)
     (tags : List (List Tag)) : Type 0 where
   pub rows : length tags ≡ length w.threads
-  pub serves_all : (t : ℕ) → AllServe set states w past None (frames_on w t) (slice_index_or tags t [])
+  pub serves_all : (t : ℕ) → AllServe set states w past None (frames_on w t)
+      (slice_index_or tags t [])
   pub agree : AllAgree states w past
 
 -- a current location is marked as the trace says of its use, and the location above it of the use
@@ -86,7 +87,8 @@ located_above : (w : World) (past : List Entry) (n x u : ℕ) (upper : List ℕ)
     (record { packet = n; «use» = u })
 located_above w past n x u upper p told there used =
     let marks : MarksTell past n (x ∷ u ∷ upper) p.locations.items =
-    subst (λ (all : List ℕ). MarksTell past n all p.locations.items) used (told.live n p there).marks in
+    subst (λ (all : List ℕ). MarksTell past n all p.locations.items) used
+    (told.live n p there).marks in
     marks.1.0
 
 -- what an event does to uses, from what packets tell before it and after it
@@ -139,7 +141,8 @@ module _ (set : Set) (states : States) (w : World) (past : List Entry) (tags : L
       → ((k : ℕ) → actor.thread ≢ k → (n : ℕ)
       → 1 ≤ stack_sum (λ g. frame_rights states g n) (frames_on w k)
       → SameUses past later n) → AllAgree states (with_thread w actor.thread s after) later
-      → Attends set states (with_thread w actor.thread s after) later (slice_set tags actor.thread new)
+      → Attends set states (with_thread w actor.thread s after) later
+      (slice_set tags actor.thread new)
   attend_put later s thread after new found keeps serve others agree =
       let t : ℕ = actor.thread in
       let now : World = with_thread w t s after in
@@ -162,7 +165,8 @@ module _ (set : Set) (states : States) (w : World) (past : List Entry) (tags : L
               (subst (λ (items : List Frame). AllServe set states now later None items
               (slice_index_or tags k []))
               (sym (others_put w t s after k apart))
-              (all_kept set states w now past later keeps None (frames_on w k) (slice_index_or tags k [])
+              (all_kept set states w now past later keeps None (frames_on w k)
+              (slice_index_or tags k [])
               (others k apart) (attends.serves_all k)))
         ];
         agree = agree;
@@ -190,21 +194,12 @@ module _ (set : Set) (states : States) (w : World) (past : List Entry) (tags : L
     abbrev later_w : World
     later_w = with_thread w actor.thread o.shared after
 
-    module _ (kept_later : Held states later_w) (settles : Settles states w past later_w later) where
+    module _ (known_later : KnownWorld set states later_w later)
+        (settles : Settles states w past later_w later) where
       step_leaves : StepLeaves set states w.shared h.frame o
       step_leaves =
           leaves_fine set states w.shared past actor known.stands.tells (top_of h.below) h.frame o
           (on_top set states w past known.good known.stands actor.thread h) quiet h.comes
-
-      kept_frames : takes_below set w.shared actor.thread (top_of h.below) h.frame o h.comes ≡ false
-      kept_frames =
-          keeps_below set states w.shared actor.thread (top_of h.below) h.frame o
-          (on_top set states w past known.good known.stands actor.thread h) h.comes
-
-      standing_told : standing set h.below o ≡ told_last set o.told h.below ++ o.frames
-      standing_told =
-          standing_last set w.shared actor.thread (top_of h.below) h.frame o h.below h.comes
-          kept_frames
 
       stacked : Stacked set states w.shared.issued (h.below ++ h.frame ∷ [])
       stacked = stands_there set states w past known.good known.stands actor.thread h
@@ -218,28 +213,33 @@ module _ (set : Set) (states : States) (w : World) (past : List Entry) (tags : L
           (record {
             known = known_top set states w past known actor.thread h;
             quiet = quiet;
-            walked = λ m is.
-                let some : 1 ≤ thread_sum (λ g. frame_walks g m) w.threads =
-                walk_counts w.threads actor.thread h.thread h.below h.frame m h.found h.frames
-                (sym (last_is_top h.below) ∙ is) in
-                let all : thread_sum (λ g. frame_walks g m) w.threads ≡ held (find w.shared.packets m) =
+            walked = λ m a is propagates on.
+                let some : 1 ≤ all_walking set w.threads m =
+                walks_on set states false m w.threads actor.thread h.thread h.below a h.found
+                (h.frames ∙ ap (λ (f : Frame). h.below ++ f ∷ []) is) on
+                (ap is_hold propagates) in
+                let all : all_walking set w.threads m ≡ held (find w.shared.packets m) =
                 known.kept.walks m in
                 omega arith;
             own = λ m is.
-                walk_held states w.shared past m
-                (subst (λ (f : Frame). Holding states w.shared past f) is
+                walk_held set states w.shared past m
+                (subst (λ (f : Frame). Holding set states w.shared past f) is
                 (top_holding set states w past known.stands known.kept actor.thread h));
             shared = refl;
             settles = settles;
             agree = attends.agree;
             late = λ b n is returned.
-                no_late_walk states later_w actor.thread n after
-                (told_to set h.below o.told ++ Routine b ∷ []) returned
-                kept_later (thread_put w actor.thread o.shared after h.thread h.found)
-                (standing_is set w.shared actor.thread (top_of h.below) h.frame o h.below h.comes
-                kept_frames
-                ∙ ap (λ (frames : List Frame). told_to set h.below o.told ++ frames) is
-                ∙ sym (append_assoc (told_to set h.below o.told) (Routine b ∷ []) (Walk n ∷ [])));
+                elim (stood set w.shared actor.thread h.below h.frame o h.comes) [
+                  | inl on ↦
+                      no_late_walk set states later_w actor.thread n after
+                      (told_to set h.below o.told ++ Routine b ∷ []) returned
+                      known_later.kept (all_carried set states later_w later known_later)
+                      (thread_put w actor.thread o.shared after h.thread h.found)
+                      (on ∙ ap (λ (frames : List Frame). told_to set h.below o.told ++ frames) is
+                      ∙ sym (append_assoc (told_to set h.below o.told) (Routine b ∷ [])
+                      (Walk n ∷ [])))
+                  | inr stops ↦ let no : [] ≡ Routine b ∷ Walk n ∷ [] = sym stops.frames ∙ is in cc
+                ];
           })
 
       -- the frames of the thread, with their tags
@@ -249,7 +249,8 @@ module _ (set : Set) (states : States) (w : World) (past : List Entry) (tags : L
           → AllServe set states later_w later None (told_last set o.told h.below ++ o.frames)
           (below_tags ++ tags_after set later number (h.frame ∷ []) (actor.tag ∷ []) o.frames)
       thread_serves below_tags tagged serves turn =
-          let new : List Tag = tags_after set later number (h.frame ∷ []) (actor.tag ∷ []) o.frames in
+          let new : List Tag = tags_after set later number (h.frame ∷ []) (actor.tag ∷ []) o.frames
+          in
           let same : (n : ℕ) → 1 ≤ stack_sum (λ g. frame_rights states g n) h.below
           → SameUses past later n =
           λ n some.
@@ -284,8 +285,10 @@ module _ (set : Set) (states : States) (w : World) (past : List Entry) (tags : L
                 settles.follows same tagged
                 (λ g is n.
                 let replaces : Replaces set states w.shared.issued h.frame (Some told.0) [] =
-                subst (λ (x : Option Status). Replaces set states w.shared.issued h.frame x []) told.1
-                (subst (λ (x : List Frame). Replaces set states w.shared.issued h.frame o.told x) told.2
+                subst (λ (x : Option Status). Replaces set states w.shared.issued h.frame x [])
+                told.1
+                (subst (λ (x : List Frame). Replaces set states w.shared.issued h.frame o.told x)
+                told.2
                 step_leaves.stands) in
                 frame_told_rights set states w.shared.issued n (Some told.0) g
                 (replaces g (stands_last set states w.shared.issued None h.below h.frame g stacked
@@ -293,9 +296,102 @@ module _ (set : Set) (states : States) (w : World) (past : List Entry) (tags : L
                 serves told.3))))
           ]
 
+      -- those below the I/O manager's frame, where the completion is stopped
+      stopped_serves : (stops : StopsBelow set w.shared h.below h.frame o) (below_tags : List Tag)
+          → Tagged h.below below_tags
+          → AllServe set states w past None (h.below ++ h.frame ∷ []) (below_tags ++ actor.tag ∷ [])
+          → Turned set states w later_w past actor number (last_under None h.below) o h.frame
+          → AllServe set states later_w later None stops.others
+          (tags_after set later number (h.below ++ h.frame ∷ []) (below_tags ++ actor.tag ∷ [])
+          stops.others)
+      stopped_serves stops below_tags tagged serves turn =
+          let walk : Frame = Walk stops.n in
+          let under : AllServe set states w past None (stops.others ++ walk ∷ []) below_tags =
+          walk_below_serves set states w past None stops.others stops.n h.frame below_tags actor.tag
+          (subst (λ (frames : List Frame). Tagged frames below_tags) stops.below_is tagged)
+          (subst (λ (frames : List Frame). AllServe set states w past None (frames ++ h.frame ∷ [])
+          (below_tags ++ actor.tag ∷ [])) stops.below_is serves) in
+          let top : TopServes set states w past None stops.others walk below_tags =
+          top_serves set states w past None stops.others walk below_tags under in
+          let managing : top.tag ≡ Managing = top.top in
+          let same : (n : ℕ) → 1 ≤ stack_sum (λ g. frame_rights states g n) stops.others
+          → SameUses past later n =
+          λ n some.
+          (let parts : stack_sum (λ g. frame_rights states g n) h.below
+          ≡ stack_sum (λ g. frame_rights states g n) stops.others
+          + stack_sum (λ g. frame_rights states g n) (walk ∷ []) =
+          ap (stack_sum (λ g. frame_rights states g n)) stops.below_is
+          ∙ stack_append (λ g. frame_rights states g n) stops.others (walk ∷ []) in
+          let apart : IsApart states w.shared h.frame n =
+          apart_below set states w past known.stands known.kept actor.thread h n (omega arith) in
+          turn.spares n apart.some apart.right) in
+          let left : AllServe set states later_w later None (stops.others ++ []) (top.tags ++ []) =
+          all_on set states w later_w past later settles.keeps None stops.others top.tags walk
+          top.tag
+          [] [] same top.tagged
+          (subst (λ (ts : List Tag). AllServe set states w past None (stops.others ++ walk ∷ []) ts)
+          top.is under)
+          (same_over (last_under None stops.others) (served top.tag) None (ap served managing)) tt
+          in
+          let kept : tags_after set later number (h.below ++ h.frame ∷ [])
+          (below_tags ++ actor.tag ∷ []) stops.others ≡ top.tags ++ [] =
+          ap (λ (frames : List Frame). tags_after set later number (frames ++ h.frame ∷ [])
+          (below_tags ++ actor.tag ∷ []) stops.others) stops.below_is
+          ∙ ap (λ (frames : List Frame). tags_after set later number frames
+          (below_tags ++ actor.tag ∷ []) stops.others)
+          (append_assoc stops.others (walk ∷ []) (h.frame ∷ []))
+          ∙ ap (λ (ts : List Tag). tags_after set later number (stops.others ++ walk ∷ h.frame ∷ [])
+          ts stops.others)
+          (ap (λ (ts : List Tag). ts ++ actor.tag ∷ []) top.is
+          ∙ append_assoc top.tags (top.tag ∷ []) (actor.tag ∷ []))
+          ∙ ap (λ (frames : List Frame). tags_after set later number
+          (stops.others ++ walk ∷ h.frame ∷ []) (top.tags ++ top.tag ∷ actor.tag ∷ []) frames)
+          (sym (append-nil (told_last set None stops.others) ∙ last_same set stops.others))
+          ∙ tags_kept set later number None stops.others (walk ∷ h.frame ∷ []) [] top.tags
+          (top.tag ∷ actor.tag ∷ []) top.tagged in
+          subst (λ (ts : List Tag). AllServe set states later_w later None stops.others ts)
+          (sym kept)
+          (subst (λ (frames : List Frame). AllServe set states later_w later None frames
+          (top.tags ++ [])) (append-nil stops.others) left)
+
+      -- and those that stand after the step, whatever it is
+      stood_serves : (below_tags : List Tag) → Tagged h.below below_tags
+          → AllServe set states w past None (h.below ++ h.frame ∷ []) (below_tags ++ actor.tag ∷ [])
+          → Turned set states w later_w past actor number (last_under None h.below) o h.frame
+          → AllServe set states later_w later None (standing set h.below o)
+          (tags_after set later number (h.below ++ h.frame ∷ []) (below_tags ++ actor.tag ∷ [])
+          (standing set h.below o))
+      stood_serves below_tags tagged serves turn =
+          elim (stood set w.shared actor.thread h.below h.frame o h.comes) [
+            | inl on ↦
+                let told : standing set h.below o ≡ told_last set o.told h.below ++ o.frames =
+                on ∙ ap (λ (frames : List Frame). frames ++ o.frames) (told_is set h.below o.told)
+                in
+                let kept : tags_after set later number (h.below ++ h.frame ∷ [])
+                (below_tags ++ actor.tag ∷ []) (told_last set o.told h.below ++ o.frames)
+                ≡ below_tags ++ tags_after set later number (h.frame ∷ []) (actor.tag ∷ [])
+                o.frames =
+                tags_kept set later number o.told h.below (h.frame ∷ []) o.frames below_tags
+                (actor.tag ∷ []) tagged in
+                subst (λ (frames : List Frame). AllServe set states later_w later None frames
+                (tags_after set later number (h.below ++ h.frame ∷ [])
+                (below_tags ++ actor.tag ∷ [])
+                frames)) (sym told)
+                (subst (λ (ts : List Tag). AllServe set states later_w later None
+                (told_last set o.told h.below ++ o.frames) ts) (sym kept)
+                (thread_serves below_tags tagged serves turn))
+            | inr stops ↦
+                subst (λ (frames : List Frame). AllServe set states later_w later None frames
+                (tags_after set later number (h.below ++ h.frame ∷ [])
+                (below_tags ++ actor.tag ∷ [])
+                frames)) (sym stops.stands)
+                (stopped_serves stops below_tags tagged serves turn)
+          ]
+
       step_attends : Attends set states later_w later
           (slice_set tags actor.thread
-          (tags_after set later number (frames_on w actor.thread) row (frames_on later_w actor.thread)))
+          (tags_after set later number (frames_on w actor.thread) row
+          (frames_on later_w actor.thread)))
       step_attends =
           let items : frames_on w actor.thread ≡ h.below ++ h.frame ∷ [] =
           frames_there w actor.thread h.thread h.found ∙ h.frames in
@@ -306,28 +402,28 @@ module _ (set : Set) (states : States) (w : World) (past : List Entry) (tags : L
           let tag_is : actor.tag ≡ top.tag = acts ∙ top_is row top.tags top.tag top.is in
           let row_is : row ≡ top.tags ++ actor.tag ∷ [] =
           top.is ∙ ap (λ (tag : Tag). top.tags ++ tag ∷ []) (sym tag_is) in
-          let turn : Turned set states w later_w past actor number (last_under None h.below) o h.frame =
+          let turn : Turned set states w later_w past actor number (last_under None h.below) o
+          h.frame =
           step_turned (subst
           (λ (tag : Tag). FrameServes set states w past (last_under None h.below) None h.frame
           tag)
           (sym tag_is) top.top) in
-          let now : frames_on later_w actor.thread ≡ told_last set o.told h.below ++ o.frames =
-          frames_put w actor.thread o.shared after h.thread h.found
-          ∙ standing_told in
+          let now : frames_on later_w actor.thread ≡ standing set h.below o =
+          frames_put w actor.thread o.shared after h.thread h.found in
           let kept : tags_after set later number (frames_on w actor.thread) row
           (frames_on later_w actor.thread)
-          ≡ top.tags ++ tags_after set later number (h.frame ∷ []) (actor.tag ∷ []) o.frames =
+          ≡ tags_after set later number (h.below ++ h.frame ∷ []) (top.tags ++ actor.tag ∷ [])
+          (standing set h.below o) =
           ap (λ (all : List Frame). tags_after set later number all row
           (frames_on later_w actor.thread)) items
           ∙ ap (λ (ts : List Tag). tags_after set later number (h.below ++ h.frame ∷ []) ts
           (frames_on later_w actor.thread)) row_is
           ∙ ap (λ (all : List Frame). tags_after set later number (h.below ++ h.frame ∷ [])
-          (top.tags ++ actor.tag ∷ []) all) now
-          ∙ tags_kept set later number o.told h.below (h.frame ∷ []) o.frames top.tags
-          (actor.tag ∷ []) top.tagged in
+          (top.tags ++ actor.tag ∷ []) all) now in
           let serves : AllServe set states w past None (h.below ++ h.frame ∷ [])
           (top.tags ++ actor.tag ∷ []) =
-          subst (λ (ts : List Tag). AllServe set states w past None (h.below ++ h.frame ∷ []) ts) row_is
+          subst (λ (ts : List Tag). AllServe set states w past None (h.below ++ h.frame ∷ []) ts)
+          row_is
           (subst (λ (all : List Frame). AllServe set states w past None all row) items
           (attends.serves_all actor.thread)) in
           attend_put later o.shared h.thread after
@@ -336,10 +432,7 @@ module _ (set : Set) (states : States) (w : World) (past : List Entry) (tags : L
           settles.keeps
           (subst (λ (ts : List Tag). AllServe set states later_w later None (standing set h.below o)
           ts) (sym kept)
-          (subst (λ (frames : List Frame). AllServe set states later_w later None frames
-          (top.tags ++ tags_after set later number (h.frame ∷ []) (actor.tag ∷ []) o.frames))
-          (sym standing_told)
-          (thread_serves top.tags top.tagged serves turn)))
+          (stood_serves top.tags top.tagged serves turn))
           (λ k apart n some.
           let other : IsApart states w.shared h.frame n =
           apart_other set states w past known.stands known.kept actor.thread h n k apart some in
@@ -352,9 +445,11 @@ module _ (set : Set) (states : States) (w : World) (past : List Entry) (tags : L
   issued_use n stack = rw (eq-eqb n n refl) refl
 
   issue_attends : (h : IssuesPacket set w actor.thread)
-      → Settles states w past (issued set w actor.thread h.d h.thread h.device h.major h.argument).world
+      → Settles states w past (issued set w actor.thread h.d h.thread h.device h.major
+      h.argument).world
       (recorded past actor (Issues w.shared.issued h.device.stack ∷ []))
-      → Attends set states (issued set w actor.thread h.d h.thread h.device h.major h.argument).world
+      → Attends set states (issued set w actor.thread h.d h.thread h.device h.major
+      h.argument).world
       (recorded past actor (Issues w.shared.issued h.device.stack ∷ []))
       (tags_by (issued set w actor.thread h.d h.thread h.device h.major h.argument))
   issue_attends h settles =
@@ -369,7 +464,8 @@ module _ (set : Set) (states : States) (w : World) (past : List Entry) (tags : L
       let v : Serving = record { packet = n; «use» = uses_opened past } in
       let current : Current later v false =
       (issued_use n h.device.stack, settles.unmarked v (omega arith)) in
-      let tagged : new_tag set later number (Routine a) ≡ Activated number a.driver a.routine (Some v) =
+      let tagged : new_tag set later number (Routine a)
+      ≡ Activated number a.driver a.routine (Some v) =
       new_serving set states later number a n v beginning refl current.0 in
       let before : frames_on w actor.thread ≡ [] = frames_there w actor.thread h.thread h.found
       ∙ h.idle in
@@ -383,38 +479,41 @@ module _ (set : Set) (states : States) (w : World) (past : List Entry) (tags : L
       (attend_put later c.world.shared h.thread after (new_tag set later number (Routine a) ∷ [])
       h.found settles.keeps
       (subst (λ (tag : Tag). AllServe set states c.world later None (Routine a ∷ []) (tag ∷ []))
-      (sym tagged)
-      (((refl, refl), inl (begun_serves set states c.world later v a n beginning refl current)), tt))
+      (sym tagged) (
+        ((refl, refl), inl (begun_serves set states c.world later v a n beginning refl current)),
+        tt,
+      ))
       (λ k apart m some. same_recorded past actor (Issues n h.device.stack ∷ []) m
       (let other : nat_eq n m ≡ false =
       ne_eqb n m (not_yet set states w past known.stands known.kept k m some) in rw other refl))
       (agree_kept states w c.world past actor (Issues n h.device.stack ∷ []) settles.keeps refl
       attends.agree)))
 
-  -- a deferred routine begins on an idle thread: it serves no use
-  deferred_attends : (s : Shared) (thread : Thread) (a : Activation)
+  -- a frame begins on an idle thread that serves no use: a deferred routine's, or one of IoCancelIrp
+  begun_attends : (s : Shared) (thread after : Thread) (f : Frame)
       → slice_get w.threads actor.thread ≡ Some thread → thread.frames.items ≡ []
-      → IsDeferred set a
-      → Settles states w past
-      (with_thread w actor.thread s (rooted thread DispatchLevel a)) past
-      → Attends set states (with_thread w actor.thread s (rooted thread DispatchLevel a)) past
+      → after.frames.items ≡ f ∷ []
+      → FrameServes set states (with_thread w actor.thread s after) past None None f
+      (new_tag set past number f)
+      → Settles states w past (with_thread w actor.thread s after) past
+      → Attends set states (with_thread w actor.thread s after) past
       (slice_set tags actor.thread
       (tags_after set past number (frames_on w actor.thread) row
-      (frames_on (with_thread w actor.thread s (rooted thread DispatchLevel a)) actor.thread)))
-  deferred_attends s thread a found idle deferred settles =
-      let after : Thread = rooted thread DispatchLevel a in
+      (frames_on (with_thread w actor.thread s after) actor.thread)))
+  begun_attends s thread after f found idle items serves settles =
       let now_w : World = with_thread w actor.thread s after in
       let before : frames_on w actor.thread ≡ [] =
       frames_there w actor.thread thread found ∙ idle in
-      let now : frames_on now_w actor.thread ≡ Routine a ∷ [] =
-      frames_put w actor.thread s after thread found in
+      let now : frames_on now_w actor.thread ≡ f ∷ [] =
+      frames_put w actor.thread s after thread found ∙ items in
       subst (λ (all : List Frame). Attends set states now_w past
       (slice_set tags actor.thread
       (tags_after set past number all row (frames_on now_w actor.thread)))) (sym before)
       (subst (λ (all : List Frame). Attends set states now_w past
       (slice_set tags actor.thread (tags_after set past number [] row all))) (sym now)
-      (attend_put past s thread after (new_tag set past number (Routine a) ∷ []) found settles.keeps
-      (((refl, refl), inr deferred), tt)
+      (attend_put past s thread after (new_tag set past number f ∷ []) found settles.keeps
+      (subst (λ (all : List Frame). AllServe set states now_w past None all
+      (new_tag set past number f ∷ [])) (sym items) (serves, tt))
       (λ k apart m some. same_uses past m)
       (agree_kept states w now_w past actor [] settles.keeps refl attends.agree)))
 
@@ -438,12 +537,13 @@ module _ (set : Set) (states : States) (w : World) (past : List Entry) (tags : L
       }
 
   -- every event
-  pub attend_event : (c : Change) → Happens set w actor.thread false c → actor.tag ≡ top_tag row
-      → first_fault past actor c.actions ≡ None → Held states c.world → UsesTell w past
+  pub attend_event : (c : Change) → Happens set w actor.thread c → actor.tag ≡ top_tag row
+      → first_fault past actor c.actions ≡ None
+      → KnownWorld set states c.world (recorded past actor c.actions) → UsesTell w past
       → UsesTell c.world (recorded past actor c.actions)
       → Attends set states c.world (recorded past actor c.actions) (tags_by c)
-  attend_event c happens acts quiet kept told told_later =
-      attends_by c happens quiet kept
+  attend_event c happens acts quiet known_later told told_later =
+      attends_by c happens quiet known_later
       (settles_of states w c.world past (recorded past actor c.actions)
       (record {
         agreed = agreed_by states w c.world past (recorded past actor c.actions) told
@@ -452,32 +552,50 @@ module _ (set : Set) (states : States) (w : World) (past : List Entry) (tags : L
             (event_turns set states w past known actor c happens quiet);
       }) told told_later)
     where
-      attends_by : (c : Change) → Happens set w actor.thread false c → first_fault past actor c.actions ≡ None
-          → Held states c.world → Settles states w past c.world (recorded past actor c.actions)
+      attends_by : (c : Change) → Happens set w actor.thread c
+          → first_fault past actor c.actions ≡ None
+          → KnownWorld set states c.world (recorded past actor c.actions)
+          → Settles states w past c.world (recorded past actor c.actions)
           → Attends set states c.world (recorded past actor c.actions) (tags_by c)
-      attends_by c (nothing reply right) quiet kept settles =
+      attends_by c (nothing reply right) quiet known_later settles =
           let same : tags_after set past number (frames_on w actor.thread) row
           (frames_on w actor.thread) ≡ row =
           row_same set past number (frames_on w actor.thread) row
           (tagged_all set states w past None (frames_on w actor.thread) row
           (attends.serves_all actor.thread)) in
-          subst (λ (ts : List Tag). Attends set states w past (slice_set tags actor.thread ts)) (sym same)
+          subst (λ (ts : List Tag). Attends set states w past (slice_set tags actor.thread ts))
+          (sym same)
           (subst (λ (ts : List (List Tag)). Attends set states w past ts)
           (sym (set-get_or tags actor.thread []))
           attends)
-      attends_by c (steps h) quiet kept settles = step_attends h acts quiet kept settles
-      attends_by c (issues h) quiet kept settles = issue_attends h settles
-      attends_by c (begins h) quiet kept settles =
+      attends_by c (steps h) quiet known_later settles =
+          step_attends h acts quiet known_later settles
+      attends_by c (issues h) quiet known_later settles = issue_attends h settles
+      attends_by c (begins h) quiet known_later settles =
           let a : Activation = dpc_activation set h.d h.routine in
-          deferred_attends c.world.shared h.thread a h.found h.idle
-          (deferred_sort set a Dpc
-          (begins_dpc set states known.good w.shared.issued h.d h.routine h.there).of_sort refl)
+          begun_attends c.world.shared h.thread (rooted h.thread DispatchLevel a) (Routine a)
+          h.found
+          h.idle refl (
+            (refl, refl),
+            inr (deferred_sort set a Dpc
+                (begins_dpc set states known.good w.shared.issued h.d h.routine h.there).of_sort
+                refl),
+          )
           settles
-      attends_by c (begins_startio h) quiet kept settles =
+      attends_by c (begins_startio h) quiet known_later settles =
           let a : Activation = startio_activation set h.d h.routine h.n in
-          deferred_attends c.world.shared h.thread a h.found h.idle
-          (deferred_sort set a StartIo
-          (startio_enters set states w past known.good known.stands actor.thread h).of_sort refl)
+          begun_attends c.world.shared h.thread (rooted h.thread DispatchLevel a) (Routine a)
+          h.found
+          h.idle refl (
+            (refl, refl),
+            inr (deferred_sort set a StartIo
+                (startio_enters set states w past known.good known.stands actor.thread h).of_sort
+                refl),
+          )
+          settles
+      attends_by c (begins_cancel h) quiet known_later settles =
+          begun_attends w.shared h.thread (cancelling h.thread h.level h.n)
+          (CancelFrame (record { packet = h.n; next = AcquireStep })) h.found h.idle refl refl
           settles
 
 -- before the first event

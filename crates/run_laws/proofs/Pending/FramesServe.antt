@@ -16,7 +16,7 @@ use Rattle.model.specs.World.{World}
 use Rattle.run_laws.specs.Holder.{frame_rights}
 use Rattle.run_laws.proofs.Holders.Sums.{held, held_apart, unheld}
 use Rattle.run_laws.proofs.Past.LivePackets.{find}
-use Rattle.run_laws.proofs.Pending.CompletionSteps.{deferred_works, Works, IsOver, Looks, Manages, completion_looks, IsAlone, is_managing, walk_manages}
+use Rattle.run_laws.proofs.Pending.CompletionSteps.{deferred_works, Cancelled, IsCancelling, Works, IsOver, Looks, Manages, completion_looks, frame_cancels, IsAlone, is_managing, walk_manages}
 use Rattle.run_laws.proofs.Pending.DispatchSteps.{dispatch_does}
 use Rattle.run_laws.proofs.Pending.DispatchServes.{Does, OnRoutine, ReturnsFrom, StepServes, does_spare, dispatch_serves}
 use Rattle.run_laws.proofs.Pending.Returned.{silent_about, silent_returns, AllAgree, agree_kept, beyond_returns, beyond_uses, tells_beyond}
@@ -24,20 +24,29 @@ use Rattle.run_laws.proofs.Pending.Serving.{Agreeing, AllServe, FrameServes, Mus
 use Rattle.run_laws.proofs.Pending.Threads.{SameOver}
 use Rattle.run_laws.proofs.Pending.TopDispatch.{steps_dispatch}
 use Rattle.run_laws.proofs.Pending.UsesServed.{Settles}
-use Rattle.run_laws.proofs.States.Never.{never_stands}
 use Rattle.run_laws.proofs.States.OnTop.{runs}
 use Rattle.run_laws.proofs.States.Rules.{States}
 use Rattle.run_laws.proofs.Steps.Comes.{Comes}
-use Rattle.run_laws.proofs.Live.Sees.{IsDeferred, reads_view, Seen}
-use Rattle.run_laws.proofs.States.NoViews.{is_deferred}
+use Rattle.run_laws.proofs.Live.Sees.{IsDeferred, RefersTo, reads_to, reads_view, Seen}
+use Rattle.run_laws.proofs.States.NoViews.{handed_news, is_deferred}
+use Rattle.run_laws.proofs.States.HandedOver.{hold_get}
+use Rattle.run_laws.proofs.States.Entering.{IsOfSort}
+use Rattle.run_laws.proofs.Steps.Comes.{Reads}
+use Rattle.model.specs.Kinds.{is_new, is_right, is_view}
+use Rattle.model.specs.LocalRule.{kind_of}
+use Rattle.model.specs.Set.{sort_of}
+use Rattle.model.specs.World.{register}
+use Rattle.model.specs.declared.abs.Kind.TheVariants.{New, View}
+use Rattle.model.specs.declared.set.Sort.TheVariants.{Hold, Propagate}
+use Rattle.model.specs.declared.world.Canceller.{Canceller}
 use Rattle.run_laws.proofs.Uses.Fates.{late_marks}
-use Rattle.run_laws.proofs.Uses.RoutineSteps.{OnWalk}
-use Rattle.run_laws.proofs.Uses.TopFrames.{propagate_news, stays, deferred_views, deferred_news, KnownTop}
+use Rattle.run_laws.proofs.Uses.RoutineSteps.{OnWalk, completion_sort}
+use Rattle.run_laws.proofs.Uses.TopFrames.{lent_views, stays, steps_routine, deferred_views, deferred_news, KnownTop}
 use Rattle.run_laws.proofs.Uses.Traced.{SameUses, same_recorded}
 use Rattle.run_laws.proofs.Pending.Duties.{fresh_rights, Dutiful}
 use Rattle.run_laws.proofs.States.Frames.{state_of}
 
-same_over : (under : Option Frame) (x y : Option Serving) → x ≡ y → SameOver under x y
+pub same_over : (under : Option Frame) (x y : Option Serving) → x ≡ y → SameOver under x y
 same_over None x y h = tt
 same_over (Some (Routine b)) x y h = h
 same_over (Some (Walk m)) x y h = tt
@@ -66,7 +75,8 @@ module _ (set : Set) (states : States) (w later_w : World) (past : List Entry) (
   pub record Turning (f : Frame) : Type 0 where
     pub known : KnownTop set states w.shared past under f
     pub quiet : first_fault past actor o.actions ≡ None
-    pub walked : (m : ℕ) → under ≡ Some (Walk m) → 1 ≤ held (find w.shared.packets m)
+    pub walked : (m : ℕ) (a : Activation) → f ≡ Routine a → IsOfSort set a Propagate
+        → under ≡ Some (Walk m) → 1 ≤ held (find w.shared.packets m)
     pub own : (m : ℕ) → f ≡ Walk m → 1 ≤ held (find w.shared.packets m)
     pub shared : later_w.shared ≡ o.shared
     pub settles : Settles states w past later_w later
@@ -82,7 +92,8 @@ module _ (set : Set) (states : States) (w later_w : World) (past : List Entry) (
       beyond_uses past actor o.actions m n silent
       (elim (eqb_tells m n) [
         | inl e ↦
-            let none : unheld (find w.shared.packets m) ≡ 0 = held_apart (find w.shared.packets m) has in
+            let none : unheld (find w.shared.packets m)
+            ≡ 0 = held_apart (find w.shared.packets m) has in
             let same : unheld (find w.shared.packets n) ≡ 0 = rw e.1 at none in
             absurd (omega arith)
         | inr e ↦ e.0
@@ -126,9 +137,51 @@ module _ (set : Set) (states : States) (w later_w : World) (past : List Entry) (
   alone_serves m a (Routine b ∷ []) same names = ((rw (same.0, same.1) names, tt), tt)
   alone_serves m a _ same names = absurd same
 
+  lent_spare : (m : ℕ) (a : Activation) → list_any (tells_beyond m) o.actions ≡ false
+      → ((r : ℕ) × (Reads w.shared a r m)
+      × ((kind_of (state_of states a) r ≡ New) ⊎ (kind_of (state_of states a) r ≡ View)))
+      → IsOfSort set a Hold → Turning (Routine a) → (n : ℕ)
+      → frame_rights states (Routine a) n ≡ 0 → SameUses past later n
+  lent_spare m a silent told holds h n none =
+      elim told.2 [
+        | inl new ↦
+            let own : 1 ≤ frame_rights states (Routine a) m =
+            (steps_routine set states w.shared past under a h.known).owns told.0 m
+            (ap is_right new) told.1 in
+            beyond_uses past actor o.actions m n silent
+            (elim (eqb_tells m n) [
+              | inl e ↦
+                  let same : frame_rights states (Routine a) m ≡ frame_rights states (Routine a) n =
+                  ap (λ (k : ℕ). frame_rights states (Routine a) k) e.1 in
+                  absurd (omega arith)
+              | inr e ↦ e.0
+            ])
+        | inr view ↦
+            let no : true ≡ false =
+            sym (ap is_view view) ∙ lent_views set states w.shared past under a h.known holds told.0
+            in cc
+      ]
+
+  -- what it tells is of its packet alone: one on its way up, or one that it was lent and has the
+  -- right to
+  looks_spare : (m : ℕ) (a : Activation) → under ≡ Some (Walk m) → Looks states w.shared m a o
+      → Turning (Routine a) → (n : ℕ) → 1 ≤ unheld (find w.shared.packets n)
+      → frame_rights states (Routine a) n ≡ 0 → SameUses past later n
+  looks_spare m a on looks h n some none =
+      elim looks.by [
+        | inl silent ↦ same_recorded past actor o.actions n (silent_about n o.actions silent)
+        | inr told ↦
+            elim (completion_sort (sort_of set a.driver a.routine)
+            (subst (λ (u : Option Frame). OnWalk set u a) on h.known.on)) [
+              | inl propagates ↦
+                  beyond_spares m looks.silent (h.walked m a refl propagates on) n some
+              | inr holds ↦ lent_spare m a looks.silent told holds h n none
+            ]
+      ]
+
   completion_turned : (m : ℕ) (a : Activation) → under ≡ Some (Walk m)
       → TagNames a.driver a.routine actor.tag
-      → Looks m a o → Turning (Routine a) → Turned (Routine a)
+      → Looks states w.shared m a o → Turning (Routine a) → Turned (Routine a)
   completion_turned m a on names looks h =
       record {
         serve = subst
@@ -142,7 +195,7 @@ module _ (set : Set) (states : States) (w later_w : World) (past : List Entry) (
         );
         agree = agree_kept states w later_w past actor o.actions h.settles.keeps
             (beyond_returns m o.actions looks.silent) h.agree;
-        spares = λ n some none. beyond_spares m looks.silent (h.walked m on) n some;
+        spares = looks_spare m a on looks h;
       }
 
   -- a deferred routine, which nothing stands under
@@ -190,7 +243,8 @@ module _ (set : Set) (states : States) (w later_w : World) (past : List Entry) (
         same_over u (served actor.tag) (first_served (new_tags (Routine a)))
             (tagged ∙ sym still.1),
       )
-  dispatch_goes None v a on tagged (inr returns) = inr (returns.status, returns.is, returns.none, tt)
+  dispatch_goes None v a on tagged (inr returns) =
+      inr (returns.status, returns.is, returns.none, tt)
   dispatch_goes (Some (Routine b)) v a on tagged (inr returns) =
       inr (
         returns.status,
@@ -204,7 +258,8 @@ module _ (set : Set) (states : States) (w later_w : World) (past : List Entry) (
   dispatch_goes (Some (CancelFrame c)) v a on tagged (inr returns) = absurd on
 
   dispatch_turned : (a : Activation) (x : Option Serving) → served actor.tag ≡ x → OnRoutine under
-      → TagNames a.driver a.routine actor.tag → MustServe set states w past a None x → Does set states a o
+      → TagNames a.driver a.routine actor.tag → MustServe set states w past a None x
+      → Does set states a o
       → Dutiful (state_of states a) → Turning (Routine a) → Turned (Routine a)
   dispatch_turned a None tagged on names serves does dutiful h = absurd serves
   dispatch_turned a (Some v) tagged on names serves does dutiful h =
@@ -233,10 +288,13 @@ module _ (set : Set) (states : States) (w later_w : World) (past : List Entry) (
       }
 
   -- by what a routine stands on
-  routine_turned : (u below : Option Frame) (a : Activation) → under ≡ u → Seen set states u (Routine a)
+  routine_turned : (u below : Option Frame) (a : Activation) → under ≡ u
+      → Seen set states u (Routine a)
       → OnWalk set u a
-      → UnderServes set states w past u a None (served actor.tag) → TagNames a.driver a.routine actor.tag
-      → Comes set w.shared actor.thread below (Routine a) o → Turning (Routine a) → Turned (Routine a)
+      → UnderServes set states w past u a None (served actor.tag)
+      → TagNames a.driver a.routine actor.tag
+      → Comes set w.shared actor.thread below (Routine a) o → Turning (Routine a)
+      → Turned (Routine a)
   routine_turned None below a is seen on serves names comes h =
       elim seen [
         | inl sort ↦
@@ -265,10 +323,41 @@ module _ (set : Set) (states : States) (w later_w : World) (past : List Entry) (
       completion_turned m a is names
       (completion_looks m set states w.shared actor.thread below a o
       (λ i at. (runs set states w.shared a i h.known.top at).obeys) on
-      (propagate_news set states w.shared past under a h.known on)
-      (reads_view states m w.shared a seen)
+      (λ r n new reads. reads_to m w.shared (register a r) n
+      (hold_get is_new handed_news (RefersTo m) (state_of states a).kinds a.registers r tt seen.1
+      new)
+      reads)
+      (reads_view states m w.shared a seen.0)
       comes) h
   routine_turned (Some (CancelFrame c)) below a is seen on serves names comes h = absurd serves
+
+  -- a frame of IoCancelIrp, which nothing stands under: it goes on, is gone, or is a cancel routine
+  cancelling_serves : (c : Canceller) (frames : List Frame) → IsCancelling set frames
+      → AllServe set states later_w later None frames
+      (tags_after set later number (CancelFrame c ∷ []) (actor.tag ∷ []) frames)
+  cancelling_serves c [] h = tt
+  cancelling_serves c (CancelFrame d ∷ []) h = (refl, tt)
+  cancelling_serves c (Routine b ∷ []) h = (((refl, refl), inr h), tt)
+  cancelling_serves c _ h = absurd h
+
+  cancel_serves : (c : Canceller) → under ≡ None → Cancelled set o → Turning (CancelFrame c)
+      → Turned (CancelFrame c)
+  cancel_serves c on cancelled h =
+      record {
+        serve = subst
+            (λ (u : Option Frame). AllServe set states later_w later u o.frames
+            (new_tags (CancelFrame c))) (sym on)
+            (cancelling_serves c o.frames cancelled.over);
+        goes = inl (
+          cancelled.told,
+          subst (λ (u : Option Frame). SameOver u (served actor.tag)
+              (first_served (new_tags (CancelFrame c)))) (sym on) tt,
+        );
+        agree = agree_kept states w later_w past actor o.actions h.settles.keeps
+            (silent_returns o.actions cancelled.silent) h.agree;
+        spares = λ n some none. same_recorded past actor o.actions n
+            (silent_about n o.actions cancelled.silent);
+      }
 
   -- every frame
   pub frame_turned : (below : Option Frame) (f : Frame)
@@ -279,4 +368,5 @@ module _ (set : Set) (states : States) (w later_w : World) (past : List Entry) (
   frame_turned below (Walk n) serves comes h =
       walk_turned n serves (walk_manages set w.shared actor.thread below n o comes) h
   frame_turned below (CancelFrame c) serves comes h =
-      absurd (never_stands set states w.shared c h.known.top)
+      cancel_serves c h.known.on
+      (frame_cancels set states w.shared actor.thread below c o h.known.top comes) h

@@ -1,12 +1,18 @@
 -- The statuses of lower drivers in a routine's registers: all STATUS_PENDING, or none.
-use Rattle.std.proofs.Common.{◌≡◌, ℕ, zero, suc, Bool, List, [], ◌∷◌, arith}
+use Rattle.std.proofs.Common.{◌≡◌, ℕ, zero, suc, Bool, true, false, List, [], ◌∷◌, arith}
+use Rattle.std.proofs.lemmas.Bool.{cond_both}
+use Rattle.model.specs.declared.abs.Abs.{Abs}
+use Rattle.model.specs.declared.instr.Instr.{Instr}
+use Rattle.model.specs.declared.instr.Instr.TheVariants.{Arm, Begin, Call, Clear, Complete, Const, Disarm, Get, Insert, Load, LoadPaged, Mark, Move, Pass, Release, Remove, Start, Take, Unlink}
+use Rattle.model.specs.Set.{Set, guard_named}
+use Rattle.run_laws.proofs.Steps.Words.{is_giving, keeps_registers, work_of}
 use Rattle.std.specs.Prelude.{⊤, slice_set, slice_index_or}
 use Rattle.model.specs.declared.abs.Kind.{Kind}
-use Rattle.model.specs.declared.abs.Kind.TheVariants.{Blank as BlankKind, Num as NumKind, Lower}
+use Rattle.model.specs.declared.abs.Kind.TheVariants.{Armed, Blank as BlankKind, Num as NumKind, Lower}
 use Rattle.model.specs.declared.world.Value.{Value}
 use Rattle.model.specs.declared.world.Value.TheVariants.{Blank, Ref, Status as StatusValue}
-use Rattle.model.specs.LocalRule.{is_pending}
-use Rattle.model.specs.Kinds.{is_lower, left_behind}
+use Rattle.model.specs.LocalRule.{handed, is_pending}
+use Rattle.model.specs.Kinds.{all_let_go, is_guard, is_lower, left_behind, let_go}
 use Rattle.run_laws.proofs.Pending.Duties.{counted, kinds_that}
 
 -- a status is STATUS_PENDING, or it isn't
@@ -33,7 +39,8 @@ lower_ref b Lower n = tt
 lower_ref b _ n = tt
 
 -- one register
-pub lowers_get : (b : Bool) (kinds : List Kind) (values : List Value) (r : ℕ) → Lowers b kinds values
+pub lowers_get : (b : Bool) (kinds : List Kind) (values : List Value) (r : ℕ)
+    → Lowers b kinds values
     → LowerIs b (slice_index_or kinds r BlankKind) (slice_index_or values r Blank)
 lowers_get b [] values r h = tt
 lowers_get b (k ∷ kinds) [] r h = lower_blank b (slice_index_or (k ∷ kinds) r BlankKind)
@@ -46,7 +53,8 @@ lowers_set b [] values r k v h is = tt
 lowers_set b (j ∷ kinds) [] zero k v h is = tt
 lowers_set b (j ∷ kinds) [] (suc r) k v h is = tt
 lowers_set b (j ∷ kinds) (w ∷ values) zero k v h is = (is, h.1)
-lowers_set b (j ∷ kinds) (w ∷ values) (suc r) k v h is = (h.0, lowers_set b kinds values r k v h.1 is)
+lowers_set b (j ∷ kinds) (w ∷ values) (suc r) k v h is =
+    (h.0, lowers_set b kinds values r k v h.1 is)
 
 pub lowers_turn : (b : Bool) (kinds : List Kind) (values : List Value) (r : ℕ) (k : Kind)
     → Lowers b kinds values
@@ -61,7 +69,8 @@ left_lower : (b : Bool) (k : Kind) (v : Value) → LowerIs b (left_behind k) v
 left_lower b NumKind v = tt
 left_lower b _ v = tt
 
-pub lowers_move : (b : Bool) (kinds : List Kind) (values : List Value) (r q : ℕ) → Lowers b kinds values
+pub lowers_move : (b : Bool) (kinds : List Kind) (values : List Value) (r q : ℕ)
+    → Lowers b kinds values
     → Lowers b
     (slice_set (slice_set kinds r (slice_index_or kinds q BlankKind)) q
     (left_behind (slice_index_or kinds q BlankKind)))
@@ -70,7 +79,8 @@ lowers_move b kinds values r q h =
     lowers_turn b (slice_set kinds r (slice_index_or kinds q BlankKind))
     (slice_set values r (slice_index_or values q Blank)) q
     (left_behind (slice_index_or kinds q BlankKind))
-    (lowers_set b kinds values r (slice_index_or kinds q BlankKind) (slice_index_or values q Blank) h
+    (lowers_set b kinds values r (slice_index_or kinds q BlankKind) (slice_index_or values q Blank)
+    h
     (lowers_get b kinds values q h))
     (left_lower b (slice_index_or kinds q BlankKind)
     (slice_index_or (slice_set values r (slice_index_or values q Blank)) q Blank))
@@ -80,9 +90,51 @@ none_here b Lower v h = cc
 none_here b _ v h = tt
 
 -- where no register holds one
-pub lowers_none : (b : Bool) (kinds : List Kind) (values : List Value) → kinds_that is_lower kinds ≡ 0
+pub lowers_none : (b : Bool) (kinds : List Kind) (values : List Value)
+    → kinds_that is_lower kinds ≡ 0
     → Lowers b kinds values
 lowers_none b [] values h = tt
 lowers_none b (k ∷ kinds) [] h = tt
 lowers_none b (k ∷ kinds) (v ∷ values) h =
     (none_here b k v (omega arith), lowers_none b kinds values (omega arith))
+
+-- a release lets armed registers go
+go_lower : (b : Bool) (set : Set) (driver lock : ℕ) (k : Kind) (v : Value) → LowerIs b k v
+    → LowerIs b (let_go set driver lock k) v
+go_lower b set driver lock (Armed name) v h =
+    cond_both (is_guard (guard_named set driver name) lock) BlankKind (Armed name)
+    (λ k. LowerIs b k v) (λ guards. tt) (λ other. tt)
+go_lower b set driver lock _ v h = h
+
+lowers_go : (b : Bool) (set : Set) (driver lock : ℕ) (kinds : List Kind) (values : List Value)
+    → Lowers b kinds values → Lowers b (all_let_go set driver lock kinds) values
+lowers_go b set driver lock [] values h = tt
+lowers_go b set driver lock (k ∷ kinds) [] h = tt
+lowers_go b set driver lock (k ∷ kinds) (v ∷ values) h =
+    (go_lower b set driver lock k v h.0, lowers_go b set driver lock kinds values h.1)
+
+-- an instruction that leaves the registers alone, and the packets with who has them
+pub lowers_kept : (b : Bool) (set : Set) (driver : ℕ) (s : Abs) (i : Instr) (values : List Value)
+    → keeps_registers i ≡ true → is_giving (work_of i) ≡ false → Lowers b s.kinds values
+    → Lowers b (handed set driver s i).kinds values
+lowers_kept b set driver s (Const r n) values same quiet h = cc
+lowers_kept b set driver s (Move r q) values same quiet h = cc
+lowers_kept b set driver s (Clear r) values same quiet h = cc
+lowers_kept b set driver s (Load r c) values same quiet h = cc
+lowers_kept b set driver s (LoadPaged r c) values same quiet h = cc
+lowers_kept b set driver s (Get r q field) values same quiet h = cc
+lowers_kept b set driver s (Mark r) values same quiet h = cc
+lowers_kept b set driver s (Insert r q) values same quiet h = cc
+lowers_kept b set driver s (Remove r q label) values same quiet h = cc
+lowers_kept b set driver s (Unlink r q) values same quiet h = cc
+lowers_kept b set driver s (Arm r q) values same quiet h = cc
+lowers_kept b set driver s (Disarm r label) values same quiet h = cc
+lowers_kept b set driver s (Release lock) values same quiet h =
+    lowers_go b set driver lock s.kinds values h
+lowers_kept b set driver s (Start r) values same quiet h = cc
+lowers_kept b set driver s (Take r label) values same quiet h = cc
+lowers_kept b set driver s (Begin r) values same quiet h = cc
+lowers_kept b set driver s (Pass r) values same quiet h = cc
+lowers_kept b set driver s (Call r f) values same quiet h = cc
+lowers_kept b set driver s (Complete r status) values same quiet h = cc
+lowers_kept b set driver s _ values same quiet h = h

@@ -99,7 +99,8 @@ pub beyond_uses : (past : List Entry) (actor : Actor) (actions : List Action) (m
     → SameUses past (recorded past actor actions) n
 beyond_uses past actor actions m n silent apart =
     same_recorded past actor actions n
-    (any_less (tells_beyond m) (is_about n) actions (λ action h. beyond_about m n action apart h) silent)
+    (any_less (tells_beyond m) (is_about n) actions (λ action h. beyond_about m n action apart h)
+    silent)
 
 -- every status that was returned from a use is as agreed on
 abbrev pub AllAgree : States → World → List Entry → Type 0
@@ -171,7 +172,8 @@ module _ (states : States) (w later_w : World) (past : List Entry) (actor : Acto
 
   pub agree_returned : (v : Serving) (status : Status) → served actor.tag ≡ Some v
       → KeepsAgreed states w past later_w (recorded past actor (Executes ∷ Returns status ∷ []))
-      → Agreed states later_w (recorded past actor (Executes ∷ Returns status ∷ [])) v (is_pending status)
+      → Agreed states later_w (recorded past actor (Executes ∷ Returns status ∷ [])) v
+      (is_pending status)
       → AllAgree states w past
       → AllAgree states later_w (recorded past actor (Executes ∷ Returns status ∷ []))
   agree_returned v status is keeps agreed h u =

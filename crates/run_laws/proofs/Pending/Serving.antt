@@ -120,7 +120,8 @@ pub record KeepsAgreed (states : States) (w : World) (past : List Entry) (later_
     (later : List Entry)
     : Type 0 where
   pub agreed : (v : Serving) (b : Bool) → Agreed states w past v b → Agreed states later_w later v b
-  pub linked : (v lower : Serving) → Linked states w past v lower → Linked states later_w later v lower
+  pub linked : (v lower : Serving) → Linked states w past v lower
+      → Linked states later_w later v lower
 
 pub current_same : (past later : List Entry) (v : Serving) (b : Bool) → SameUses past later v.packet
     → Current past v b → Current later v b
@@ -138,7 +139,12 @@ module _ (set : Set) (states : States) (w later_w : World) (past later : List En
   given_kept v a (Some lower) (inl h) =
       inl (record { linked = keeps.linked v lower h.linked; answer = h.answer })
   given_kept v a (Some lower) (inr h) =
-      inr (record { pending = h.pending; answer = h.answer; agreed = keeps.agreed v h.pending h.agreed })
+      inr (record {
+        pending = h.pending;
+        answer = h.answer;
+        agreed = keeps.agreed v h.pending
+            h.agreed;
+      })
 
   pub says_kept : (v : Serving) (a : Activation) (over : Option Serving) (d : Duty)
       → (1 ≤ frame_rights states (Routine a) v.packet → SameUses past later v.packet)
@@ -162,7 +168,8 @@ module _ (set : Set) (states : States) (w later_w : World) (past later : List En
 
   under_kept : (under : Option Frame) (a : Activation) (over v : Option Serving)
       → ((n : ℕ) → 1 ≤ frame_rights states (Routine a) n → SameUses past later n)
-      → UnderServes set states w past under a over v → UnderServes set states later_w later under a over v
+      → UnderServes set states w past under a over v
+      → UnderServes set states later_w later under a over v
   under_kept None a over v same h =
       elim h [ inl must ↦ inl (must_kept a over v same must) | inr is ↦ inr is ]
   under_kept (Some (Routine b)) a over v same h = must_kept a over v same h
@@ -173,13 +180,15 @@ module _ (set : Set) (states : States) (w later_w : World) (past later : List En
       → ((n : ℕ) → 1 ≤ frame_rights states f n → SameUses past later n)
       → FrameServes set states w past under over f tag
       → FrameServes set states later_w later under over f tag
-  frame_kept under over (Routine a) tag same h = (h.0, under_kept under a over (served tag) same h.1)
+  frame_kept under over (Routine a) tag same h =
+      (h.0, under_kept under a over (served tag) same h.1)
   frame_kept under over (Walk n) tag same h = h
   frame_kept under over (CancelFrame c) tag same h = h
 
   pub all_kept : (under : Option Frame) (frames : List Frame) (tags : List Tag)
       → ((n : ℕ) → 1 ≤ stack_sum (λ f. frame_rights states f n) frames → SameUses past later n)
-      → AllServe set states w past under frames tags → AllServe set states later_w later under frames tags
+      → AllServe set states w past under frames tags
+      → AllServe set states later_w later under frames tags
   all_kept under [] [] same h = tt
   all_kept under [] (tag ∷ tags) same h = absurd h
   all_kept under (f ∷ frames) [] same h = absurd h
@@ -227,7 +236,8 @@ answered_hold states m a status (Some r) h =
 module _ (set : Set) (states : States) (w : World) (past : List Entry)
     (follows : IsFollowed states w past)
     (status : Status) where
-  says_told : (v lower : Serving) (a : Activation) (d : Duty) → Says set states w past v a (Some lower) d
+  says_told : (v lower : Serving) (a : Activation) (d : Duty)
+      → Says set states w past v a (Some lower) d
       → Agreed states w past lower (is_pending status)
       → state_of states (answered set a status) ≡ state_of states a
       → ((n : ℕ) → frame_rights states (Routine (answered set a status)) n ≡ frame_rights states
@@ -265,12 +275,14 @@ module _ (set : Set) (states : States) (w : World) (past : List Entry)
   must_told : (a : Activation) (lower : Serving) (v : Option Serving)
       → ((n : ℕ) → frame_rights states (Routine (answered set a status)) n ≡ frame_rights states
       (Routine a) n)
-      → MustServe set states w past a (Some lower) v → Agreed states w past lower (is_pending status)
+      → MustServe set states w past a (Some lower) v
+      → Agreed states w past lower (is_pending status)
       → MustServe set states w past (answered set a status) None v
   must_told a lower None rights h agreed = absurd h
   must_told a lower (Some v) rights h agreed =
       let same : state_of states (answered set a status) ≡ state_of states a =
-      answered_at states a status (operand_of (instruction_at set a.driver a.routine (a.position - 1))) in
+      answered_at states a status (operand_of (instruction_at set a.driver a.routine
+      (a.position - 1))) in
       record {
         says = subst (λ (s : Abs). Says set states w past v (answered set a status) None s.duty)
             (sym same)
@@ -302,6 +314,7 @@ module _ (set : Set) (states : States) (w : World) (past : List Entry)
   frame_told under (CancelFrame c) over tag rights h agreed = h
   frame_told under (Routine a) None tag rights h agreed = absurd agreed
   frame_told under (Routine a) (Some lower) tag rights h agreed = (
-    answered_names a status (operand_of (instruction_at set a.driver a.routine (a.position - 1))) tag h.0,
+    answered_names a status (operand_of (instruction_at set a.driver a.routine (a.position - 1)))
+        tag h.0,
     under_told under a lower (served tag) rights h.1 agreed,
   )

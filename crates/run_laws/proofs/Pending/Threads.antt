@@ -68,7 +68,8 @@ module _ (set : Set) (later : List Entry) (number : ℕ) where
 
   pub tags_kept : (told : Option Status) (below old frames : List Frame) (tags rest : List Tag)
       → Tagged below tags
-      → tags_after set later number (below ++ old) (tags ++ rest) (told_last set told below ++ frames)
+      → tags_after set later number (below ++ old) (tags ++ rest)
+      (told_last set told below ++ frames)
       ≡ tags ++ tags_after set later number old rest frames
   tags_kept told [] old frames [] rest h = refl
   tags_kept told [] old frames (tag ∷ tags) rest h = absurd h
@@ -95,7 +96,8 @@ module _ (set : Set) (states : States) (w : World) (past : List Entry) where
   tagged_all under (f ∷ frames) [] h = absurd h
   tagged_all under (Routine a ∷ frames) (tag ∷ tags) h =
       (tt, tagged_all (Some (Routine a)) frames tags h.1)
-  tagged_all under (Walk n ∷ frames) (tag ∷ tags) h = (h.0, tagged_all (Some (Walk n)) frames tags h.1)
+  tagged_all under (Walk n ∷ frames) (tag ∷ tags) h =
+      (h.0, tagged_all (Some (Walk n)) frames tags h.1)
   tagged_all under (CancelFrame c ∷ frames) (tag ∷ tags) h =
       (h.0, tagged_all (Some (CancelFrame c)) frames tags h.1)
 
@@ -111,7 +113,8 @@ module _ (set : Set) (states : States) (w : World) (past : List Entry) where
   pub top_serves : (under : Option Frame) (below : List Frame) (f : Frame) (row : List Tag)
       → AllServe set states w past under (below ++ f ∷ []) row → TopServes under below f row
   top_serves under [] f [] h = absurd h
-  top_serves under [] f (tag ∷ []) h = record { tags = []; tag = tag; is = refl; tagged = tt; top = h.0 }
+  top_serves under [] f (tag ∷ []) h =
+      record { tags = []; tag = tag; is = refl; tagged = tt; top = h.0 }
   top_serves under [] f (tag ∷ other ∷ row) h = absurd h.1
   top_serves under (g ∷ below) f [] h = absurd h
   top_serves under (g ∷ below) f (tag ∷ row) h =
@@ -124,16 +127,32 @@ module _ (set : Set) (states : States) (w : World) (past : List Entry) where
         top = top.top;
       }
     where
-      tag_of : (e : Frame) → FrameServes set states w past under (first_served row) e tag → TagOf e tag
+      tag_of : (e : Frame) → FrameServes set states w past under (first_served row) e tag
+          → TagOf e tag
       tag_of (Routine a) serves = tt
       tag_of (Walk n) serves = serves
       tag_of (CancelFrame c) serves = serves
+
+  -- what stands below the top frame serves, down from one of the I/O manager's
+  pub walk_below_serves : (under : Option Frame) (others : List Frame) (n : ℕ) (f : Frame)
+      (tags : List Tag) (tag : Tag) → Tagged (others ++ Walk n ∷ []) tags
+      → AllServe set states w past under ((others ++ Walk n ∷ []) ++ f ∷ []) (tags ++ tag ∷ [])
+      → AllServe set states w past under (others ++ Walk n ∷ []) tags
+  walk_below_serves under [] n f [] tag tagged h = absurd tagged
+  walk_below_serves under [] n f (x ∷ []) tag tagged h = (h.0, tt)
+  walk_below_serves under [] n f (x ∷ y ∷ tags) tag tagged h = absurd tagged.1
+  walk_below_serves under (g ∷ others) n f [] tag tagged h = absurd tagged
+  walk_below_serves under (g ∷ []) n f (x ∷ []) tag tagged h = absurd tagged.1
+  walk_below_serves under (g ∷ e ∷ others) n f (x ∷ []) tag tagged h = absurd tagged.1
+  walk_below_serves under (g ∷ others) n f (x ∷ y ∷ tags) tag tagged h =
+      (h.0, walk_below_serves (Some g) others n f (y ∷ tags) tag tagged.1 h.1)
 
   over_changed : (under : Option Frame) (x y : Option Serving) (g : Frame) (tag : Tag)
       → SameOver (Some g) x y
       → FrameServes set states w past under x g tag → FrameServes set states w past under y g tag
   over_changed under x y (Routine a) tag same h =
-      subst (λ (over : Option Serving). FrameServes set states w past under over (Routine a) tag) same h
+      subst (λ (over : Option Serving). FrameServes set states w past under over (Routine a) tag)
+      same h
   over_changed under x y (Walk n) tag same h = h
   over_changed under x y (CancelFrame c) tag same h = h
 
@@ -167,7 +186,8 @@ module _ (set : Set) (states : States) (w later_w : World) (past later : List En
   )
 
   -- of the frames below, the last alone is told a status, and serves the same use
-  pub all_told : (under : Option Frame) (below : List Frame) (tags : List Tag) (f : Frame) (tag : Tag)
+  pub all_told : (under : Option Frame) (below : List Frame) (tags : List Tag) (f : Frame)
+      (tag : Tag)
       (status : Status) → IsFollowed states later_w later
       → ((n : ℕ) → 1 ≤ stack_sum (λ g. frame_rights states g n) below → SameUses past later n)
       → Tagged below tags
@@ -186,7 +206,8 @@ module _ (set : Set) (states : States) (w later_w : World) (past later : List En
         agreed,
     tt,
   )
-  all_told under (g ∷ []) (x ∷ y ∷ tags) f tag status follows same tagged alike h agreed = absurd tagged.1
+  all_told under (g ∷ []) (x ∷ y ∷ tags) f tag status follows same tagged alike h agreed =
+      absurd tagged.1
   all_told under (g ∷ e ∷ below) (x ∷ []) f tag status follows same tagged alike h agreed =
       absurd tagged.1
   all_told under (g ∷ e ∷ below) (x ∷ y ∷ tags) f tag status follows same tagged alike h agreed = (

@@ -44,7 +44,8 @@ begins_serving set states issued c n begins =
       rights = λ m. begun_rights set states issued c Dispatch n m begins;
       refers = rw (begins.start, begins.registers) (
         (λ is. refl),
-        hold_none is_new handed_news (RefersTo n) (replicate 15 BlankKind) (replicate 15 Blank) refl,
+        hold_none is_new handed_news (RefersTo n) (replicate 15 BlankKind) (replicate 15 Blank)
+            refl,
       );
     }
 
@@ -69,7 +70,8 @@ steps_dispatch set states s past under a h is =
       is = is;
       arrived = dispatch_arrived (member set a.driver a.routine h.top.stands.0) a.position
           (state_of states a)
-          (sort_is set states s past under a h Dispatch is) (known set states s past under a h).operands
+          (sort_is set states s past under a h Dispatch is)
+          (known set states s past under a h).operands
           ((known set states s past under a h).follows.arrives a.position
           (stays set states s past under a h).within);
       unseen = unseen set states s past under a h is;

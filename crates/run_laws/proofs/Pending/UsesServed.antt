@@ -49,7 +49,8 @@ pub record Settles (states : States) (w : World) (past : List Entry) (later_w : 
       → Agreed states later_w later v false
   pub called : (n u x : ℕ) (upper : List ℕ) (p : Packet) → find later_w.shared.packets n ≡ Some p
       → uses later n ≡ x ∷ u ∷ upper → was_marked later (record { packet = n; «use» = u }) ≡ false
-      → Linked states later_w later (record { packet = n; «use» = u }) (record { packet = n; «use» = x })
+      → Linked states later_w later (record { packet = n; «use» = u })
+      (record { packet = n; «use» = x })
   pub follows : IsFollowed states later_w later
   pub unmarked : (v : Serving) → uses_opened past < v.«use» + 1 → was_marked past v ≡ false
 
@@ -101,7 +102,8 @@ pub record BeginsServing (set : Set) (states : States) (c : Activation) (n : ℕ
   pub refers : HoldOf is_new (RefersTo n) (state_of states c).kinds c.registers
 
 -- a use that is named is the current one
-was_use : (v : Serving) (n : ℕ) (o : Option ℕ) → n ≡ v.packet → o ≡ Some v.«use» → is_use n o v ≡ true
+was_use : (v : Serving) (n : ℕ) (o : Option ℕ) → n ≡ v.packet → o ≡ Some v.«use»
+    → is_use n o v ≡ true
 was_use v n None packet is = cc
 was_use v n (Some u) packet is =
     let same : u ≡ v.«use» = cc in
@@ -109,7 +111,8 @@ was_use v n (Some u) packet is =
 
 -- uses of a packet that is sent down
 called_uses : (past : List Entry) (actor : Actor) (n : ℕ)
-    → uses (recorded past actor (Executes ∷ Touches n ∷ Calls n ∷ [])) n ≡ uses_opened past ∷ uses past n
+    → uses (recorded past actor (Executes ∷ Touches n ∷ Calls n ∷ [])) n
+    ≡ uses_opened past ∷ uses past n
 called_uses past actor n = rw (eq-eqb n n refl) refl
 
 first_of_used : (used : List ℕ) (u : ℕ) → slice_get used 0 ≡ Some u → used ≡ u ∷ drop 1 used
@@ -129,8 +132,10 @@ module _ (set : Set) (states : States) where
       → BeginsServing set states c n → n ≡ v.packet → current_use past v.packet ≡ Some v.«use»
       → new_tag set past number (Routine c) ≡ Activated number c.driver c.routine (Some v)
   new_serving past number c n v begins packet now =
-      let here : current_use past n ≡ Some v.«use» = ap (λ (m : ℕ). current_use past m) packet ∙ now in
-      ap (λ (sort : Sort). Activated number c.driver c.routine (serving_by past c sort)) begins.of_sort
+      let here : current_use past n ≡ Some v.«use» = ap (λ (m : ℕ). current_use past m) packet
+      ∙ now in
+      ap (λ (sort : Sort). Activated number c.driver c.routine (serving_by past c sort))
+      begins.of_sort
       ∙ ap (λ (x : Value). Activated number c.driver c.routine (serving_in past x)) begins.first
       ∙ ap (λ (o : Option ℕ). Activated number c.driver c.routine (serving_with o n)) here
       ∙ ap (λ (m : ℕ). Activated number c.driver c.routine
@@ -144,7 +149,8 @@ module _ (set : Set) (states : States) where
         says = subst (λ (d : Duty). Says set states w past v c None d) (sym begins.fresh)
             (record {
               refers = subst
-                  (λ (m : ℕ). HoldOf is_new (RefersTo m) (state_of states c).kinds c.registers) packet
+                  (λ (m : ℕ). HoldOf is_new (RefersTo m) (state_of states c).kinds c.registers)
+                  packet
                   begins.refers;
               current = λ some. current;
             });
@@ -213,8 +219,10 @@ module _ (set : Set) (states : States) where
         record {
           says = subst (λ (d : Duty). Says set states later_w later v b None d) (sym fresh.1)
               (settles.finished v p
-              (subst (λ (m : ℕ). find later_w.shared.packets m ≡ Some p) own.0 there) free.0 free.1 done
-              (subst (λ (m : ℕ). late_marks states p.pending_returned m later_w.threads ≡ 0) own.0 late));
+              (subst (λ (m : ℕ). find later_w.shared.packets m ≡ Some p) own.0 there) free.0 free.1
+              done
+              (subst (λ (m : ℕ). late_marks states p.pending_returned m later_w.threads ≡ 0) own.0
+              late));
         }
     done_serves n p settles same there done late (inr on) =
         plain_serves settles.keeps (λ fresh refers. same v.packet) on
@@ -229,7 +237,8 @@ module _ (set : Set) (states : States) where
           own.0,
           free,
           record {
-            says = subst (λ (d : Duty). Says set states later_w later v b (Some v) d) (sym gives.after)
+            says = subst (λ (d : Duty). Says set states later_w later v b (Some v) d)
+                (sym gives.after)
                 (inl (record { linked = inl refl; answer = gives.answer }));
           },
         )
@@ -243,7 +252,8 @@ module _ (set : Set) (states : States) where
     own_says lower n Fresh is gives keeps same h =
         record {
           refers = gives.on.news v.packet h.refers;
-          current = λ some. current_same past later v false (same (gives.other v.packet is h.refers))
+          current = λ some. current_same past later v false
+              (same (gives.other v.packet is h.refers))
               (h.current (owns v.packet is h.refers));
         }
     own_says lower n Pending is gives keeps same h = keeps.agreed v true h
@@ -312,18 +322,22 @@ module _ (set : Set) (states : States) where
         (owned_current w later_w past later v a b serves_use owns v.packet gives.before).1 in
         let used : uses later v.packet ≡ uses_opened past ∷ v.«use» ∷ drop 1 (uses past v.packet) =
         called_uses past actor v.packet
-        ∙ ap (λ (xs : List ℕ). uses_opened past ∷ xs) (first_of_used (uses past v.packet) v.«use» free.0)
+        ∙ ap (λ (xs : List ℕ). uses_opened past ∷ xs)
+        (first_of_used (uses past v.packet) v.«use» free.0)
         in
         record {
-          says = subst (λ (d : Duty). Says set states later_w later v b (Some lower) d) (sym gives.after)
+          says = subst (λ (d : Duty). Says set states later_w later v b (Some lower) d)
+              (sym gives.after)
               (inl (record {
-                linked = settles.called v.packet v.«use» (uses_opened past) (drop 1 (uses past v.packet))
+                linked =
+                    settles.called v.packet v.«use» (uses_opened past) (drop 1 (uses past v.packet))
                     p there used free.1;
                 answer = gives.answer;
               }));
         }
 
-pub called_current : (states : States) (w later_w : World) (past : List Entry) (actor : Actor) (n : ℕ)
+pub called_current : (states : States) (w later_w : World) (past : List Entry) (actor : Actor)
+    (n : ℕ)
     → Settles states w past later_w (recorded past actor (Executes ∷ Touches n ∷ Calls n ∷ []))
     → Current (recorded past actor (Executes ∷ Touches n ∷ Calls n ∷ []))
     (record { packet = n; «use» = uses_opened past }) false

@@ -1,76 +1,188 @@
--- A packet that waits in a queue, a start list, a device queue or a slot has room for that device:
--- what the instructions about queues do to that, and to the room that the routine's frame has.
-use Rattle.std.proofs.Common.{◌≡◌, ℕ, ◌+◌, ◌≤◌, inl, inr, List, ◌∷◌, None, Some, Bool, true, refl, ap, subst, arith}
-use Rattle.std.specs.Prelude.{⊤, nat_eq, if◌then◌else◌}
+-- Who has the right to a packet has room for its device, and who owns it finds its current location
+-- marked: a register of a frame, a place in a queue without a cancel routine, in a start list or a
+-- device queue, a current slot, and a cancel word. What the instructions about queues do to that.
+use Rattle.std.proofs.Common.{◌≡◌, ℕ, ◌+◌, ◌≤◌, inl, inr, List, [], ◌∷◌, Option, None, Some, Bool, true, false, refl, ap, sym, ◌∙◌, subst, arith}
+use Rattle.std.specs.Prelude.{⊤, is_some, length, nat_eq, slice_get, option_and_then, if◌then◌else◌}
 use Rattle.std.proofs.lemmas.Bool.{eq-eqb}
 use Rattle.std.proofs.lemmas.Bool.Decides.{eqb_tells}
-use Rattle.model.specs.declared.abs.Kind.TheVariants.{Blank as BlankKind}
+use Rattle.model.specs.declared.abs.Abs.{Abs}
+use Rattle.model.specs.declared.abs.Kind.{Kind}
+use Rattle.model.specs.declared.abs.Kind.TheVariants.{Own}
 use Rattle.model.specs.declared.instr.Instr.{Instr}
-use Rattle.model.specs.declared.instr.Instr.TheVariants.{Begin, Insert, Next, Remove, Start, Take}
+use Rattle.model.specs.declared.instr.Instr.TheVariants.{Begin, Insert, Next, Remove, Start, Take, Unlink}
+use Rattle.model.specs.declared.set.QueueName.TheVariants.{Declared}
 use Rattle.model.specs.declared.world.Activation.{Activation}
+use Rattle.model.specs.declared.world.Armer.{Armer}
 use Rattle.model.specs.declared.world.Frame.{Frame}
 use Rattle.model.specs.declared.world.Frame.TheVariants.{Routine, Walk, Cancel as CancelFrame}
+use Rattle.model.specs.declared.world.Packet.{Packet}
 use Rattle.model.specs.declared.world.Value.TheVariants.{Ref}
 use Rattle.model.specs.Action.{Action}
-use Rattle.model.specs.LocalRule.{handed, kind_of}
-use Rattle.model.specs.Kinds.{is_right}
-use Rattle.model.specs.Queues.{StartState, inserted, next_started, started, with_slot}
-use Rattle.model.specs.Set.{Set, flow_of}
-use Rattle.model.specs.Sound.{OperandFits}
-use Rattle.model.specs.World.{Shared, at_label, next, queue_of, start_of, with_queue, with_register, with_start}
-use Rattle.run_laws.specs.Holder.{frame_rights, times_at, times_in, times_in_slot}
+use Rattle.model.specs.Effect.{routine_of_device}
+use Rattle.model.specs.Kinds.{is_right, kind_removed}
+use Rattle.model.specs.LocalRule.{kind_of}
+use Rattle.model.specs.Queues.{StartState, inserted, next_started, started, unlinked, with_slot}
+use Rattle.model.specs.Set.{Set, cancel_routine_of}
+use Rattle.model.specs.World.{Shared, current_location, is_marked, packet_of, queue_of, register, start_of, with_queue, with_register, with_start}
+use Rattle.run_laws.specs.Holder.{times_at, times_in, times_in_slot, times_named, times_plain, times_started, times_waiting}
+use Rattle.run_laws.proofs.Claims.Sums.{is_cancelable}
+use Rattle.run_laws.proofs.Holders.Counts.{reads_ref}
+use Rattle.run_laws.proofs.Holders.Plain.{plain_le}
 use Rattle.run_laws.proofs.Holders.Queued.{queue_after, times_pushed}
-use Rattle.run_laws.proofs.Holders.Started.{start_after, times_given, times_next}
-use Rattle.run_laws.proofs.Holders.Waits.{free_before, free_removed, gives_right, inserts_blank, kinds_with, removes_own, rights_given, rights_kept, rights_missed, rights_taken}
-use Rattle.run_laws.proofs.States.Never.{never_unlinks}
-use Rattle.run_laws.proofs.Lists.{all_at}
-use Rattle.run_laws.proofs.Past.LivePackets.{find}
-use Rattle.run_laws.proofs.Room.Extents.{Extent, extent, stack_at}
-use Rattle.run_laws.proofs.States.Frames.{Runs, state_of}
-use Rattle.run_laws.proofs.States.Moves.{has_next}
-use Rattle.run_laws.proofs.States.Rules.{States}
-use Rattle.run_laws.proofs.Steps.Comes.{Queued, Reads, inserts, puts_in, removes, removes_none, starts_next, starts_packet, takes_none, takes_out, unlinks}
+use Rattle.run_laws.proofs.Holders.Started.{start_after, started_le, times_given, times_next}
+use Rattle.run_laws.proofs.Past.LivePackets.{find, find_place}
+use Rattle.run_laws.proofs.Room.Registers.{IsClaim, Refers, claim_get, claim_set, claims_owned, claims_right, goes_claims, is_owned, next_claims}
+use Rattle.run_laws.proofs.Room.Sizes.{stack_at}
+use Rattle.run_laws.proofs.Room.Ways.{Stays}
+use Rattle.run_laws.proofs.States.Frames.{Runs, Serves, state_of}
+use Rattle.run_laws.proofs.States.HandedOver.{HoldOf}
+use Rattle.run_laws.proofs.States.Moves.{arrives_next}
+use Rattle.run_laws.proofs.States.Obeyed.{inserts_right}
+use Rattle.run_laws.proofs.States.Queueing.{queue_moves}
+use Rattle.run_laws.proofs.States.Rules.{States, first_none}
+use Rattle.run_laws.proofs.Steps.Comes.{Queued, Reads, inserts, jumping, puts_in, removes, removes_none, starts_next, starts_packet, takes_none, takes_out, unlinks}
 
--- a frame that has the right to a live packet has room for its device
+-- the locations that a packet has left, its current one among them, are as many as a device's stack
+-- size
+abbrev pub RoomAt : Set → ℕ → Packet → Type 0
+RoomAt set d p = p.depth + stack_at set d ≤ length p.locations.items + 1
+
+abbrev pub RoomFor : Set → Shared → ℕ → ℕ → Type 0
+RoomFor set s d n = (p : Packet) → find s.packets n ≡ Some p → RoomAt set d p
+
+abbrev pub MarkedIn : Shared → ℕ → Type 0
+MarkedIn s n = (p : Packet) → find s.packets n ≡ Some p → is_marked (current_location p) ≡ true
+
+-- a routine's frame, and any
+pub record FrameRoom (set : Set) (states : States) (s : Shared) (a : Activation) : Type 0 where
+  pub rooms : HoldOf is_right (Refers (RoomFor set s a.device)) (state_of states a).kinds
+      a.registers
+  pub marks : HoldOf is_owned (Refers (MarkedIn s)) (state_of states a).kinds a.registers
+
 abbrev pub HasRoom : Set → States → Shared → Frame → Type 0
-HasRoom set states s (Routine a) =
-    (n : ℕ) (x : Extent) → extent (find s.packets n) ≡ Some x
-    → 1 ≤ frame_rights states (Routine a) n
-    → x.down + stack_at set a.device ≤ x.size + 1
+HasRoom set states s (Routine a) = FrameRoom set states s a
 HasRoom set states s (Walk n) = ⊤
 HasRoom set states s (CancelFrame c) = ⊤
 
--- a packet that waits at a device has room for it
+-- a packet that waits at a device, or may be cancelled there, has both
+pub record Place (set : Set) (d : ℕ) (p : Packet) : Type 0 where
+  pub room : RoomAt set d p
+  pub marked : is_marked (current_location p) ≡ true
+
 abbrev pub HasPlace : Set → Shared → ℕ → ℕ → Type 0
-HasPlace set s d n =
-    (x : Extent) → extent (find s.packets n) ≡ Some x → x.down + stack_at set d ≤ x.size + 1
+HasPlace set s d n = (p : Packet) → find s.packets n ≡ Some p → Place set d p
 
 abbrev pub QueuesRoom : Set → Shared → Type 0
 QueuesRoom set s =
-    (d q n : ℕ) (entries : List ℕ) → queue_of s d q ≡ Some entries → 1 ≤ times_in entries n
-    → HasPlace set s d n
+    (d q n : ℕ) (entries : List ℕ) → queue_of s d q ≡ Some entries → is_cancelable set d q ≡ false
+    → 1 ≤ times_in entries n → HasPlace set s d n
 
 abbrev pub StartsRoom : Set → Shared → Type 0
 StartsRoom set s =
     (d n : ℕ) (start : StartState) → start_of s d ≡ Some start → 1 ≤ times_at start n
     → HasPlace set s d n
 
+abbrev pub WordsRoom : Set → Shared → Type 0
+WordsRoom set s =
+    (n : ℕ) (p : Packet) (armer : Armer) → find s.packets n ≡ Some p → p.armer ≡ Some armer
+    → Place set armer.device p
+
 pub record WaitingRoom (set : Set) (s : Shared) : Type 0 where
   pub queues : QueuesRoom set s
   pub starts : StartsRoom set s
+  pub words : WordsRoom set s
+
+-- a packet is as it was before a step, as far as that goes
+abbrev pub Keeps : Shared → Shared → ℕ → Type 0
+Keeps s after n =
+    (q : Packet) → find after.packets n ≡ Some q
+    → (p : Packet) × (find s.packets n ≡ Some p) × Stays p q
+
+pub room_kept : (set : Set) (d : ℕ) (p q : Packet) → Stays p q → RoomAt set d p → RoomAt set d q
+room_kept set d p q stays room =
+    let count : length q.locations.items ≡ length p.locations.items = stays.count in
+    let place : q.depth ≡ p.depth = stays.place in
+    omega arith
+
+place_stays : (set : Set) (d : ℕ) (p q : Packet) → Stays p q → Place set d p → Place set d q
+place_stays set d p q stays place =
+    record { room = room_kept set d p q stays place.room; marked = stays.mark place.marked }
+
+pub place_kept : (set : Set) (s after : Shared) (d n : ℕ) → Keeps s after n → HasPlace set s d n
+    → HasPlace set after d n
+place_kept set s after d n keeps place q there =
+    let old : (p : Packet) × (find s.packets n ≡ Some p) × Stays p q = keeps q there in
+    place_stays set d old.0 q old.2 (place old.0 old.1)
+
+-- lists and slots are as they were, and no cancel word that wasn't set is
+pub record SameWaiting (s after : Shared) : Type 0 where
+  pub queues : after.queues ≡ s.queues
+  pub starts : after.starts ≡ s.starts
+  pub words : (n : ℕ) (q : Packet) (armer : Armer) → find after.packets n ≡ Some q
+      → q.armer ≡ Some armer
+      → (p : Packet) × (find s.packets n ≡ Some p) × (p.armer ≡ Some armer)
+
+plain_some : (set : Set) (s : Shared) (d q n : ℕ) (entries : List ℕ) → queue_of s d q ≡ Some entries
+    → is_cancelable set d q ≡ false → 1 ≤ times_in entries n → 1 ≤ times_waiting set s n
+plain_some set s d q n entries there plain some =
+    let le : (if is_cancelable set d q then 0 else times_in entries n)
+    ≤ times_plain set 0 s.queues n = plain_le set n s d q entries there in
+    let all : times_in entries n ≤ times_plain set 0 s.queues n = rw plain at le in
+    omega arith
+
+started_some : (set : Set) (s : Shared) (d n : ℕ) (start : StartState) → start_of s d ≡ Some start
+    → 1 ≤ times_at start n → 1 ≤ times_waiting set s n
+started_some set s d n start there some =
+    let le : times_at start n ≤ times_started s.starts n = started_le s.starts d start n there in
+    omega arith
+
+pub word_some : (set : Set) (s : Shared) (n : ℕ) (p : Packet) (armer : Armer)
+    → find s.packets n ≡ Some p → p.armer ≡ Some armer → 1 ≤ times_waiting set s n
+word_some set s n p armer there is =
+    let named : times_named (packet_of s n) ≡ times_named (Some p) =
+    ap times_named (find_place s.packets n ∙ there) in
+    let one : times_named (Some p) ≡ 1 = rw is refl in
+    omega arith
+
+pub waiting_kept : (set : Set) (s after : Shared) → WaitingRoom set s → SameWaiting s after
+    → ((n : ℕ) → 1 ≤ times_waiting set s n → Keeps s after n) → WaitingRoom set after
+waiting_kept set s after waiting same keeps =
+    record {
+      queues = λ d q n entries there plain some.
+          let before : queue_of s d q ≡ Some entries =
+          ap (λ (queues : List (List (List ℕ))). option_and_then (λ lists. slice_get lists q)
+          (slice_get queues d)) (sym same.queues) ∙ there in
+          place_kept set s after d n (keeps n (plain_some set s d q n entries before plain some))
+          (waiting.queues d q n entries before plain some);
+      starts = λ d n start there some.
+          let before : start_of s d ≡ Some start =
+          ap (λ (starts : List StartState). slice_get starts d) (sym same.starts) ∙ there in
+          place_kept set s after d n (keeps n (started_some set s d n start before some))
+          (waiting.starts d n start before some);
+      words = λ n q armer there is.
+          let old : (p : Packet) × (find s.packets n ≡ Some p) × (p.armer ≡ Some armer) =
+          same.words n q armer there is in
+          place_kept set s after armer.device n
+          (keeps n (word_some set s n old.0 armer old.1 old.2))
+          (λ p found. waiting.words n p armer found
+          (let both : Some old.0 ≡ Some p = sym old.1 ∙ found in
+          let one : old.0 ≡ p = cc in
+          rw (← one) old.2)) q there;
+    }
 
 module _ (set : Set) (s : Shared) (waiting : WaitingRoom set s) (d : ℕ) where
   -- a queue in place of another
   queue_put_room : (q : ℕ) (before after : List ℕ) → queue_of s d q ≡ Some before
-      → ((m : ℕ) → 1 ≤ times_in after m → HasPlace set s d m)
+      → (is_cancelable set d q ≡ false → (m : ℕ) → 1 ≤ times_in after m → HasPlace set s d m)
       → QueuesRoom set (with_queue s d q after)
-  queue_put_room q before after there room e k m entries here some =
+  queue_put_room q before after there room e k m entries here plain some =
       elim (queue_after s d q before after e k entries there here) [
         | inl its ↦
             let count : times_in entries m ≡ times_in after m =
-            ap (λ (xs : List ℕ). times_in xs m) its.1 in
-            subst (λ (device : ℕ). HasPlace set s device m) its.0 (room m (omega arith))
-        | inr same ↦ waiting.queues e k m entries same some
+            ap (λ (xs : List ℕ). times_in xs m) its.2 in
+            let free : is_cancelable set d q ≡ false = rw (its.0, its.1) plain in
+            subst (λ (device : ℕ). HasPlace set s device m) its.0 (room free m (omega arith))
+        | inr same ↦ waiting.queues e k m entries same plain some
       ]
 
   -- what a device has for StartIo in place of something else
@@ -86,173 +198,213 @@ module _ (set : Set) (s : Shared) (waiting : WaitingRoom set s) (d : ℕ) where
         | inr same ↦ waiting.starts e m start same some
       ]
 
+-- what is taken off a queue is one of those that stood there before
+unlinked_some : (entries : List ℕ) (n m : ℕ) → times_in (unlinked entries n) m ≤ times_in entries m
+unlinked_some [] n m = omega arith
+unlinked_some (entry ∷ entries) n m =
+    let others : times_in (unlinked entries n) m ≤ times_in entries m = unlinked_some entries n m in
+    elim (eqb_tells entry n) [
+      | inl same ↦ rw same.0 (omega arith)
+      | inr apart ↦ rw apart.0 (omega arith)
+    ]
+
+-- the routine that has a queue is that of the device's driver
+pub serves_driver : (set : Set) (device driver : ℕ) → Serves set device driver
+    → routine_of_device (slice_get set.devices device) ≡ driver
+serves_driver set device driver serves = ap routine_of_device serves.1 ∙ serves.2
+
+pub served_cancels : (set : Set) (device driver q : ℕ) → Serves set device driver
+    → is_cancelable set device q ≡ is_some (cancel_routine_of set driver q)
+served_cancels set device driver q serves =
+    ap (λ (x : ℕ). is_some (cancel_routine_of set x q)) (serves_driver set device driver serves)
+
+-- a packet that is taken off a queue is the routine's own where that has no cancel routine
+removed_plain : (f : Kind → Bool) → IsClaim f → (cancel : Option ℕ) (q : ℕ)
+    → f (kind_removed cancel q) ≡ true → is_some cancel ≡ false
+removed_plain f claim None q is = refl
+removed_plain f claim (Some routine) q is =
+    let no : true ≡ false = sym is ∙ claim.taken (Declared q) in cc
+
 module _ (set : Set) (states : States) (s : Shared) (a : Activation)
-    (room : HasRoom set states s (Routine a)) (waiting : WaitingRoom set s) where
-  -- a packet that the frame had comes to those that wait
-  given_room : (n m before : ℕ) → 1 ≤ frame_rights states (Routine a) n
+    (room : FrameRoom set states s a) where
+  -- the packet in a register of the frame's own
+  pub own_place : (r n : ℕ) → is_owned (kind_of (state_of states a) r) ≡ true → Reads s a r n
+      → HasPlace set s a.device n
+  own_place r n is reads p there =
+      record {
+        room = claim_get is_right claims_right (RoomFor set s a.device) (state_of states a).kinds
+            a.registers r room.rooms (claims_owned.right (kind_of (state_of states a) r) is) n
+            (reads_ref s (register a r) n reads) p there;
+        marked = claim_get is_owned claims_owned (MarkedIn s) (state_of states a).kinds a.registers
+            r
+            room.marks is n (reads_ref s (register a r) n reads) p there;
+      }
+
+module _ (set : Set) (states : States) (s : Shared) (a : Activation)
+    (room : FrameRoom set states s a) (waiting : WaitingRoom set s) where
+  removed_place : (f : Kind → Bool) → IsClaim f → (q n : ℕ) (entries : List ℕ)
+      → Serves set a.device a.driver → queue_of s a.device q ≡ Some (n ∷ entries)
+      → f (kind_removed (cancel_routine_of set a.driver q) q) ≡ true → HasPlace set s a.device n
+  removed_place f claim q n entries serves there is =
+      waiting.queues a.device q n (n ∷ entries) there
+      (served_cancels set a.device a.driver q serves
+      ∙ removed_plain f claim (cancel_routine_of set a.driver q) q is)
+      (rw (eq-eqb n n refl) (omega arith))
+
+  slot_place : (n : ℕ) (start : StartState) → start_of s a.device ≡ Some start
+      → start.slot ≡ Some n → HasPlace set s a.device n
+  slot_place n start there slot =
+      let one : times_in_slot start.slot n ≡ 1 = rw (slot, eq-eqb n n refl) refl in
+      waiting.starts a.device n start there (omega arith)
+
+  -- a packet comes out of a list or the slot into a register, or goes there, or stays
+  module _ (f : Kind → Bool) (claim : IsClaim f) (M : ℕ → Type 0)
+      (placed : (n : ℕ) → HasPlace set s a.device n → M n) where
+    taken_in : (n : ℕ) → M n → Refers M (Ref n)
+    taken_in n has m refers =
+        let same : n ≡ m = cc in subst M same has
+
+    queued_claims : (i : Instr) (h : Runs set states s a i) → {b : Activation}
+        {queues : List (List (List ℕ))} {lists : List StartState} {actions : List Action}
+        {full : Bool}
+        → Queued s a i b queues lists actions full
+        → HoldOf f (Refers M) (state_of states a).kinds a.registers
+        → HoldOf f (Refers M) (state_of states b).kinds b.registers
+    queued_claims i h (inserts r q n entries reads there) held =
+        next_claims f claim M set states s a (Insert r q) h refl refl (λ k is. cc) held
+    queued_claims i h (removes r q label n entries there) held =
+        subst (λ (state : Abs). HoldOf f (Refers M) state.kinds
+        (with_register a r (Ref n)).registers)
+        (sym (arrives_next set states s a (Remove r q label) h refl))
+        (claim_set f claim M (state_of states a).kinds a.registers r
+        (kind_removed (cancel_routine_of set a.driver q) q) (Ref n)
+        (λ is. taken_in n
+        (placed n (removed_place f claim q n entries h.stays.serves there is))) held)
+    queued_claims i h (removes_none r q label there) held =
+        goes_claims f claim M set states s a (Remove r q label) h _ true (jumping label refl)
+        (λ no. cc) held
+    queued_claims i h (unlinks r q n entries reads there) held =
+        next_claims f claim M set states s a (Unlink r q) h refl refl (λ k is. cc) held
+    queued_claims i h (starts_packet r n start reads there) held =
+        next_claims f claim M set states s a (Start r) h refl refl (λ k is. cc) held
+    queued_claims i h (takes_out r label n start there slot) held =
+        subst (λ (state : Abs). HoldOf f (Refers M) state.kinds
+        (with_register a r (Ref n)).registers)
+        (sym (arrives_next set states s a (Take r label) h refl))
+        (claim_set f claim M (state_of states a).kinds a.registers r Own (Ref n)
+        (λ is. taken_in n (placed n (slot_place n start there slot))) held)
+    queued_claims i h (takes_none r label start there slot) held =
+        goes_claims f claim M set states s a (Take r label) h _ true (jumping label refl)
+        (λ no. cc) held
+    queued_claims i h (puts_in r n start reads there) held =
+        next_claims f claim M set states s a (Begin r) h refl refl (λ k is. cc) held
+    queued_claims i h (starts_next start there) held =
+        next_claims f claim M set states s a Next h refl refl (λ k is. cc) held
+
+  pub queued_room : (i : Instr) → Runs set states s a i → {b : Activation}
+      {queues : List (List (List ℕ))} {lists : List StartState} {actions : List Action}
+      {full : Bool}
+      → Queued s a i b queues lists actions full → FrameRoom set states s b
+  queued_room i h {b = b} queued =
+      let device : b.device ≡ a.device = (queue_moves set states s a i h queued).moved.device in
+      record {
+        rooms = rw device
+            (queued_claims is_right claims_right (RoomFor set s a.device)
+            (λ n place p there. (place p there).room) i h queued room.rooms);
+        marks = queued_claims is_owned claims_owned (MarkedIn s)
+            (λ n place p there. (place p there).marked) i h queued room.marks;
+      }
+
+  -- a packet that the frame owned comes to those that wait
+  given_place : (n m before : ℕ) → HasPlace set s a.device n
       → (1 ≤ before → HasPlace set s a.device m) → 1 ≤ before + (if nat_eq n m then 1 else 0)
       → HasPlace set s a.device m
-  given_room n m before had others some =
+  given_place n m before place others some =
       elim (eqb_tells n m) [
-        | inl same ↦ λ x is. room m x is
-            (subst (λ (k : ℕ). 1 ≤ frame_rights states (Routine a) k) same.1 had)
+        | inl same ↦ subst (λ (k : ℕ). HasPlace set s a.device k) same.1 place
         | inr apart ↦ let one : 1 ≤ before + 0 = rw apart.0 at some in others (omega arith)
       ]
 
-  -- the frame gets one of these
-  taken_room : (b : Activation) (n : ℕ) → b.device ≡ a.device
-      → ((m : ℕ) → frame_rights states (Routine b) m
-      ≡ frame_rights states (Routine a) m + (if nat_eq n m then 1 else 0))
-      → HasPlace set s a.device n → HasRoom set states s (Routine b)
-  taken_room b n device won place m x is some =
-      let stack : stack_at set b.device ≡ stack_at set a.device = ap (stack_at set) device in
-      let count : frame_rights states (Routine b) m
-      ≡ frame_rights states (Routine a) m + (if nat_eq n m then 1 else 0) = won m in
-      elim (eqb_tells n m) [
-        | inl same ↦
-            let roomy : x.down + stack_at set a.device ≤ x.size + 1 =
-            subst (λ (k : ℕ). HasPlace set s a.device k) same.1 place x is in
-            omega arith
-        | inr apart ↦
-            let old : frame_rights states (Routine b) m ≡ frame_rights states (Routine a) m + 0 =
-            rw apart.0 at count in
-            let roomy : x.down + stack_at set a.device ≤ x.size + 1 = room m x is (omega arith) in
-            omega arith
-      ]
+  owned_place : (r n : ℕ) → kind_of (state_of states a) r ≡ Own → Reads s a r n
+      → HasPlace set s a.device n
+  owned_place r n is reads = own_place set states s a room r n (ap is_owned is) reads
 
-  pub frame_room : (i : Instr) → Runs set states s a i → {b : Activation}
-      {queues : List (List (List ℕ))} {lists : List StartState} {actions : List Action}
-      {full : Bool}
-      → Queued s a i b queues lists actions full → HasRoom set states s (Routine b)
-  frame_room i h (inserts r q n entries reads there) m x is some =
-      let gone : frame_rights states (Routine (next a)) m + (if nat_eq n m then 1 else 0)
-      ≡ frame_rights states (Routine a) m =
-      rights_given set states s a (Insert r q) h r n refl
-      (inserts_blank set states s a (Insert r q) h r q)
-      (gives_right (kind_of (state_of states a) r) _ h.obeys) reads m in
-      room m x is (omega arith)
-  frame_room i h (removes r q label n entries there) m x is some =
-      taken_room (next (with_register a r (Ref n))) n refl
-      (rights_taken set states s a (Remove r q label) h r n refl
-      (removes_own set states s a (Remove r q label) h r q label)
-      (free_removed _ _ (kind_of (state_of states a) r) h.obeys)
-      (all_at OperandFits h.routine.code a.position (Remove r q label) h.known.operands h.here))
-      (waiting.queues a.device q n (n ∷ entries) there (rw (eq-eqb n n refl) (omega arith)))
-      m x is some
-  frame_room i h (removes_none r q label there) m x is some =
-      let same : frame_rights states (Routine (at_label a label)) m
-      ≡ frame_rights states (Routine a) m =
-      rights_missed set states s a (Remove r q label) h r label refl refl
-      (free_removed _ _ (kind_of (state_of states a) r) h.obeys) m in
-      room m x is (omega arith)
-  frame_room i h (unlinks r q n entries reads there) m x is some =
-      absurd (never_unlinks set states s a r q h)
-  frame_room i h (starts_packet r n start reads there) m x is some =
-      let gone : frame_rights states (Routine (next a)) m + (if nat_eq n m then 1 else 0)
-      ≡ frame_rights states (Routine a) m =
-      rights_given set states s a (Start r) h r n refl refl
-      (gives_right (kind_of (state_of states a) r) _ h.obeys) reads m in
-      room m x is (omega arith)
-  frame_room i h (takes_out r label n start there slot) m x is some =
-      let one : times_in_slot start.slot n ≡ 1 = rw (slot, eq-eqb n n refl) refl in
-      taken_room (next (with_register a r (Ref n))) n refl
-      (rights_taken set states s a (Take r label) h r n refl refl
-      (free_before _ (kind_of (state_of states a) r) h.obeys)
-      (all_at OperandFits h.routine.code a.position (Take r label) h.known.operands h.here))
-      (waiting.starts a.device n start there (omega arith)) m x is some
-  frame_room i h (takes_none r label start there slot) m x is some =
-      let same : frame_rights states (Routine (at_label a label)) m
-      ≡ frame_rights states (Routine a) m =
-      rights_missed set states s a (Take r label) h r label refl refl
-      (free_before _ (kind_of (state_of states a) r) h.obeys) m in
-      room m x is (omega arith)
-  frame_room i h (puts_in r n start reads there) m x is some =
-      let gone : frame_rights states (Routine (next a)) m + (if nat_eq n m then 1 else 0)
-      ≡ frame_rights states (Routine a) m =
-      rights_given set states s a (Begin r) h r n refl refl
-      (gives_right (kind_of (state_of states a) r) _ h.obeys) reads m in
-      room m x is (omega arith)
-  frame_room i h (starts_next start there) m x is some =
-      let same : frame_rights states (Routine (next a)) m ≡ frame_rights states (Routine a) m =
-      rights_kept set states s a Next h refl refl m in
-      room m x is (omega arith)
-
-  -- what the frame gives away was its own
-  had : (i : Instr) (h : Runs set states s a i) (r n : ℕ) → has_next (flow_of i) ≡ true
-      → (handed set a.driver (state_of states a) i).kinds
-      ≡ kinds_with set states s a i h r BlankKind
-      → is_right (kind_of (state_of states a) r) ≡ true → Reads s a r n
-      → 1 ≤ frame_rights states (Routine a) n
-  had i h r n on kinds own reads =
-      let gone : frame_rights states (Routine (next a)) n + (if nat_eq n n then 1 else 0)
-      ≡ frame_rights states (Routine a) n =
-      rights_given set states s a i h r n on kinds own reads n in
-      let one : frame_rights states (Routine (next a)) n + 1 ≡ frame_rights states (Routine a) n =
-      rw (eq-eqb n n refl) at gone in
-      omega arith
-
-  pub waiting_room : (i : Instr) → Runs set states s a i → {b : Activation}
+  pub waiting_queued : (i : Instr) → Runs set states s a i → {b : Activation}
       {queues : List (List (List ℕ))} {lists : List StartState} {actions : List Action}
       {full : Bool}
       → Queued s a i b queues lists actions full
       → WaitingRoom set (record s { queues = queues; starts = lists })
-  waiting_room i h (inserts r q n entries reads there) =
+  waiting_queued i h (inserts r q n entries reads there) =
       record {
         queues = queue_put_room set s waiting a.device q entries (inserted entries n) there
-            (λ m some.
+            (λ plain m some.
             let pushed : times_in (inserted entries n) m
             ≡ times_in entries m + (if nat_eq n m then 1 else 0) = times_pushed entries n m in
-            given_room n m (times_in entries m)
-            (had (Insert r q) h r n refl (inserts_blank set states s a (Insert r q) h r q)
-            (gives_right (kind_of (state_of states a) r) _ h.obeys) reads)
-            (waiting.queues a.device q m entries there) (omega arith));
+            given_place n m (times_in entries m)
+            (owned_place r n (inserts_right (kind_of (state_of states a) r)
+            (first_none _ _ h.obeys)) reads)
+            (waiting.queues a.device q m entries there plain) (omega arith));
         starts = waiting.starts;
+        words = waiting.words;
       }
-  waiting_room i h (removes r q label n entries there) =
+  waiting_queued i h (removes r q label n entries there) =
       record {
         queues = queue_put_room set s waiting a.device q (n ∷ entries) entries there
-            (λ m some. waiting.queues a.device q m (n ∷ entries) there (omega arith));
+            (λ plain m some. waiting.queues a.device q m (n ∷ entries) there plain (omega arith));
         starts = waiting.starts;
+        words = waiting.words;
       }
-  waiting_room i h (removes_none r q label there) =
-      record { queues = waiting.queues; starts = waiting.starts }
-  waiting_room i h (unlinks r q n entries reads there) =
-      absurd (never_unlinks set states s a r q h)
-  waiting_room i h (starts_packet r n start reads there) =
+  waiting_queued i h (removes_none r q label there) =
+      record { queues = waiting.queues; starts = waiting.starts; words = waiting.words }
+  waiting_queued i h (unlinks r q n entries reads there) =
+      record {
+        queues = queue_put_room set s waiting a.device q entries (unlinked entries n) there
+            (λ plain m some.
+            let le : times_in (unlinked entries n) m ≤ times_in entries m =
+            unlinked_some entries n m in
+            waiting.queues a.device q m entries there plain (omega arith));
+        starts = waiting.starts;
+        words = waiting.words;
+      }
+  waiting_queued i h (starts_packet r n start reads there) =
       record {
         queues = waiting.queues;
         starts = start_put_room set s waiting a.device start (started start n) there
             (λ m some.
             let given : times_at (started start n) m
             ≡ times_at start m + (if nat_eq n m then 1 else 0) = times_given start n m in
-            given_room n m (times_at start m)
-            (had (Start r) h r n refl refl
-            (gives_right (kind_of (state_of states a) r) _ h.obeys) reads)
+            given_place n m (times_at start m)
+            (owned_place r n (inserts_right (kind_of (state_of states a) r)
+            (first_none _ _ h.obeys)) reads)
             (waiting.starts a.device m start there) (omega arith));
+        words = waiting.words;
       }
-  waiting_room i h (takes_out r label n start there slot) =
+  waiting_queued i h (takes_out r label n start there slot) =
       record {
         queues = waiting.queues;
         starts = start_put_room set s waiting a.device start (with_slot start None) there
             (λ m some. waiting.starts a.device m start there (omega arith));
+        words = waiting.words;
       }
-  waiting_room i h (takes_none r label start there slot) =
-      record { queues = waiting.queues; starts = waiting.starts }
-  waiting_room i h (puts_in r n start reads there) =
+  waiting_queued i h (takes_none r label start there slot) =
+      record { queues = waiting.queues; starts = waiting.starts; words = waiting.words }
+  waiting_queued i h (puts_in r n start reads there) =
       record {
         queues = waiting.queues;
         starts = start_put_room set s waiting a.device start (with_slot start (Some n)) there
             (λ m some.
-            given_room n m (times_at start m)
-            (had (Begin r) h r n refl refl
-            (gives_right (kind_of (state_of states a) r) _ h.obeys) reads)
+            given_place n m (times_at start m)
+            (owned_place r n (inserts_right (kind_of (state_of states a) r)
+            (first_none _ _ h.obeys)) reads)
             (waiting.starts a.device m start there) (omega arith));
+        words = waiting.words;
       }
-  waiting_room i h (starts_next start there) =
+  waiting_queued i h (starts_next start there) =
       record {
         queues = waiting.queues;
         starts = start_put_room set s waiting a.device start (next_started start) there
             (λ m some.
             let same : times_at (next_started start) m ≡ times_at start m = times_next start m in
             waiting.starts a.device m start there (omega arith));
+        words = waiting.words;
       }

@@ -23,7 +23,6 @@ use Rattle.model.specs.Run.{Run, Answered, actor_on, goes, refused, stops, unles
 use Rattle.model.specs.Set.{Set, dpc_of, startio_of}
 use Rattle.model.specs.Trace.{Entry, recorded}
 use Rattle.model.specs.World.{World, is_queued, packet_of, start_of}
-use Rattle.run_laws.specs.CancelsNothing.{is_cancel}
 use Rattle.run_laws.proofs.Lists.{last_split}
 use Rattle.run_laws.proofs.Steps.Comes.{Comes}
 use Rattle.run_laws.proofs.Steps.Walk.{comes}
@@ -89,21 +88,19 @@ pub record BeginsCancel (set : Set) (w : World) (t : ℕ) : Type 0 where
   pub idle : thread.frames.items ≡ []
   pub there : packet_of w.shared n ≡ Some packet
 
--- what an event on a thread can be, a call of IoCancelIrp or another one, with the change that it
--- makes
-pub data Happens (set : Set) (w : World) (t : ℕ) : Bool → Change → Type 0 where
-  nothing : {of_cancel : Bool} (reply : Reply) → stops_run reply ≡ false
-      → Happens set w t of_cancel (unchanged w reply)
+-- what an event on a thread can be, with the change that it makes
+pub data Happens (set : Set) (w : World) (t : ℕ) : Change → Type 0 where
+  nothing : (reply : Reply) → stops_run reply ≡ false → Happens set w t (unchanged w reply)
   steps : (h : StepsFrame set w t)
-      → Happens set w t false (settled set w t h.thread h.below h.outcome)
+      → Happens set w t (settled set w t h.thread h.below h.outcome)
   issues : (h : IssuesPacket set w t)
-      → Happens set w t false (issued set w t h.d h.thread h.device h.major h.argument)
+      → Happens set w t (issued set w t h.d h.thread h.device h.major h.argument)
   begins : (h : BeginsDpc set w t)
-      → Happens set w t false (dpc_begun set w t h.d h.thread h.routine)
+      → Happens set w t (dpc_begun set w t h.d h.thread h.routine)
   begins_startio : (h : BeginsStartIo set w t)
-      → Happens set w t false (startio_begun set w t h.d h.thread h.routine h.n h.start)
+      → Happens set w t (startio_begun set w t h.d h.thread h.routine h.n h.start)
   begins_cancel : (h : BeginsCancel set w t)
-      → Happens set w t true (cancel_of w t h.n h.level h.thread (Some h.packet))
+      → Happens set w t (cancel_of w t h.n h.level h.thread (Some h.packet))
 
 -- what one about no thread can be
 pub data Sets (set : Set) (w : World) : Change → Type 0 where
@@ -112,14 +109,14 @@ pub data Sets (set : Set) (w : World) : Change → Type 0 where
 
 -- an event is about a thread, or about none
 pub data Concerns (set : Set) (w : World) (e : Event) : Type 0 where
-  a_thread : (t : ℕ) → thread_of e ≡ Some t → Happens set w t (is_cancel e) (effect set w e)
+  a_thread : (t : ℕ) → thread_of e ≡ Some t → Happens set w t (effect set w e)
       → Concerns set w e
   no_thread : thread_of e ≡ None → Sets set w (effect set w e) → Concerns set w e
 
 module _ (set : Set) (w : World) (t : ℕ) where
   happens_top : (thread : Thread) (o : Option Frame) → slice_get w.threads t ≡ Some thread
       → slice_get thread.frames.items (length thread.frames.items - 1) ≡ o
-      → Happens set w t false
+      → Happens set w t
       (top_effect set w t thread (take (length thread.frames.items - 1) thread.frames.items) o)
   happens_top thread None found there = nothing Idle refl
   happens_top thread (Some f) found there =
@@ -136,7 +133,7 @@ module _ (set : Set) (w : World) (t : ℕ) where
       })
 
   pub happens_step : (o : Option Thread) → slice_get w.threads t ≡ o
-      → Happens set w t false (step_thread set w t o)
+      → Happens set w t (step_thread set w t o)
   happens_step None found = nothing Refused refl
   happens_step (Some thread) found =
       happens_top thread (slice_get thread.frames.items (length thread.frames.items - 1)) found refl
@@ -149,7 +146,7 @@ module _ (set : Set) (w : World) (t : ℕ) where
   happens_if : (d : ℕ) (major : Major) (argument : ℕ) (thread : Thread) (device : Device) (b : Bool)
       → (is_idle thread && can_issue w.shared) ≡ b → slice_get w.threads t ≡ Some thread
       → slice_get set.devices d ≡ Some device
-      → Happens set w t false
+      → Happens set w t
       (if b then issued set w t d thread device major argument else unchanged w Refused)
   happens_if d major argument thread device false may found there = nothing Refused refl
   happens_if d major argument thread device true may found there =
@@ -165,17 +162,19 @@ module _ (set : Set) (w : World) (t : ℕ) where
         room = and_right _ _ may;
       })
 
-  happens_issue : (d : ℕ) (major : Major) (argument : ℕ) (o : Option Thread) (device : Option Device)
+  happens_issue : (d : ℕ) (major : Major) (argument : ℕ) (o : Option Thread)
+      (device : Option Device)
       → slice_get w.threads t ≡ o → slice_get set.devices d ≡ device
-      → Happens set w t false (issue_on set w t d major argument o device)
+      → Happens set w t (issue_on set w t d major argument o device)
   happens_issue d major argument None device found there = nothing Refused refl
   happens_issue d major argument (Some thread) None found there = nothing Refused refl
   happens_issue d major argument (Some thread) (Some device) found there =
-      happens_if d major argument thread device (is_idle thread && can_issue w.shared) refl found there
+      happens_if d major argument thread device (is_idle thread && can_issue w.shared) refl found
+      there
 
   happens_queued : (d routine : ℕ) (thread : Thread) (idle queued : Bool) → is_idle thread ≡ idle
       → slice_get w.threads t ≡ Some thread → dpc_of set d ≡ Some routine
-      → Happens set w t false
+      → Happens set w t
       (if not idle then unchanged w Refused else
       (if queued then dpc_begun set w t d thread routine else unchanged w Idle))
   happens_queued d routine thread false queued is found there = nothing Refused refl
@@ -192,7 +191,7 @@ module _ (set : Set) (w : World) (t : ℕ) where
 
   happens_dpc : (d : ℕ) (o : Option Thread) (routine : Option ℕ) → slice_get w.threads t ≡ o
       → dpc_of set d ≡ routine
-      → Happens set w t false (dpc_on set w t d o routine)
+      → Happens set w t (dpc_on set w t d o routine)
   happens_dpc d None routine found there = nothing Refused refl
   happens_dpc d (Some thread) None found there = nothing Refused refl
   happens_dpc d (Some thread) (Some routine) found there =
@@ -202,7 +201,7 @@ module _ (set : Set) (w : World) (t : ℕ) where
       → slice_get w.threads t ≡ Some thread → is_idle thread ≡ true
       → startio_of set d ≡ Some routine → start_of w.shared d ≡ Some start
       → head_of start.start_list ≡ n
-      → Happens set w t false (startio_for set w t d thread routine start n)
+      → Happens set w t (startio_for set w t d thread routine start n)
   happens_first d routine thread start None found is there has first = nothing Idle refl
   happens_first d routine thread start (Some n) found is there has first =
       begins_startio (record {
@@ -221,25 +220,25 @@ module _ (set : Set) (w : World) (t : ℕ) where
   happens_started : (d routine : ℕ) (thread : Thread) (start : Option StartState)
       → slice_get w.threads t ≡ Some thread → is_idle thread ≡ true
       → startio_of set d ≡ Some routine → start_of w.shared d ≡ start
-      → Happens set w t false (startio_from set w t d thread routine start)
+      → Happens set w t (startio_from set w t d thread routine start)
   happens_started d routine thread None found is there has = nothing Refused refl
   happens_started d routine thread (Some start) found is there has =
       happens_first d routine thread start (head_of start.start_list) found is there has refl
 
   happens_startio : (d : ℕ) (o : Option Thread) (routine : Option ℕ) → slice_get w.threads t ≡ o
       → startio_of set d ≡ routine
-      → Happens set w t false (startio_on set w t d o routine)
+      → Happens set w t (startio_on set w t d o routine)
   happens_startio d None routine found there = nothing Refused refl
   happens_startio d (Some thread) None found there = nothing Refused refl
   happens_startio d (Some thread) (Some routine) found there =
       cond_both (is_idle thread) (startio_from set w t d thread routine (start_of w.shared d))
-      (unchanged w Refused) (Happens set w t false)
+      (unchanged w Refused) (Happens set w t)
       (λ is. happens_started d routine thread (start_of w.shared d) found is there refl)
       (λ busy. nothing Refused refl)
 
   happens_cancelling : (n : ℕ) (level : Irql) (thread : Thread) (o : Option Packet)
       → slice_get w.threads t ≡ Some thread → is_idle thread ≡ true → packet_of w.shared n ≡ o
-      → Happens set w t true (cancel_of w t n level thread o)
+      → Happens set w t (cancel_of w t n level thread o)
   happens_cancelling n level thread None found is there = nothing Finished refl
   happens_cancelling n level thread (Some p) found is there =
       begins_cancel (record {
@@ -253,28 +252,16 @@ module _ (set : Set) (w : World) (t : ℕ) where
       })
 
   happens_cancel : (n : ℕ) (level : Option Irql) (o : Option Thread) → slice_get w.threads t ≡ o
-      → Happens set w t true (cancel_on w t n level o)
+      → Happens set w t (cancel_on w t n level o)
   happens_cancel n level None found = nothing Refused refl
   happens_cancel n None (Some thread) found = nothing Refused refl
   happens_cancel n (Some level) (Some thread) found =
       cond_both (is_idle thread && nat_lt n w.shared.issued)
       (cancel_of w t n level thread (packet_of w.shared n))
-      (unchanged w Refused) (Happens set w t true)
-      (λ may. happens_cancelling n level thread (packet_of w.shared n) found (and_left _ _ may) refl)
+      (unchanged w Refused) (Happens set w t)
+      (λ may. happens_cancelling n level thread (packet_of w.shared n) found (and_left _ _ may)
+      refl)
       (λ may_not. nothing Refused refl)
-
--- a call of IoCancelIrp makes no action, and stops no run
-pub record MakesNothing (c : Change) : Type 0 where
-  pub actions : c.actions ≡ []
-  pub within : c.over ≡ false
-  pub right : stops_run c.reply ≡ false
-
-pub cancel_makes_nothing : (set : Set) (w : World) (t : ℕ) (c : Change) → Happens set w t true c
-    → MakesNothing c
-cancel_makes_nothing set w t c (nothing reply right) =
-    record { actions = refl; within = refl; right = right }
-cancel_makes_nothing set w t c (begins_cancel h) =
-    record { actions = refl; within = refl; right = refl }
 
 sets_if : (set : Set) (w : World) (d : ℕ) (queued : Bool)
     → Sets set w (if queued then unchanged w Idle else interrupted w d)
@@ -289,7 +276,8 @@ sets_interrupt set w d (Some routine) = sets_if set w d (is_queued w.shared d)
 pub concerns : (set : Set) (w : World) (e : Event) → Concerns set w e
 concerns set w (Issue t d major argument) =
     a_thread t refl
-    (happens_issue set w t d major argument (slice_get w.threads t) (slice_get set.devices d) refl refl)
+    (happens_issue set w t d major argument (slice_get w.threads t) (slice_get set.devices d) refl
+    refl)
 concerns set w (CancelEvent t n level) =
     a_thread t refl (happens_cancel set w t n (irql_of level) (slice_get w.threads t) refl)
 concerns set w (Interrupt d) = no_thread refl (sets_interrupt set w d (dpc_of set d))

@@ -6,7 +6,8 @@ use Rattle.model.specs.Trace.{Entry, Actor, entry, recorded}
 use Rattle.run_laws.specs.Rules.{Faultless}
 use Rattle.run_laws.proofs.Steps.Faults.{none_first, none_later}
 
-pub recorded_faultless : (past : List Entry) (actor : Actor) (actions : List Action) → Faultless past
+pub recorded_faultless : (past : List Entry) (actor : Actor) (actions : List Action)
+    → Faultless past
     → first_fault past actor actions ≡ None → Faultless (recorded past actor actions)
 recorded_faultless past actor [] h quiet = h
 recorded_faultless past actor (action ∷ actions) h quiet =

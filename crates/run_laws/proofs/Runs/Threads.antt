@@ -40,7 +40,8 @@ module _ (w : World) (t : ℕ) where
           | inl same ↦
               subst (λ (j : ℕ). P j (slice_get (with_thread w t s after).threads j)) same
               (subst (λ (o : Option Thread). P t o) (sym (thread_put thread found)) here)
-          | inr apart ↦ subst (λ (o : Option Thread). P k o) (sym (thread_other k apart)) (others k apart)
+          | inr apart ↦ subst (λ (o : Option Thread). P k o) (sym (thread_other k apart))
+              (others k apart)
         ]
 
     pub each_frames : (P : ℕ → List Frame → Type 0) (thread : Thread)

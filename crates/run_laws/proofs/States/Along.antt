@@ -18,11 +18,15 @@ module _ (P : Abs → Type 0) (m : Member) (begins : (s : Abs) → entry_state m
       → ((outs_by flow after here).next ≡ Some s) ⊎ ((outs_by flow after here).jump ≡ Some s) → P s
   outs_keep Onward s after here h other (inl out) = let same : after ≡ s = cc in subst P same h
   outs_keep Onward s after here h other (inr out) = cc
-  outs_keep (Branches l) s after here h other (inl out) = let same : after ≡ s = cc in subst P same h
-  outs_keep (Branches l) s after here h other (inr out) = let same : here ≡ s = cc in subst P same other
+  outs_keep (Branches l) s after here h other (inl out) =
+      let same : after ≡ s = cc in subst P same h
+  outs_keep (Branches l) s after here h other (inr out) =
+      let same : here ≡ s = cc in subst P same other
   outs_keep (Jumps l) s after here h other (inl out) = cc
-  outs_keep (Jumps l) s after here h other (inr out) = let same : here ≡ s = cc in subst P same other
-  outs_keep (Opens turns) s after here h other (inl out) = let same : after ≡ s = cc in subst P same h
+  outs_keep (Jumps l) s after here h other (inr out) =
+      let same : here ≡ s = cc in subst P same other
+  outs_keep (Opens turns) s after here h other (inl out) =
+      let same : after ≡ s = cc in subst P same h
   outs_keep (Opens turns) s after here h other (inr out) = cc
   outs_keep Closes s after here h other (inl out) = let same : after ≡ s = cc in subst P same h
   outs_keep Closes s after here h other (inr out) = cc

@@ -1,13 +1,16 @@
 -- Routines that begin: those that serve a request of a device, its DPC and StartIo routines, and those
 -- that completion calls.
-use Rattle.std.proofs.Common.{◌≡◌, ℕ, zero, suc, ◌+◌, ◌-◌, ◌<◌, ◌≤◌, Bool, true, false, List, [], ◌∷◌, length, Option, None, Some, refl, ap, sym, ◌∙◌, subst, arith, nat_eq}
+use Rattle.run_laws.proofs.States.Listed.{named_only}
+use Rattle.model.specs.declared.set.QueueName.TheVariants.{Declared}
+use Rattle.model.specs.declared.set.Queue.{Queue}
+use Rattle.std.proofs.Common.{◌≡◌, ℕ, zero, suc, ◌+◌, ◌-◌, ◌<◌, ◌≤◌, Bool, true, false, List, [], ◌∷◌, length, Option, None, Some, refl, ap, sym, ◌∙◌, subst, arith, nat_eq, is_some}
 use Rattle.std.specs.Prelude.{◌&&◌, slice_get, slice_index_or, replicate, unwrap_or, option_and_then, is_none, IfSome}
 use Rattle.std.specs.List.{list_any}
 use Rattle.std.proofs.lemmas.Bool.{eq-eqb}
 use Rattle.std.proofs.lemmas.Option.{slice_get_within, slice_get-get_or}
 use Rattle.model.specs.declared.abs.Abs.{Abs}
 use Rattle.model.specs.declared.abs.Duty.TheVariants.{Fresh, NoDuty}
-use Rattle.model.specs.declared.abs.Kind.TheVariants.{Blank as BlankKind, New, Own, View}
+use Rattle.model.specs.declared.abs.Kind.TheVariants.{Blank as BlankKind, New, Own, View, Cancelling}
 use Rattle.model.specs.declared.abs.Settled.TheVariants.{Open, Settled as SettledMark}
 use Rattle.model.specs.declared.limits.TheConstants.{MAX_ROUTINES, REGISTERS, SPIN_LOCKS}
 use Rattle.model.specs.declared.set.Device.{Device}
@@ -18,38 +21,43 @@ use Rattle.model.specs.declared.set.Sort.{Sort}
 use Rattle.model.specs.declared.set.Sort.TheVariants.{Dispatch, Dpc, Propagate, StartIo, Hold, Cancel}
 use Rattle.model.specs.declared.status.Major.{Major}
 use Rattle.model.specs.declared.status.Major.TheVariants.{Read, Write, Control}
+use Rattle.model.specs.declared.world.Armer.{Armer}
 use Rattle.model.specs.declared.world.Activation.{Activation}
 use Rattle.model.specs.declared.world.Completion.{Completion}
 use Rattle.model.specs.declared.world.Packet.{Packet}
 use Rattle.model.specs.declared.world.Value.{Value}
 use Rattle.model.specs.declared.world.Value.TheVariants.{Blank, Ref}
 use Rattle.model.specs.Certificate.{certificate, certificate_in, certificate_of}
-use Rattle.model.specs.Effect.{serving_for, dispatched, routine_of_device, completes_with}
+use Rattle.model.specs.Effect.{serving_for, dispatched, routine_of_device, completes_with, sort_of_completion}
 use Rattle.model.specs.Events.{serves_request, dpc_activation}
 use Rattle.model.specs.Forwarding.{lacks_lower}
-use Rattle.model.specs.LocalRule.{entered_with, entry_of_sort}
-use Rattle.model.specs.Set.{Set, cancels_for, member, handler_of, serving, dpc_of, startio_of, routine_of, sort_in, sort_of, lower_of, default_number, default_routine}
-use Rattle.model.specs.Sound.{IsSound, DriverFits, DeviceFits, HandlerFits, HasSort, IsDispatch, IsDpc, IsStartIo, DpcFits, StartIoFits}
+use Rattle.model.specs.LocalRule.{entered_with, entry_of_sort, is_completion, is_hold}
+use Rattle.model.specs.Set.{Set, cancels_for, member, handler_of, serving, dpc_of, startio_of, routine_of, sort_in, sort_of, lower_of, default_number, default_routine, cancel_routine_named}
+use Rattle.model.specs.Sound.{IsSound, DriverFits, DeviceFits, HandlerFits, HasSort, IsDispatch, IsDpc, IsStartIo, DpcFits, StartIoFits, IsCancel, CancelFits}
 use Rattle.model.specs.World.{Shared, completion_of, current_location, packet_of, entered}
 use Rattle.run_laws.proofs.Devices.{device_fits}
 use Rattle.run_laws.proofs.Lists.{all_at}
-use Rattle.run_laws.proofs.States.Fits.{CompletionLeads, Fits, completion_leads, packet_leads}
+use Rattle.run_laws.proofs.States.Fits.{CompletionLeads, Fits, completion_leads, packet_leads, ArmerLeads}
 use Rattle.run_laws.proofs.States.Frames.{IsGood, Ready, Serves, state_of, due, due_in, due_is}
 use Rattle.run_laws.proofs.States.Kinds.{HasKinds}
 use Rattle.run_laws.proofs.States.Known.{IsKnown, routine_found}
 use Rattle.run_laws.proofs.States.Remaining.{rest, certified}
 use Rattle.run_laws.proofs.States.Rules.{States}
-use Rattle.run_laws.proofs.States.Unlisted.{never_cancels}
 use Rattle.run_laws.proofs.Tests.{or_left, or_right}
 
 -- a routine of a sort
 abbrev pub IsOfSort : Set → Activation → Sort → Type 0
 IsOfSort set a sort = sort_of set a.driver a.routine ≡ sort
 
+-- a completion routine
+abbrev pub IsCompleting : Set → Activation → Type 0
+IsCompleting set a = is_completion (sort_of set a.driver a.routine) ≡ true
+
 -- the routine that serves a request is there, and is a dispatch routine
 abbrev pub Serving : Set → ℕ → ℕ → Type 0
 Serving set driver number =
-    (routine : RoutineOf) × (routine_of set driver number ≡ Some routine) × (routine.sort ≡ Dispatch)
+    (routine : RoutineOf) × (routine_of set driver number ≡ Some routine)
+    × (routine.sort ≡ Dispatch)
 
 dispatch_sort : (sort : Sort) → IsDispatch sort → sort ≡ Dispatch
 dispatch_sort Dispatch h = refl
@@ -82,12 +90,17 @@ handler_fits driver Write fits = fits.write
 handler_fits driver Control fits = fits.control
 
 module _ (set : Set) (sound : IsSound set) (driver : ℕ) where
-  served_in : (number : ℕ) (d : Driver) (o : Option RoutineOf) → slice_get set.drivers driver ≡ Some d
+  served_in : (number : ℕ) (d : Driver) (o : Option RoutineOf)
+      → slice_get set.drivers driver ≡ Some d
       → length d.routines ≤ MAX_ROUTINES → slice_get d.routines number ≡ o → HasSort IsDispatch o
       → Serving set driver number
   served_in number d None there few found h = absurd h
-  served_in number d (Some routine) there few found h =
-      (routine, routine_found set driver d there few number routine found, dispatch_sort routine.sort h)
+  served_in number d (Some routine) there few found h = (
+    routine,
+    routine_found set driver d there few number routine found,
+    dispatch_sort
+        routine.sort h,
+  )
 
   served_by : (d : Driver) (handler : Option ℕ) → slice_get set.drivers driver ≡ Some d
       → length d.routines ≤ MAX_ROUTINES → HandlerFits d.routines handler
@@ -110,66 +123,132 @@ module _ (set : Set) (sound : IsSound set) (driver : ℕ) where
   serves_for None = (default_routine, refl, refl)
   serves_for (Some major) = serves major
 
--- a routine begins in the state of its sort; a cancel routine that no list names can't be entered
-abbrev pub first_state : Sort → Abs
-first_state Dispatch = entered_with New Fresh SettledMark false
-first_state StartIo = entered_with Own NoDuty SettledMark true
-first_state Dpc = entered_with BlankKind NoDuty SettledMark false
-first_state Propagate = entered_with View NoDuty Open false
-first_state Hold = entered_with New Fresh SettledMark false
-first_state Cancel = entered_with BlankKind NoDuty SettledMark false
+cancel_sort : (sort : Sort) → IsCancel sort → sort ≡ Cancel
+cancel_sort Dispatch h = absurd h
+cancel_sort StartIo h = absurd h
+cancel_sort Dpc h = absurd h
+cancel_sort Propagate h = absurd h
+cancel_sort Hold h = absurd h
+cancel_sort Cancel h = refl
 
-started : (sort : Sort) (name : Option QueueName) (s : Abs) → name ≡ None
-    → entry_of_sort sort name ≡ Some s → s ≡ first_state sort
-started Dispatch name s none h = cc
-started StartIo name s none h = cc
-started Dpc name s none h = cc
-started Propagate name s none h = cc
-started Hold name s none h = cc
-started Cancel None s none h = cc
-started Cancel (Some list) s none h = cc
+-- the cancel routine of a queue is there
+abbrev pub CancelThere : Set → ℕ → ℕ → Type 0
+CancelThere set driver number =
+    (routine : RoutineOf) × (routine_of set driver number ≡ Some routine) × (routine.sort ≡ Cancel)
 
-blank_kinds : (issued count : ℕ) → HasKinds issued (replicate count BlankKind) (replicate count Blank)
+module _ (set : Set) (sound : IsSound set) (driver number : ℕ) where
+  cancel_found : (d : Driver) (o : Option RoutineOf) → slice_get set.drivers driver ≡ Some d
+      → length d.routines ≤ MAX_ROUTINES → slice_get d.routines number ≡ o → HasSort IsCancel o
+      → CancelThere set driver number
+  cancel_found d None there few found h = absurd h
+  cancel_found d (Some routine) there few found h = (
+    routine,
+    routine_found set driver d there few number routine found,
+    cancel_sort routine.sort
+        h,
+  )
+
+  cancel_of : (d : Driver) (q : ℕ) (o : Option Queue) → slice_get set.drivers driver ≡ Some d
+      → slice_get d.queues q ≡ o → option_and_then (λ queue. queue.cancel) o ≡ Some number
+      → CancelThere set driver number
+  cancel_of d q None there found h = cc
+  cancel_of d q (Some queue) there found h =
+      let fits : DriverFits d = all_at DriverFits set.drivers driver d sound.drivers there in
+      cancel_found d (slice_get d.routines number) there fits.few refl
+      (subst (λ (o : Option ℕ). IfSome o (λ (k : ℕ). HasSort IsCancel (slice_get d.routines k))) h
+      (all_at (CancelFits d.routines) d.queues q queue fits.cancels found))
+
+  cancel_in : (q : ℕ) (o : Option Driver) → slice_get set.drivers driver ≡ o
+      → option_and_then (λ queue. queue.cancel) (option_and_then (λ d. slice_get d.queues q) o)
+      ≡ Some number
+      → CancelThere set driver number
+  cancel_in q None there h = cc
+  cancel_in q (Some d) there h = cancel_of d q (slice_get d.queues q) there refl h
+
+  cancel_named : (name : QueueName) → cancel_routine_named set driver name ≡ Some number
+      → CancelThere set driver number
+  cancel_named (Declared q) h = cancel_in q (slice_get set.drivers driver) refl h
+
+-- a routine begins in the state of its sort; a cancel routine in that of the queue that names it, and
+-- one that no queue names not at all
+abbrev pub cancel_state : Option QueueName → Abs
+cancel_state None = entered_with BlankKind NoDuty SettledMark false
+cancel_state (Some name) =
+    record (entered_with (Cancelling name) NoDuty SettledMark false) { cancel = true }
+
+abbrev pub first_state : Sort → Option QueueName → Abs
+first_state Dispatch name = entered_with New Fresh SettledMark false
+first_state StartIo name = entered_with Own NoDuty SettledMark true
+first_state Dpc name = entered_with BlankKind NoDuty SettledMark false
+first_state Propagate name = entered_with View NoDuty Open false
+first_state Hold name = entered_with New Fresh SettledMark false
+first_state Cancel name = cancel_state name
+
+started : (sort : Sort) (name : Option QueueName) (s : Abs)
+    → entry_of_sort sort name ≡ Some s → s ≡ first_state sort name
+started Dispatch name s h = cc
+started StartIo name s h = cc
+started Dpc name s h = cc
+started Propagate name s h = cc
+started Hold name s h = cc
+started Cancel None s h = cc
+started Cancel (Some list) s h = cc
+
+blank_kinds : (issued count : ℕ) → HasKinds issued (replicate count BlankKind)
+    (replicate count Blank)
 blank_kinds issued zero = tt
 blank_kinds issued (suc count) = (tt, blank_kinds issued count)
 
-first_kinds : (issued n : ℕ) (sort : Sort) → n < issued
-    → HasKinds issued (first_state sort).kinds (Ref n ∷ replicate (REGISTERS - 1) Blank)
-first_kinds issued n Dispatch l = ((n, refl, l), blank_kinds issued (REGISTERS - 1))
-first_kinds issued n StartIo l = ((n, refl, l), blank_kinds issued (REGISTERS - 1))
-first_kinds issued n Dpc l = (tt, blank_kinds issued (REGISTERS - 1))
-first_kinds issued n Propagate l = ((n, refl, l), blank_kinds issued (REGISTERS - 1))
-first_kinds issued n Hold l = ((n, refl, l), blank_kinds issued (REGISTERS - 1))
-first_kinds issued n Cancel l = (tt, blank_kinds issued (REGISTERS - 1))
+first_kinds : (issued n : ℕ) (sort : Sort) (name : Option QueueName) → n < issued
+    → HasKinds issued (first_state sort name).kinds (Ref n ∷ replicate (REGISTERS - 1) Blank)
+first_kinds issued n Dispatch name l = ((n, refl, l), blank_kinds issued (REGISTERS - 1))
+first_kinds issued n StartIo name l = ((n, refl, l), blank_kinds issued (REGISTERS - 1))
+first_kinds issued n Dpc name l = (tt, blank_kinds issued (REGISTERS - 1))
+first_kinds issued n Propagate name l = ((n, refl, l), blank_kinds issued (REGISTERS - 1))
+first_kinds issued n Hold name l = ((n, refl, l), blank_kinds issued (REGISTERS - 1))
+first_kinds issued n Cancel None l = (tt, blank_kinds issued (REGISTERS - 1))
+first_kinds issued n Cancel (Some list) l = ((n, refl, l), blank_kinds issued (REGISTERS - 1))
 
-first_sixteen : (sort : Sort) → length (first_state sort).kinds ≡ REGISTERS
-first_sixteen Dispatch = refl
-first_sixteen StartIo = refl
-first_sixteen Dpc = refl
-first_sixteen Propagate = refl
-first_sixteen Hold = refl
-first_sixteen Cancel = refl
+first_sixteen : (sort : Sort) (name : Option QueueName)
+    → length (first_state sort name).kinds ≡ REGISTERS
+first_sixteen Dispatch name = refl
+first_sixteen StartIo name = refl
+first_sixteen Dpc name = refl
+first_sixteen Propagate name = refl
+first_sixteen Hold name = refl
+first_sixteen Cancel None = refl
+first_sixteen Cancel (Some list) = refl
 
-first_eight : (sort : Sort) → length (first_state sort).locks ≡ SPIN_LOCKS
-first_eight Dispatch = refl
-first_eight StartIo = refl
-first_eight Dpc = refl
-first_eight Propagate = refl
-first_eight Hold = refl
-first_eight Cancel = refl
+first_eight : (sort : Sort) (name : Option QueueName)
+    → length (first_state sort name).locks ≡ SPIN_LOCKS
+first_eight Dispatch name = refl
+first_eight StartIo name = refl
+first_eight Dpc name = refl
+first_eight Propagate name = refl
+first_eight Hold name = refl
+first_eight Cancel None = refl
+first_eight Cancel (Some list) = refl
+
+-- a cancel routine that is entered is named by a queue
+named_by : (name : Option QueueName) (s : Abs) → entry_of_sort Cancel name ≡ Some s
+    → is_some name ≡ true
+named_by None s h = cc
+named_by (Some list) s h = refl
 
 pub sort_there : (set : Set) (driver number : ℕ) (routine : RoutineOf)
     → routine_of set driver number ≡ Some routine
     → sort_of set driver number ≡ routine.sort
 sort_there set driver number routine there = ap sort_in there
 
--- a routine that begins, handed a value: of a sort, ready, with its certificate left
+-- a routine that begins, handed a value: of a sort, ready, with its certificate left; where it is a
+-- cancel routine, with the queue that names it
 pub record Enters (set : Set) (states : States) (issued : ℕ) (a : Activation) (sort : Sort)
     (first : Value) : Type 0 where
   pub ready : Ready set states issued a
   pub of_sort : IsOfSort set a sort
   pub due : due set a ≤ certificate_of set a.driver a.routine
-  pub start : state_of states a ≡ first_state sort
+  pub start : state_of states a ≡ first_state sort (cancels_for set a.driver a.routine)
+  pub named : IsOfSort set a Cancel → is_some (cancels_for set a.driver a.routine) ≡ true
   pub registers : a.registers ≡ first ∷ replicate (REGISTERS - 1) Blank
 
 -- the StartIo routine of a device, for a packet
@@ -183,18 +262,19 @@ Begins set states issued a sort n = Enters set states issued a sort (Ref n)
 
 module _ (set : Set) (states : States) (good : IsGood set states) (issued : ℕ) where
   enters_with : (driver number device : ℕ) (routine : RoutineOf) (sort : Sort) (first : Value)
-      → HasKinds issued (first_state sort).kinds (first ∷ replicate (REGISTERS - 1) Blank)
+      → HasKinds issued (first_state sort (cancels_for set driver number)).kinds
+      (first ∷ replicate (REGISTERS - 1) Blank)
       → routine_of set driver number ≡ Some routine → routine.sort ≡ sort → Serves set device driver
       → Enters set states issued (entered driver number device first) sort first
   enters_with driver number device routine sort first kinds there is served =
       let a : Activation = entered driver number device first in
       let known : IsKnown (member set driver number routine) (states driver number) =
       good.led.known driver number routine there in
-      let start : states driver number 0 ≡ first_state sort =
-      started sort (cancels_for set driver number) (states driver number 0)
-      (never_cancels good.quiet driver number)
-      (ap (λ (x : Sort). entry_of_sort x (cancels_for set driver number)) (sym is)
-      ∙ known.follows.start) in
+      let name : Option QueueName = cancels_for set driver number in
+      let enters : entry_of_sort sort name ≡ Some (states driver number 0) =
+      ap (λ (x : Sort). entry_of_sort x name) (sym is) ∙ known.follows.start in
+      let start : states driver number 0 ≡ first_state sort name =
+      started sort name (states driver number 0) enters in
       let left : due set a ≡ due_in routine.code a = due_is set routine a there in
       let whole : rest routine.code 0 ≡ certificate routine.code =
       certified routine.code known.follows.formed in
@@ -210,19 +290,23 @@ module _ (set : Set) (states : States) (good : IsGood set states) (issued : ℕ)
             within = known.follows.some;
             nested = refl;
             kinds = rw start kinds;
-            eight = rw start (first_eight sort);
-            sixteen = rw start (first_sixteen sort);
+            eight = rw start (first_eight sort name);
+            sixteen = rw start (first_sixteen sort name);
           },
         );
         of_sort = sort_there set driver number routine there ∙ is;
         due = omega arith;
         start = start;
+        named = λ cancels. named_by name (states driver number 0)
+            (ap (λ (x : Sort). entry_of_sort x name)
+            (sym cancels ∙ sort_there set driver number routine there ∙ is) ∙ enters);
         registers = refl;
       }
 
   -- a routine that the driver of a device names, of a sort, as the lowest frame of a thread
   module _ (sort : Sort) (first : Value) (Is : Sort → Type 0) (named : Driver → Option ℕ)
-      (kinds : HasKinds issued (first_state sort).kinds (first ∷ replicate (REGISTERS - 1) Blank))
+      (kinds : (name : Option QueueName)
+      → HasKinds issued (first_state sort name).kinds (first ∷ replicate (REGISTERS - 1) Blank))
       (is_sort : (other : Sort) → Is other → other ≡ sort)
       (fits : (driver : Driver) (number : ℕ) → DriverFits driver → named driver ≡ Some number
       → HasSort Is (slice_get driver.routines number)) where
@@ -240,7 +324,8 @@ module _ (set : Set) (states : States) (good : IsGood set states) (issued : ℕ)
         (all_at DriverFits set.drivers d.driver driver good.sound.drivers of_driver).few in
         subst (λ (x : ℕ). Enters set states issued (entered x number device first) sort first)
         (sym (ap routine_of_device there))
-        (enters_with d.driver number device routine sort first kinds
+        (enters_with d.driver number device routine sort first
+        (kinds (cancels_for set d.driver number))
         (routine_found set d.driver driver of_driver few number routine found)
         (is_sort routine.sort h) (d, there, refl))
 
@@ -265,7 +350,8 @@ module _ (set : Set) (states : States) (good : IsGood set states) (issued : ℕ)
   pub begins_dpc : (device number : ℕ) → dpc_of set device ≡ Some number
       → Enters set states issued (dpc_activation set device number) Dpc Blank
   begins_dpc device number is =
-      root_device Dpc Blank IsDpc (λ driver. driver.dpc) (tt, blank_kinds issued (REGISTERS - 1))
+      root_device Dpc Blank IsDpc (λ driver. driver.dpc)
+      (λ name. (tt, blank_kinds issued (REGISTERS - 1)))
       dpc_sort
       (λ driver number fits is. subst (λ (o : Option ℕ). DpcFits driver.routines o) is fits.dpc)
       device number (slice_get set.devices device) refl is
@@ -275,77 +361,145 @@ module _ (set : Set) (states : States) (good : IsGood set states) (issued : ℕ)
       → Begins set states issued (startio_activation set device number n) StartIo n
   begins_startio device number n low is =
       root_device StartIo (Ref n) IsStartIo (λ driver. driver.startio)
-      (first_kinds issued n StartIo low) startio_sort
-      (λ driver number fits is. subst (λ (o : Option ℕ). StartIoFits driver.routines o) is fits.startio)
+      (λ name. first_kinds issued n StartIo name low) startio_sort
+      (λ driver number fits is. subst (λ (o : Option ℕ). StartIoFits driver.routines o) is
+      fits.startio)
       device number (slice_get set.devices device) refl is
 
-module _ (set : Set) (states : States) (good : IsGood set states) (issued n : ℕ) (low : n < issued) where
-  begins_with : (driver number device : ℕ) (routine : RoutineOf) (sort : Sort)
-      → routine_of set driver number ≡ Some routine → routine.sort ≡ sort → Serves set device driver
-      → Begins set states issued (entered driver number device (Ref n)) sort n
-  begins_with driver number device routine sort there is served =
-      enters_with set states good issued driver number device routine sort (Ref n)
-      (first_kinds issued n sort low) there is served
+module _ (set : Set) (states : States) (good : IsGood set states) (issued n : ℕ) (low : n < issued)
+  where
+    begins_with : (driver number device : ℕ) (routine : RoutineOf) (sort : Sort)
+        → routine_of set driver number ≡ Some routine → routine.sort ≡ sort → Serves set device driver
+        → Begins set states issued (entered driver number device (Ref n)) sort n
+    begins_with driver number device routine sort there is served =
+        enters_with set states good issued driver number device routine sort (Ref n)
+        (first_kinds issued n sort (cancels_for set driver number) low) there is served
 
-  -- the dispatch routine of a device, for what a packet asks
-  pub begins_dispatch : (device : ℕ) (d : Device) (o : Option Device) (major : Option Major)
-      → slice_get set.devices device ≡ Some d → slice_get set.devices device ≡ o
-      → Begins set states issued (dispatched set device o major n) Dispatch n
-  begins_dispatch device d None major there is = let no : None ≡ Some d = sym is ∙ there in cc
-  begins_dispatch device d (Some e) major there is =
-      let served : Serving set e.driver (serving_for set e.driver major) =
-      serves_for set good.sound e.driver major in
-      begins_with e.driver (serving_for set e.driver major) device served.0 Dispatch served.1
-      served.2 (e, is, refl)
+    -- the dispatch routine of a device, for what a packet asks
+    pub begins_dispatch : (device : ℕ) (d : Device) (o : Option Device) (major : Option Major)
+        → slice_get set.devices device ≡ Some d → slice_get set.devices device ≡ o
+        → Begins set states issued (dispatched set device o major n) Dispatch n
+    begins_dispatch device d None major there is = let no : None ≡ Some d = sym is ∙ there in cc
+    begins_dispatch device d (Some e) major there is =
+        let served : Serving set e.driver (serving_for set e.driver major) =
+        serves_for set good.sound e.driver major in
+        begins_with e.driver (serving_for set e.driver major) device served.0 Dispatch served.1
+        served.2 (e, is, refl)
 
-  begins_below : (device lower : ℕ) (o : Option Device) (major : Option Major)
-      → slice_get set.devices device ≡ o
-      → option_and_then (λ d. d.lower) o ≡ Some lower
-      → Begins set states issued (dispatched set lower (slice_get set.devices lower) major n) Dispatch n
-  begins_below device lower None major there below = cc
-  begins_below device lower (Some d) major there below =
-      let fits : DeviceFits (length set.drivers) device d = device_fits set device d good.sound there in
-      let earlier : lower < device =
-      subst (λ (x : Option ℕ). IfSome x (λ l. l < device)) below fits.lower in
-      let within : device < length set.devices = slice_get_within set.devices device d there in
-      begins_dispatch lower (slice_index_or set.devices lower d) (slice_get set.devices lower) major
-      (slice_get-get_or set.devices lower d (omega arith)) refl
+    begins_below : (device lower : ℕ) (o : Option Device) (major : Option Major)
+        → slice_get set.devices device ≡ o
+        → option_and_then (λ d. d.lower) o ≡ Some lower
+        → Begins set states issued (dispatched set lower (slice_get set.devices lower) major n)
+        Dispatch n
+    begins_below device lower None major there below = cc
+    begins_below device lower (Some d) major there below =
+        let fits : DeviceFits (length set.drivers) device d = device_fits set device d good.sound
+        there in
+        let earlier : lower < device =
+        subst (λ (x : Option ℕ). IfSome x (λ l. l < device)) below fits.lower in
+        let within : device < length set.devices = slice_get_within set.devices device d there in
+        begins_dispatch lower (slice_index_or set.devices lower d) (slice_get set.devices lower) major
+        (slice_get-get_or set.devices lower d (omega arith)) refl
 
-  -- of the device under another
-  pub begins_lower : (device lower : ℕ) (major : Option Major) → lower_of set device ≡ Some lower
-      → Begins set states issued (dispatched set lower (slice_get set.devices lower) major n) Dispatch n
-  begins_lower device lower major below =
-      begins_below device lower (slice_get set.devices device) major refl below
+    -- of the device under another
+    pub begins_lower : (device lower : ℕ) (major : Option Major) → lower_of set device ≡ Some lower
+        → Begins set states issued (dispatched set lower (slice_get set.devices lower) major n)
+        Dispatch n
+    begins_lower device lower major below =
+        begins_below device lower (slice_get set.devices device) major refl below
 
-  -- and for a request that is issued
-  pub begins_request : (device : ℕ) (d : Device) (major : Major) → slice_get set.devices device ≡ Some d
-      → Begins set states issued (serves_request set device d major n) Dispatch n
-  begins_request device d major there =
-      let served : Serving set d.driver (serving (slice_get set.drivers d.driver) major) =
-      serves set good.sound d.driver major in
-      begins_with d.driver (serving (slice_get set.drivers d.driver) major) device served.0 Dispatch
-      served.1 served.2
-      (d, there, refl)
+    -- and for a request that is issued
+    pub begins_request : (device : ℕ) (d : Device) (major : Major)
+        → slice_get set.devices device ≡ Some d
+        → Begins set states issued (serves_request set device d major n) Dispatch n
+    begins_request device d major there =
+        let served : Serving set d.driver (serving (slice_get set.drivers d.driver) major) =
+        serves set good.sound d.driver major in
+        begins_with d.driver (serving (slice_get set.drivers d.driver) major) device served.0 Dispatch
+        served.1 served.2
+        (d, there, refl)
 
-  -- the completion routine that is set in a location
-  pub begins_completion : (c : Completion) → CompletionLeads set (Some c)
-      → Begins set states issued (completes_with set c n) Propagate n
-  begins_completion c h =
-      let d : Device = h.0 in
-      let is : routine_of_device (slice_get set.devices c.device) ≡ d.driver = ap routine_of_device h.1 in
-      subst (λ (driver : ℕ). Begins set states issued (entered driver c.routine c.device (Ref n))
-      Propagate n) (sym is)
-      (begins_with d.driver c.routine c.device h.2.0 Propagate h.2.1 h.2.2 (d, h.1, refl))
+    -- the completion routine that is set in a location
+    pub begins_completion : (c : Completion) (sort : Sort) → CompletionLeads set (Some c)
+        → sort_of_completion set c ≡ sort
+        → Begins set states issued (completes_with set c n) sort n
+    begins_completion c sort h of_sort =
+        let d : Device = h.0 in
+        let is : routine_of_device (slice_get set.devices c.device)
+        ≡ d.driver = ap routine_of_device h.1 in
+        let its : h.2.0.sort ≡ sort =
+        sym (sort_there set d.driver c.routine h.2.0 h.2.1)
+        ∙ sym (ap (λ (driver : ℕ). sort_of set driver c.routine) is) ∙ of_sort in
+        subst (λ (driver : ℕ). Begins set states issued (entered driver c.routine c.device (Ref n))
+        sort n) (sym is)
+        (begins_with d.driver c.routine c.device h.2.0 sort h.2.1 its (d, h.1, refl))
 
--- the one that is set in the location that a packet leaves
-pub begins_back : (set : Set) (states : States) (s : Shared) → IsGood set states → Fits set s
-    → (n : ℕ) (p : Packet) (c : Completion) → n < s.issued → packet_of s n ≡ Some p
-    → completion_of (current_location p) ≡ Some c
-    → Begins set states s.issued (completes_with set c n) Propagate n
-begins_back set states s good fits n p c low there is =
-    begins_completion set states good s.issued n low c
-    (subst (CompletionLeads set) is
-    (completion_leads set p (current_location p) refl (packet_leads set s fits n p there)))
+    -- the cancel routine that a cancel word names
+    pub begins_cancelled : (armer : Armer) (number : ℕ) → ArmerLeads set (Some armer)
+        → cancel_routine_named set (routine_of_device (slice_get set.devices armer.device))
+        armer.queue
+        ≡ Some number
+        → Begins set states issued
+        (entered (routine_of_device (slice_get set.devices armer.device)) number armer.device (Ref n))
+        Cancel n
+    begins_cancelled armer number h named =
+        let d : Device = h.0 in
+        let is : routine_of_device (slice_get set.devices armer.device) ≡ d.driver =
+        ap routine_of_device h.1 in
+        let its : cancel_routine_named set d.driver armer.queue ≡ Some number =
+        ap (λ (driver : ℕ). cancel_routine_named set driver armer.queue) (sym is) ∙ named in
+        let routine : CancelThere set d.driver number =
+        cancel_named set good.sound d.driver number armer.queue its in
+        subst (λ (driver : ℕ). Begins set states issued (entered driver number armer.device (Ref n))
+        Cancel n) (sym is)
+        (begins_with d.driver number armer.device routine.0 Cancel routine.1 routine.2 (d, h.1, refl))
+
+-- the one that is set in the location that a packet leaves: one that lets the completion go on, or one
+-- that is lent the packet
+completion_only : (sort : Sort) → is_completion sort ≡ true → is_hold sort ≡ false
+    → sort ≡ Propagate
+completion_only Propagate above free = refl
+completion_only Hold above free = cc
+completion_only Dispatch above free = cc
+completion_only StartIo above free = cc
+completion_only Dpc above free = cc
+completion_only Cancel above free = cc
+
+module _ (set : Set) (states : States) (s : Shared) (good : IsGood set states) (fits : Fits set s)
+    (n : ℕ) (p : Packet) (c : Completion) (low : n < s.issued) (there : packet_of s n ≡ Some p)
+    (is : completion_of (current_location p) ≡ Some c) where
+  back_leads : CompletionLeads set (Some c)
+  back_leads =
+      subst (CompletionLeads set) is
+      (completion_leads set p (current_location p) refl (packet_leads set s fits n p there))
+
+  back_sort : is_completion (sort_of_completion set c) ≡ true
+  back_sort =
+      let d : Device = back_leads.0 in
+      let driver : routine_of_device (slice_get set.devices c.device) ≡ d.driver =
+      ap routine_of_device back_leads.1 in
+      ap (λ (x : ℕ). is_completion (sort_of set x c.routine)) driver
+      ∙ ap is_completion (sort_there set d.driver c.routine back_leads.2.0 back_leads.2.1)
+      ∙ back_leads.2.2
+
+  pub begins_back : is_hold (sort_of_completion set c) ≡ false
+      → Begins set states s.issued (completes_with set c n) Propagate n
+  begins_back free =
+      begins_completion set states good s.issued n low c Propagate back_leads
+      (completion_only (sort_of_completion set c) back_sort free)
+
+  pub begins_lent : sort_of_completion set c ≡ Hold
+      → Begins set states s.issued (completes_with set c n) Hold n
+  begins_lent lends =
+      begins_completion set states good s.issued n low c Hold back_leads lends
+
+-- a cancel routine that begins is entered for the queue that a cancel word names
+pub cancelled_name : (set : Set) (driver number : ℕ) (name : QueueName) (o : Option QueueName)
+    → cancel_routine_named set driver name ≡ Some number → cancels_for set driver number ≡ o
+    → is_some o ≡ true → o ≡ Some name
+cancelled_name set driver number (Declared q) None named is there = cc
+cancelled_name set driver number (Declared q) (Some name) named is there =
+    ap Some (named_only set driver number q name named is)
 
 -- a device of a driver whose devices all have lower ones has one
 pub any_false : {A : Type 0} (f : A → Bool) (xs : List A) (i : ℕ) (x : A) → list_any f xs ≡ false
@@ -366,12 +520,14 @@ LowerThere set device =
     (lower : ℕ) × (lower_of set device ≡ Some lower) × (d : Device)
     × (slice_get set.devices lower ≡ Some d)
 
-lower_in : (set : Set) (device : ℕ) (o : Option ℕ) → device < length set.devices → lower_of set device ≡ o
+lower_in : (set : Set) (device : ℕ) (o : Option ℕ) → device < length set.devices
+    → lower_of set device ≡ o
     → is_none o ≡ false → IfSome o (λ lower. lower < device) → LowerThere set device
 lower_in set device None within is some fits = cc
 lower_in set device (Some lower) within is some fits =
     let l : lower < device = fits in
-    let d : Device = slice_index_or set.devices lower (record { driver = 0; stack = 0; lower = None }) in (
+    let d : Device = slice_index_or set.devices lower
+    (record { driver = 0; stack = 0; lower = None }) in (
       lower,
       is,
       d,

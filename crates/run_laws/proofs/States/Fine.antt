@@ -1,5 +1,11 @@
 -- A step of a frame that stands as it should, and touches no packet that has topped out: it isn't
 -- wrong, and what it leaves stands as it should.
+use Rattle.model.specs.declared.world.CancelStep.TheVariants.{SetFlag, Exchange}
+use Rattle.model.specs.declared.event.Lock.TheVariants.{SystemCancel}
+use Rattle.model.specs.declared.world.Armer.{Armer}
+use Rattle.model.specs.declared.world.Canceller.{Canceller}
+use Rattle.model.specs.declared.world.CancelStep.{CancelStep}
+use Rattle.run_laws.proofs.States.NoViews.{is_deferred}
 use Rattle.std.proofs.Common.{inr, inl, ◌≤◌, length, ◌≡◌, ℕ, ◌+◌, ◌-◌, ◌<◌, Bool, true, false, List, [], ◌∷◌, Option, None, Some, refl, arith, sym, subst, ◌∙◌, ap}
 use Rattle.std.specs.Prelude.{is_some, remove, slice_get, slice_set, nat_lt, ◌||◌}
 use Rattle.std.specs.List.{list_any}
@@ -13,42 +19,40 @@ use Rattle.model.specs.declared.event.Subject.TheVariants.{Packet as PacketSubje
 use Rattle.model.specs.declared.instr.Instr.{Instr}
 use Rattle.model.specs.declared.instr.Instr.TheVariants.{Loop, End, Mark, Put, Pass, Call, Complete}
 use Rattle.model.specs.declared.set.Sort.{Sort}
-use Rattle.model.specs.declared.set.Sort.TheVariants.{Dispatch, Dpc, Propagate, StartIo}
+use Rattle.model.specs.declared.set.Sort.TheVariants.{Dispatch, Dpc, Propagate, StartIo, Cancel, Hold}
 use Rattle.model.specs.declared.status.Status.{Status}
 use Rattle.model.specs.declared.world.Activation.{Activation}
 use Rattle.model.specs.declared.world.Frame.{Frame}
 use Rattle.model.specs.declared.world.Frame.TheVariants.{Routine, Walk, Cancel as CancelFrame}
 use Rattle.model.specs.declared.world.Packet.{Packet}
-use Rattle.model.specs.declared.world.Value.TheVariants.{Status as StatusValue}
+use Rattle.model.specs.declared.world.Value.TheVariants.{Status as StatusValue, Ref}
 use Rattle.model.specs.Action.{Action, Executes, Acquires, Releases, TouchesPaged, Touches, Completes, Exchanges, Marks, GoesWrong}
-use Rattle.model.specs.Effect.{Outcome, told_in, operand_of, answered_in, answered, goes_on, dispatched, set_by, completes_with, asks}
+use Rattle.model.specs.Effect.{Outcome, told_in, operand_of, answered_in, answered, goes_on, dispatched, set_by, completes_with, asks, leaves, goes_on_cancelling, routine_of_device}
 use Rattle.model.specs.Fault.{bug_if, first_fault, topped, completing}
-use Rattle.model.specs.LocalRule.{holds_lock, kind_of, given_down, handed}
-use Rattle.model.specs.Set.{Set, instruction_at, sort_of, lower_of, flow_of}
+use Rattle.model.specs.LocalRule.{holds_lock, kind_of, given_down, handed, is_completion}
+use Rattle.model.specs.Set.{Set, instruction_at, sort_of, lower_of, flow_of, cancel_routine_of, cancel_routine_named}
 use Rattle.model.specs.Trace.{Entry, Actor}
-use Rattle.model.specs.World.{Shared, with_armer, with_info, mark_current, current_location, sent_down, shared_with, left_location, moved_up, asked_of, with_locks, with_owner, completed, place_of, packet_of, with_packet, register, next}
+use Rattle.model.specs.World.{Shared, with_armer, with_info, mark_current, current_location, sent_down, shared_with, left_location, moved_up, asked_of, with_locks, with_owner, completed, place_of, packet_of, with_packet, register, next, cancelled, entered}
 use Rattle.run_laws.proofs.Lists.{length_removed, all_at, each_remove}
 use Rattle.run_laws.proofs.Past.LivePackets.{find}
 use Rattle.run_laws.proofs.Past.Packets.{Tells, found, named, lt_true}
 use Rattle.run_laws.proofs.Runs.Events.{stops_run}
-use Rattle.run_laws.proofs.States.Entering.{IsOfSort, Begins, begins_lower, begins_back}
-use Rattle.run_laws.proofs.States.Fits.{with_queues_fits, CompletionLeads, PacketLeads, Fits, mark_leads, shared_leads, sent_leads, packet_leads, with_packet_fits, with_cells_fits, with_owner_fits}
+use Rattle.run_laws.proofs.States.Entering.{IsOfSort, Begins, begins_lower, begins_back, IsCompleting, begins_lent, begins_cancelled}
+use Rattle.run_laws.proofs.States.Fits.{with_queues_fits, CompletionLeads, PacketLeads, Fits, mark_leads, shared_leads, sent_leads, packet_leads, with_packet_fits, with_cells_fits, with_owner_fits, word_leads, WordLeads, ArmerLeads}
 use Rattle.run_laws.proofs.States.Frames.{state_of, Serves, Ready, Moved, Runs}
 use Rattle.run_laws.proofs.States.Kinds.{given_kinds}
 use Rattle.run_laws.proofs.States.Known.{Continues, SetBy, CallLeads}
 use Rattle.run_laws.proofs.States.Lacking.{never_lacks, taken_there, freed_there, down}
 use Rattle.run_laws.proofs.States.LoopEnds.{moved_loop, moved_end}
 use Rattle.run_laws.proofs.States.Moves.{moved_on, falls_next, moved, moved_next, arrives_next}
-use Rattle.run_laws.proofs.States.Never.{never_ends_cancel, never_stands, never_stops}
 use Rattle.run_laws.proofs.States.Obeyed.{SendsDown, CompletesOne, completes_one}
 use Rattle.run_laws.proofs.States.OnTop.{OnTop, at_routine, runs}
 use Rattle.run_laws.proofs.States.Rules.{States}
 use Rattle.run_laws.proofs.States.Stacks.{Stands, Replaces}
 use Rattle.run_laws.proofs.States.Told.{told_frame}
-use Rattle.run_laws.proofs.Steps.Comes.{Comes, errs, awaits_lock, computes, opens_loop, turns_loop, pages, touches_gone, looks_at, writes_info, marks_packet, takes_lock, retakes_lock, frees_lock, completes_packet, completes_gone, passes_down, calls_down, returns_status, lets_go, lets_walk, ends_dpc, walks_gone, walks_to, walks_up, carries_up, tops_out, works_on_queues, ends_startio, exchanges, resumes_walk, resumes_gone, resumes_none, stops_walk, stops_none, ends_cancel, lends_to, cancels}
+use Rattle.run_laws.proofs.Steps.Comes.{Comes, errs, awaits_lock, computes, opens_loop, turns_loop, pages, touches_gone, looks_at, writes_info, marks_packet, takes_lock, retakes_lock, frees_lock, completes_packet, completes_gone, passes_down, calls_down, returns_status, lets_go, lets_walk, ends_dpc, walks_gone, walks_to, walks_up, carries_up, tops_out, works_on_queues, ends_startio, exchanges, resumes_walk, resumes_gone, resumes_none, stops_walk, stops_none, ends_cancel, lends_to, cancels, Cancels, Exchanged, takes_cancel, arms_for, disarms, retakes_cancel, awaits_cancel, flags_gone, sets_flag, exchanges_gone, finds_empty, finds_none, calls_cancel}
 use Rattle.run_laws.proofs.Steps.Locking.{freed_word, taken_word}
 use Rattle.run_laws.proofs.Steps.Faults.{none_first}
-use Rattle.run_laws.proofs.Steps.Uncancelled.{never_holds, never_lends}
 use Rattle.run_laws.proofs.Steps.Words.{Forwarding, is_forwarding, work_of, goes_next, packet_operand}
 use Rattle.run_laws.proofs.Tests.{or_left}
 use Rattle.model.specs.declared.limits.TheConstants.{MAX_LIVE_PACKETS}
@@ -64,13 +68,20 @@ pub record IsRight (o : Outcome) : Type 0 where
   pub silent : list_any is_wrong o.actions ≡ false
   pub right : stops_run o.reply ≡ false
 
+cancels_right : (set : Set) (s : Shared) (t n : ℕ) (step : CancelStep) (o : Outcome)
+    → Cancels set s t n step o → IsRight o
+cancels_right set s t n step o (takes_cancel free) = record { silent = refl; right = refl }
+cancels_right set s t n step o _ = record { silent = refl; right = refl }
+
 pub is_right_step : (set : Set) (states : States) (s : Shared) (t : ℕ) (under : Option Frame)
     (f : Frame) (o : Outcome)
     → OnTop set states s f → Comes set s t under f o → IsRight o
-is_right_step set states s t under f o h (errs a lacks) = absurd (never_lacks set states s a h lacks)
+is_right_step set states s t under f o h (errs a lacks) =
+    absurd (never_lacks set states s a h lacks)
 is_right_step set states s t under f o h (cancels n step made moves) =
-    absurd (never_stands set states s (record { packet = n; next = step }) h)
-is_right_step set states s t under f o h (works_on_queues a i b queues starts actions full at queued) =
+    cancels_right set s t n step o moves
+is_right_step set states s t under f o h
+    (works_on_queues a i b queues starts actions full at queued) =
     elim (queued_touches queued) [
       | inl none ↦ rw none (record { silent = refl; right = refl })
       | inr one ↦ rw one.1 (record { silent = refl; right = refl })
@@ -88,18 +99,36 @@ not_gone s past n tells not_topped low gone =
     cc
 
 -- a frame that goes on, of the same routine, stands on what it stood on
-same_sort : (set : Set) (a b : Activation) (sort : Sort) → b.driver ≡ a.driver → b.routine ≡ a.routine
+same_sort : (set : Set) (a b : Activation) (sort : Sort) → b.driver ≡ a.driver
+    → b.routine ≡ a.routine
     → IsOfSort set a sort → IsOfSort set b sort
 same_sort set a b sort driver routine h =
-    ap (λ (x : ℕ). sort_of set x b.routine) driver ∙ ap (λ (x : ℕ). sort_of set a.driver x) routine ∙ h
+    ap (λ (x : ℕ). sort_of set x b.routine) driver ∙ ap (λ (x : ℕ). sort_of set a.driver x) routine
+    ∙ h
+
+same_completing : (set : Set) (a b : Activation) → b.driver ≡ a.driver → b.routine ≡ a.routine
+    → IsCompleting set a → IsCompleting set b
+same_completing set a b driver routine h =
+    ap is_completion (ap (λ (x : ℕ). sort_of set x b.routine) driver
+    ∙ ap (λ (x : ℕ). sort_of set a.driver x) routine) ∙ h
+
+never_both : (sort : Sort) → is_completion sort ≡ true → is_deferred sort ≡ true → ⊥
+never_both Dispatch above deferred = cc
+never_both StartIo above deferred = cc
+never_both Dpc above deferred = cc
+never_both Propagate above deferred = cc
+never_both Hold above deferred = cc
+never_both Cancel above deferred = cc
 
 -- the frame below, where the one on it is gone
 module _ (set : Set) (states : States) (issued : ℕ) where
   pub same_above : (a b : Activation) (g : Frame) → b.driver ≡ a.driver → b.routine ≡ a.routine
-      → Stands set states issued (Some (Routine a)) g → Stands set states issued (Some (Routine b)) g
-  same_above a b (Routine c) driver routine h = (same_sort set a b Dispatch driver routine h.0, h.1, h.2)
+      → Stands set states issued (Some (Routine a)) g
+      → Stands set states issued (Some (Routine b)) g
+  same_above a b (Routine c) driver routine h =
+      (same_sort set a b Dispatch driver routine h.0, h.1, h.2)
   same_above a b (CancelFrame c) driver routine h = absurd h
-  same_above a b (Walk n) driver routine h = (same_sort set a b Propagate driver routine h.0, h.1)
+  same_above a b (Walk n) driver routine h = (same_completing set a b driver routine h.0, h.1)
 
   below_dispatch : (a : Activation) (status : Status) (g : Frame)
       → Stands set states issued (Some (Routine a)) g
@@ -108,26 +137,30 @@ module _ (set : Set) (states : States) (issued : ℕ) where
   below_dispatch a status (CancelFrame c) h = absurd h
   below_dispatch a status (Walk n) h = h.1
 
-  below_propagate : (a : Activation) → IsOfSort set a Propagate → (g : Frame)
+  -- a completion routine stands on the I/O manager's frame alone
+  below_completing : (a : Activation) → IsCompleting set a → (g : Frame)
       → Stands set states issued (Some (Routine a)) g
       → Stands set states issued None (told_frame set None g)
-  below_propagate a sort (Routine b) h = let no : Propagate ≡ Dispatch = sym sort ∙ h.0 in cc
-  below_propagate a sort (CancelFrame c) h = absurd h
-  below_propagate a sort (Walk n) h = h.1
+  below_completing a above (Routine b) h =
+      let no : false ≡ true = sym (ap is_completion h.0) ∙ above in cc
+  below_completing a above (CancelFrame c) h = absurd h
+  below_completing a above (Walk n) h = h.1
 
-  below_startio : (a : Activation) → IsOfSort set a StartIo → (g : Frame)
-      → Stands set states issued (Some (Routine a)) g
+  -- a deferred routine on nothing
+  below_deferred : (a : Activation) (sort : Sort) → IsOfSort set a sort → is_deferred sort ≡ true
+      → (g : Frame) → Stands set states issued (Some (Routine a)) g
       → Stands set states issued None (told_frame set None g)
-  below_startio a sort (Routine b) h = let no : StartIo ≡ Dispatch = sym sort ∙ h.0 in cc
-  below_startio a sort (CancelFrame c) h = absurd h
-  below_startio a sort (Walk n) h = let no : StartIo ≡ Propagate = sym sort ∙ h.0 in cc
+  below_deferred a sort is deferred (Routine b) h =
+      let no : false ≡ true = sym (ap is_deferred h.0) ∙ ap is_deferred is ∙ deferred in cc
+  below_deferred a sort is deferred (CancelFrame c) h = absurd h
+  below_deferred a sort is deferred (Walk n) h =
+      absurd (never_both (sort_of set a.driver a.routine) h.0 (ap is_deferred is ∙ deferred))
 
-  below_dpc : (a : Activation) → IsOfSort set a Dpc → (g : Frame)
-      → Stands set states issued (Some (Routine a)) g
-      → Stands set states issued None (told_frame set None g)
-  below_dpc a sort (Routine b) h = let no : Dpc ≡ Dispatch = sym sort ∙ h.0 in cc
-  below_dpc a sort (CancelFrame c) h = absurd h
-  below_dpc a sort (Walk n) h = let no : Dpc ≡ Propagate = sym sort ∙ h.0 in cc
+  -- and so does a frame of IoCancelIrp
+  below_cancel : (c : Canceller) (told : Option Status) (g : Frame)
+      → Stands set states issued (Some (CancelFrame c)) g
+      → Stands set states issued None (told_frame set told g)
+  below_cancel c told g h = absurd h
 
   below_walk : (n : ℕ) (g : Frame) → Stands set states issued (Some (Walk n)) g
       → Stands set states issued None (told_frame set None g)
@@ -136,10 +169,11 @@ module _ (set : Set) (states : States) (issued : ℕ) where
   below_walk n (CancelFrame c) h = absurd h
 
 -- what a frame's step leaves
-pub record StepLeaves (set : Set) (states : States) (s : Shared) (f : Frame) (o : Outcome) : Type 0 where
-  pub fits : Fits set o.shared
-  pub issued : o.shared.issued ≡ s.issued
-  pub stands : Replaces set states s.issued f o.told o.frames
+pub record StepLeaves (set : Set) (states : States) (s : Shared) (f : Frame) (o : Outcome) : Type 0
+  where
+    pub fits : Fits set o.shared
+    pub issued : o.shared.issued ≡ s.issued
+    pub stands : Replaces set states s.issued f o.told o.frames
 
 set_leads : (set : Set) (a : Activation) (f : Option ℕ) → Serves set a.device a.driver
     → SetBy set a.driver f
@@ -147,6 +181,18 @@ set_leads : (set : Set) (a : Activation) (f : Option ℕ) → Serves set a.devic
 set_leads set a None served h = tt
 set_leads set a (Some number) served h =
     (served.0, served.1, subst (λ (driver : ℕ). Continues set driver number) (sym served.2) h)
+
+-- a cancel word that is stored names a queue of the routine's device
+exchanged_leads : (set : Set) (a : Activation) (p : Packet) (i : Instr) (jumped : Bool)
+    (armer : Option Armer) → Serves set a.device a.driver → Exchanged set a p i jumped armer
+    → ArmerLeads set armer
+exchanged_leads set a p i jumped armer served (disarms r label) = tt
+exchanged_leads set a p i jumped armer served (arms_for r q routine named) = (
+  served.0,
+  served.1,
+  routine,
+  ap (λ (driver : ℕ). cancel_routine_of set driver q) served.2 ∙ named,
+)
 
 told_operand : (i : Instr) → work_of i ≡ Forwarding → told_in i ≡ packet_operand i
 told_operand (Pass r) is = refl
@@ -173,7 +219,8 @@ module _ (past : List Entry) (actor : Actor) (n : ℕ) where
   touch_top quiet =
       bug_none (topped past n) IrqlNotLessOrEqual (PacketSubject n) (none_first _ None quiet)
 
-  pub completion_top : first_fault past actor (Executes ∷ Completes n ∷ []) ≡ None → topped past n ≡ false
+  pub completion_top : first_fault past actor (Executes ∷ Completes n ∷ []) ≡ None
+      → topped past n ≡ false
   completion_top quiet =
       or_left (topped past n) (completing past n)
       (bug_none (topped past n || completing past n) MultipleIrpCompleteRequests (PacketSubject n)
@@ -184,7 +231,11 @@ module _ (set : Set) (states : States) (s : Shared) (a : Activation) (i : Instr)
   -- a routine that sends a packet down goes on whatever status it is told
   pub moved_told : (r : ℕ) → work_of i ≡ Forwarding → packet_operand i ≡ Some r → (status : Status)
       → Moved set states s.issued a
-      (record a { position = a.position + 1; registers = slice_set a.registers r (StatusValue status) })
+      (record a {
+        position = a.position + 1;
+        registers = slice_set a.registers r
+            (StatusValue status);
+      })
       (handed set a.driver (state_of states a) i)
   moved_told r is operand status =
       let rule : SendsDown (state_of states a) (sort_of set a.driver a.routine) set a.driver i r =
@@ -197,7 +248,11 @@ module _ (set : Set) (states : States) (s : Shared) (a : Activation) (i : Instr)
 
   pub answered_is : (r : ℕ) → work_of i ≡ Forwarding → packet_operand i ≡ Some r → (status : Status)
       → answered set (next a) status
-      ≡ record a { position = a.position + 1; registers = slice_set a.registers r (StatusValue status) }
+      ≡ record a {
+        position = a.position + 1;
+        registers = slice_set a.registers r
+            (StatusValue status);
+      }
   answered_is r is operand status =
       let back : a.position + 1 - 1 ≡ a.position = omega arith in
       let there : instruction_at set a.driver a.routine (a.position + 1 - 1) ≡ Some i =
@@ -210,7 +265,8 @@ module _ (set : Set) (states : States) (s : Shared) (a : Activation) (i : Instr)
   pub told_ready : (r : ℕ) → work_of i ≡ Forwarding → packet_operand i ≡ Some r → (status : Status)
       → Ready set states s.issued (answered set (next a) status)
   told_ready r is operand status =
-      subst (λ (b : Activation). Ready set states s.issued b) (sym (answered_is r is operand status))
+      subst (λ (b : Activation). Ready set states s.issued b)
+      (sym (answered_is r is operand status))
       (moved_told r is operand status).ready
 
   -- frames in place of the routine's
@@ -221,7 +277,8 @@ module _ (set : Set) (states : States) (s : Shared) (a : Activation) (i : Instr)
       let rule : SendsDown (state_of states a) (sort_of set a.driver a.routine) set a.driver i r =
       down set states s a i r h is operand in
       let begins : Begins set states s.issued
-      (dispatched set lower (slice_get set.devices lower) (asked_of (current_location p)) n) Dispatch n =
+      (dispatched set lower (slice_get set.devices lower) (asked_of (current_location p)) n)
+      Dispatch n =
       begins_lower set states h.good s.issued n low a.device lower (asked_of (current_location p))
       there in
       let here : states a.driver a.routine (a.position + 1)
@@ -239,6 +296,88 @@ module _ (set : Set) (states : States) (s : Shared) (a : Activation) (i : Instr)
         ),
         λ g below. same_above set states s.issued a (next a) g refl refl below,
       )
+
+-- what a step of IoCancelIrp leaves
+module _ (set : Set) (states : States) (s : Shared) (t n : ℕ) where
+  cancel_goes : (step : CancelStep) (after : Shared) (next : CancelStep) (actions : List Action)
+      → OnTop set states s (CancelFrame (record { packet = n; next = step }))
+      → Fits set after → after.issued ≡ s.issued
+      → StepLeaves set states s (CancelFrame (record { packet = n; next = step }))
+      (leaves after (goes_on_cancelling n next) actions)
+  cancel_goes step after next actions h fits issued =
+      record { fits = fits; issued = issued; stands = (refl, h.stands, λ g below. absurd below) }
+
+  emptied_fits : Fits set s → (p : Packet) → packet_of s n ≡ Some p
+      → Fits set (with_locks (with_packet s n (with_armer p None))
+      (with_owner s.locks SystemCancel None))
+  emptied_fits fits p there =
+      with_owner_fits set (with_packet s n (with_armer p None))
+      (with_packet_fits set s fits n (with_armer p None) (packet_leads set s fits n p there) tt)
+      SystemCancel None tt
+
+  -- what a cancel word names is there
+  pub finds_one : Fits set s → (p : Packet) (armer : Armer) → packet_of s n ≡ Some p
+      → p.armer ≡ Some armer
+      → cancel_routine_named set (routine_of_device (slice_get set.devices armer.device))
+      armer.queue
+      ≡ None → ⊥
+  finds_one fits p armer there word none =
+      let leads : ArmerLeads set (Some armer) =
+      subst (λ (o : Option Armer). ArmerLeads set o) word (word_leads set s fits n p there) in
+      let driver : routine_of_device (slice_get set.devices armer.device) ≡ leads.0.driver =
+      ap routine_of_device leads.1 in
+      let no : None ≡ Some leads.2 =
+      sym none ∙ ap (λ (d : ℕ). cancel_routine_named set d armer.queue) driver ∙ leads.3 in
+      cc
+
+  cancel_leaves : (step : CancelStep) (o : Outcome)
+      → OnTop set states s (CancelFrame (record { packet = n; next = step }))
+      → Cancels set s t n step o
+      → StepLeaves set states s (CancelFrame (record { packet = n; next = step })) o
+  cancel_leaves step o h (takes_cancel free) =
+      cancel_goes step (with_locks s (with_owner s.locks SystemCancel (Some t))) SetFlag
+      (Acquires SystemCancel ∷ []) h (with_owner_fits set s h.fits SystemCancel (Some t) tt) refl
+  cancel_leaves step o h (retakes_cancel its) =
+      cancel_goes step s SetFlag (Acquires SystemCancel ∷ []) h h.fits refl
+  cancel_leaves step o h (awaits_cancel owner owned apart) =
+      record { fits = h.fits; issued = refl; stands = (refl, h.stands, λ g below. absurd below) }
+  cancel_leaves step o h (flags_gone gone) =
+      record {
+        fits = with_owner_fits set s h.fits SystemCancel None tt;
+        issued = refl;
+        stands = below_cancel set states s.issued (record { packet = n; next = step }) None;
+      }
+  cancel_leaves step o h (sets_flag p there) =
+      cancel_goes step (with_packet s n (cancelled p)) Exchange [] h
+      (with_packet_fits set s h.fits n (cancelled p) (packet_leads set s h.fits n p there)
+      (word_leads set s h.fits n p there)) refl
+  cancel_leaves step o h (exchanges_gone gone) =
+      record {
+        fits = with_owner_fits set s h.fits SystemCancel None tt;
+        issued = refl;
+        stands = below_cancel set states s.issued (record { packet = n; next = step }) None;
+      }
+  cancel_leaves step o h (finds_empty p there word) =
+      record {
+        fits = emptied_fits h.fits p there;
+        issued = refl;
+        stands = below_cancel set states s.issued (record { packet = n; next = step }) None;
+      }
+  cancel_leaves step o h (finds_none p armer there word named_none) =
+      absurd (finds_one h.fits p armer there word named_none)
+  cancel_leaves step o h (calls_cancel p armer routine there word named) =
+      let leads : ArmerLeads set (Some armer) =
+      subst (λ (o : Option Armer). ArmerLeads set o) word (word_leads set s h.fits n p there) in
+      let begins : Begins set states s.issued
+      (entered (routine_of_device (slice_get set.devices armer.device)) routine armer.device
+      (Ref n))
+      Cancel n = begins_cancelled set states h.good s.issued n h.stands armer routine leads named in
+      record {
+        fits = with_packet_fits set s h.fits n (with_armer p None)
+            (packet_leads set s h.fits n p there) tt;
+        issued = refl;
+        stands = (refl, begins.ready, λ g below. absurd below);
+      }
 
 module _ (set : Set) (states : States) (s : Shared) (past : List Entry) (actor : Actor)
     (tells : Tells s past) where
@@ -272,7 +411,8 @@ module _ (set : Set) (states : States) (s : Shared) (past : List Entry) (actor :
       same_fine a _ _ s [] (moved_loop set states s a turns (runs set states s a (Loop turns) h at))
       h.fits refl
   leaves_fine under f o h quiet (turns_loop a l at inner) =
-      same_fine a _ _ s [] (moved_end set states s a (runs set states s a End h at) l inner) h.fits refl
+      same_fine a _ _ s [] (moved_end set states s a (runs set states s a End h at) l inner) h.fits
+      refl
   leaves_fine under f o h quiet (pages a i b cell cells at work to long) =
       same_fine a b _ (record s { cells = cells }) (TouchesPaged cell ∷ [])
       (moved set states s a i (runs set states s a i h at) b false (rw work refl) to)
@@ -280,28 +420,34 @@ module _ (set : Set) (states : States) (s : Shared) (past : List Entry) (actor :
   leaves_fine under f o h quiet (touches_gone a i r n at touches on operand reads gone) =
       absurd (not_gone s past n tells (touch_top past actor n quiet)
       (named s (register a r) n reads) gone)
-  leaves_fine under f o h quiet (looks_at a i b jumped r n p at work to operand reads there branch) =
+  leaves_fine under f o h quiet
+      (looks_at a i b jumped r n p at work to operand reads there branch) =
       same_fine a b _ s (Touches n ∷ [])
       (moved set states s a i (runs set states s a i h at) b jumped (rw work refl) to) h.fits refl
   leaves_fine under f o h quiet (writes_info a q r n p info at reads there number) =
       same_fine a (next a) _ (with_packet s n (with_info p info)) (Touches n ∷ [])
       (moved_on set states s a (Put q r) (runs set states s a (Put q r) h at) refl refl refl)
-      (with_packet_fits set s h.fits n (with_info p info) (packet_leads set s h.fits n p there)) refl
+      (with_packet_fits set s h.fits n (with_info p info) (packet_leads set s h.fits n p there)
+      (word_leads set s h.fits n p there)) refl
   leaves_fine under f o h quiet (marks_packet a r n p at reads there) =
       same_fine a (next a) _ (with_packet s n (mark_current p)) (Touches n ∷ Marks n ∷ [])
       (moved_on set states s a (Mark r) (runs set states s a (Mark r) h at) refl refl refl)
       (with_packet_fits set s h.fits n (mark_current p)
-      (mark_leads set p (packet_leads set s h.fits n p there))) refl
-  leaves_fine under f o h quiet (exchanges a i b jumped r n p armer at work to operand reads there how) =
+      (mark_leads set p (packet_leads set s h.fits n p there))
+      (word_leads set s h.fits n p there)) refl
+  leaves_fine under f o h quiet
+      (exchanges a i b jumped r n p armer at work to operand reads there how) =
       same_fine a b _ (with_packet s n (with_armer p armer))
       (Touches n ∷ Exchanges n (is_some armer) ∷ [])
       (moved set states s a i (runs set states s a i h at) b jumped (rw work refl) to)
-      (with_packet_fits set s h.fits n (with_armer p armer) (packet_leads set s h.fits n p there)) refl
+      (with_packet_fits set s h.fits n (with_armer p armer) (packet_leads set s h.fits n p there)
+      (exchanged_leads set a p i jumped armer (runs set states s a i h at).stays.serves how)) refl
   leaves_fine under f o h quiet (takes_lock a i lock at takes free) =
       let run : Runs set states s a i = runs set states s a i h at in
       same_fine a (next a) _ (with_locks s (with_owner s.locks lock (Some actor.thread)))
       (Acquires lock ∷ [])
-      (moved_on set states s a i run (taken_word a i lock takes).on (taken_word a i lock takes).keeps
+      (moved_on set states s a i run (taken_word a i lock takes).on
+      (taken_word a i lock takes).keeps
       (ap is_forwarding (taken_word a i lock takes).work))
       (with_owner_fits set s h.fits lock (Some actor.thread)
       (taken_there set states s a i lock run takes)) refl
@@ -313,7 +459,8 @@ module _ (set : Set) (states : States) (s : Shared) (past : List Entry) (actor :
   leaves_fine under f o h quiet (frees_lock a i lock owner at frees owned) =
       let run : Runs set states s a i = runs set states s a i h at in
       same_fine a (next a) _ (with_locks s (with_owner s.locks lock None)) (Releases lock ∷ [])
-      (moved_on set states s a i run (freed_word a i lock frees).on (freed_word a i lock frees).keeps
+      (moved_on set states s a i run (freed_word a i lock frees).on
+      (freed_word a i lock frees).keeps
       (ap is_forwarding (freed_word a i lock frees).work))
       (with_owner_fits set s h.fits lock None (freed_there set states s a i lock run frees)) refl
   leaves_fine under f o h quiet (works_on_queues a i b queues starts actions full at queued) =
@@ -329,14 +476,19 @@ module _ (set : Set) (states : States) (s : Shared) (past : List Entry) (actor :
         );
       }
   leaves_fine under f o h quiet (completes_packet a r status n p at reads there) =
-      let run : Runs set states s a (Complete r status) = runs set states s a (Complete r status) h at in
-      let m : Moved set states s.issued a (next a) (handed set a.driver (state_of states a) (Complete r status)) =
+      let run : Runs set states s a (Complete r status) = runs set states s a (Complete r status) h
+      at in
+      let m : Moved set states s.issued a (next a)
+      (handed set a.driver (state_of states a) (Complete r status)) =
       moved_on set states s a (Complete r status) run refl refl refl in
-      let rule : CompletesOne (state_of states a) (sort_of set a.driver a.routine) set a.driver r status =
+      let rule : CompletesOne (state_of states a) (sort_of set a.driver a.routine) set a.driver r
+      status =
       completes_one (state_of states a) (sort_of set a.driver a.routine) set a.driver r status
       run.obeys in
       record {
-        fits = with_packet_fits set s h.fits n (completed p status) (packet_leads set s h.fits n p there);
+        fits = with_packet_fits set s h.fits n (completed p status)
+            (packet_leads set s h.fits n p there)
+            (word_leads set s h.fits n p there);
         issued = refl;
         stands = (
           refl,
@@ -350,7 +502,8 @@ module _ (set : Set) (states : States) (s : Shared) (past : List Entry) (actor :
   leaves_fine under f o h quiet (passes_down a r n p lower at reads there below) =
       record {
         fits = with_packet_fits set s h.fits n (shared_with p lower)
-            (shared_leads set p lower (packet_leads set s h.fits n p there));
+            (shared_leads set p lower (packet_leads set s h.fits n p there))
+            (word_leads set s h.fits n p there);
         issued = refl;
         stands = asks_fine set states s a (Pass r) (runs set states s a (Pass r) h at) r lower n p
             refl refl below
@@ -364,7 +517,7 @@ module _ (set : Set) (states : States) (s : Shared) (past : List Entry) (actor :
             (set_leads set a g run.stays.serves
             (all_at (CallLeads set a.driver) run.routine.code a.position (Call r g) run.known.calls
             run.here))
-            (packet_leads set s h.fits n p there));
+            (packet_leads set s h.fits n p there)) (word_leads set s h.fits n p there);
         issued = refl;
         stands = asks_fine set states s a (Call r g) run r lower n p refl refl below
             (named s (register a r) n reads);
@@ -372,51 +525,108 @@ module _ (set : Set) (states : States) (s : Shared) (past : List Entry) (actor :
   leaves_fine under f o h quiet (returns_status a form status at sort is) =
       record { fits = h.fits; issued = refl; stands = below_dispatch set states s.issued a status }
   leaves_fine under f o h quiet (lets_go a at sort isnt) =
-      record { fits = h.fits; issued = refl; stands = below_propagate set states s.issued a sort }
+      record {
+        fits = h.fits;
+        issued = refl;
+        stands = below_completing set states s.issued a
+            (ap is_completion sort);
+      }
   leaves_fine under f o h quiet (lets_walk a n at sort) =
-      record { fits = h.fits; issued = refl; stands = below_propagate set states s.issued a sort }
+      record {
+        fits = h.fits;
+        issued = refl;
+        stands = below_completing set states s.issued a
+            (ap is_completion sort);
+      }
   leaves_fine under f o h quiet (ends_startio a at sort) =
-      record { fits = h.fits; issued = refl; stands = below_startio set states s.issued a sort }
+      record {
+        fits = h.fits;
+        issued = refl;
+        stands = below_deferred set states s.issued a StartIo
+            sort refl;
+      }
   leaves_fine under f o h quiet (ends_dpc a at sort) =
-      record { fits = h.fits; issued = refl; stands = below_dpc set states s.issued a sort }
+      record {
+        fits = h.fits;
+        issued = refl;
+        stands = below_deferred set states s.issued a Dpc sort
+            refl;
+      }
   leaves_fine under f o h quiet (resumes_walk a n p at sort there) =
-      absurd (never_holds h.good.quiet a.driver a.routine sort)
+      record {
+        fits = with_packet_fits set s h.fits n (record p { completing = true })
+            (packet_leads set s h.fits n p there) (word_leads set s h.fits n p there);
+        issued = refl;
+        stands = below_completing set states s.issued a (ap is_completion sort);
+      }
   leaves_fine under f o h quiet (resumes_gone a n at sort gone) =
-      absurd (never_holds h.good.quiet a.driver a.routine sort)
+      record {
+        fits = h.fits;
+        issued = refl;
+        stands = below_completing set states s.issued a (ap is_completion sort);
+      }
   leaves_fine under f o h quiet (resumes_none a at sort free) =
-      absurd (never_holds h.good.quiet a.driver a.routine sort)
+      record {
+        fits = h.fits;
+        issued = refl;
+        stands = below_completing set states s.issued a (ap is_completion sort);
+      }
   leaves_fine under f o h quiet (stops_walk a n at above) =
-      absurd (never_stops set states s a h at above)
+      record { fits = h.fits; issued = refl; stands = below_completing set states s.issued a above }
   leaves_fine under f o h quiet (stops_none a at above free) =
-      absurd (never_stops set states s a h at above)
+      record { fits = h.fits; issued = refl; stands = below_completing set states s.issued a above }
   leaves_fine under f o h quiet (ends_cancel a at sort) =
-      absurd (never_ends_cancel set states s a h sort)
+      record {
+        fits = h.fits;
+        issued = refl;
+        stands = below_deferred set states s.issued a Cancel
+            sort refl;
+      }
   leaves_fine under f o h quiet (lends_to n p c there with sort) =
-      absurd (never_lends h.good.quiet c sort)
+      let begins : Begins set states s.issued (completes_with set c n) Hold n =
+      begins_lent set states s h.good h.fits n p c h.stands there with sort in
+      record {
+        fits = with_packet_fits set s h.fits n (record (moved_up (left_location p))
+            { completing = false })
+            (packet_leads set s h.fits n p there) (word_leads set s h.fits n p there);
+        issued = refl;
+        stands = (
+          refl,
+          ((ap is_completion begins.of_sort, h.stands), begins.ready),
+          λ g below. below,
+        );
+      }
   leaves_fine under f o h quiet (cancels n step made moves) =
-      absurd (never_stands set states s (record { packet = n; next = step }) h)
+      cancel_leaves set states s actor.thread n step o h moves
   leaves_fine under f o h quiet (walks_gone n gone) =
       record { fits = h.fits; issued = refl; stands = below_walk set states s.issued n }
   leaves_fine under f o h quiet (walks_to n p c there with lends) =
       let begins : Begins set states s.issued (completes_with set c n) Propagate n =
-      begins_back set states s h.good h.fits n p c h.stands there with in
+      begins_back set states s h.good h.fits n p c h.stands there with lends in
       record {
         fits = with_packet_fits set s h.fits n (moved_up (left_location p))
-            (packet_leads set s h.fits n p there);
+            (packet_leads set s h.fits n p there)
+            (word_leads set s h.fits n p there);
         issued = refl;
-        stands = (refl, ((begins.of_sort, h.stands), begins.ready), λ g below. below);
+        stands = (
+          refl,
+          ((ap is_completion begins.of_sort, h.stands), begins.ready),
+          λ g below. below,
+        );
       }
   leaves_fine under f o h quiet (walks_up n p there without deep unmarked) =
       record {
         fits = with_packet_fits set s h.fits n (moved_up (left_location p))
-            (packet_leads set s h.fits n p there);
+            (packet_leads set s h.fits n p there)
+            (word_leads set s h.fits n p there);
         issued = refl;
         stands = (refl, h.stands, λ g below. below);
       }
   leaves_fine under f o h quiet (carries_up n p there without deep marked) =
       record {
         fits = with_packet_fits set s h.fits n (mark_current (moved_up (left_location p)))
-            (mark_leads set (moved_up (left_location p)) (packet_leads set s h.fits n p there));
+            (mark_leads set (moved_up (left_location p)) (packet_leads set s h.fits n p there))
+            (word_leads set s h.fits n p there);
         issued = refl;
         stands = (refl, h.stands, λ g below. below);
       }
@@ -426,7 +636,9 @@ module _ (set : Set) (states : States) (s : Shared) (past : List Entry) (actor :
           cells = h.fits.cells;
           spin = h.fits.spin;
           rows = h.fits.rows;
-          completions = each_remove (PacketLeads set) s.packets (place_of s.packets n) h.fits.completions;
+          completions =
+              each_remove (PacketLeads set) s.packets (place_of s.packets n) h.fits.completions;
+          words = each_remove (WordLeads set) s.packets (place_of s.packets n) h.fits.words;
           queued = h.fits.queued;
           starts = h.fits.starts;
           few = (let less : length (remove s.packets (place_of s.packets n)) ≤ length s.packets =

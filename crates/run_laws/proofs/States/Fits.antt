@@ -10,11 +10,12 @@ use Rattle.model.specs.declared.event.Lock.TheVariants.{SystemCancel, Spin}
 use Rattle.model.specs.declared.limits.TheConstants.{MAX_LIVE_PACKETS, MAX_QUEUES, SPIN_LOCKS}
 use Rattle.model.specs.declared.set.Device.{Device}
 use Rattle.model.specs.declared.status.Major.{Major}
+use Rattle.model.specs.declared.world.Armer.{Armer}
 use Rattle.model.specs.declared.world.Cells.{Cells}
 use Rattle.model.specs.declared.world.Completion.{Completion}
 use Rattle.model.specs.declared.world.Location.{Location}
 use Rattle.model.specs.declared.world.Packet.{Packet}
-use Rattle.model.specs.Set.{Set}
+use Rattle.model.specs.Set.{Set, cancel_routine_named}
 use Rattle.model.specs.World.{with_queue, queue_of, Shared, blank_cells, unused, owner_of, with_owner, with_locks, place_of, packet_of, with_packet, current_location, marked_location, mark_current, copied_location, sent_down, shared_location, shared_with, completion_of, new_packet, unused_location}
 use Rattle.run_laws.proofs.Lists.{each_map, Each, each_at, each_set, each_same, set_same, set_other}
 use Rattle.run_laws.proofs.States.Known.{Continues}
@@ -33,6 +34,16 @@ LocationLeads set l = CompletionLeads set l.completion
 abbrev pub PacketLeads : Set → Packet → Type 0
 PacketLeads set p = Each (LocationLeads set) p.locations.items
 
+-- a cancel word names a queue of a device whose driver has a cancel routine for it
+abbrev pub ArmerLeads : Set → Option Armer → Type 0
+ArmerLeads set None = ⊤
+ArmerLeads set (Some armer) =
+    (d : Device) × (slice_get set.devices armer.device ≡ Some d) × (routine : ℕ)
+    × (cancel_routine_named set d.driver armer.queue ≡ Some routine)
+
+abbrev pub WordLeads : Set → Packet → Type 0
+WordLeads set p = ArmerLeads set p.armer
+
 -- the queues of a device are four, and the packets in them were issued
 abbrev pub QueuesFit : ℕ → List (List ℕ) → Type 0
 QueuesFit issued lists = (length lists ≡ MAX_QUEUES) × Each (WereIssued issued) lists
@@ -49,15 +60,18 @@ pub record Fits (set : Set) (s : Shared) : Type 0 where
   pub rows : (d : ℕ) (owners : List (Option ℕ)) → slice_get s.locks.spin d ≡ Some owners
       → length owners ≡ SPIN_LOCKS
   pub completions : Each (PacketLeads set) s.packets
+  pub words : Each (WordLeads set) s.packets
   pub queued : AllQueuesFit set s.queues s.issued
   pub starts : AllStartsFit set s.starts s.issued
   pub few : length s.packets ≤ MAX_LIVE_PACKETS
 
 -- one queue
-row_there : (queues : List (List (List ℕ))) (d q : ℕ) (o : Option (List (List ℕ))) (entries : List ℕ)
+row_there : (queues : List (List (List ℕ))) (d q : ℕ) (o : Option (List (List ℕ)))
+    (entries : List ℕ)
     → slice_get queues d ≡ o
     → option_and_then (λ lists. slice_get lists q) o ≡ Some entries
-    → (lists : List (List ℕ)) × (slice_get queues d ≡ Some lists) × (slice_get lists q ≡ Some entries)
+    → (lists : List (List ℕ)) × (slice_get queues d ≡ Some lists)
+    × (slice_get lists q ≡ Some entries)
 row_there queues d q None entries found there = cc
 row_there queues d q (Some lists) entries found there = (lists, found, there)
 
@@ -68,7 +82,8 @@ queue_row s d q entries there = row_there s.queues d q (slice_get s.queues d) en
 
 module _ (set : Set) where
   -- what is set in the current location
-  pub completion_leads : (p : Packet) (o : Option Location) → current_location p ≡ o → PacketLeads set p
+  pub completion_leads : (p : Packet) (o : Option Location) → current_location p ≡ o
+      → PacketLeads set p
       → CompletionLeads set (completion_of o)
   completion_leads p None there h = tt
   completion_leads p (Some l) there h =
@@ -76,7 +91,8 @@ module _ (set : Set) where
 
   marked_leads : (locations : List Location) (place : ℕ) (o : Option Location)
       → slice_get locations place ≡ o
-      → Each (LocationLeads set) locations → Each (LocationLeads set) (marked_location o locations place)
+      → Each (LocationLeads set) locations → Each (LocationLeads set)
+      (marked_location o locations place)
   marked_leads locations place None there h = h
   marked_leads locations place (Some l) there h =
       each_set (LocationLeads set) locations place (record l { marked = true }) h
@@ -99,7 +115,8 @@ module _ (set : Set) where
   pub shared_leads : (p : Packet) (device : ℕ) → PacketLeads set p
       → PacketLeads set (shared_with p device)
   shared_leads p device h =
-      shared_in p.locations.items (p.depth - 1) device (slice_get p.locations.items (p.depth - 1)) refl h
+      shared_in p.locations.items (p.depth - 1) device (slice_get p.locations.items (p.depth - 1))
+      refl h
 
   copied_leads : (o : Option Location) (device : ℕ) (completion : Option Completion)
       → CompletionLeads set completion
@@ -137,6 +154,7 @@ module _ (set : Set) where
         spin = length-replicate (length set.devices) (replicate SPIN_LOCKS None);
         rows = free_row (length set.devices);
         completions = tt;
+        words = tt;
         queued = record {
           long = length-replicate (length set.devices) (replicate MAX_QUEUES []);
           each = each_same (QueuesFit 0) (length set.devices) (replicate MAX_QUEUES [])
@@ -161,18 +179,23 @@ module _ (set : Set) where
       }
 
   pub queue_put_fits : (s : Shared) (d q : ℕ) (entries after : List ℕ)
-      → queue_of s d q ≡ Some entries → WereIssued s.issued after → AllQueuesFit set s.queues s.issued
+      → queue_of s d q ≡ Some entries → WereIssued s.issued after
+      → AllQueuesFit set s.queues s.issued
       → AllQueuesFit set (with_queue s d q after).queues s.issued
   queue_put_fits s d q entries after there named h =
       let row : (lists : List (List ℕ)) × (slice_get s.queues d ≡ Some lists)
       × (slice_get lists q ≡ Some entries) = queue_row s d q entries there in
       let same : slice_index_or s.queues d [] ≡ row.0 =
       get_or_from_slice_get s.queues d row.0 [] row.1 in
-      let fits : QueuesFit s.issued row.0 = each_at (QueuesFit s.issued) s.queues d row.0 h.each row.1 in
+      let fits : QueuesFit s.issued row.0 = each_at (QueuesFit s.issued) s.queues d row.0 h.each
+      row.1 in
       rw same (record {
         long = length-set s.queues d (slice_set row.0 q after) ∙ h.long;
-        each = each_set (QueuesFit s.issued) s.queues d (slice_set row.0 q after) h.each
-            (length-set row.0 q after ∙ fits.0, each_set (WereIssued s.issued) row.0 q after fits.1 named);
+        each = each_set (QueuesFit s.issued) s.queues d (slice_set row.0 q after) h.each (
+          length-set row.0 q after ∙ fits.0,
+          each_set (WereIssued s.issued) row.0 q after fits.1
+              named,
+        );
       })
 
   pub queue_issued : (s : Shared) (d q : ℕ) (entries : List ℕ) → queue_of s d q ≡ Some entries
@@ -193,14 +216,20 @@ module _ (set : Set) where
     packet_leads n p there =
         each_at (PacketLeads set) s.packets (place_of s.packets n) p fits.completions there
 
-    pub with_packet_fits : (n : ℕ) (p : Packet) → PacketLeads set p → Fits set (with_packet s n p)
-    with_packet_fits n p leads =
+    pub word_leads : (n : ℕ) (p : Packet) → packet_of s n ≡ Some p → WordLeads set p
+    word_leads n p there =
+        each_at (WordLeads set) s.packets (place_of s.packets n) p fits.words there
+
+    pub with_packet_fits : (n : ℕ) (p : Packet) → PacketLeads set p → WordLeads set p
+        → Fits set (with_packet s n p)
+    with_packet_fits n p leads word =
         record {
           cells = fits.cells;
           spin = fits.spin;
           rows = fits.rows;
           completions =
               each_set (PacketLeads set) s.packets (place_of s.packets n) p fits.completions leads;
+          words = each_set (WordLeads set) s.packets (place_of s.packets n) p fits.words word;
           queued = fits.queued;
           starts = fits.starts;
           few = (let long : length (with_packet s n p).packets ≡ length s.packets =
@@ -217,6 +246,7 @@ module _ (set : Set) where
           spin = fits.spin;
           rows = fits.rows;
           completions = fits.completions;
+          words = fits.words;
           queued = fits.queued;
           starts = fits.starts;
           few = fits.few;
@@ -271,6 +301,7 @@ module _ (set : Set) where
           spin = fits.spin;
           rows = fits.rows;
           completions = fits.completions;
+          words = fits.words;
           queued = fits.queued;
           starts = fits.starts;
           few = fits.few;
@@ -284,17 +315,20 @@ module _ (set : Set) where
           rows = λ e owners h. rows_after l.device l.number owner e owners there.0
               (cases_eq l.device e) h;
           completions = fits.completions;
+          words = fits.words;
           queued = fits.queued;
           starts = fits.starts;
           few = fits.few;
         }
 
     -- a queue of a device is there, and its entries are put in place of others
-    pub queue_there : (d q : ℕ) → d < length set.devices → q < MAX_QUEUES → queue_of s d q ≡ None → ⊥
+    pub queue_there : (d q : ℕ) → d < length set.devices → q < MAX_QUEUES → queue_of s d q ≡ None
+        → ⊥
     queue_there d q within small none =
         let long : length s.queues ≡ length set.devices = fits.queued.long in
         let lists : List (List ℕ) = slice_index_or s.queues d [] in
-        let there : slice_get s.queues d ≡ Some lists = slice_get-get_or s.queues d [] (omega arith) in
+        let there : slice_get s.queues d ≡ Some lists = slice_get-get_or s.queues d [] (omega arith)
+        in
         let four : length lists ≡ MAX_QUEUES =
         (each_at (QueuesFit s.issued) s.queues d lists fits.queued.each there).0 in
         let found : slice_get lists q ≡ Some (slice_index_or lists q []) =
@@ -312,6 +346,7 @@ module _ (set : Set) where
           spin = fits.spin;
           rows = fits.rows;
           completions = fits.completions;
+          words = fits.words;
           queued = queued;
           starts = started;
           few = fits.few;

@@ -73,7 +73,8 @@ next_within set driver code p s after within formed h =
     or_left _ _ (or_right (nat_eq (length code) 0) _ formed) in
     let differs : p + 1 ≢ length code =
     λ same. not_last (nat_eq (p + 1) (length code)) (isnt_return (slice_get code p))
-    (eq-eqb (p + 1) (length code) same) (next_isnt_return set driver s (slice_get code p) after h) last
+    (eq-eqb (p + 1) (length code) same) (next_isnt_return set driver s (slice_get code p) after h)
+    last
     in
     omega arith
 
@@ -99,7 +100,8 @@ forward_in code p label (Some i) h m = forward_by code p label (flow_of i) h m
 
 pub goes_to_label : (code : List Instr) (p label : ℕ) → is_malformed code p ≡ false
     → label_at (slice_get code p) ≡ Some label → goes_forward code p label ≡ true
-goes_to_label code p label formed h = forward_in code p label (slice_get code p) h (placed code p formed)
+goes_to_label code p label formed h =
+    forward_in code p label (slice_get code p) h (placed code p formed)
 
 -- a routine that something arrives at is entered in a state
 entered_along : (m : Member) (path : List ℕ) (p : ℕ) (s : Abs) → Along m (p ∷ path) s
@@ -124,7 +126,8 @@ hands_next m (Some i) q before s keeps h =
     HandsOn (rule_or rule (outs m.set m.driver before i)) (label_of i) q (q + 1) s)
     (sym keeps) on
 
-hands_jump : (m : Member) (i : Option Instr) (q label : ℕ) (before s : Abs) → fault_in m before i ≡ None
+hands_jump : (m : Member) (i : Option Instr) (q label : ℕ) (before s : Abs)
+    → fault_in m before i ≡ None
     → label_at i ≡ Some label
     → jump_state m.set m.driver before i ≡ Some s → LeadsFrom m i q before label s
 hands_jump m None q label before s keeps there h = cc
@@ -136,7 +139,8 @@ hands_jump m (Some i) q label before s keeps there h =
 
 -- the loops of a routine are before a position, which the caller shows
 abbrev pub LoopsBefore : Member → Type 0
-LoopsBefore m = (p q : ℕ) → p ≤ length m.routine.code → slice_get (open_at m.routine.code p) 0 ≡ Some q
+LoopsBefore m = (p q : ℕ) → p ≤ length m.routine.code
+    → slice_get (open_at m.routine.code p) 0 ≡ Some q
     → q < length m.routine.code
 
 -- an accepted routine: at each of its positions, the one state that arrives there
@@ -155,7 +159,13 @@ module _ (m : Member) (typable : IsTypableRoutine m) where
       → FineIn m p (fine_state p place)
   fine_in p (inl within) h =
       let fine : IsFineAt m p = typable.each p within in
-      record { formed = fine.formed; arrival = fine.arrival; closes = fine.closes; keeps = fine.keeps }
+      record {
+        formed = fine.formed;
+        arrival = fine.arrival;
+        closes = fine.closes;
+        keeps =
+            fine.keeps;
+      }
   fine_in p (inr past) h = absurd (omega arith)
 
   fine_at : (p : ℕ) → Within p → FineIn m p (state_at p)
@@ -180,7 +190,8 @@ module _ (m : Member) (typable : IsTypableRoutine m) where
       there.alone (state_at q) (fine_at q within).arrival.arrives
 
   closes_at : (p q : ℕ) (s : Abs) (i : Option Instr) → i ≡ Some End
-      → slice_get (open_at m.routine.code p) 0 ≡ Some q → Within q → ClosesAlike m p s i → state_at q ≡ s
+      → slice_get (open_at m.routine.code p) 0 ≡ Some q → Within q → ClosesAlike m p s i
+      → state_at q ≡ s
   closes_at p q s None here same within h = cc
   closes_at p q s (Some i) here same within h =
       let end : i ≡ End = cc in
@@ -219,7 +230,8 @@ module _ (m : Member) (typable : IsTypableRoutine m) where
           lt_of label (length m.routine.code) (and_left _ _ (and_right _ _ forward)) in (
             within,
             leads_same p label s h within
-                (hands_jump m (slice_get m.routine.code p) p label (state_at p) s fine.keeps there leads),
+                (hands_jump m (slice_get m.routine.code p) p label (state_at p) s fine.keeps there
+                leads),
           );
       closes = λ p q h here open_there.
           closes_at p q (state_at p) (slice_get m.routine.code p) here open_there

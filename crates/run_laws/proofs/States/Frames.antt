@@ -15,7 +15,6 @@ use Rattle.model.specs.Loops.{open_at}
 use Rattle.model.specs.Set.{Set, member, routine_of, sort_of}
 use Rattle.model.specs.Sound.{IsSound}
 use Rattle.model.specs.World.{Shared}
-use Rattle.run_laws.specs.CancelsNothing.{CancelsNothing}
 use Rattle.run_laws.proofs.States.Fits.{Fits}
 use Rattle.run_laws.proofs.States.Kinds.{HasKinds}
 use Rattle.run_laws.proofs.States.Known.{IsKnown, IsLed}
@@ -55,7 +54,8 @@ extra_more code (m ∷ items) l =
 
 -- how much an activation has left to execute, at most
 abbrev pub due_in : List Instr → Activation → ℕ
-due_in code a = summed (open_at code a.position) (rest (drop a.position code)) + extra code a.loops.items
+due_in code a = summed (open_at code a.position) (rest (drop a.position code))
+    + extra code a.loops.items
 
 abbrev pub due_of : Option Routine → Activation → ℕ
 due_of None a = 0
@@ -75,7 +75,8 @@ state_of states a = states a.driver a.routine a.position
 
 -- a device is there, and of a driver
 abbrev pub Serves : Set → ℕ → ℕ → Type 0
-Serves set device driver = (d : Device) × (slice_get set.devices device ≡ Some d) × (d.driver ≡ driver)
+Serves set device driver =
+    (d : Device) × (slice_get set.devices device ≡ Some d) × (d.driver ≡ driver)
 
 -- an activation of a routine stands as the state at its position says
 pub record Stays (set : Set) (states : States) (issued : ℕ) (routine : Routine) (a : Activation)
@@ -92,27 +93,28 @@ abbrev pub Ready : Set → States → ℕ → Activation → Type 0
 Ready set states issued a = (routine : Routine) × Stays set states issued routine a
 
 -- it goes on, of the same routine for the same device, with less to execute, to a state
-pub record Moved (set : Set) (states : States) (issued : ℕ) (a b : Activation) (to : Abs) : Type 0 where
-  pub ready : Ready set states issued b
-  pub driver : b.driver ≡ a.driver
-  pub routine : b.routine ≡ a.routine
-  pub device : b.device ≡ a.device
-  pub arrives : state_of states b ≡ to
-  pub less : 1 + due set b ≤ due set a
+pub record Moved (set : Set) (states : States) (issued : ℕ) (a b : Activation) (to : Abs) : Type 0
+  where
+    pub ready : Ready set states issued b
+    pub driver : b.driver ≡ a.driver
+    pub routine : b.routine ≡ a.routine
+    pub device : b.device ≡ a.device
+    pub arrives : state_of states b ≡ to
+    pub less : 1 + due set b ≤ due set a
 
--- an accepted set that cancels nothing, with its states
+-- an accepted set, with its states
 pub record IsGood (set : Set) (states : States) : Type 0 where
   pub sound : IsSound set
   pub led : IsLed set states
-  pub quiet : CancelsNothing set
 
 -- a routine's frame of an accepted set is about to execute an instruction
-pub record Runs (set : Set) (states : States) (s : Shared) (a : Activation) (i : Instr) : Type 0 where
-  pub routine : Routine
-  pub stays : Stays set states s.issued routine a
-  pub known : IsKnown (member set a.driver a.routine routine) (states a.driver a.routine)
-  pub here : slice_get routine.code a.position ≡ Some i
-  pub sort : sort_of set a.driver a.routine ≡ routine.sort
-  pub obeys : refuses (state_of states a) i (sort_of set a.driver a.routine) set a.driver ≡ None
-  pub fits : Fits set s
-  pub good : IsGood set states
+pub record Runs (set : Set) (states : States) (s : Shared) (a : Activation) (i : Instr) : Type 0
+  where
+    pub routine : Routine
+    pub stays : Stays set states s.issued routine a
+    pub known : IsKnown (member set a.driver a.routine routine) (states a.driver a.routine)
+    pub here : slice_get routine.code a.position ≡ Some i
+    pub sort : sort_of set a.driver a.routine ≡ routine.sort
+    pub obeys : refuses (state_of states a) i (sort_of set a.driver a.routine) set a.driver ≡ None
+    pub fits : Fits set s
+    pub good : IsGood set states

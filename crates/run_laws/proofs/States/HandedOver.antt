@@ -50,7 +50,8 @@ module _ (f : Kind → Bool) (given : IsHanded f) (P : Value → Type 0) where
   is_not : (k : Kind) → f k ≡ false → f k ≡ true → ⊥
   is_not k none is = let no : true ≡ false = sym is ∙ none in cc
 
-  pub hold_get : (kinds : List Kind) (values : List Value) (r : ℕ) → P Blank → HoldOf f P kinds values
+  pub hold_get : (kinds : List Kind) (values : List Value) (r : ℕ) → P Blank
+      → HoldOf f P kinds values
       → f (slice_index_or kinds r BlankKind) ≡ true → P (slice_index_or values r Blank)
   hold_get [] values r empty h is = absurd (is_not BlankKind given.blank is)
   hold_get (k ∷ kinds) [] r empty h is = empty
@@ -91,7 +92,8 @@ module _ (f : Kind → Bool) (given : IsHanded f) (P : Value → Type 0) where
     hold_none kinds values (or_right (f j) (list_any f kinds) none),
   )
 
-  hold_move : (kinds : List Kind) (values : List Value) (r q : ℕ) → P Blank → HoldOf f P kinds values
+  hold_move : (kinds : List Kind) (values : List Value) (r q : ℕ) → P Blank
+      → HoldOf f P kinds values
       → HoldOf f P
       (slice_set (slice_set kinds r (slice_index_or kinds q BlankKind)) q
       (left_behind (slice_index_or kinds q BlankKind)))
@@ -99,7 +101,8 @@ module _ (f : Kind → Bool) (given : IsHanded f) (P : Value → Type 0) where
   hold_move kinds values r q empty h =
       let k : Kind = slice_index_or kinds q BlankKind in
       let v : Value = slice_index_or values q Blank in
-      hold_turn (slice_set kinds r k) (slice_set values r v) q (left_behind k) (left_none f given.blank given.number k)
+      hold_turn (slice_set kinds r k) (slice_set values r v) q (left_behind k)
+      (left_none f given.blank given.number k)
       (hold_set kinds values r k v h (λ is. hold_get kinds values q empty h is))
 
   -- a register whose packet becomes of another kind, and the release of a guard
@@ -110,14 +113,16 @@ module _ (f : Kind → Bool) (given : IsHanded f) (P : Value → Type 0) where
   hold_becomes (j ∷ kinds) [] zero k was h = tt
   hold_becomes (j ∷ kinds) [] (suc r) k was h = tt
   hold_becomes (j ∷ kinds) (w ∷ values) zero k was h = ((λ is. h.0 (was is)), h.1)
-  hold_becomes (j ∷ kinds) (w ∷ values) (suc r) k was h = (h.0, hold_becomes kinds values r k was h.1)
+  hold_becomes (j ∷ kinds) (w ∷ values) (suc r) k was h =
+      (h.0, hold_becomes kinds values r k was h.1)
 
   disarmed_was : (k : Kind) → f (kind_disarmed k) ≡ true → f k ≡ true
   disarmed_was (Armed name) is = absurd (is_not (Listed name) (given.listed name) is)
   disarmed_was (Taken name) is = absurd (is_not Own given.own is)
   disarmed_was _ is = is
 
-  go_was : (set : Set) (driver lock : ℕ) (k : Kind) → f (let_go set driver lock k) ≡ true → f k ≡ true
+  go_was : (set : Set) (driver lock : ℕ) (k : Kind) → f (let_go set driver lock k) ≡ true
+      → f k ≡ true
   go_was set driver lock (Armed name) =
       cond_both (is_guard (guard_named set driver name) lock) BlankKind (Armed name)
       (λ k. f k ≡ true → f (Armed name) ≡ true)
@@ -143,14 +148,20 @@ module _ (f : Kind → Bool) (given : IsHanded f) (P : Value → Type 0) where
   given_hold s values r _ h = h
 
   -- an instruction after which the values are as they were
-  pub handed_hold : (set : Set) (driver : ℕ) (s : Abs) (i : Instr) (values : List Value) → copies i ≡ false
+  pub handed_hold : (set : Set) (driver : ℕ) (s : Abs) (i : Instr) (values : List Value)
+      → copies i ≡ false
       → HoldOf f P s.kinds values → HoldOf f P (handed set driver s i).kinds values
-  handed_hold set driver s (Const r n) values plain h = hold_turn s.kinds values r NumKind given.number h
+  handed_hold set driver s (Const r n) values plain h =
+      hold_turn s.kinds values r NumKind given.number h
   handed_hold set driver s (Move r q) values plain h = cc
-  handed_hold set driver s (Clear r) values plain h = hold_turn s.kinds values r BlankKind given.blank h
-  handed_hold set driver s (Load r c) values plain h = hold_turn s.kinds values r NumKind given.number h
-  handed_hold set driver s (LoadPaged r c) values plain h = hold_turn s.kinds values r NumKind given.number h
-  handed_hold set driver s (Get r q field) values plain h = hold_turn s.kinds values r NumKind given.number h
+  handed_hold set driver s (Clear r) values plain h =
+      hold_turn s.kinds values r BlankKind given.blank h
+  handed_hold set driver s (Load r c) values plain h =
+      hold_turn s.kinds values r NumKind given.number h
+  handed_hold set driver s (LoadPaged r c) values plain h =
+      hold_turn s.kinds values r NumKind given.number h
+  handed_hold set driver s (Get r q field) values plain h =
+      hold_turn s.kinds values r NumKind given.number h
   handed_hold set driver s (Mark r) values plain h = marked_hold s values r (kind_of s r) h
   handed_hold set driver s (Insert r q) values plain h =
       hold_turn s.kinds values r (kind_inserted (cancel_routine_of set driver q) q)
@@ -165,12 +176,16 @@ module _ (f : Kind → Bool) (given : IsHanded f) (P : Value → Type 0) where
   handed_hold set driver s (Disarm r label) values plain h =
       hold_becomes s.kinds values r (kind_disarmed (kind_of s r)) (disarmed_was (kind_of s r)) h
   handed_hold set driver s (Release lock) values plain h = go_hold set driver lock s.kinds values h
-  handed_hold set driver s (Start r) values plain h = hold_turn s.kinds values r BlankKind given.blank h
-  handed_hold set driver s (Take r label) values plain h = hold_turn s.kinds values r Own given.own h
-  handed_hold set driver s (Begin r) values plain h = hold_turn s.kinds values r BlankKind given.blank h
+  handed_hold set driver s (Start r) values plain h =
+      hold_turn s.kinds values r BlankKind given.blank h
+  handed_hold set driver s (Take r label) values plain h =
+      hold_turn s.kinds values r Own given.own h
+  handed_hold set driver s (Begin r) values plain h =
+      hold_turn s.kinds values r BlankKind given.blank h
   handed_hold set driver s (Pass r) values plain h = given_hold s values r (kind_of s r) h
   handed_hold set driver s (Call r g) values plain h = given_hold s values r (kind_of s r) h
-  handed_hold set driver s (Complete r status) values plain h = hold_turn s.kinds values r BlankKind given.blank h
+  handed_hold set driver s (Complete r status) values plain h =
+      hold_turn s.kinds values r BlankKind given.blank h
   handed_hold set driver s _ values plain h = h
 
   pub label_hold : (s : Abs) (i : Instr) (values : List Value) → HoldOf f P s.kinds values
@@ -186,7 +201,8 @@ module _ (f : Kind → Bool) (given : IsHanded f) (P : Value → Type 0) where
     abbrev Held : Activation → Type 0
     Held b = HoldOf f P (state_of states b).kinds b.registers
 
-    written_hold : (i : Instr) (registers : List Value) → Runs set states s a i → Written a i registers
+    written_hold : (i : Instr) (registers : List Value) → Runs set states s a i
+        → Written a i registers
         → Held a
         → HoldOf f P (handed set a.driver (state_of states a) i).kinds registers
     written_hold i registers h (keeps_all _ same) held =
@@ -221,7 +237,8 @@ module _ (f : Kind → Bool) (given : IsHanded f) (P : Value → Type 0) where
         (handed_hold set a.driver (state_of states a) i a.registers plain held)
 
   -- by an instruction about queues
-  pub queued_hold : (set : Set) (states : States) (s : Shared) (a : Activation) (i : Instr) → P Blank
+  pub queued_hold : (set : Set) (states : States) (s : Shared) (a : Activation) (i : Instr)
+      → P Blank
       → Runs set states s a i
       → {b : Activation} {queues : List (List (List ℕ))} {lists : List StartState}
       {actions : List Action} {full : Bool} → Queued s a i b queues lists actions full

@@ -48,13 +48,15 @@ module _ (set : Set) (states : States) (issued : ℕ) where
         registers = kinds_long issued (state_of states a).kinds a.registers h.1.kinds ∙ h.1.sixteen;
       }
 
-  inside_under : (above : Option Frame) (a : Activation) → Stands set states issued above (Routine a)
+  inside_under : (above : Option Frame) (a : Activation)
+      → Stands set states issued above (Routine a)
       → StandsInside set a
   inside_under None a h = ready_inside a h
   inside_under (Some (Walk n)) a h = ready_inside a h.0
   inside_under (Some (CancelFrame c)) a h = absurd h
   inside_under (Some (Routine b)) a h =
-      told_inside set a Success (operand_of (instruction_at set a.driver a.routine (a.position - 1)))
+      told_inside set a Success (operand_of (instruction_at set a.driver a.routine
+      (a.position - 1)))
       (ready_inside (answered set a Success) (h.2 Success))
 
   inside_top : (above : Option Frame) (f : Frame) (a : Activation) → f ≡ Routine a
@@ -63,10 +65,12 @@ module _ (set : Set) (states : States) (issued : ℕ) where
   inside_top above f a same h =
       inside_under above a (subst (λ (g : Frame). Stands set states issued above g) same h)
 
-  pub stands_inside : (frames : List Frame) (k : ℕ) (a : Activation) → Stacked set states issued frames
+  pub stands_inside : (frames : List Frame) (k : ℕ) (a : Activation)
+      → Stacked set states issued frames
       → slice_get frames k ≡ Some (Routine a) → StandsInside set a
   stands_inside [] k a h there = cc
-  stands_inside (f ∷ []) zero a h there = let same : f ≡ Routine a = cc in inside_top None f a same h
+  stands_inside (f ∷ []) zero a h there =
+      let same : f ≡ Routine a = cc in inside_top None f a same h
   stands_inside (f ∷ []) (suc k) a h there = cc
   stands_inside (f ∷ g ∷ frames) zero a h there = let same : f ≡ Routine a =
       cc in inside_top (Some g) f a same h.0

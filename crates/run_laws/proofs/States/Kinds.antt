@@ -67,24 +67,28 @@ module _ (issued : ℕ) where
   kinds_set [] (w ∷ values) r k v h suits = absurd h
   kinds_set (j ∷ kinds) [] r k v h suits = absurd h
   kinds_set (j ∷ kinds) (w ∷ values) zero k v h suits = (suits, h.1)
-  kinds_set (j ∷ kinds) (w ∷ values) (suc r) k v h suits = (h.0, kinds_set kinds values r k v h.1 suits)
+  kinds_set (j ∷ kinds) (w ∷ values) (suc r) k v h suits =
+      (h.0, kinds_set kinds values r k v h.1 suits)
 
   -- a register gets another kind that suits it too
   pub kinds_turn : (kinds : List Kind) (values : List Value) (r : ℕ) (k : Kind)
       → HasKinds issued kinds values
-      → Suits issued k (slice_index_or values r Blank) → HasKinds issued (slice_set kinds r k) values
+      → Suits issued k (slice_index_or values r Blank)
+      → HasKinds issued (slice_set kinds r k) values
   kinds_turn [] [] r k h suits = tt
   kinds_turn [] (w ∷ values) r k h suits = absurd h
   kinds_turn (j ∷ kinds) [] r k h suits = absurd h
   kinds_turn (j ∷ kinds) (w ∷ values) zero k h suits = (suits, h.1)
-  kinds_turn (j ∷ kinds) (w ∷ values) (suc r) k h suits = (h.0, kinds_turn kinds values r k h.1 suits)
+  kinds_turn (j ∷ kinds) (w ∷ values) (suc r) k h suits =
+      (h.0, kinds_turn kinds values r k h.1 suits)
 
   left_suits : (k : Kind) (v : Value) → Suits issued k v → Suits issued (left_behind k) v
   left_suits NumKind v h = h
   left_suits _ v h = tt
 
   -- a register is moved to another one
-  pub kinds_move : (kinds : List Kind) (values : List Value) (r q : ℕ) → HasKinds issued kinds values
+  pub kinds_move : (kinds : List Kind) (values : List Value) (r q : ℕ)
+      → HasKinds issued kinds values
       → HasKinds issued
       (slice_set (slice_set kinds r (slice_index_or kinds q BlankKind)) q
       (left_behind (slice_index_or kinds q BlankKind)))
@@ -99,17 +103,22 @@ module _ (issued : ℕ) where
       (left_suits k v suits))
 
 -- more packets were issued
-suits_later : (issued more : ℕ) (k : Kind) (v : Value) → issued ≤ more → Suits issued k v → Suits more k v
+suits_later : (issued more : ℕ) (k : Kind) (v : Value) → issued ≤ more → Suits issued k v
+    → Suits more k v
 suits_later issued more BlankKind v le h = tt
 suits_later issued more NumKind v le h = h
 suits_later issued more Lower v le h = h
 suits_later issued more View v le h = (h.0, h.1, (let l : h.0 < issued = h.2 in omega arith))
 suits_later issued more New v le h = (h.0, h.1, (let l : h.0 < issued = h.2 in omega arith))
 suits_later issued more Own v le h = (h.0, h.1, (let l : h.0 < issued = h.2 in omega arith))
-suits_later issued more (Listed name) v le h = (h.0, h.1, (let l : h.0 < issued = h.2 in omega arith))
-suits_later issued more (Armed name) v le h = (h.0, h.1, (let l : h.0 < issued = h.2 in omega arith))
-suits_later issued more (Taken name) v le h = (h.0, h.1, (let l : h.0 < issued = h.2 in omega arith))
-suits_later issued more (Cancelling name) v le h = (h.0, h.1, (let l : h.0 < issued = h.2 in omega arith))
+suits_later issued more (Listed name) v le h =
+    (h.0, h.1, (let l : h.0 < issued = h.2 in omega arith))
+suits_later issued more (Armed name) v le h =
+    (h.0, h.1, (let l : h.0 < issued = h.2 in omega arith))
+suits_later issued more (Taken name) v le h =
+    (h.0, h.1, (let l : h.0 < issued = h.2 in omega arith))
+suits_later issued more (Cancelling name) v le h =
+    (h.0, h.1, (let l : h.0 < issued = h.2 in omega arith))
 
 pub kinds_later : (issued more : ℕ) (kinds : List Kind) (values : List Value) → issued ≤ more
     → HasKinds issued kinds values → HasKinds more kinds values
@@ -120,7 +129,8 @@ kinds_later issued more (k ∷ kinds) (v ∷ values) le h =
     (suits_later issued more k v le h.0, kinds_later issued more kinds values le h.1)
 
 -- what a register of a kind holds
-pub number_there : (issued : ℕ) (v : Value) → Suits issued NumKind v → (n : ℕ) × (number_in v ≡ Some n)
+pub number_there : (issued : ℕ) (v : Value) → Suits issued NumKind v
+    → (n : ℕ) × (number_in v ≡ Some n)
 number_there issued v h = (h.0, ap number_in h.1)
 
 pub status_there : (issued : ℕ) (k : Kind) (v : Value) → is_lower k ≡ true → Suits issued k v
@@ -129,7 +139,8 @@ status_there issued Lower v is h = (h.0, ap status_in h.1)
 status_there issued _ v is h = cc
 
 packet_found : (s : Shared) (v : Value) (h : IsPacket s.issued v) → packet_in s v ≡ Some h.0
-packet_found s v h = let l : nat_lt h.0 s.issued ≡ true = lt-ltb h.0 s.issued h.2 in rw (h.1, l) refl
+packet_found s v h = let l : nat_lt h.0 s.issued ≡ true = lt-ltb h.0 s.issued h.2 in rw (h.1, l)
+    refl
 
 pub packet_ref : (s : Shared) (k : Kind) (v : Value) → is_packet k ≡ true → Suits s.issued k v
     → (n : ℕ) × (v ≡ Ref n) × (packet_in s v ≡ Some n)
@@ -309,7 +320,8 @@ module _ (s : Abs) (sort : Sort) (set : Set) (driver : ℕ) where
   number_wanted i r h (inr is) = second_wanted i r h is
 
   -- the kinds after an instruction that makes a register a number
-  becomes_number : (q r : ℕ) → Some q ≡ Some r → slice_set s.kinds q NumKind ≡ slice_set s.kinds r NumKind
+  becomes_number : (q r : ℕ) → Some q ≡ Some r → slice_set s.kinds q NumKind
+      ≡ slice_set s.kinds r NumKind
   becomes_number q r same = let one : q ≡ r = cc in rw one refl
 
   stays_number : (q r : ℕ) → number_kind (kind_of s q) ≡ None → Some q ≡ Some r
@@ -383,12 +395,14 @@ module _ (s : Abs) (sort : Sort) (set : Set) (driver : ℕ) where
 
   pub written_kinds : (issued : ℕ) (a : Activation) (i : Instr) (registers : List Value) → Obeys i
       → goes_next i ≡ true
-      → is_forwarding (work_of i) ≡ false → Written a i registers → HasKinds issued s.kinds a.registers
+      → is_forwarding (work_of i) ≡ false → Written a i registers
+      → HasKinds issued s.kinds a.registers
       → HasKinds issued (handed set driver s i).kinds registers
   written_kinds issued a i registers keeps on stays (keeps_all _ same) h =
       same_kinds issued a.registers i keeps same on stays h
   written_kinds issued a i registers keeps on stays (makes_number _ r n is) h =
-      rw (number_kinds i r keeps is) (kinds_set issued s.kinds a.registers r NumKind (Num n) h (n, refl))
+      rw (number_kinds i r keeps is) (kinds_set issued s.kinds a.registers r NumKind (Num n) h
+      (n, refl))
   written_kinds issued a i registers keeps on stays (moves_over r q) h =
       kinds_move issued s.kinds a.registers r q h
   written_kinds issued a i registers keeps on stays (makes_blank r) h =

@@ -1,5 +1,5 @@
 -- A state for every position of every routine of an accepted set, the default routine included.
-use Rattle.std.proofs.Common.{◌≡◌, ℕ, zero, suc, ◌<◌, ◌≤◌, inl, inr, List, [], ◌∷◌, length, Option, None, Some, refl, arith, subst, false, ap, sym, ◌∙◌}
+use Rattle.std.proofs.Common.{◌≡◌, ℕ, zero, suc, ◌<◌, ◌≤◌, inl, inr, List, [], ◌∷◌, length, Option, None, Some, refl, arith, subst, false, true}
 use Rattle.std.specs.Prelude.{⊤, All, IfSome, slice_get, slice_index_or, option_and_then}
 use Rattle.std.proofs.lemmas.Bool.Decides.{eqb_tells}
 use Rattle.std.proofs.lemmas.Option.{slice_get_within}
@@ -13,12 +13,11 @@ use Rattle.model.specs.declared.set.Driver.{Driver}
 use Rattle.model.specs.declared.set.Routine.{Routine}
 use Rattle.model.specs.declared.set.Sort.{Sort}
 use Rattle.model.specs.declared.set.Sort.TheVariants.{Dispatch, Dpc, Propagate, StartIo, Hold, Cancel}
-use Rattle.model.specs.LocalRule.{entered_with, is_hold}
+use Rattle.model.specs.LocalRule.{entered_with, is_completion}
 use Rattle.model.specs.Loops.{open_at}
-use Rattle.model.specs.Set.{Set, Member, member, routine_of, sort_in, default_routine, default_number, default_code}
+use Rattle.model.specs.Set.{Set, Member, member, routine_of, default_routine, default_number, default_code}
 use Rattle.model.specs.Sound.{IsSound, DriverFits, RoutineFits, OperandFits, HasSort, IsCompletion, CallsFit, completion_named, QueueFits, QueuesFit, queue_named}
 use Rattle.model.specs.Typable.{IsTypableRoutine, IsTypableDriver, IsTypable}
-use Rattle.run_laws.specs.CancelsNothing.{CancelsNothing}
 use Rattle.run_laws.proofs.Lists.{all_at}
 use Rattle.run_laws.proofs.States.Follows.{Follows, Typed, LoopsBefore, typed, default_typed}
 use Rattle.run_laws.proofs.States.Remaining.{Chain, chain}
@@ -39,7 +38,8 @@ loops_before m p q le there =
 -- a completion routine of a driver
 abbrev pub Continues : Set → ℕ → ℕ → Type 0
 Continues set driver number =
-    (routine : Routine) × (routine_of set driver number ≡ Some routine) × (routine.sort ≡ Propagate)
+    (routine : Routine) × (routine_of set driver number ≡ Some routine)
+    × (is_completion routine.sort ≡ true)
 
 -- the routine of a call is one
 abbrev pub SetBy : Set → ℕ → Option ℕ → Type 0
@@ -62,13 +62,13 @@ pub record IsKnown (m : Member) (state : ℕ → Abs) : Type 0 where
 abbrev Knows : Member → Type 0
 Knows m = (state : ℕ → Abs) × IsKnown m state
 
-completion_sort : (sort : Sort) → is_hold sort ≡ false → IsCompletion sort → sort ≡ Propagate
-completion_sort Propagate lends h = refl
-completion_sort Hold lends h = cc
-completion_sort Dispatch lends h = absurd h
-completion_sort StartIo lends h = absurd h
-completion_sort Dpc lends h = absurd h
-completion_sort Cancel lends h = absurd h
+completion_sort : (sort : Sort) → IsCompletion sort → is_completion sort ≡ true
+completion_sort Propagate h = refl
+completion_sort Hold h = refl
+completion_sort Dispatch h = absurd h
+completion_sort StartIo h = absurd h
+completion_sort Dpc h = absurd h
+completion_sort Cancel h = absurd h
 
 -- a routine in the list of a driver is the one of its number
 module _ (set : Set) (driver : ℕ) (d : Driver) (there : slice_get set.drivers driver ≡ Some d)
@@ -82,26 +82,25 @@ module _ (set : Set) (driver : ℕ) (d : Driver) (there : slice_get set.drivers 
         | inr e ↦ rw (e.0, there) found
       ]
 
-  module _ (quiet : CancelsNothing set) where
-    continues : (number : ℕ) (o : Option Routine) → slice_get d.routines number ≡ o → HasSort IsCompletion o
-        → Continues set driver number
-    continues number None found h = absurd h
-    continues number (Some routine) found h = (
-      routine,
-      routine_found number routine found,
-      completion_sort routine.sort
-          (sym (ap (λ (o : Option Routine). is_hold (sort_in o))
-          (routine_found number routine found)) ∙ quiet.routines driver number) h,
-    )
+  continues : (number : ℕ) (o : Option Routine) → slice_get d.routines number ≡ o
+      → HasSort IsCompletion o
+      → Continues set driver number
+  continues number None found h = absurd h
+  continues number (Some routine) found h = (
+    routine,
+    routine_found number routine found,
+    completion_sort routine.sort h,
+  )
 
-    set_by : (f : Option ℕ) → IfSome f (λ number. HasSort IsCompletion (slice_get d.routines number))
-        → SetBy set driver f
-    set_by None h = tt
-    set_by (Some f) h = continues f (slice_get d.routines f) refl h
+  set_by : (f : Option ℕ) → IfSome f (λ number. HasSort IsCompletion (slice_get d.routines number))
+      → SetBy set driver f
+  set_by None h = tt
+  set_by (Some f) h = continues f (slice_get d.routines f) refl h
 
-    calls_lead : (routine : Routine) → CallsFit d.routines routine → All (CallLeads set driver) routine.code
-    calls_lead routine h =
-        λ p i within. set_by (completion_named (slice_index_or routine.code p i)) (h p i within)
+  calls_lead : (routine : Routine) → CallsFit d.routines routine
+      → All (CallLeads set driver) routine.code
+  calls_lead routine h =
+      λ p i within. set_by (completion_named (slice_index_or routine.code p i)) (h p i within)
 
 -- the default routine
 default_operands : (p : ℕ) (d : Instr) → p < 2 → OperandFits (slice_index_or default_code p d)
@@ -115,7 +114,8 @@ default_calls set driver zero d h = tt
 default_calls set driver (suc zero) d h = tt
 default_calls set driver (suc (suc p)) d h = absurd (omega arith)
 
-default_queues : (p : ℕ) (d : Instr) → p < 2 → QueueFits MAX_QUEUES (slice_index_or default_code p d)
+default_queues : (p : ℕ) (d : Instr) → p < 2 → QueueFits MAX_QUEUES
+    (slice_index_or default_code p d)
 default_queues zero d h = tt
 default_queues (suc zero) d h = tt
 default_queues (suc (suc p)) d h = absurd (omega arith)
@@ -129,7 +129,8 @@ few_queues queues (Some q) few h = let below : q < queues = h in omega arith
 queues_fit : (queues : ℕ) (routine : Routine) → queues ≤ MAX_QUEUES → QueuesFit queues routine
     → QueuesFit MAX_QUEUES routine
 queues_fit queues routine few h =
-    λ p i within. few_queues queues (queue_named (slice_index_or routine.code p i)) few (h p i within)
+    λ p i within. few_queues queues (queue_named (slice_index_or routine.code p i)) few
+    (h p i within)
 
 knows_default : (set : Set) (driver : ℕ) → Knows (member set driver default_number default_routine)
 knows_default set driver = (
@@ -150,7 +151,7 @@ knows m typable operands calls queues =
     (all.0, record { follows = all.1; operands = operands; calls = calls; queues = queues })
 
 -- every routine of an accepted set
-module _ (set : Set) (typable : IsTypable set) (sound : IsSound set) (quiet : CancelsNothing set)
+module _ (set : Set) (typable : IsTypable set) (sound : IsSound set)
     (driver number : ℕ) where
   knows_of : (o : Option Driver) → slice_get set.drivers driver ≡ o → (routine : Routine)
       → option_and_then (λ d. slice_get d.routines number) o ≡ Some routine
@@ -163,7 +164,7 @@ module _ (set : Set) (typable : IsTypable set) (sound : IsSound set) (quiet : Ca
       typable.drivers driver d (slice_get_within set.drivers driver d there) there in
       knows (member set driver number routine) (right number routine within h)
       (all_at RoutineFits d.routines number routine fits.routines h).operands
-      (calls_lead set driver d there fits.few quiet routine
+      (calls_lead set driver d there fits.few routine
       (all_at (CallsFit d.routines) d.routines number routine fits.calls h))
       (queues_fit (length d.queues) routine fits.few_queues
       (all_at (QueuesFit (length d.queues)) d.routines number routine fits.queues h))
@@ -191,18 +192,20 @@ states_in set driver number (Some routine) h = (h routine refl).0
 known_in : (set : Set) (driver number : ℕ) (o : Option Routine)
     (h : (routine : Routine) → o ≡ Some routine → Knows (member set driver number routine))
     (routine : Routine)
-    → o ≡ Some routine → IsKnown (member set driver number routine) (states_in set driver number o h)
+    → o ≡ Some routine → IsKnown (member set driver number routine)
+    (states_in set driver number o h)
 known_in set driver number None h routine there = cc
 known_in set driver number (Some other) h routine there =
     let same : other ≡ routine = cc in
-    subst (λ (r : Routine). IsKnown (member set driver number r) (h other refl).0) same (h other refl).1
+    subst (λ (r : Routine). IsKnown (member set driver number r) (h other refl).0) same
+    (h other refl).1
 
-pub led : (set : Set) → IsTypable set → IsSound set → CancelsNothing set → (states : States) × IsLed set states
-led set typable sound quiet = (
+pub led : (set : Set) → IsTypable set → IsSound set → (states : States) × IsLed set states
+led set typable sound = (
   λ driver number. states_in set driver number (routine_of set driver number)
-      (knows_routine set typable sound quiet driver number),
+      (knows_routine set typable sound driver number),
   record {
     known = λ driver number routine there. known_in set driver number (routine_of set driver number)
-        (knows_routine set typable sound quiet driver number) routine there;
+        (knows_routine set typable sound driver number) routine there;
   },
 )

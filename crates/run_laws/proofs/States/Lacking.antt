@@ -1,4 +1,5 @@
 -- No step of an accepted set is wrong: the frame on top lacks nothing that its instruction wants.
+use Rattle.run_laws.proofs.States.Listed.{HasCancel, armed_fits}
 use Rattle.std.proofs.Common.{Option, subst, ◌≡◌, ℕ, ◌<◌, Bool, true, false, length, None, Some, refl, arith, sym, ◌∙◌}
 use Rattle.std.specs.Prelude.{IfSome, slice_get, slice_index_or, nat_lt, not}
 use Rattle.std.proofs.lemmas.Option.{slice_get-get_or, slice_get_within}
@@ -17,7 +18,7 @@ use Rattle.model.specs.declared.world.Activation.{Activation}
 use Rattle.model.specs.declared.world.Frame.TheVariants.{Routine}
 use Rattle.model.specs.Effect.{spin_lock}
 use Rattle.model.specs.LocalRule.{broken_if, kind_of, duty_fault, form_fault}
-use Rattle.model.specs.Set.{Set, sort_of}
+use Rattle.model.specs.Set.{Set, sort_of, cancel_routine_of}
 use Rattle.model.specs.Sound.{QueueFits, queue_named, OperandFits}
 use Rattle.model.specs.World.{Shared, blank_cells, status_in, register}
 use Rattle.run_laws.proofs.Lists.{all_at}
@@ -26,9 +27,8 @@ use Rattle.run_laws.proofs.States.Fits.{queue_there, IsThere, owner_there}
 use Rattle.run_laws.proofs.States.Frames.{state_of, Stays, Runs}
 use Rattle.run_laws.proofs.States.Kinds.{status_there}
 use Rattle.run_laws.proofs.States.LoopEnds.{room_for_loop, some_loop}
-use Rattle.run_laws.proofs.States.Never.{never_exchanges}
 use Rattle.run_laws.proofs.States.Obeyed.{SendsDown, sends_down, returns_by}
-use Rattle.run_laws.proofs.States.OnTop.{OnTop, at_routine, runs, value_suits, packet_there, number_found}
+use Rattle.run_laws.proofs.States.OnTop.{OnTop, at_routine, runs, value_suits, packet_there, number_found, listed_fits}
 use Rattle.run_laws.proofs.States.Rules.{States, first_none}
 use Rattle.run_laws.proofs.Steps.Comes.{Lacks, no_instruction, no_number, no_packet, no_room, no_loop, no_cells, none_taken, none_freed, no_queue, no_start, no_cancel, no_lower, no_status, no_form}
 use Rattle.run_laws.proofs.Steps.Words.{Forwarding, work_of, packet_operand, lock_taken, lock_freed, status_returned, is_form_of}
@@ -89,7 +89,8 @@ module _ (set : Set) (states : States) (s : Shared) (a : Activation) where
       → packet_operand i ≡ Some r
       → SendsDown (state_of states a) (sort_of set a.driver a.routine) set a.driver i r
   down i r h is operand =
-      sends_down (state_of states a) (sort_of set a.driver a.routine) set a.driver i r h.obeys is operand
+      sends_down (state_of states a) (sort_of set a.driver a.routine) set a.driver i r h.obeys is
+      operand
 
   pub lower_device : (i : Instr) → Runs set states s a i → work_of i ≡ Forwarding
       → LowerThere set a.device
@@ -99,7 +100,8 @@ module _ (set : Set) (states : States) (s : Shared) (a : Activation) where
       (down i operand.0 h is operand.1).lower
 
   -- a queue that an instruction names is one of four
-  queue_within : (i : Instr) (q : ℕ) → Runs set states s a i → queue_named i ≡ Some q → q < MAX_QUEUES
+  queue_within : (i : Instr) (q : ℕ) → Runs set states s a i → queue_named i ≡ Some q
+      → q < MAX_QUEUES
   queue_within i q h is =
       subst (λ (o : Option ℕ). IfSome o (λ (k : ℕ). k < MAX_QUEUES)) is
       (all_at (QueueFits MAX_QUEUES) h.routine.code a.position i h.known.queues h.here)
@@ -120,6 +122,16 @@ module _ (set : Set) (states : States) (s : Shared) (a : Activation) where
   some_status Continue h of_form none = cc
   some_status Stop h of_form none = cc
   some_status Void h of_form none = cc
+
+  -- what is armed stands in a queue with a cancel routine
+  never_bare : (r q : ℕ) → Runs set states s a (Arm r q) → cancel_routine_of set a.driver q ≡ None
+      → ⊥
+  never_bare r q h none =
+      let has : HasCancel set a.driver q =
+      (armed_fits set a.driver (state_of states a).locks q (kind_of (state_of states a) r)
+      (first_none _ _ h.obeys) (listed_fits set states s a (Arm r q) h r)).0 in
+      let no : None ≡ Some has.0 = sym none ∙ has.1 in
+      cc
 
   pub never_lacks : OnTop set states s (Routine a) → Lacks set s a → ⊥
   never_lacks h (no_instruction none) =
@@ -156,7 +168,7 @@ module _ (set : Set) (states : States) (s : Shared) (a : Activation) where
   never_lacks h (no_start i at is none) =
       start_there set s a.device h.fits.starts (device_within i (runs set states s a i h at)) none
   never_lacks h (no_cancel r q at none) =
-      never_exchanges set states s a (Arm r q) (runs set states s a (Arm r q) h at) refl
+      never_bare r q (runs set states s a (Arm r q) h at) none
   never_lacks h (no_lower i at is none) =
       let lower : LowerThere set a.device = lower_device i (runs set states s a i h at) is in
       let no : None ≡ Some lower.0 = sym none ∙ lower.1 in

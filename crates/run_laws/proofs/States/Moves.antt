@@ -86,7 +86,11 @@ record IsPlain (f : Flow) : Type 0 where
 plain : (f : Flow) → is_plain f ≡ true → IsPlain f
 plain (Opens turns) h = cc
 plain Closes h = cc
-plain _ h = record { loops = λ p open_before. refl; first = λ after. refl; others = λ after d. refl }
+plain _ h = record {
+  loops = λ p open_before. refl;
+  first = λ after. refl;
+  others = λ after d. refl;
+}
 
 summed_plain : (loops : List ℕ) (left after : ℕ → ℕ) → left 0 ≡ 1 + after 0
     → ((d : ℕ) → left (suc d) ≡ after (suc d))
@@ -128,7 +132,8 @@ module _ (code : List Instr) (p : ℕ) where
   rest_here i here = rw plus_one (ap rest (from_here code p i here))
 
 pub turns_of_known : (routine : Routine) → RoutineOperandsFit routine → HasTurns routine.code
-turns_of_known routine fit p turns there = (all_at OperandFits routine.code p (Loop turns) fit there).0
+turns_of_known routine fit p turns there =
+    (all_at OperandFits routine.code p (Loop turns) fit there).0
 
 module _ (set : Set) (states : States) (s : Shared) (a : Activation) (i : Instr)
     (h : Runs set states s a i) where
@@ -156,7 +161,8 @@ module _ (set : Set) (states : States) (s : Shared) (a : Activation) (i : Instr)
             serves = h.stays.serves;
             within = within;
             nested = nested;
-            kinds = subst (λ (state : Abs). HasKinds s.issued state.kinds values) (sym arrives) kinds;
+            kinds = subst (λ (state : Abs). HasKinds s.issued state.kinds values) (sym arrives)
+                kinds;
             eight = ap (λ (state : Abs). length state.locks) arrives ∙ eight;
             sixteen = ap (λ (state : Abs). length state.kinds) arrives ∙ sixteen;
           },
@@ -225,7 +231,8 @@ module _ (set : Set) (states : States) (s : Shared) (a : Activation) (i : Instr)
       → length to.kinds ≡ length (state_of states a).kinds
       → Moved set states s.issued a (record a { position = q; registers = values }) to
   plain_goes is q values to arrives within same le kinds locks long =
-      let before : summed (open_at h.routine.code a.position) (rest (drop a.position h.routine.code))
+      let before : summed (open_at h.routine.code a.position)
+      (rest (drop a.position h.routine.code))
       ≡ 1 + summed (open_at h.routine.code a.position) (rest (drop (a.position + 1) h.routine.code))
       = plain_left is in
       let after : summed (open_at h.routine.code q) (rest (drop q h.routine.code))
@@ -246,7 +253,8 @@ module _ (set : Set) (states : States) (s : Shared) (a : Activation) (i : Instr)
       × (states a.driver a.routine (a.position + 1) ≡ handed set a.driver (state_of states a) i) =
       next_at (falls_next (flow_of i) on) in
       let is : is_plain (flow_of i) ≡ true = falls_plain (flow_of i) on in
-      plain_goes is (a.position + 1) values (handed set a.driver (state_of states a) i) there.1 there.0
+      plain_goes is (a.position + 1) values (handed set a.driver (state_of states a) i) there.1
+      there.0
       (plain_open is) (omega arith) kinds (handed_locks set a.driver (state_of states a) i)
       (handed_long set a.driver (state_of states a) i)
 
@@ -303,7 +311,8 @@ module _ (set : Set) (states : States) (s : Shared) (a : Activation) (i : Instr)
       (ap length (label_locks (state_of states a) i)) (label_long (state_of states a) i)
 
   -- whichever way it goes on, but for what sends a packet down: its register waits for a status
-  pub moved : (b : Activation) (jumped : Bool) → is_forwarding (work_of i) ≡ false → GoesTo a i b jumped
+  pub moved : (b : Activation) (jumped : Bool) → is_forwarding (work_of i) ≡ false
+      → GoesTo a i b jumped
       → Moved set states s.issued a b (onto set a.driver (state_of states a) i jumped)
   moved b jumped stays (onward registers on written) =
       moved_next on registers
@@ -329,7 +338,8 @@ module _ (set : Set) (states : States) (s : Shared) (a : Activation) (i : Instr)
   -- an instruction that is about to be executed is still due
   pub some_due : is_plain (flow_of i) ≡ true → 1 ≤ due set a
   some_due is =
-      let before : summed (open_at h.routine.code a.position) (rest (drop a.position h.routine.code))
+      let before : summed (open_at h.routine.code a.position)
+      (rest (drop a.position h.routine.code))
       ≡ 1 + summed (open_at h.routine.code a.position) (rest (drop (a.position + 1) h.routine.code))
       = plain_left is in
       let all : due set a ≡ due_in h.routine.code a = due_is set h.routine a h.stays.is_of in

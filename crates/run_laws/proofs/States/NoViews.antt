@@ -2,7 +2,8 @@
 -- a routine begins alone: a dispatch routine and a deferred routine have no packet on its way up,
 -- in no state that arrives at a position, and a deferred routine and a completion routine have none
 -- that was handed over.
-use Rattle.std.proofs.Common.{true, ◌≡◌, ℕ, zero, suc, Bool, false, List, [], ◌∷◌, Option, None, Some, refl, ap, sym, ◌∙◌, subst}
+use Rattle.model.specs.declared.limits.TheConstants.{REGISTERS}
+use Rattle.std.proofs.Common.{true, ◌≡◌, ℕ, zero, suc, Bool, false, List, [], ◌∷◌, Option, None, Some, refl, ap, sym, ◌∙◌, subst, replicate, ◌-◌}
 use Rattle.std.specs.Prelude.{◌||◌, slice_set, slice_index_or}
 use Rattle.std.specs.List.{list_any}
 use Rattle.std.proofs.lemmas.Bool.{cond_both}
@@ -16,7 +17,7 @@ use Rattle.model.specs.declared.instr.Instr.TheVariants.{Const, Move, Clear, Loa
 use Rattle.model.specs.declared.set.QueueName.{QueueName}
 use Rattle.model.specs.declared.set.QueueName.TheVariants.{Declared}
 use Rattle.model.specs.declared.set.Sort.TheVariants.{Propagate, Dpc, Dispatch, StartIo, Hold, Cancel}
-use Rattle.model.specs.LocalRule.{entered_with, entry_of_sort, entry_state, given_down, handed, handed_at_label, kind_of, marked, queued_kind, refuses}
+use Rattle.model.specs.LocalRule.{entered_with, entry_of_sort, entry_state, given_down, handed, handed_at_label, kind_of, marked, queued_kind, refuses, entry_of_cancel}
 use Rattle.model.specs.Kinds.{all_let_go, is_guard, is_listed, is_new, is_view, kind_disarmed, kind_inserted, kind_removed, left_behind, let_go}
 use Rattle.model.specs.Paths.{Arrives}
 use Rattle.model.specs.Set.{Set, Member, cancel_routine_of, cancels_for, guard_named}
@@ -142,7 +143,8 @@ none_blank f blank (j ∷ kinds) zero h = or_left (f j) (list_any f kinds) h
 none_blank f blank (j ∷ kinds) (suc r) h =
     none_blank f blank kinds r (or_right (f j) (list_any f kinds) h)
 
-pub none_at : (f : Kind → Bool) → IsHanded f → (kinds : List Kind) (r : ℕ) → list_any f kinds ≡ false
+pub none_at : (f : Kind → Bool) → IsHanded f → (kinds : List Kind) (r : ℕ)
+    → list_any f kinds ≡ false
     → f (slice_index_or kinds r Blank) ≡ false
 none_at f given kinds r h = none_blank f given.blank kinds r h
 
@@ -170,7 +172,8 @@ module _ (set : Set) (driver : ℕ) (f : Kind → Bool) (never : NeverMade set d
   given_none s r Own h = none_set f s.kinds r Blank never.blank h
   given_none s r _ h = h
 
-  handed_none : (s : Abs) (i : Instr) (sort : Sort) → refuses s i sort set driver ≡ None → HasNone f s
+  handed_none : (s : Abs) (i : Instr) (sort : Sort) → refuses s i sort set driver ≡ None
+      → HasNone f s
       → HasNone f (handed set driver s i)
   handed_none s (Const r n) sort keeps h = none_set f s.kinds r Num never.number h
   handed_none s (Move r q) sort keeps h =
@@ -226,7 +229,8 @@ arrives_none f given m p s sort entry is enters none arrives =
     none_arrives f m p s (handed_never f given m.set m.driver)
     (λ first there.
     let start : Some entry ≡ Some first =
-    sym (ap (λ (x : Sort). entry_of_sort x (cancels_for m.set m.driver m.number)) is ∙ enters) ∙ there
+    sym (ap (λ (x : Sort). entry_of_sort x (cancels_for m.set m.driver m.number)) is ∙ enters)
+    ∙ there
     in
     let same : entry ≡ first = cc in
     subst (HasNone f) same none) arrives
@@ -238,17 +242,34 @@ no_view_at kinds r h = none_at is_view handed_views kinds r h
 pub dispatch_no_view : (m : Member) (p : ℕ) (s : Abs) → m.routine.sort ≡ Dispatch → Arrives m p s
     → HasNoView s
 dispatch_no_view m p s is arrives =
-    arrives_none is_view handed_views m p s Dispatch (entered_with New Fresh SettledMark false) is refl
+    arrives_none is_view handed_views m p s Dispatch (entered_with New Fresh SettledMark false) is
+    refl
     refl arrives
 
--- deferred routines: those that begin on an idle thread at DISPATCH_LEVEL, and serve no use
+-- deferred routines: StartIo, DPC and cancel routines, which serve no use
 abbrev pub is_deferred : Sort → Bool
 is_deferred Dispatch = false
 is_deferred StartIo = true
 is_deferred Dpc = true
 is_deferred Propagate = false
 is_deferred Hold = false
-is_deferred Cancel = false
+is_deferred Cancel = true
+
+pub hold_no_view : (m : Member) (p : ℕ) (s : Abs) → m.routine.sort ≡ Hold → Arrives m p s
+    → HasNoView s
+hold_no_view m p s is arrives =
+    arrives_none is_view handed_views m p s Hold (entered_with New Fresh SettledMark false) is refl
+    refl arrives
+
+cancel_none : (f : Kind → Bool) (name : Option QueueName) (s : Abs)
+    → ((name : QueueName) → f (Cancelling name) ≡ false)
+    → list_any f (replicate (REGISTERS - 1) Blank) ≡ false
+    → entry_of_cancel name ≡ Some s → HasNone f s
+cancel_none f None s none blank enters = cc
+cancel_none f (Some name) s none blank enters =
+    let same : record (entered_with (Cancelling name) NoDuty SettledMark false) { cancel = true }
+    ≡ s = cc in
+    subst (HasNone f) same (both_false (f (Cancelling name)) _ (none name) blank)
 
 pub deferred_no_view : (m : Member) (p : ℕ) (s : Abs) (sort : Sort) → m.routine.sort ≡ sort
     → is_deferred sort ≡ true → Arrives m p s → HasNoView s
@@ -257,11 +278,17 @@ deferred_no_view m p s StartIo is deferred arrives =
     arrives_none is_view handed_views m p s StartIo (entered_with Own NoDuty SettledMark true) is
     refl refl arrives
 deferred_no_view m p s Dpc is deferred arrives =
-    arrives_none is_view handed_views m p s Dpc (entered_with Blank NoDuty SettledMark false) is refl
+    arrives_none is_view handed_views m p s Dpc (entered_with Blank NoDuty SettledMark false) is
+    refl
     refl arrives
 deferred_no_view m p s Propagate is deferred arrives = cc
 deferred_no_view m p s Hold is deferred arrives = cc
-deferred_no_view m p s Cancel is deferred arrives = cc
+deferred_no_view m p s Cancel is deferred arrives =
+    none_arrives is_view m p s (handed_never is_view handed_views m.set m.driver)
+    (λ first enters. cancel_none is_view (cancels_for m.set m.driver m.number) first (λ name. refl)
+    refl
+    (sym (ap (λ (x : Sort). entry_of_sort x (cancels_for m.set m.driver m.number)) is) ∙ enters))
+    arrives
 
 pub deferred_no_new : (m : Member) (p : ℕ) (s : Abs) (sort : Sort) → m.routine.sort ≡ sort
     → is_deferred sort ≡ true → Arrives m p s → HasNone is_new s
@@ -274,7 +301,12 @@ deferred_no_new m p s Dpc is deferred arrives =
     refl arrives
 deferred_no_new m p s Propagate is deferred arrives = cc
 deferred_no_new m p s Hold is deferred arrives = cc
-deferred_no_new m p s Cancel is deferred arrives = cc
+deferred_no_new m p s Cancel is deferred arrives =
+    none_arrives is_new m p s (handed_never is_new handed_news m.set m.driver)
+    (λ first enters. cancel_none is_new (cancels_for m.set m.driver m.number) first (λ name. refl)
+    refl
+    (sym (ap (λ (x : Sort). entry_of_sort x (cancels_for m.set m.driver m.number)) is) ∙ enters))
+    arrives
 
 pub propagate_no_new : (m : Member) (p : ℕ) (s : Abs) → m.routine.sort ≡ Propagate → Arrives m p s
     → HasNone is_new s

@@ -81,7 +81,7 @@ no_kept (k ∷ kinds) h =
     (sym (dropped_kept k) ∙ or_left (is_dropped false k) (list_any (is_dropped false) kinds) h)
     (no_kept kinds (or_right (is_dropped false k) (list_any (is_dropped false) kinds) h))
 
-never_back : (sort : Sort) (form : Return) → is_hold sort ≡ false → gives_back sort form ≡ false
+pub never_back : (sort : Sort) (form : Return) → is_hold sort ≡ false → gives_back sort form ≡ false
 never_back Hold form lends = cc
 never_back _ form lends = refl
 
@@ -89,7 +89,8 @@ pub nothing_kept : (sort : Sort) (form : Return) (kinds : List Kind) → is_hold
     → list_any (is_dropped (gives_back sort form)) kinds ≡ false → list_any is_kept kinds ≡ false
 nothing_kept sort form kinds lends none =
     no_kept kinds
-    (subst (λ (back : Bool). list_any (is_dropped back) kinds ≡ false) (never_back sort form lends) none)
+    (subst (λ (back : Bool). list_any (is_dropped back) kinds ≡ false) (never_back sort form lends)
+    none)
 
 module _ (s : Abs) (sort : Sort) (set : Set) (driver : ℕ) where
   -- a packet is sent down
@@ -103,7 +104,8 @@ module _ (s : Abs) (sort : Sort) (set : Set) (driver : ℕ) where
     pub after : handed set driver s i ≡ given_down s r (kind_of s r)
 
   sends_by : (i : Instr) (q r : ℕ) → Some q ≡ Some r → is_right (kind_of s q) ≡ true
-      → is_queued (kind_of s q) ≡ false → forward_fault s sort set driver (locations_wanted i) ≡ None
+      → is_queued (kind_of s q) ≡ false → forward_fault s sort set driver (locations_wanted i)
+      ≡ None
       → handed set driver s i ≡ given_down s q (kind_of s q)
       → SendsDown i r
   sends_by i q r same right unqueued rule after =
@@ -139,7 +141,8 @@ module _ (s : Abs) (sort : Sort) (set : Set) (driver : ℕ) where
     pub free : holds_lock s ≡ false
     pub above : is_completion sort ≡ false
 
-  pub completes_one : (r : ℕ) (status : Status) → refuses s (Complete r status) sort set driver ≡ None
+  pub completes_one : (r : ℕ) (status : Status) → refuses s (Complete r status) sort set driver
+      ≡ None
       → CompletesOne r status
   completes_one r status h =
       let later : least_of (broken_if (is_pending status) MarkIrpPending)
@@ -149,7 +152,8 @@ module _ (s : Abs) (sort : Sort) (set : Set) (driver : ℕ) where
         right = complete_right (kind_of s r) (first_none _ _ h);
         final = unbroken (is_pending status) MarkIrpPending (first_none _ _ later);
         free = unbroken (holds_lock s) LockHeld (first_none _ _ (second_none _ _ later));
-        above = unbroken (is_completion sort) CompletionRule (second_none _ _ (second_none _ _ later));
+        above = unbroken (is_completion sort) CompletionRule
+            (second_none _ _ (second_none _ _ later));
       }
 
   -- the routine returns

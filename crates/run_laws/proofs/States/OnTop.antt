@@ -1,6 +1,6 @@
 -- The top frame of a thread of an accepted set: it stands as it should, what it executes is the
 -- instruction of a routine that breaks no rule, and it lacks nothing that the instruction wants.
-use Rattle.std.proofs.Common.{◌≡◌, ◌⊎◌, ℕ, false, Option, None, Some, refl, sym, subst, ◌∙◌, ap}
+use Rattle.std.proofs.Common.{◌≡◌, ◌⊎◌, ℕ, Option, None, Some, sym, subst, ◌∙◌, ap}
 use Rattle.std.specs.Prelude.{slice_get, option_and_then}
 use Rattle.model.specs.declared.abs.Kind.TheVariants.{Num as NumKind}
 use Rattle.model.specs.declared.instr.Instr.{Instr}
@@ -18,10 +18,9 @@ use Rattle.run_laws.proofs.States.Fits.{Fits}
 use Rattle.run_laws.proofs.States.Frames.{state_of, Stays, IsGood, Runs}
 use Rattle.run_laws.proofs.States.Kinds.{Suits, kinds_get, number_there, packet_ref, packet_wanted, number_wanted}
 use Rattle.run_laws.proofs.States.Known.{IsKnown}
-use Rattle.run_laws.proofs.States.NoViews.{HasNone, is_queued, none_blank}
+use Rattle.run_laws.proofs.States.Listed.{KindFits, arrives_fits, fits_at}
 use Rattle.run_laws.proofs.States.Rules.{States}
 use Rattle.run_laws.proofs.States.Stacks.{Stands}
-use Rattle.run_laws.proofs.States.Unlisted.{arrives_unlisted}
 use Rattle.run_laws.proofs.Steps.Comes.{Executing}
 use Rattle.run_laws.proofs.Steps.Words.{packet_operand, number_operand, second_operand}
 
@@ -39,7 +38,8 @@ at_routine set routine a there =
     ap (λ (o : Option RoutineOf). option_and_then (λ r. slice_get r.code a.position) o) there
 
 module _ (set : Set) (states : States) (s : Shared) (a : Activation) where
-  pub runs : (i : Instr) → OnTop set states s (Routine a) → Executing set a i → Runs set states s a i
+  pub runs : (i : Instr) → OnTop set states s (Routine a) → Executing set a i
+      → Runs set states s a i
   runs i h at =
       let stays : Stays set states s.issued h.stands.0 a = h.stands.1 in
       let known : IsKnown (member set a.driver a.routine h.stands.0) (states a.driver a.routine) =
@@ -61,16 +61,13 @@ module _ (set : Set) (states : States) (s : Shared) (a : Activation) where
         good = h.good;
       }
 
-  -- none of its registers has a packet of a list with a cancel routine
-  pub none_listed : (i : Instr) → Runs set states s a i → HasNone is_queued (state_of states a)
-  none_listed i h =
-      arrives_unlisted (member set a.driver a.routine h.routine) h.good.quiet a.position
-      (state_of states a) (h.known.follows.arrives a.position h.stays.within)
-
-  pub never_listed : (i : Instr) → Runs set states s a i → (r : ℕ)
-      → is_queued (kind_of (state_of states a) r) ≡ false
-  never_listed i h r =
-      none_blank is_queued refl (state_of states a).kinds r (none_listed i h)
+  -- what a register's kind says of a queue with a cancel routine
+  pub listed_fits : (i : Instr) → Runs set states s a i → (r : ℕ)
+      → KindFits set a.driver (state_of states a).locks (kind_of (state_of states a) r)
+  listed_fits i h r =
+      fits_at set a.driver (state_of states a).locks (state_of states a).kinds r
+      (arrives_fits (member set a.driver a.routine h.routine) a.position (state_of states a)
+      (h.known.follows.arrives a.position h.stays.within))
 
   pub value_suits : (i : Instr) (r : ℕ) → Runs set states s a i
       → Suits s.issued (kind_of (state_of states a) r) (register a r)
@@ -87,7 +84,8 @@ module _ (set : Set) (states : States) (s : Shared) (a : Activation) where
       cc
 
   pub number_found : (i : Instr) (r : ℕ) → Runs set states s a i
-      → (number_operand i ≡ Some r) ⊎ (second_operand i ≡ Some r) → number_in (register a r) ≡ None → ⊥
+      → (number_operand i ≡ Some r) ⊎ (second_operand i ≡ Some r) → number_in (register a r) ≡ None
+      → ⊥
   number_found i r h is none =
       let kind : kind_of (state_of states a) r ≡ NumKind =
       number_wanted (state_of states a) _ set a.driver i r h.obeys is in

@@ -25,7 +25,8 @@ use Rattle.run_laws.proofs.States.StartsFit.{AllStartsFit, SlotFits, StartFits, 
 use Rattle.run_laws.proofs.Steps.Comes.{Queued, inserts, removes, removes_none, puts_in, starts_next, starts_packet, takes_none, takes_out, unlinks}
 
 -- where the frame goes on
-pub record MovedOn (set : Set) (states : States) (s : Shared) (a : Activation) (i : Instr) (b : Activation)
+pub record MovedOn (set : Set) (states : States) (s : Shared) (a : Activation) (i : Instr)
+    (b : Activation)
     (queues : List (List (List ℕ))) (lists : List StartState) : Type 0 where
   pub jumped : Bool
   pub moved : Moved set states s.issued a b (onto set a.driver (state_of states a) i jumped)
@@ -119,7 +120,8 @@ queue_moves set states s a i h (puts_in r n start reads there) =
       moved = moved_on set states s a (Begin r) h refl refl refl;
       fits = h.fits.queued;
       starts = start_put_fits set s a.device (with_slot start (Some n))
-          (slot_put_fits s.issued start (start_issued set s a.device start there h.fits.starts) (Some n)
+          (slot_put_fits s.issued start (start_issued set s a.device start there h.fits.starts)
+          (Some n)
           (named s _ n reads))
           h.fits.starts;
     }

@@ -134,7 +134,8 @@ module _ (code : List Instr) where
 
   something_there : (p : ℕ) → slice_get code p ≡ None → p < length code → ⊥
   something_there p h within =
-      let there : slice_get code p ≡ Some (get_or code p End) = slice_get-get_or code p End within in
+      let there : slice_get code p ≡ Some (get_or code p End) = slice_get-get_or code p End within
+      in
       let no : None ≡ Some (get_or code p End) = sym h ∙ there in
       cc
 
@@ -143,7 +144,14 @@ module _ (code : List Instr) where
       → (IsOpening f → IsLoop (slice_get code p))
       → Chain p loops → Chain (suc p) (open_by f p loops)
   chain_by p (Opens turns) loops within round here opens h = (
-    record { before = omega arith; within = within; loop = opens tt; round = round; level = λ d. refl },
+    record {
+      before = omega arith;
+      within = within;
+      loop = opens tt;
+      round = round;
+      level = λ d.
+          refl;
+    },
     h,
   )
   chain_by p Closes loops within round here opens h = chain_closed p loops (λ d. here (suc d)) h
@@ -160,7 +168,8 @@ module _ (code : List Instr) where
   pub chain : (p : ℕ) → p ≤ length code → Chain p (open_at code p)
   chain zero le = tt
   chain (suc p) le =
-      chain_after p (slice_get code p) (open_at code p) refl (omega arith) refl (chain p (omega arith))
+      chain_after p (slice_get code p) (open_at code p) refl (omega arith) refl
+      (chain p (omega arith))
 
   -- in a routine whose instructions stand where they may, each loop has an end
   abbrev pub IsFormed : Type 0
@@ -207,17 +216,20 @@ module _ (code : List Instr) where
   -- what is left on each level, as often as the loops round it turn
   abbrev pub weighted : List ℕ → (ℕ → ℕ) → ℕ
   weighted [] left = left 0
-  weighted (q ∷ loops) left = turns_product code (q ∷ loops) * left 0 + weighted loops (λ d. left (suc d))
+  weighted (q ∷ loops) left =
+      turns_product code (q ∷ loops) * left 0 + weighted loops (λ d. left (suc d))
 
   weighted_same : (loops : List ℕ) (left other : ℕ → ℕ) → ((d : ℕ) → left d ≡ other d)
       → weighted loops left ≡ weighted loops other
   weighted_same [] left other same = same 0
   weighted_same (q ∷ loops) left other same =
-      rw (same 0, weighted_same loops (λ d. left (suc d)) (λ d. other (suc d)) (λ d. same (suc d))) refl
+      rw (same 0, weighted_same loops (λ d. left (suc d)) (λ d. other (suc d)) (λ d. same (suc d)))
+      refl
 
   weighted_none : (loops : List ℕ) → weighted loops (λ d. 0) ≡ 0
   weighted_none [] = refl
-  weighted_none (q ∷ loops) = let none : weighted loops (λ d. 0) ≡ 0 = weighted_none loops in omega arith
+  weighted_none (q ∷ loops) =
+      let none : weighted loops (λ d. 0) ≡ 0 = weighted_none loops in omega arith
 
   -- executing one instruction takes its share
   module _ (after : ℕ → ℕ) where
@@ -243,7 +255,8 @@ module _ (code : List Instr) where
 
     weighted_by : (p : ℕ) (f : Flow) (loops : List ℕ) → turns_of (slice_get code p) ≡ turns_in f
         → is_misplaced_by code p f ≡ false → loops ≡ open_at code p
-        → weighted loops (rest_by f after) ≡ turns_product code loops + weighted (open_by f p loops) after
+        → weighted loops (rest_by f after) ≡ turns_product code loops
+        + weighted (open_by f p loops) after
     weighted_by p (Opens turns) loops here placed round = weighted_loop p turns loops here
     weighted_by p Closes [] here placed round =
         let no : nat_eq (length (open_at code p)) 0 ≡ true = rw (← round) refl in cc
@@ -252,7 +265,8 @@ module _ (code : List Instr) where
 
   weighted_step : (p : ℕ) (i : Option Instr) (loops : List ℕ) → slice_get code p ≡ i
       → p < length code → is_misplaced code p i ≡ false → loops ≡ open_at code p →
-      weighted loops (rest (drop p code)) ≡ turns_product code loops + weighted (open_after i p loops)
+      weighted loops (rest (drop p code)) ≡ turns_product code loops
+      + weighted (open_after i p loops)
       (rest (drop (suc p) code))
   weighted_step p None loops here within placed round = absurd (something_there p here within)
   weighted_step p (Some i) loops here within placed round =
@@ -264,10 +278,12 @@ module _ (code : List Instr) where
       certificate_to code p + weighted (open_at code p) (rest (drop p code)) ≡ rest code 0
   counted zero formed le = omega arith
   counted (suc p) formed le =
-      let before : certificate_to code p + weighted (open_at code p) (rest (drop p code)) ≡ rest code 0 =
+      let before : certificate_to code p + weighted (open_at code p) (rest (drop p code))
+      ≡ rest code 0 =
       counted p formed (omega arith) in
       let step : weighted (open_at code p) (rest (drop p code))
-      ≡ turns_product code (open_at code p) + weighted (open_at code (suc p)) (rest (drop (suc p) code)) =
+      ≡ turns_product code (open_at code p)
+      + weighted (open_at code (suc p)) (rest (drop (suc p) code)) =
       weighted_step p (slice_get code p) (open_at code p) refl (omega arith)
       (placed code p (formed p (omega arith))) refl
       in
@@ -278,7 +294,8 @@ module _ (code : List Instr) where
   -- what a routine executes in all is its certificate
   pub certified : IsFormed → rest code 0 ≡ certificate code
   certified formed =
-      let all : certificate code + weighted (open_at code (length code)) (rest (drop (length code) code))
+      let all : certificate code + weighted (open_at code (length code))
+      (rest (drop (length code) code))
       ≡ rest code 0 =
       counted (length code) formed (omega arith)
       in
@@ -290,7 +307,8 @@ module _ (code : List Instr) where
   certificate_rises : (p more : ℕ) → certificate_to code p ≤ certificate_to code (p + more)
   certificate_rises p zero = let same : p + zero ≡ p = omega arith in rw same (omega arith)
   certificate_rises p (suc more) =
-      let before : certificate_to code p ≤ certificate_to code (p + more) = certificate_rises p more in
+      let before : certificate_to code p ≤ certificate_to code (p + more) = certificate_rises p more
+      in
       let same : p + suc more ≡ suc (p + more) = omega arith in
       rw same (omega arith)
 
@@ -330,17 +348,21 @@ module _ (code : List Instr) where
   -- a jump forward inside the same loops leaves no more to execute
   pub forward_le : (p later : ℕ) → IsFormed → HasTurns → p ≤ later → later ≤ length code
       → open_at code later ≡ open_at code p
-      → summed (open_at code p) (rest (drop later code)) ≤ summed (open_at code p) (rest (drop p code))
+      → summed (open_at code p) (rest (drop later code))
+      ≤ summed (open_at code p) (rest (drop p code))
   forward_le p later formed turns le within same =
       let h : Chain p (open_at code p) = chain p (omega arith) in
       let there : Chain later (open_at code p) = subst (λ (loops : List ℕ). Chain later loops) same
       (chain later within) in
-      let all : certificate_to code p + weighted (open_at code p) (rest (drop p code)) ≡ rest code 0 =
+      let all : certificate_to code p + weighted (open_at code p) (rest (drop p code))
+      ≡ rest code 0 =
       counted p formed (omega arith) in
-      let all_later : certificate_to code later + weighted (open_at code later) (rest (drop later code))
+      let all_later : certificate_to code later + weighted (open_at code later)
+      (rest (drop later code))
       ≡ rest code 0 = counted later formed within in
       let weigh : weighted (open_at code later) (rest (drop later code)) ≡ weighted (open_at code p)
-      (rest (drop later code)) = ap (λ (loops : List ℕ). weighted loops (rest (drop later code))) same in
+      (rest (drop later code)) =
+      ap (λ (loops : List ℕ). weighted loops (rest (drop later code))) same in
       let rises : certificate_to code p ≤ certificate_to code later = certificate_le p later le in
       summed_le (open_at code p) p later h there
       (first_le (open_at code p) p later turns h there (omega arith))

@@ -1,11 +1,15 @@
 -- Where a thread's lowest frame began: each dispatch routine's frame is on a thread that began at
 -- PASSIVE_LEVEL, since only dispatch routines send packets down.
-use Rattle.std.proofs.Common.{◌≡◌, ℕ, ◌-◌, List, [], ◌∷◌, ◌++◌, Option, None, Some, Bool, false, refl, sym, ◌∙◌}
+use Rattle.model.specs.declared.world.Value.TheVariants.{Ref}
+use Rattle.model.specs.declared.world.Armer.{Armer}
+use Rattle.run_laws.proofs.States.Fits.{ArmerLeads, word_leads}
+use Rattle.model.specs.declared.world.CancelStep.{CancelStep}
+use Rattle.std.proofs.Common.{◌≡◌, ℕ, ◌-◌, List, [], ◌∷◌, ◌++◌, Option, None, Some, Bool, false, refl, sym, ◌∙◌, subst, slice_get}
 use Rattle.std.specs.Prelude.{⊤, nat_lt}
 use Rattle.std.proofs.lemmas.Bool.{cond_both}
 use Rattle.model.specs.declared.instr.Instr.{Instr}
 use Rattle.model.specs.declared.instr.Instr.TheVariants.{Pass, Call}
-use Rattle.model.specs.declared.set.Sort.TheVariants.{Dispatch, Propagate}
+use Rattle.model.specs.declared.set.Sort.TheVariants.{Dispatch, Propagate, Hold, Cancel}
 use Rattle.model.specs.declared.status.Status.{Status}
 use Rattle.model.specs.declared.world.Activation.{Activation}
 use Rattle.model.specs.declared.world.Frame.{Frame}
@@ -13,20 +17,18 @@ use Rattle.model.specs.declared.world.Frame.TheVariants.{Routine, Walk, Cancel a
 use Rattle.model.specs.declared.world.Irql.{Irql}
 use Rattle.model.specs.declared.world.Irql.TheVariants.{Passive}
 use Rattle.model.specs.declared.world.OpenLoop.{OpenLoop}
-use Rattle.model.specs.Effect.{Outcome, answered_in, completes_with, operand_of, turned}
+use Rattle.model.specs.Effect.{Outcome, answered_in, completes_with, operand_of, turned, routine_of_device}
 use Rattle.model.specs.Events.{root_over}
 use Rattle.model.specs.Set.{Set, instruction_at}
-use Rattle.model.specs.World.{Shared, at_label, next, outer_loops, with_loops}
+use Rattle.model.specs.World.{Shared, at_label, next, outer_loops, with_loops, entered}
 use Rattle.run_laws.proofs.Lists.{Each}
-use Rattle.run_laws.proofs.States.Entering.{IsOfSort, Begins, begins_back}
+use Rattle.run_laws.proofs.States.Entering.{IsOfSort, Begins, begins_back, begins_lent, begins_cancelled}
 use Rattle.run_laws.proofs.States.Lacking.{down}
-use Rattle.run_laws.proofs.States.Never.{never_stands}
 use Rattle.run_laws.proofs.States.OnTop.{OnTop, runs}
 use Rattle.run_laws.proofs.States.Queueing.{MovedOn, queue_moves}
 use Rattle.run_laws.proofs.States.Rules.{States}
 use Rattle.run_laws.proofs.States.Told.{told_frame, told_last}
-use Rattle.run_laws.proofs.Steps.Comes.{GoesTo, onward, jumping, Comes, computes, turns_loop, pages, looks_at, completes_packet, passes_down, calls_down, returns_status, lets_go, lets_walk, ends_dpc, walks_gone, walks_to, walks_up, carries_up, tops_out, works_on_queues, ends_startio, exchanges, resumes_walk, resumes_gone, resumes_none, stops_walk, stops_none, ends_cancel, lends_to, cancels}
-use Rattle.run_laws.proofs.Steps.Uncancelled.{never_lends}
+use Rattle.run_laws.proofs.Steps.Comes.{GoesTo, onward, jumping, Comes, computes, turns_loop, pages, looks_at, completes_packet, passes_down, calls_down, returns_status, lets_go, lets_walk, ends_dpc, walks_gone, walks_to, walks_up, carries_up, tops_out, works_on_queues, ends_startio, exchanges, resumes_walk, resumes_gone, resumes_none, stops_walk, stops_none, ends_cancel, lends_to, cancels, Cancels, takes_cancel, retakes_cancel, awaits_cancel, sets_flag, calls_cancel}
 
 module _ (set : Set) (root : Irql) where
   abbrev pub Low : Frame → Type 0
@@ -42,7 +44,8 @@ module _ (set : Set) (root : Irql) where
   turned_low : (a : Activation) (l : OpenLoop) → Low (Routine a) → Low (Routine (turned a l))
   turned_low a l low =
       cond_both (nat_lt 1 l.turns)
-      (at_label (with_loops a (outer_loops a ++ record { start = l.start; turns = l.turns - 1 } ∷ []))
+      (at_label (with_loops a (outer_loops a ++ record { start = l.start; turns = l.turns - 1 } ∷
+      []))
       l.start)
       (next (with_loops a (outer_loops a))) (λ b. Low (Routine b)) (λ more. low) (λ last. low)
 
@@ -59,13 +62,32 @@ module _ (set : Set) (root : Irql) where
   told_low (Some status) (Walk n) low = low
   told_low (Some status) (CancelFrame c) low = low
   told_low (Some status) (Routine a) low =
-      answered_low a status (operand_of (instruction_at set a.driver a.routine (a.position - 1))) low
+      answered_low a status (operand_of (instruction_at set a.driver a.routine (a.position - 1)))
+      low
 
   pub last_low : (told : Option Status) (below : List Frame) → Each Low below
       → Each Low (told_last set told below)
   last_low told [] low = tt
   last_low told (f ∷ []) low = (told_low told f low.0, tt)
   last_low told (f ∷ g ∷ below) low = (low.0, last_low told (g ∷ below) low.1)
+
+  -- what a step of IoCancelIrp leaves: its frame, a cancel routine's or none
+  cancel_low : (states : States) (s : Shared) (t n : ℕ) (step : CancelStep) (o : Outcome)
+      → OnTop set states s (CancelFrame (record { packet = n; next = step }))
+      → Cancels set s t n step o → Each Low o.frames
+  cancel_low states s t n step o h (takes_cancel free) = (tt, tt)
+  cancel_low states s t n step o h (retakes_cancel its) = (tt, tt)
+  cancel_low states s t n step o h (awaits_cancel owner owned apart) = (tt, tt)
+  cancel_low states s t n step o h (sets_flag p there) = (tt, tt)
+  cancel_low states s t n step o h (calls_cancel p armer routine there word named) =
+      let leads : ArmerLeads set (Some armer) =
+      subst (λ (o : Option Armer). ArmerLeads set o) word (word_leads set s h.fits n p there) in
+      let begins : Begins set states s.issued
+      (entered (routine_of_device (slice_get set.devices armer.device)) routine armer.device
+      (Ref n))
+      Cancel n = begins_cancelled set states h.good s.issued n h.stands armer routine leads named in
+      ((λ is. (let no : Cancel ≡ Dispatch = sym begins.of_sort ∙ is in cc)), tt)
+  cancel_low states s t n step o h _ = tt
 
   -- what a step of a frame leaves
   module _ (states : States) (s : Shared) (t : ℕ) where
@@ -75,10 +97,12 @@ module _ (set : Set) (root : Irql) where
     step_low under f o h low (computes a i b jumped cells at work goes long) =
         (goes_low a i b jumped goes low, tt)
     step_low under f o h low (turns_loop a l at inner) = (turned_low a l low, tt)
-    step_low under f o h low (pages a i b cell cells at work goes long) = (goes_low a i b false goes low, tt)
+    step_low under f o h low (pages a i b cell cells at work goes long) =
+        (goes_low a i b false goes low, tt)
     step_low under f o h low (looks_at a i b jumped r n p at work goes operand reads there jumps) =
         (goes_low a i b jumped goes low, tt)
-    step_low under f o h low (exchanges a i b jumped r n p armer at work goes operand reads there how) =
+    step_low under f o h low (exchanges a i b jumped r n p armer at work goes operand reads there
+        how) =
         (goes_low a i b jumped goes low, tt)
     step_low under f o h low (completes_packet a r status n p at reads there) = (low, (tt, tt))
     step_low under f o h low (passes_down a r n p lower at reads there below) = (
@@ -107,9 +131,11 @@ module _ (set : Set) (root : Irql) where
     step_low under f o h low (stops_none a at above free) = tt
     step_low under f o h low (ends_cancel a at sort) = tt
     step_low under f o h low (lends_to n p c there set_there sort) =
-        absurd (never_lends h.good.quiet c sort)
+        let begins : Begins set states s.issued (completes_with set c n) Hold n =
+        begins_lent set states s h.good h.fits n p c h.stands there set_there sort in
+        (tt, ((λ is. (let no : Hold ≡ Dispatch = sym begins.of_sort ∙ is in cc)), tt))
     step_low under f o h low (cancels n step made moves) =
-        absurd (never_stands set states s (record { packet = n; next = step }) h)
+        cancel_low states s t n step o h moves
     step_low under f o h low (works_on_queues a i b queues starts actions full at queued) =
         let on : MovedOn set states s a i b queues starts =
         queue_moves set states s a i (runs set states s a i h at) queued in
@@ -119,7 +145,7 @@ module _ (set : Set) (root : Irql) where
     step_low under f o h low (walks_gone n gone) = tt
     step_low under f o h low (walks_to n p c there set_there lends) =
         let begins : Begins set states s.issued (completes_with set c n) Propagate n =
-        begins_back set states s h.good h.fits n p c h.stands there set_there in
+        begins_back set states s h.good h.fits n p c h.stands there set_there lends in
         (tt, ((λ is. (let no : Propagate ≡ Dispatch = sym begins.of_sort ∙ is in cc)), tt))
     step_low under f o h low (walks_up n p there none more unmarked) = (tt, tt)
     step_low under f o h low (carries_up n p there none more marked) = (tt, tt)

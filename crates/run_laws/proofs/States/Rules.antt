@@ -10,7 +10,8 @@ abbrev pub States : Type 0
 States = ℕ → ℕ → ℕ → Abs
 
 -- one of two broken rules is broken
-either_rule : (b : Bool) (one other : Rule) → cond {A = Option Rule} b (Some one) (Some other) ≡ None → ⊥
+either_rule : (b : Bool) (one other : Rule) → cond {A = Option Rule} b (Some one) (Some other)
+    ≡ None → ⊥
 either_rule true one other h = cc
 either_rule false one other h = cc
 

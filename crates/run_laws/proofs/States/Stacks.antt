@@ -3,7 +3,7 @@
 use Rattle.std.proofs.Common.{◌≡◌, ℕ, ◌-◌, ◌<◌, ◌≤◌, false, List, [], ◌∷◌, ◌++◌, Option, None, Some, append-nil, sym, subst, arith}
 use Rattle.std.specs.Prelude.{⊤}
 use Rattle.model.specs.declared.set.Sort.{Sort}
-use Rattle.model.specs.declared.set.Sort.TheVariants.{Dispatch, Propagate}
+use Rattle.model.specs.declared.set.Sort.TheVariants.{Dispatch}
 use Rattle.model.specs.declared.status.Status.{Status}
 use Rattle.model.specs.declared.world.Activation.{Activation}
 use Rattle.model.specs.declared.world.Frame.{Frame}
@@ -13,7 +13,7 @@ use Rattle.model.specs.LocalRule.{holds_lock}
 use Rattle.model.specs.Set.{Set, instruction_at}
 use Rattle.run_laws.proofs.Lists.{Each}
 use Rattle.run_laws.proofs.Past.Walks.{WalkIssued}
-use Rattle.run_laws.proofs.States.Entering.{IsOfSort}
+use Rattle.run_laws.proofs.States.Entering.{IsOfSort, IsCompleting}
 use Rattle.run_laws.proofs.States.Frames.{Ready, state_of}
 use Rattle.run_laws.proofs.States.Kinds.{kinds_later}
 use Rattle.run_laws.proofs.States.Rules.{States}
@@ -32,20 +32,31 @@ answered_sort set a status sort h =
     answered_in_sort set a status
     (operand_of (instruction_at set a.driver a.routine (a.position - 1))) sort h
 
+answered_in_completing : (set : Set) (a : Activation) (status : Status) (r : Option ℕ)
+    → IsCompleting set a → IsCompleting set (answered_in a status r)
+answered_in_completing set a status None h = h
+answered_in_completing set a status (Some r) h = h
+
+answered_completing : (set : Set) (a : Activation) (status : Status) → IsCompleting set a
+    → IsCompleting set (answered set a status)
+answered_completing set a status h =
+    answered_in_completing set a status
+    (operand_of (instruction_at set a.driver a.routine (a.position - 1))) h
+
 module _ (set : Set) (states : States) where
   -- a frame, and the one that stands on it. A routine's frame goes on whatever status it is told by
   -- the dispatch routine on it; the I/O manager's has a completion routine on it, or nothing. What
-  -- stands below holds no lock. Where nothing is cancelled no frame of IoCancelIrp stands
+  -- stands below holds no lock. A frame of IoCancelIrp stands alone
   abbrev pub Stands : ℕ → Option Frame → Frame → Type 0
   Stands issued None (Routine a) = Ready set states issued a
   Stands issued None (Walk n) = n < issued
-  Stands issued None (CancelFrame c) = ⊥
+  Stands issued None (CancelFrame c) = c.packet < issued
   Stands issued (Some (Walk n)) (Routine a) = Ready set states issued a
       × (holds_lock (state_of states a) ≡ false)
   Stands issued (Some (Routine b)) (Routine a) =
       IsOfSort set b Dispatch × (holds_lock (state_of states a) ≡ false)
       × ((status : Status) → Ready set states issued (answered set a status))
-  Stands issued (Some (Routine b)) (Walk n) = IsOfSort set b Propagate × (n < issued)
+  Stands issued (Some (Routine b)) (Walk n) = IsCompleting set b × (n < issued)
   Stands issued (Some (Walk m)) (Walk n) = ⊥
   Stands issued (Some (Routine b)) (CancelFrame c) = ⊥
   Stands issued (Some (Walk m)) (CancelFrame c) = ⊥
@@ -82,7 +93,8 @@ module _ (set : Set) (states : States) where
     walk_stands (Some (Walk m)) (Walk n) h = absurd h
     walk_stands (Some (CancelFrame c)) (Walk n) h = absurd h
 
-    pub walks_stand : (frames : List Frame) → Stacked issued frames → Each (WalkIssued issued) frames
+    pub walks_stand : (frames : List Frame) → Stacked issued frames
+        → Each (WalkIssued issued) frames
     walks_stand [] h = tt
     walks_stand (f ∷ []) h = (walk_stands None f h, tt)
     walks_stand (f ∷ g ∷ frames) h = (walk_stands (Some g) f h.0, walks_stand (g ∷ frames) h.1)
@@ -96,7 +108,7 @@ module _ (set : Set) (states : States) where
     under_told (CancelFrame c) (Routine b) (Some status) h = absurd h
     under_told (Routine a) (Routine b) (Some status) h =
         (answered_sort set b status Dispatch h.0, h.1, h.2)
-    under_told (Walk n) (Routine b) (Some status) h = (answered_sort set b status Propagate h.0, h.1)
+    under_told (Walk n) (Routine b) (Some status) h = (answered_completing set b status h.0, h.1)
 
     replaced_last : (below : List Frame) (f : Frame) (told : Option Status)
         → Stacked issued (below ++ f ∷ [])
@@ -105,7 +117,8 @@ module _ (set : Set) (states : States) where
     replaced_last (g ∷ []) f told h to = to g h.0
     replaced_last (g ∷ e ∷ []) f told h to =
         (under_told g e told h.0, replaced_last (e ∷ []) f told h.1 to)
-    replaced_last (g ∷ e ∷ c ∷ below) f told h to = (h.0, replaced_last (e ∷ c ∷ below) f told h.1 to)
+    replaced_last (g ∷ e ∷ c ∷ below) f told h to =
+        (h.0, replaced_last (e ∷ c ∷ below) f told h.1 to)
 
     replaced_on : (below : List Frame) (f e : Frame) (frames : List Frame)
         → Stacked issued (below ++ f ∷ [])
@@ -129,6 +142,18 @@ module _ (set : Set) (states : States) where
         (subst (λ (all : List Frame). Stacked issued all) (sym (told_is set below told))
         (replaced_last below f told h to))
     replaced below f told (e ∷ frames) h to = replaced_told below f e told frames to.0 h to
+
+    -- a completion routine and the I/O manager's frame under it are gone
+    walk_uncovered : (g : Frame) (n : ℕ) → Stands issued (Some (Walk n)) g → Stands issued None g
+    walk_uncovered (Routine a) n h = h.0
+    walk_uncovered (Walk m) n h = absurd h
+    walk_uncovered (CancelFrame c) n h = absurd h
+
+    pub walk_taken : (others : List Frame) (n : ℕ) (f : Frame)
+        → Stacked issued (others ++ Walk n ∷ f ∷ []) → Stacked issued others
+    walk_taken [] n f h = tt
+    walk_taken (g ∷ []) n f h = walk_uncovered g n h.0
+    walk_taken (g ∷ e ∷ others) n f h = (h.0, walk_taken (e ∷ others) n f h.1)
 
   -- more packets were issued
   module _ (issued more : ℕ) (le : issued ≤ more) where
@@ -154,7 +179,7 @@ module _ (set : Set) (states : States) where
         (h.0, h.1, λ status. ready_later (answered set a status) (h.2 status))
     stands_later (Some (Routine b)) (Walk n) h = (h.0, let l : n < issued = h.1 in omega arith)
     stands_later (Some (Walk m)) (Walk n) h = absurd h
-    stands_later None (CancelFrame c) h = absurd h
+    stands_later None (CancelFrame c) h = let l : c.packet < issued = h in omega arith
     stands_later (Some (Routine b)) (CancelFrame c) h = absurd h
     stands_later (Some (Walk m)) (CancelFrame c) h = absurd h
     stands_later (Some (CancelFrame c)) f h = absurd h

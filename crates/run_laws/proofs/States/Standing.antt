@@ -1,6 +1,7 @@
 -- Every run of an accepted set stands as it should: what is shared fits the set, the past tells of
 -- it, and each thread has frames that stand on one another, dispatch routines at PASSIVE_LEVEL.
-use Rattle.std.proofs.Common.{◌<◌, ◌≡◌, ℕ, ◌+◌, ◌≤◌, List, [], ◌∷◌, ◌++◌, length, Option, None, Some, Bool, false, refl, sym, ◌∙◌, subst, arith}
+use Rattle.model.specs.declared.world.Frame.TheVariants.{Walk}
+use Rattle.std.proofs.Common.{◌<◌, ◌≡◌, ℕ, ◌+◌, ◌≤◌, List, [], ◌∷◌, ◌++◌, length, Option, None, Some, Bool, false, refl, sym, ◌∙◌, subst, arith, inl, ap, inr, append_assoc}
 use Rattle.std.specs.Prelude.{slice_get}
 use Rattle.std.specs.List.{list_any}
 use Rattle.model.specs.declared.event.Reply.{Reply}
@@ -12,7 +13,7 @@ use Rattle.model.specs.declared.world.Irql.TheVariants.{Passive, Dispatch as Dis
 use Rattle.model.specs.declared.world.Thread.{Thread}
 use Rattle.model.specs.declared.world.Value.TheVariants.{Blank}
 use Rattle.model.specs.Effect.{Outcome, top_of}
-use Rattle.model.specs.Events.{Change, standing, with_thread, with_stack, rooted, dpc_activation, with_new_packet, serves_request, finished_or}
+use Rattle.model.specs.Events.{Change, standing, with_thread, with_stack, rooted, dpc_activation, with_new_packet, serves_request, finished_or, cancelling}
 use Rattle.model.specs.Fault.{first_fault}
 use Rattle.model.specs.Run.{begun, root_of, frames_of, frames_on}
 use Rattle.model.specs.Set.{Set}
@@ -23,24 +24,23 @@ use Rattle.model.specs.World.{Shared, World, new_packet, with_dpc, with_start}
 use Rattle.model.specs.declared.world.Activation.{Activation}
 use Rattle.run_laws.proofs.Devices.{device_fits}
 use Rattle.run_laws.proofs.Lists.{Each, each_push, each_append, each_before, each_after}
-use Rattle.run_laws.proofs.Past.Packets.{Tells, tells_issue, tells_nothing}
+use Rattle.run_laws.proofs.Past.Packets.{Tells, tells_issue, tells_nothing, found_lt, found}
 use Rattle.run_laws.proofs.Past.Steps.{told_packets}
 use Rattle.run_laws.proofs.Past.Walks.{UnderIssued, WalkIssued, under_issued}
-use Rattle.run_laws.proofs.Runs.Events.{BeginsStartIo, stops_run, StepsFrame, Happens, nothing, steps, issues, begins, begins_startio as startio_begins}
+use Rattle.run_laws.proofs.Runs.Events.{BeginsStartIo, stops_run, StepsFrame, Happens, nothing, steps, issues, begins, begins_startio as startio_begins, begins_cancel}
 use Rattle.run_laws.proofs.Runs.Kept.{GoesOnBy, with_queued}
 use Rattle.run_laws.proofs.Runs.Threads.{frames_there, each_thread, each_frames, idle_frames}
 use Rattle.run_laws.proofs.States.Entering.{Begins, Enters, begins_request, begins_dpc, begins_startio, startio_activation}
 use Rattle.run_laws.proofs.States.Fine.{is_wrong, IsRight, is_right_step, StepLeaves, leaves_fine}
-use Rattle.run_laws.proofs.States.Fits.{queues_later, PacketLeads, Fits, new_leads, unused_fits}
+use Rattle.run_laws.proofs.States.Fits.{queues_later, PacketLeads, Fits, new_leads, unused_fits, WordLeads}
 use Rattle.run_laws.proofs.States.Frames.{IsGood}
-use Rattle.run_laws.proofs.States.Never.{keeps_below}
 use Rattle.run_laws.proofs.States.OnTop.{OnTop}
 use Rattle.run_laws.proofs.States.Roots.{Low, last_low, step_low, low_over}
 use Rattle.run_laws.proofs.States.Rules.{States}
 use Rattle.run_laws.proofs.States.StartsFit.{StartFits, begun_fits, first_low, start_issued, start_put_fits, starts_later}
-use Rattle.run_laws.proofs.States.Stacks.{Stacked, top_stands, replaced, stacked_later, walks_stand}
-use Rattle.run_laws.proofs.States.Told.{told_last, standing_last}
-use Rattle.run_laws.proofs.Steps.Below.{standing_is}
+use Rattle.run_laws.proofs.States.Stacks.{Stacked, top_stands, replaced, stacked_later, walks_stand, walk_taken}
+use Rattle.run_laws.proofs.States.Told.{told_last, told_is}
+use Rattle.run_laws.proofs.Steps.Below.{StopsBelow, stood}
 use Rattle.model.specs.declared.limits.TheConstants.{MAX_LIVE_PACKETS}
 use Rattle.std.proofs.lemmas.Bool.{ltb-true}
 use Rattle.run_laws.proofs.Tests.{and_left}
@@ -94,7 +94,7 @@ module _ (set : Set) (states : States) (w : World) (past : List Entry) (good : I
       }
 
   -- no event goes wrong, and none has a reply with which a run stops
-  pub right_event : (t : ℕ) (c : Change) → Happens set w t false c
+  pub right_event : (t : ℕ) (c : Change) → Happens set w t c
       → (list_any is_wrong c.actions ≡ false) × (stops_run c.reply ≡ false)
   right_event t c (nothing reply right) = (refl, right)
   right_event t c (steps h) =
@@ -104,6 +104,7 @@ module _ (set : Set) (states : States) (w : World) (past : List Entry) (good : I
   right_event t c (issues h) = (refl, refl)
   right_event t c (begins h) = (refl, refl)
   right_event t c (startio_begins h) = (refl, refl)
+  right_event t c (begins_cancel h) = (refl, refl)
 
   -- each thread where one has other frames
   frames_after : (t : ℕ) (s : Shared) (thread after : Thread) → slice_get w.threads t ≡ Some thread
@@ -111,29 +112,46 @@ module _ (set : Set) (states : States) (w : World) (past : List Entry) (good : I
       → (k : ℕ) → Stacked set states s.issued (frames_on (with_thread w t s after) k)
   frames_after t s thread after found le h =
       each_frames w t s after (λ k frames. Stacked set states s.issued frames) thread found h
-      (λ k apart. stacked_later set states w.shared.issued s.issued le (frames_on w k) (stands.frames k))
+      (λ k apart. stacked_later set states w.shared.issued s.issued le (frames_on w k)
+      (stands.frames k))
 
   -- the levels of a thread that steps
   pub lows_there : (t : ℕ) (h : StepsFrame set w t)
       → Each (Low set h.thread.root) (h.below ++ h.frame ∷ [])
   lows_there t h =
       subst (λ (frames : List Frame). Each (Low set h.thread.root) frames) h.frames
-      (subst (λ (o : Option Thread). Each (Low set (root_of o)) (frames_of o)) h.found (stands.roots t))
+      (subst (λ (o : Option Thread). Each (Low set (root_of o)) (frames_of o)) h.found
+      (stands.roots t))
 
   pub low_there : (t : ℕ) (h : StepsFrame set w t) → Low set h.thread.root h.frame
   low_there t h = (each_after (Low set h.thread.root) h.below (h.frame ∷ []) (lows_there t h)).0
+
+  -- what is left where a completion is stopped
+  stopped_before : (t : ℕ) (h : StepsFrame set w t)
+      (stops : StopsBelow set w.shared h.below h.frame h.outcome)
+      → h.below ++ h.frame ∷ [] ≡ stops.others ++ Walk stops.n ∷ h.frame ∷ []
+  stopped_before t h stops =
+      ap (λ (frames : List Frame). frames ++ h.frame ∷ []) stops.below_is
+      ∙ append_assoc stops.others (Walk stops.n ∷ []) (h.frame ∷ [])
 
   lows_after : (t : ℕ) (h : StepsFrame set w t)
       → Each (Low set h.thread.root) (standing set h.below h.outcome)
   lows_after t h =
       let root : Irql = h.thread.root in
-      rw (standing_last set w.shared t (top_of h.below) h.frame h.outcome h.below h.comes
-      (keeps_below set states w.shared t (top_of h.below) h.frame h.outcome (on_top t h) h.comes))
-      (each_append (Low set root) (told_last set h.outcome.told h.below) h.outcome.frames
-      (last_low set root h.outcome.told h.below
-      (each_before (Low set root) h.below (h.frame ∷ []) (lows_there t h)))
-      (step_low set root states w.shared t (top_of h.below) h.frame h.outcome (on_top t h)
-      (low_there t h) h.comes))
+      elim (stood set w.shared t h.below h.frame h.outcome h.comes) [
+        | inl is ↦
+            rw is (rw (told_is set h.below h.outcome.told)
+            (each_append (Low set root) (told_last set h.outcome.told h.below) h.outcome.frames
+            (last_low set root h.outcome.told h.below
+            (each_before (Low set root) h.below (h.frame ∷ []) (lows_there t h)))
+            (step_low set root states w.shared t (top_of h.below) h.frame h.outcome (on_top t h)
+            (low_there t h) h.comes)))
+        | inr stops ↦
+            rw stops.stands
+            (each_before (Low set root) stops.others (Walk stops.n ∷ h.frame ∷ [])
+            (subst (λ (frames : List Frame). Each (Low set root) frames) (stopped_before t h stops)
+            (lows_there t h)))
+      ]
 
   roots_after : (t : ℕ) (s : Shared) (thread after : Thread) → slice_get w.threads t ≡ Some thread
       → Each (Low set after.root) after.frames.items → (k : ℕ)
@@ -160,6 +178,7 @@ module _ (set : Set) (states : States) (w : World) (past : List Entry) (good : I
           spin = stands.fits.spin;
           rows = stands.fits.rows;
           completions = stands.fits.completions;
+          words = stands.fits.words;
           queued = stands.fits.queued;
           starts = stands.fits.starts;
           few = stands.fits.few;
@@ -169,11 +188,11 @@ module _ (set : Set) (states : States) (w : World) (past : List Entry) (good : I
         frames = stands.frames;
       }
 
-  pub standing_kept : (actor : Actor) (c : Change) → GoesOnBy set w past actor false c
+  pub standing_kept : (actor : Actor) (c : Change) → GoesOnBy set w past actor c
       → Standing set states c.world (recorded past actor c.actions)
   standing_kept actor c on = kept c on.happens on.quiet
     where
-      kept : (c : Change) → Happens set w actor.thread false c → first_fault past actor c.actions ≡ None
+      kept : (c : Change) → Happens set w actor.thread c → first_fault past actor c.actions ≡ None
           → Standing set states c.world (recorded past actor c.actions)
       kept c (nothing reply right) quiet = stands
       kept c (steps h) quiet =
@@ -188,18 +207,22 @@ module _ (set : Set) (states : States) (w : World) (past : List Entry) (good : I
             fits = leaves.fits;
             tells = told_packets set w.shared past actor (top_of h.below) h.frame o stands.tells
                 (walks_below t h) h.comes;
-            roots = roots_after t o.shared h.thread (with_stack h.thread (standing set h.below o)) h.found
+            roots = roots_after t o.shared h.thread (with_stack h.thread (standing set h.below o))
+                h.found
                 (low_over set h.thread.root (standing set h.below o) (lows_after t h));
             frames = frames_after t o.shared h.thread (with_stack h.thread (standing set h.below o))
                 h.found
                 (omega arith)
-                (rw (
-                  standing_is set w.shared t (top_of h.below) h.frame o h.below h.comes
-                      (keeps_below set states w.shared t (top_of h.below) h.frame o (on_top t h) h.comes),
-                  issued,
-                )
-                (replaced set states w.shared.issued h.below h.frame o.told o.frames (stands_there t h)
-                leaves.stands));
+                (rw issued (elim (stood set w.shared t h.below h.frame o h.comes) [
+                  | inl is ↦
+                      rw is (replaced set states w.shared.issued h.below h.frame o.told o.frames
+                      (stands_there t h) leaves.stands)
+                  | inr stops ↦
+                      rw stops.stands (walk_taken set states w.shared.issued stops.others stops.n
+                      h.frame
+                      (subst (λ (frames : List Frame). Stacked set states w.shared.issued frames)
+                      (stopped_before t h stops) (stands_there t h)))
+                ]));
           }
       kept c (issues h) quiet =
           let n : ℕ = w.shared.issued in
@@ -214,18 +237,22 @@ module _ (set : Set) (states : States) (w : World) (past : List Entry) (good : I
               completions = each_push (PacketLeads set) w.shared.packets
                   (new_packet n h.d h.major h.argument h.device.stack) stands.fits.completions
                   (new_leads set n h.d h.major h.argument h.device.stack);
+              words = each_push (WordLeads set) w.shared.packets
+                  (new_packet n h.d h.major h.argument h.device.stack) stands.fits.words tt;
               queued = queues_later set w.shared.queues n (n + 1) (omega arith) stands.fits.queued;
               starts = starts_later set w.shared.starts n (n + 1) (omega arith) stands.fits.starts;
               few = (let room : length w.shared.packets < MAX_LIVE_PACKETS =
                   ltb-true (length w.shared.packets) MAX_LIVE_PACKETS (and_left _ _ h.room) in
-                  let one : length (new_packet n h.d h.major h.argument h.device.stack ∷ []) ≡ 1 = refl in
+                  let one : length (new_packet n h.d h.major h.argument h.device.stack ∷ [])
+                  ≡ 1 = refl in
                   let long : length s.packets ≡ length w.shared.packets + length
                   (new_packet n h.d h.major h.argument h.device.stack ∷ []) =
                   length-append w.shared.packets
                   (new_packet n h.d h.major h.argument h.device.stack ∷ []) in
                   omega arith);
             };
-            tells = tells_issue w.shared past stands.tells h.d h.major h.argument h.device.stack fits.low;
+            tells = tells_issue w.shared past stands.tells h.d h.major h.argument h.device.stack
+                fits.low;
             roots = roots_after actor.thread s h.thread
                 (rooted h.thread Passive (serves_request set h.d h.device h.major n)) h.found
                 ((λ is. refl), tt);
@@ -251,8 +278,10 @@ module _ (set : Set) (states : States) (w : World) (past : List Entry) (good : I
               spin = stands.fits.spin;
               rows = stands.fits.rows;
               completions = stands.fits.completions;
+              words = stands.fits.words;
               queued = stands.fits.queued;
-              starts = start_put_fits set w.shared h.d after (begun_fits w.shared.issued h.start fits)
+              starts =
+                  start_put_fits set w.shared h.d after (begun_fits w.shared.issued h.start fits)
                   stands.fits.starts;
               few = stands.fits.few;
             };
@@ -260,6 +289,17 @@ module _ (set : Set) (states : States) (w : World) (past : List Entry) (good : I
             roots = roots_after t s h.thread thread h.found
                 ((λ is. (let no : StartIo ≡ Dispatch = sym enters.of_sort ∙ is in cc)), tt);
             frames = frames_after t s h.thread thread h.found (omega arith) enters.ready;
+          }
+      kept c (begins_cancel h) quiet =
+          let t : ℕ = actor.thread in
+          let after : Thread = cancelling h.thread h.level h.n in
+          record {
+            fits = stands.fits;
+            tells = stands.tells;
+            roots = roots_after t w.shared h.thread after h.found (tt, tt);
+            frames = frames_after t w.shared h.thread after h.found (omega arith)
+                (found_lt w.shared h.n h.packet stands.tells.rises
+                (found w.shared h.n (Some h.packet) h.there));
           }
       kept c (begins h) quiet =
           let t : ℕ = actor.thread in

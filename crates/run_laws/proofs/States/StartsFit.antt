@@ -12,7 +12,8 @@ use Rattle.run_laws.proofs.Lists.{Each, each_at, each_map, each_push, each_same,
 abbrev pub WereIssued : ℕ → List ℕ → Type 0
 WereIssued issued entries = Each (λ (n : ℕ). n < issued) entries
 
-pub issued_later : (issued more : ℕ) → issued ≤ more → (entries : List ℕ) → WereIssued issued entries
+pub issued_later : (issued more : ℕ) → issued ≤ more → (entries : List ℕ)
+    → WereIssued issued entries
     → WereIssued more entries
 issued_later issued more le entries h =
     each_map (λ (n : ℕ). n < issued) (λ (n : ℕ). n < more) entries (λ n low. omega arith) h
@@ -58,7 +59,8 @@ pub starts_later : (set : Set) (starts : List StartState) (issued more : ℕ) �
 starts_later set starts issued more le h =
     record {
       long = h.long;
-      each = each_map (StartFits issued) (StartFits more) starts (start_later issued more le) h.each;
+      each = each_map (StartFits issued) (StartFits more) starts (start_later issued more le)
+          h.each;
     }
 
 -- what one device has, and something else in its place
@@ -66,7 +68,8 @@ pub start_issued : (set : Set) (s : Shared) (d : ℕ) (start : StartState) → s
     → AllStartsFit set s.starts s.issued → StartFits s.issued start
 start_issued set s d start there h = each_at (StartFits s.issued) s.starts d start h.each there
 
-pub start_put_fits : (set : Set) (s : Shared) (d : ℕ) (after : StartState) → StartFits s.issued after
+pub start_put_fits : (set : Set) (s : Shared) (d : ℕ) (after : StartState)
+    → StartFits s.issued after
     → AllStartsFit set s.starts s.issued → AllStartsFit set (with_start s d after).starts s.issued
 start_put_fits set s d after fits h =
     record {
@@ -100,7 +103,8 @@ module _ (issued : ℕ) (start : StartState) (h : StartFits issued start) where
         slot = h.slot;
       })
 
-  next_fits : (waiting : List ℕ) → WereIssued issued waiting → StartFits issued (next_of start waiting)
+  next_fits : (waiting : List ℕ) → WereIssued issued waiting
+      → StartFits issued (next_of start waiting)
   next_fits [] all =
       record { start_list = h.start_list; device_queue = h.device_queue; slot = h.slot }
   next_fits (n ∷ waiting) all =
@@ -113,7 +117,8 @@ module _ (issued : ℕ) (start : StartState) (h : StartFits issued start) where
   pub next_started_fits : StartFits issued (next_started start)
   next_started_fits = next_fits start.device_queue h.device_queue
 
-  pub slot_put_fits : (slot : Option ℕ) → SlotFits issued slot → StartFits issued (with_slot start slot)
+  pub slot_put_fits : (slot : Option ℕ) → SlotFits issued slot
+      → StartFits issued (with_slot start slot)
   slot_put_fits slot fits =
       record { start_list = h.start_list; device_queue = h.device_queue; slot = fits }
 

@@ -39,7 +39,8 @@ last_told set (g ∷ []) status f = refl
 last_told set (g ∷ e ∷ xs) status f =
     ap (λ (frames : List Frame). g ∷ frames) (last_told set (e ∷ xs) status f)
 
-some_top : (g : Frame) (below : List Frame) → slice_get (g ∷ below) (length (g ∷ below) - 1) ≡ None → ⊥
+some_top : (g : Frame) (below : List Frame) → slice_get (g ∷ below) (length (g ∷ below) - 1) ≡ None
+    → ⊥
 some_top g below h =
     let there : slice_get (g ∷ below) (length (g ∷ below) - 1)
     ≡ Some (get_or (g ∷ below) (length (g ∷ below) - 1) g) =
@@ -56,7 +57,8 @@ last_top set below status (Some (Routine a)) h =
     sym (last_told set (take (length below - 1) below) status (Routine a))
     ∙ ap (told_last set (Some status)) (sym split)
 last_top set below status (Some (Walk n)) h =
-    let split : below ≡ take (length below - 1) below ++ Walk n ∷ [] = last_split below (Walk n) h in
+    let split : below ≡ take (length below - 1) below
+    ++ Walk n ∷ [] = last_split below (Walk n) h in
     split ∙ sym (last_told set (take (length below - 1) below) status (Walk n))
     ∙ ap (told_last set (Some status)) (sym split)
 last_top set below status (Some (CancelFrame c)) h =

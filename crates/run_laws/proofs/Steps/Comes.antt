@@ -52,10 +52,12 @@ pub data Lacks (set : Set) (s : Shared) (a : Activation) : Type 0 where
       → number_in (register a r) ≡ None → Lacks set s a
   no_packet : (i : Instr) (r : ℕ) → Executing set a i → packet_operand i ≡ Some r
       → packet_in s (register a r) ≡ None → Lacks set s a
-  no_room : (turns : ℕ) → Executing set a (Loop turns) → nat_lt (length a.loops.items) MAX_LOOPS ≡ false
+  no_room : (turns : ℕ) → Executing set a (Loop turns)
+      → nat_lt (length a.loops.items) MAX_LOOPS ≡ false
       → Lacks set s a
   no_loop : Executing set a End → innermost a ≡ None → Lacks set s a
-  no_cells : (i : Instr) → Executing set a i → is_of_cells i ≡ true → slice_get s.cells a.device ≡ None
+  no_cells : (i : Instr) → Executing set a i → is_of_cells i ≡ true
+      → slice_get s.cells a.device ≡ None
       → Lacks set s a
   none_taken : (i : Instr) (lock : Lock) → Executing set a i → lock_taken a i ≡ Some lock
       → owner_of s.locks lock ≡ None → Lacks set s a
@@ -69,7 +71,8 @@ pub data Lacks (set : Set) (s : Shared) (a : Activation) : Type 0 where
       → Lacks set s a
   no_lower : (i : Instr) → Executing set a i → work_of i ≡ Forwarding → lower_of set a.device ≡ None
       → Lacks set s a
-  no_status : (form : Return) → Executing set a (Ret form) → sort_of set a.driver a.routine ≡ Dispatch
+  no_status : (form : Return) → Executing set a (Ret form)
+      → sort_of set a.driver a.routine ≡ Dispatch
       → is_form_of Dispatch form ≡ true → status_returned a form ≡ None → Lacks set s a
   no_form : (form : Return) → Executing set a (Ret form)
       → is_form_of (sort_of set a.driver a.routine) form ≡ false
@@ -98,7 +101,8 @@ pub data GoesTo (a : Activation) (i : Instr) : Activation → Bool → Type 0 wh
 pub data Queued (s : Shared) (a : Activation) : Instr → Activation → List (List (List ℕ))
     → List StartState → List Action → Bool → Type 0 where
   inserts : (r q n : ℕ) (entries : List ℕ) → Reads s a r n → queue_of s a.device q ≡ Some entries
-      → Queued s a (Insert r q) (next a) (with_queue s a.device q (inserted entries n)).queues s.starts
+      → Queued s a (Insert r q) (next a) (with_queue s a.device q (inserted entries n)).queues
+      s.starts
       (Touches n ∷ []) (is_full entries)
   removes : (r q label n : ℕ) (entries : List ℕ) → queue_of s a.device q ≡ Some (n ∷ entries)
       → Queued s a (Remove r q label) (next (with_register a r (Ref n)))
@@ -106,7 +110,8 @@ pub data Queued (s : Shared) (a : Activation) : Instr → Activation → List (L
   removes_none : (r q label : ℕ) → queue_of s a.device q ≡ Some []
       → Queued s a (Remove r q label) (at_label a label) s.queues s.starts [] false
   unlinks : (r q n : ℕ) (entries : List ℕ) → Reads s a r n → queue_of s a.device q ≡ Some entries
-      → Queued s a (Unlink r q) (next a) (with_queue s a.device q (unlinked entries n)).queues s.starts
+      → Queued s a (Unlink r q) (next a) (with_queue s a.device q (unlinked entries n)).queues
+      s.starts
       (Touches n ∷ []) false
   starts_packet : (r n : ℕ) (start : StartState) → Reads s a r n → start_of s a.device ≡ Some start
       → Queued s a (Start r) (next a) s.queues (with_start s a.device (started start n)).starts
@@ -119,7 +124,8 @@ pub data Queued (s : Shared) (a : Activation) : Instr → Activation → List (L
       → start.slot ≡ None
       → Queued s a (Take r label) (at_label a label) s.queues s.starts [] false
   puts_in : (r n : ℕ) (start : StartState) → Reads s a r n → start_of s a.device ≡ Some start
-      → Queued s a (Begin r) (next a) s.queues (with_start s a.device (with_slot start (Some n))).starts
+      → Queued s a (Begin r) (next a) s.queues (with_start s a.device
+      (with_slot start (Some n))).starts
       (Touches n ∷ []) false
   starts_next : (start : StartState) → start_of s a.device ≡ Some start
       → Queued s a Next (next a) s.queues (with_start s a.device (next_started start)).starts []
@@ -146,7 +152,8 @@ pub data Exchanged (set : Set) (a : Activation) (p : Packet) : Instr → Bool �
 pub data Cancels (set : Set) (s : Shared) (t n : ℕ) : CancelStep → Outcome → Type 0 where
   takes_cancel : owner_of s.locks SystemCancel ≡ Some None
       → Cancels set s t n AcquireStep
-      (leaves (with_locks s (with_owner s.locks SystemCancel (Some t))) (goes_on_cancelling n SetFlag)
+      (leaves (with_locks s (with_owner s.locks SystemCancel (Some t)))
+      (goes_on_cancelling n SetFlag)
       (Acquires SystemCancel ∷ []))
   retakes_cancel : owner_of s.locks SystemCancel ≡ Some (Some t)
       → Cancels set s t n AcquireStep
@@ -164,18 +171,21 @@ pub data Cancels (set : Set) (s : Shared) (t n : ℕ) : CancelStep → Outcome �
       → Cancels set s t n Exchange
       (cancel_ends (with_packet s n (with_armer p None)) (Exchanges n false ∷ []))
   finds_none : (p : Packet) (armer : Armer) → packet_of s n ≡ Some p → p.armer ≡ Some armer
-      → cancel_routine_named set (routine_of_device (slice_get set.devices armer.device)) armer.queue
+      → cancel_routine_named set (routine_of_device (slice_get set.devices armer.device))
+      armer.queue
       ≡ None
       → Cancels set s t n Exchange
       (cancel_ends (with_packet s n (with_armer p None)) (Exchanges n false ∷ []))
   calls_cancel : (p : Packet) (armer : Armer) (routine : ℕ) → packet_of s n ≡ Some p
       → p.armer ≡ Some armer
-      → cancel_routine_named set (routine_of_device (slice_get set.devices armer.device)) armer.queue
+      → cancel_routine_named set (routine_of_device (slice_get set.devices armer.device))
+      armer.queue
       ≡ Some routine
       → Cancels set s t n Exchange
       (leaves (with_packet s n (with_armer p None))
       (Routine
-      (entered (routine_of_device (slice_get set.devices armer.device)) routine armer.device (Ref n))
+      (entered (routine_of_device (slice_get set.devices armer.device)) routine armer.device
+      (Ref n))
       ∷ [])
       (Exchanges n false ∷ []))
 
@@ -187,12 +197,14 @@ pub data Comes (set : Set) (s : Shared) (t : ℕ) : Option Frame → Frame → O
   -- another thread owns the lock that it takes
   awaits_lock : {under : Option Frame} (a : Activation) (i : Instr) (lock : Lock) (owner : ℕ)
       → Executing set a i
-      → lock_taken a i ≡ Some lock → owner_of s.locks lock ≡ Some (Some owner) → nat_eq owner t ≡ false
+      → lock_taken a i ≡ Some lock → owner_of s.locks lock ≡ Some (Some owner)
+      → nat_eq owner t ≡ false
       → Comes set s t under (Routine a) (waits s a)
   -- registers and cells alone
   computes : {under : Option Frame} (a : Activation) (i : Instr) (b : Activation) (jumped : Bool)
       (cells : List Cells)
-      → Executing set a i → work_of i ≡ Computing → GoesTo a i b jumped → length cells ≡ length s.cells
+      → Executing set a i → work_of i ≡ Computing → GoesTo a i b jumped
+      → length cells ≡ length s.cells
       → Comes set s t under (Routine a) (goes_on (record s { cells = cells }) b [])
   opens_loop : {under : Option Frame} (a : Activation) (turns : ℕ) → Executing set a (Loop turns)
       → nat_lt (length a.loops.items) MAX_LOOPS ≡ true
@@ -207,10 +219,12 @@ pub data Comes (set : Set) (s : Shared) (t : ℕ) : Option Frame → Frame → O
   pages : {under : Option Frame} (a : Activation) (i : Instr) (b : Activation) (cell : OfDevice)
       (cells : List Cells)
       → Executing set a i → work_of i ≡ Paging → GoesTo a i b false → length cells ≡ length s.cells
-      → Comes set s t under (Routine a) (goes_on (record s { cells = cells }) b (TouchesPaged cell ∷ []))
+      → Comes set s t under (Routine a) (goes_on (record s { cells = cells }) b
+      (TouchesPaged cell ∷ []))
   -- a packet is touched that isn't live
   touches_gone : {under : Option Frame} (a : Activation) (i : Instr) (r n : ℕ) → Executing set a i
-      → is_touching (work_of i) ≡ true → goes_next i ≡ true → packet_operand i ≡ Some r → Reads s a r n
+      → is_touching (work_of i) ≡ true → goes_next i ≡ true → packet_operand i ≡ Some r
+      → Reads s a r n
       → packet_of s n ≡ None
       → Comes set s t under (Routine a) (goes_on s (next a) (Touches n ∷ []))
   looks_at : {under : Option Frame} (a : Activation) (i : Instr) (b : Activation) (jumped : Bool)
@@ -224,7 +238,8 @@ pub data Comes (set : Set) (s : Shared) (t : ℕ) : Option Frame → Frame → O
       → Reads s a q n → packet_of s n ≡ Some p → number_in (register a r) ≡ Some info
       → Comes set s t under (Routine a)
       (goes_on (with_packet s n (with_info p info)) (next a) (Touches n ∷ []))
-  marks_packet : {under : Option Frame} (a : Activation) (r n : ℕ) (p : Packet) → Executing set a (Mark r)
+  marks_packet : {under : Option Frame} (a : Activation) (r n : ℕ) (p : Packet)
+      → Executing set a (Mark r)
       → Reads s a r n → packet_of s n ≡ Some p
       → Comes set s t under (Routine a)
       (goes_on (with_packet s n (mark_current p)) (next a) (Touches n ∷ Marks n ∷ []))
@@ -241,7 +256,8 @@ pub data Comes (set : Set) (s : Shared) (t : ℕ) : Option Frame → Frame → O
       → lock_taken a i ≡ Some lock → owner_of s.locks lock ≡ Some None
       → Comes set s t under (Routine a)
       (goes_on (with_locks s (with_owner s.locks lock (Some t))) (next a) (Acquires lock ∷ []))
-  retakes_lock : {under : Option Frame} (a : Activation) (i : Instr) (lock : Lock) → Executing set a i
+  retakes_lock : {under : Option Frame} (a : Activation) (i : Instr) (lock : Lock)
+      → Executing set a i
       → lock_taken a i ≡ Some lock → owner_of s.locks lock ≡ Some (Some t)
       → Comes set s t under (Routine a) (goes_on s (next a) (Acquires lock ∷ []))
   frees_lock : {under : Option Frame} (a : Activation) (i : Instr) (lock : Lock) (owner : Option ℕ)
@@ -251,7 +267,8 @@ pub data Comes (set : Set) (s : Shared) (t : ℕ) : Option Frame → Frame → O
       (goes_on (with_locks s (with_owner s.locks lock None)) (next a) (Releases lock ∷ []))
   -- queues of the device, or what it has for StartIo
   works_on_queues : {under : Option Frame} (a : Activation) (i : Instr) (b : Activation)
-      (queues : List (List (List ℕ))) (starts : List StartState) (actions : List Action) (full : Bool)
+      (queues : List (List (List ℕ))) (starts : List StartState) (actions : List Action)
+      (full : Bool)
       → Executing set a i → Queued s a i b queues starts actions full
       → Comes set s t under (Routine a) (queued_to s b queues starts actions full)
   completes_packet : {under : Option Frame} (a : Activation) (r : ℕ) (status : Status) (n : ℕ)
@@ -268,7 +285,8 @@ pub data Comes (set : Set) (s : Shared) (t : ℕ) : Option Frame → Frame → O
       → Executing set a (Pass r)
       → Reads s a r n → packet_of s n ≡ Some p → lower_of set a.device ≡ Some lower
       → Comes set s t under (Routine a)
-      (leaves (with_packet s n (shared_with p lower)) (asks set a lower p n) (Executes ∷ Touches n ∷ []))
+      (leaves (with_packet s n (shared_with p lower)) (asks set a lower p n)
+      (Executes ∷ Touches n ∷ []))
   calls_down : {under : Option Frame} (a : Activation) (r : ℕ) (f : Option ℕ) (n : ℕ) (p : Packet)
       (lower : ℕ)
       → Executing set a (Call r f) → Reads s a r n → packet_of s n ≡ Some p
@@ -356,5 +374,6 @@ pub data Comes (set : Set) (s : Shared) (t : ℕ) : Option Frame → Frame → O
         reply = Topped n p.status p.info;
       })
   -- the I/O manager cancels a packet
-  cancels : {under : Option Frame} (n : ℕ) (step : CancelStep) (o : Outcome) → Cancels set s t n step o
+  cancels : {under : Option Frame} (n : ℕ) (step : CancelStep) (o : Outcome)
+      → Cancels set s t n step o
       → Comes set s t under (CancelFrame (record { packet = n; next = step })) o

@@ -52,7 +52,8 @@ pub record NoFaults (past : List Entry) (actor : Actor) (actions : List Action) 
   pub completions : fault_among is_completion past actor actions ≡ None
 
 module _ (past : List Entry) (actor : Actor) (actions : List Action) where
-  here : (action : Action) → NoFaults past actor (action ∷ actions) → fault_of past actor action ≡ None
+  here : (action : Action) → NoFaults past actor (action ∷ actions)
+      → fault_of past actor action ≡ None
   here (Acquires lock) h = none_first _ _ h.locks
   here (Releases lock) h = none_first _ _ h.locks
   here (TouchesPaged cell) h = none_first _ _ h.locks
@@ -71,16 +72,19 @@ module _ (past : List Entry) (actor : Actor) (actions : List Action) where
         completions = none_later _ _ h.completions;
       }
 
-pub no_fault : (past : List Entry) (actor : Actor) (actions : List Action) → NoFaults past actor actions
+pub no_fault : (past : List Entry) (actor : Actor) (actions : List Action)
+    → NoFaults past actor actions
     → first_fault past actor actions ≡ None
 no_fault past actor [] h = refl
 no_fault past actor (action ∷ actions) h =
-    none_both (fault_of past actor action) (first_fault (entry past actor action ∷ past) actor actions)
+    none_both (fault_of past actor action) (first_fault (entry past actor action ∷ past) actor
+    actions)
     (here past actor actions action h)
     (no_fault (entry past actor action ∷ past) actor actions (later past actor actions action h))
 
 -- where there is none at all, there is none of a kind
-among_fault : (chosen : Bool) (bug : Option Bug) → bug ≡ None → (if chosen then bug else None) ≡ None
+among_fault : (chosen : Bool) (bug : Option Bug) → bug ≡ None
+    → (if chosen then bug else None) ≡ None
 among_fault true bug h = h
 among_fault false bug h = refl
 

@@ -11,12 +11,14 @@ pub record LockWord (i : Instr) : Type 0 where
   pub on : goes_next i ≡ true
   pub keeps : keeps_registers i ≡ true
 
-pub taken_word : (a : Activation) (i : Instr) (lock : Lock) → lock_taken a i ≡ Some lock → LockWord i
+pub taken_word : (a : Activation) (i : Instr) (lock : Lock) → lock_taken a i ≡ Some lock
+    → LockWord i
 taken_word a (Acquire l) lock is = record { work = refl; on = refl; keeps = refl }
 taken_word a AcquireCancel lock is = record { work = refl; on = refl; keeps = refl }
 taken_word a _ lock is = cc
 
-pub freed_word : (a : Activation) (i : Instr) (lock : Lock) → lock_freed a i ≡ Some lock → LockWord i
+pub freed_word : (a : Activation) (i : Instr) (lock : Lock) → lock_freed a i ≡ Some lock
+    → LockWord i
 freed_word a (Release l) lock is = record { work = refl; on = refl; keeps = refl }
 freed_word a ReleaseCancel lock is = record { work = refl; on = refl; keeps = refl }
 freed_word a _ lock is = cc

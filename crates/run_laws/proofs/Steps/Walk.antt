@@ -48,7 +48,8 @@ module _ (set : Set) (s : Shared) (t : ℕ) (under : Option Frame) (a : Activati
   straight i registers at work on written =
       computes a i _ false s.cells at work (onward registers on written) refl
 
-  jumps : (i : Instr) (label : ℕ) → Executing set a i → work_of i ≡ Computing → label_of i ≡ Some label
+  jumps : (i : Instr) (label : ℕ) → Executing set a i → work_of i ≡ Computing
+      → label_of i ≡ Some label
       → ComesTo (goes_on s (at_label a label) [])
   jumps i label at work to = computes a i _ true s.cells at work (jumping label to) refl
 
@@ -94,7 +95,8 @@ module _ (set : Set) (s : Shared) (t : ℕ) (under : Option Frame) (a : Activati
   load : (r c : ℕ) (o : Option Cells) → Executing set a (Load r c) → slice_get s.cells a.device ≡ o
       → ComesTo (load_effect s a r c o)
   load r c None at there = errs a (no_cells (Load r c) at refl there)
-  load r c (Some cells) at there = straight (Load r c) _ at refl refl (makes_number (Load r c) r _ refl)
+  load r c (Some cells) at there =
+      straight (Load r c) _ at refl refl (makes_number (Load r c) r _ refl)
 
   load_paged : (r c : ℕ) (o : Option Cells) → Executing set a (LoadPaged r c)
       → slice_get s.cells a.device ≡ o
@@ -151,9 +153,11 @@ module _ (set : Set) (s : Shared) (t : ℕ) (under : Option Frame) (a : Activati
       → packet_in s (register a q) ≡ o → ComesTo (put_effect s a x o)
   puts q r None o at here reads = errs a (no_number (Put q r) r at (inl refl) here)
   puts q r (Some info) None at here reads = errs a (no_packet (Put q r) q at refl reads)
-  puts q r (Some info) (Some n) at here reads = puts_into q r info n (packet_of s n) at reads refl here
+  puts q r (Some info) (Some n) at here reads =
+      puts_into q r info n (packet_of s n) at reads refl here
 
-  marks_in : (r n : ℕ) (o : Option Packet) → Executing set a (Mark r) → Reads s a r n → packet_of s n ≡ o
+  marks_in : (r n : ℕ) (o : Option Packet) → Executing set a (Mark r) → Reads s a r n
+      → packet_of s n ≡ o
       → ComesTo (mark_packet s a n o)
   marks_in r n None at reads there = touches_gone a (Mark r) r n at refl refl refl reads there
   marks_in r n (Some p) at reads there = marks_packet a r n p at reads there
@@ -163,11 +167,13 @@ module _ (set : Set) (s : Shared) (t : ℕ) (under : Option Frame) (a : Activati
   marks r None at reads = errs a (no_packet (Mark r) r at refl reads)
   marks r (Some n) at reads = marks_in r n (packet_of s n) at reads refl
 
-  takes_owned : (i : Instr) (lock : Lock) (o : Option ℕ) → Executing set a i → lock_taken a i ≡ Some lock
+  takes_owned : (i : Instr) (lock : Lock) (o : Option ℕ) → Executing set a i
+      → lock_taken a i ≡ Some lock
       → owner_of s.locks lock ≡ Some o → ComesTo (acquire_owned s t a lock o)
   takes_owned i lock None at is there = takes_lock a i lock at is there
   takes_owned i lock (Some owner) at is there =
-      cond_both (nat_eq owner t) (goes_on s (next a) (Acquires lock ∷ [])) (waits s a) (λ o. ComesTo o)
+      cond_both (nat_eq owner t) (goes_on s (next a) (Acquires lock ∷ [])) (waits s a)
+      (λ o. ComesTo o)
       (λ own. elim (eqb_tells owner t) [
         | inl g ↦ retakes_lock a i lock at is (there ∙ ap (λ x. Some (Some x)) g.1)
         | inr g ↦ cc
@@ -196,7 +202,8 @@ module _ (set : Set) (s : Shared) (t : ℕ) (under : Option Frame) (a : Activati
 
   removed_from : (r q label : ℕ) (entries : List ℕ) → Executing set a (Remove r q label)
       → queue_of s a.device q ≡ Some entries → ComesTo (remove_from s a r q label entries)
-  removed_from r q label [] at there = works_on_queues a (Remove r q label) _ _ _ _ _ at (removes_none r q label there)
+  removed_from r q label [] at there =
+      works_on_queues a (Remove r q label) _ _ _ _ _ at (removes_none r q label there)
   removed_from r q label (n ∷ entries) at there =
       works_on_queues a (Remove r q label) _ _ _ _ _ at (removes r q label n entries there)
 
@@ -241,10 +248,12 @@ module _ (set : Set) (s : Shared) (t : ℕ) (under : Option Frame) (a : Activati
     where
       disarmed_to : (empty : Bool) → Exchanged set a p (Disarm r label) empty None
           → ComesTo
-          (goes_on (with_packet s n (with_armer p None)) (if empty then at_label a label else next a)
+          (goes_on (with_packet s n (with_armer p None))
+          (if empty then at_label a label else next a)
           (Touches n ∷ Exchanges n false ∷ []))
       disarmed_to true how =
-          exchanges a (Disarm r label) _ true r n p None at refl (jumping label refl) refl reads there
+          exchanges a (Disarm r label) _ true r n p None at refl (jumping label refl) refl reads
+          there
           how
       disarmed_to false how =
           exchanges a (Disarm r label) _ false r n p None at refl
@@ -276,7 +285,8 @@ module _ (set : Set) (s : Shared) (t : ℕ) (under : Option Frame) (a : Activati
       → ComesTo (start_effect s a o start)
   started_in r None start at reads there = errs a (no_packet (Start r) r at refl reads)
   started_in r (Some n) None at reads there = errs a (no_start (Start r) at refl there)
-  started_in r (Some n) (Some start) at reads there = works_on_queues a (Start r) _ _ _ _ _ at (starts_packet r n start reads there)
+  started_in r (Some n) (Some start) at reads there =
+      works_on_queues a (Start r) _ _ _ _ _ at (starts_packet r n start reads there)
 
   taken_from : (r label : ℕ) (start : StartState) (slot : Option ℕ) → Executing set a (Take r label)
       → start_of s a.device ≡ Some start → start.slot ≡ slot
@@ -296,7 +306,8 @@ module _ (set : Set) (s : Shared) (t : ℕ) (under : Option Frame) (a : Activati
       → ComesTo (begin_effect s a o start)
   begun_in r None start at reads there = errs a (no_packet (Begin r) r at refl reads)
   begun_in r (Some n) None at reads there = errs a (no_start (Begin r) at refl there)
-  begun_in r (Some n) (Some start) at reads there = works_on_queues a (Begin r) _ _ _ _ _ at (puts_in r n start reads there)
+  begun_in r (Some n) (Some start) at reads there =
+      works_on_queues a (Begin r) _ _ _ _ _ at (puts_in r n start reads there)
 
   next_in : (start : Option StartState) → Executing set a Next → start_of s a.device ≡ start
       → ComesTo (next_effect s a start)
@@ -317,29 +328,35 @@ module _ (set : Set) (s : Shared) (t : ℕ) (under : Option Frame) (a : Activati
   passes_in : (r lower n : ℕ) (o : Option Packet) → Executing set a (Pass r) → Reads s a r n
       → packet_of s n ≡ o
       → lower_of set a.device ≡ Some lower → ComesTo (pass_packet set s a lower n o)
-  passes_in r lower n None at reads there down = touches_gone a (Pass r) r n at refl refl refl reads there
+  passes_in r lower n None at reads there down =
+      touches_gone a (Pass r) r n at refl refl refl reads there
   passes_in r lower n (Some p) at reads there down = passes_down a r n p lower at reads there down
 
   passes : (r : ℕ) (o lower : Option ℕ) → Executing set a (Pass r) → packet_in s (register a r) ≡ o
       → lower_of set a.device ≡ lower → ComesTo (pass_effect set s a o lower)
   passes r None lower at reads down = errs a (no_packet (Pass r) r at refl reads)
   passes r (Some n) None at reads down = errs a (no_lower (Pass r) at refl down)
-  passes r (Some n) (Some lower) at reads down = passes_in r lower n (packet_of s n) at reads refl down
+  passes r (Some n) (Some lower) at reads down =
+      passes_in r lower n (packet_of s n) at reads refl down
 
   calls_in : (r : ℕ) (f : Option ℕ) (lower n : ℕ) (o : Option Packet) → Executing set a (Call r f)
       → Reads s a r n
-      → packet_of s n ≡ o → lower_of set a.device ≡ Some lower → ComesTo (call_packet set s a f lower n o)
+      → packet_of s n ≡ o → lower_of set a.device ≡ Some lower
+      → ComesTo (call_packet set s a f lower n o)
   calls_in r f lower n None at reads there down =
       touches_gone a (Call r f) r n at refl refl refl reads there
   calls_in r f lower n (Some p) at reads there down = calls_down a r f n p lower at reads there down
 
-  calls : (r : ℕ) (f o lower : Option ℕ) → Executing set a (Call r f) → packet_in s (register a r) ≡ o
+  calls : (r : ℕ) (f o lower : Option ℕ) → Executing set a (Call r f)
+      → packet_in s (register a r) ≡ o
       → lower_of set a.device ≡ lower → ComesTo (call_effect set s a f o lower)
   calls r f None lower at reads down = errs a (no_packet (Call r f) r at refl reads)
   calls r f (Some n) None at reads down = errs a (no_lower (Call r f) at refl down)
-  calls r f (Some n) (Some lower) at reads down = calls_in r f lower n (packet_of s n) at reads refl down
+  calls r f (Some n) (Some lower) at reads down =
+      calls_in r f lower n (packet_of s n) at reads refl down
 
-  looks_in : (r label n : ℕ) (o : Option Packet) → Executing set a (IfPending r label) → Reads s a r n
+  looks_in : (r label n : ℕ) (o : Option Packet) → Executing set a (IfPending r label)
+      → Reads s a r n
       → packet_of s n ≡ o → ComesTo (look_packet s a label n o)
   looks_in r label n None at reads there =
       touches_gone a (IfPending r label) r n at refl refl refl reads there
@@ -444,7 +461,8 @@ executes set s t under a (Const r n) at =
     straight set s t under a (Const r n) _ at refl refl (makes_number (Const r n) r n refl)
 executes set s t under a (Move r q) at =
     straight set s t under a (Move r q) _ at refl refl (moves_over r q)
-executes set s t under a (Clear r) at = straight set s t under a (Clear r) _ at refl refl (makes_blank r)
+executes set s t under a (Clear r) at =
+    straight set s t under a (Clear r) _ at refl refl (makes_blank r)
 executes set s t under a (Add r q) at =
     number set s t under a (Add r q) r (sum_of a r q) at refl refl refl
     (of_two set s t under a (Add r q) r q at refl refl _ (number_in (register a r))
@@ -463,34 +481,41 @@ executes set s t under a (JumpIfLess r q label) at =
 executes set s t under a (Jump label) at = jumps set s t under a (Jump label) label at refl refl
 executes set s t under a (Loop count) at = opens set s t under a count at
 executes set s t under a End at = turns set s t under a (innermost a) at refl
-executes set s t under a (Load r c) at = load set s t under a r c (slice_get s.cells a.device) at refl
+executes set s t under a (Load r c) at =
+    load set s t under a r c (slice_get s.cells a.device) at refl
 executes set s t under a (Store c r) at =
     store set s t under a c r (number_in (register a r)) (slice_get s.cells a.device) at refl refl
 executes set s t under a (LoadPaged r c) at =
     load_paged set s t under a r c (slice_get s.cells a.device) at refl
 executes set s t under a (StorePaged c r) at =
-    store_paged set s t under a c r (number_in (register a r)) (slice_get s.cells a.device) at refl refl
+    store_paged set s t under a c r (number_in (register a r)) (slice_get s.cells a.device) at refl
+    refl
 executes set s t under a (Get r q field) at =
     gets set s t under a r q field (packet_in s (register a q)) at refl
 executes set s t under a (Put q r) at =
     puts set s t under a q r (number_in (register a r)) (packet_in s (register a q)) at refl refl
 executes set s t under a (Mark r) at = marks set s t under a r (packet_in s (register a r)) at refl
 executes set s t under a (Acquire l) at =
-    takes set s t under a (Acquire l) (spin_lock a l) (owner_of s.locks (spin_lock a l)) at refl refl
+    takes set s t under a (Acquire l) (spin_lock a l) (owner_of s.locks (spin_lock a l)) at refl
+    refl
 executes set s t under a (Release l) at =
-    frees set s t under a (Release l) (spin_lock a l) (owner_of s.locks (spin_lock a l)) at refl refl
+    frees set s t under a (Release l) (spin_lock a l) (owner_of s.locks (spin_lock a l)) at refl
+    refl
 executes set s t under a AcquireCancel at =
     takes set s t under a AcquireCancel SystemCancel (owner_of s.locks SystemCancel) at refl refl
 executes set s t under a ReleaseCancel at =
     frees set s t under a ReleaseCancel SystemCancel (owner_of s.locks SystemCancel) at refl refl
 executes set s t under a (Insert r q) at =
-    inserted_in set s t under a r q (packet_in s (register a r)) (queue_of s a.device q) at refl refl
+    inserted_in set s t under a r q (packet_in s (register a r)) (queue_of s a.device q) at refl
+    refl
 executes set s t under a (Remove r q label) at =
     removed_in set s t under a r q label (queue_of s a.device q) at refl
 executes set s t under a (Unlink r q) at =
-    unlinked_in set s t under a r q (packet_in s (register a r)) (queue_of s a.device q) at refl refl
+    unlinked_in set s t under a r q (packet_in s (register a r)) (queue_of s a.device q) at refl
+    refl
 executes set s t under a (Arm r q) at =
-    arms set s t under a r q (packet_in s (register a r)) (cancel_routine_of set a.driver q) at refl refl
+    arms set s t under a r q (packet_in s (register a r)) (cancel_routine_of set a.driver q) at refl
+    refl
 executes set s t under a (Disarm r label) at =
     disarmed set s t under a r label (packet_in s (register a r)) at refl
 executes set s t under a (IfCancel r label) at =
@@ -542,7 +567,8 @@ module _ (set : Set) (s : Shared) (t n : ℕ) where
 
   cancel_called : (p : Packet) (armer : Armer) (o : Option ℕ) → packet_of s n ≡ Some p
       → p.armer ≡ Some armer
-      → cancel_routine_named set (routine_of_device (slice_get set.devices armer.device)) armer.queue
+      → cancel_routine_named set (routine_of_device (slice_get set.devices armer.device))
+      armer.queue
       ≡ o
       → Cancels set s t n Exchange
       (cancel_calls (with_packet s n (with_armer p None)) n armer
@@ -556,7 +582,8 @@ module _ (set : Set) (s : Shared) (t n : ℕ) where
   cancel_found p None there word = finds_empty p there word
   cancel_found p (Some armer) there word =
       cancel_called p armer
-      (cancel_routine_named set (routine_of_device (slice_get set.devices armer.device)) armer.queue)
+      (cancel_routine_named set (routine_of_device (slice_get set.devices armer.device))
+      armer.queue)
       there word refl
 
   cancel_exchanged : (o : Option Packet) → packet_of s n ≡ o
@@ -605,7 +632,8 @@ module _ (set : Set) (s : Shared) (t : ℕ) (under : Option Frame) where
   walks n None there = walks_gone n there
   walks n (Some p) there = walks_from n p (completion_of (current_location p)) there refl
 
-  comes_cancelling : (n : ℕ) (step : CancelStep) → Cancels set s t n step (cancel_step set s t n step)
+  comes_cancelling : (n : ℕ) (step : CancelStep) → Cancels set s t n step
+      (cancel_step set s t n step)
   comes_cancelling n AcquireStep = cancel_taken set s t n s.locks.system_cancel refl
   comes_cancelling n SetFlag = cancel_flagged set s t n (packet_of s n) refl
   comes_cancelling n Exchange = cancel_exchanged set s t n (packet_of s n) refl

@@ -1,14 +1,14 @@
 -- In every run of an accepted set a busy device has one token, and an idle one none.
-use Rattle.std.proofs.Common.{◌≡◌, ◌≢◌, ℕ, ◌+◌, Bool, true, false, List, [], ◌∷◌, length, Some, inl, inr, refl, ap, sym, ◌∙◌, arith}
+use Rattle.std.proofs.Common.{◌≡◌, ◌≢◌, ℕ, ◌+◌, Bool, true, false, List, [], ◌∷◌, length, Some, inl, inr, refl, ap, sym, ◌∙◌, arith, ◌++◌}
 use Rattle.std.specs.Prelude.{replicate, slice_get, slice_set, if◌then◌else◌}
 use Rattle.std.proofs.lemmas.Bool.{cases_eq}
 use Rattle.model.specs.declared.set.Sort.TheVariants.{StartIo}
 use Rattle.model.specs.declared.world.Activation.{Activation}
-use Rattle.model.specs.declared.world.Frame.TheVariants.{Routine}
+use Rattle.model.specs.declared.world.Frame.TheVariants.{Routine, Walk, Cancel as CancelFrame}
 use Rattle.model.specs.declared.world.Irql.TheVariants.{Dispatch as DispatchLevel}
 use Rattle.model.specs.declared.world.Thread.{Thread}
 use Rattle.model.specs.Effect.{Outcome, top_of}
-use Rattle.model.specs.Events.{Change, dpc_activation, rooted, serves_request, settled, standing, with_stack}
+use Rattle.model.specs.Events.{Change, dpc_activation, rooted, serves_request, settled, standing, with_stack, cancelling}
 use Rattle.model.specs.Queues.{StartState, head_of, idle, without_first_to_start, without_head}
 use Rattle.model.specs.Run.{begun}
 use Rattle.model.specs.Set.{Set}
@@ -17,18 +17,21 @@ use Rattle.model.specs.World.{World, idle_thread, start_of}
 use Rattle.run_laws.specs.Holder.{stack_sum, thread_sum}
 use Rattle.run_laws.specs.OneToken.{frame_tokens, start_tokens, tokens}
 use Rattle.run_laws.proofs.Holders.Runs.{idle_sum, top_changed}
-use Rattle.run_laws.proofs.Holders.Sums.{first_frame, last_sum}
+use Rattle.run_laws.proofs.Holders.Sums.{first_frame, last_sum, stack_append}
 use Rattle.run_laws.proofs.Lists.{each_at, each_same, set_other, set_same}
-use Rattle.run_laws.proofs.Runs.Events.{BeginsStartIo, Happens, StepsFrame, begins, begins_startio as startio_begins, issues, nothing, steps}
+use Rattle.run_laws.proofs.Runs.Events.{BeginsStartIo, Happens, StepsFrame, begins, begins_startio as startio_begins, issues, nothing, steps, begins_cancel}
 use Rattle.run_laws.proofs.Runs.Kept.{GoesOnBy, with_queued}
 use Rattle.run_laws.proofs.States.Entering.{Begins, begins_dpc, begins_request, startio_activation}
 use Rattle.run_laws.proofs.States.Frames.{IsGood, state_of}
-use Rattle.run_laws.proofs.States.Never.{keeps_below}
 use Rattle.run_laws.proofs.States.Rules.{States}
 use Rattle.run_laws.proofs.States.Standing.{Standing, on_top, startio_enters}
-use Rattle.run_laws.proofs.States.Told.{told_last, standing_last}
+use Rattle.run_laws.proofs.States.Told.{told_last, told_is}
 use Rattle.run_laws.proofs.Tokens.Steps.{EvenFor, TokenStep, begun_tokens, frame_told_tokens, other_tokens, own_tokens, token_step}
 use Rattle.run_laws.proofs.Tokens.Sums.{OneTokenEach, few_tokens}
+use Rattle.run_laws.proofs.Steps.Below.{stood}
+use Rattle.std.proofs.lemmas.List.{append-nil}
+use Rattle.model.specs.declared.world.Frame.{Frame}
+use Rattle.model.specs.declared.world.CancelStep.TheVariants.{Acquire as AcquireStep}
 
 -- StartIo begins for the first packet of a start list
 without_first : (entries : List ℕ) (n : ℕ) → head_of entries ≡ Some n
@@ -38,23 +41,23 @@ without_first (m ∷ entries) n first = omega arith
 
 module _ (set : Set) (states : States) (w : World) (past : List Entry) (good : IsGood set states)
     (stands : Standing set states w past) (each : OneTokenEach states w) where
-  -- a routine without a token begins on an idle thread, and what the devices have is as before
-  begun_each : (t : ℕ) (thread after : Thread) (a : Activation) (now : World)
+  -- a frame without a token stands on an idle thread, and what the devices have is as before
+  begun_each : (t : ℕ) (thread after : Thread) (f : Frame) (now : World)
       → slice_get w.threads t ≡ Some thread → thread.frames.items ≡ []
-      → after.frames.items ≡ Routine a ∷ [] → now.threads ≡ slice_set w.threads t after
+      → after.frames.items ≡ f ∷ [] → now.threads ≡ slice_set w.threads t after
       → now.shared.starts ≡ w.shared.starts
-      → ((d : ℕ) → frame_tokens states d (Routine a) ≡ 0) → OneTokenEach states now
-  begun_each t thread after a now found idle items threads starts none =
+      → ((d : ℕ) → frame_tokens states d f ≡ 0) → OneTokenEach states now
+  begun_each t thread after f now found idle items threads starts none =
       record {
         one = λ d start there.
             let before : tokens states w.threads d start ≡ (if start.busy then 1 else 0) =
             each.one d start (had d start there) in
-            let sum : thread_sum (λ f. frame_tokens states d f) (slice_set w.threads t after)
-            ≡ frame_tokens states d (Routine a)
-            + thread_sum (λ f. frame_tokens states d f) w.threads =
-            first_frame (λ f. frame_tokens states d f) w.threads t thread after (Routine a) found
+            let sum : thread_sum (λ g. frame_tokens states d g) (slice_set w.threads t after)
+            ≡ frame_tokens states d f
+            + thread_sum (λ g. frame_tokens states d g) w.threads =
+            first_frame (λ g. frame_tokens states d g) w.threads t thread after f found
             idle items in
-            let zero_new : frame_tokens states d (Routine a) ≡ 0 = none d in
+            let zero_new : frame_tokens states d f ≡ 0 = none d in
             rw threads (omega arith);
         idle = λ d start there free. each.idle d start (had d start there) free;
       }
@@ -143,6 +146,35 @@ module _ (set : Set) (states : States) (w : World) (past : List Entry) (good : I
           rw (← same_start) (each.idle h.d h.start h.has
           (ap (λ (x : StartState). x.busy) same_start ∙ free))
 
+  -- the frames that stay below the top one have as many tokens as those that stood there: one that
+  -- is told a status has the same, and an I/O manager's frame that is taken away had none
+  lower_tokens : (t : ℕ) (h : StepsFrame set w t) (d : ℕ)
+      → (lower : List Frame) × (standing set h.below h.outcome ≡ lower ++ h.outcome.frames)
+      × (stack_sum (λ f. frame_tokens states d f) lower
+      ≡ stack_sum (λ f. frame_tokens states d f) h.below)
+  lower_tokens t h d =
+      elim (stood set w.shared t h.below h.frame h.outcome h.comes) [
+        | inl kept ↦ (
+          told_last set h.outcome.told h.below,
+          kept ∙ ap (λ (below : List Frame). below ++ h.outcome.frames)
+              (told_is set h.below h.outcome.told),
+          last_sum set (λ f. frame_tokens states d f) h.outcome.told
+              (frame_told_tokens set states d h.outcome.told) h.below,
+        )
+        | inr gone ↦ (
+          gone.others,
+          gone.stands ∙ sym (append-nil gone.others)
+              ∙ ap (λ (frames : List Frame). gone.others ++ frames) (sym gone.frames),
+          (let all : stack_sum (λ f. frame_tokens states d f) h.below
+              ≡ stack_sum (λ f. frame_tokens states d f) gone.others
+              + stack_sum (λ f. frame_tokens states d f) (Walk gone.n ∷ []) =
+              ap (stack_sum (λ f. frame_tokens states d f)) gone.below_is
+              ∙ stack_append (λ f. frame_tokens states d f) gone.others (Walk gone.n ∷ []) in
+              let none : stack_sum (λ f. frame_tokens states d f) (Walk gone.n ∷ []) ≡ 0 = refl in
+              omega arith),
+        )
+      ]
+
   -- the top frame of a thread steps
   stepped_each : (t : ℕ) (h : StepsFrame set w t)
       → OneTokenEach states (settled set w t h.thread h.below h.outcome).world
@@ -185,31 +217,33 @@ module _ (set : Set) (states : States) (w : World) (past : List Entry) (good : I
       sum d =
           top_changed (λ f. frame_tokens states d f) w.threads t h.thread
           (with_stack h.thread (standing set h.below h.outcome)) h.below
-          (told_last set h.outcome.told h.below) h.frame h.outcome.frames h.found h.frames
-          (standing_last set w.shared t (top_of h.below) h.frame h.outcome h.below h.comes
-          (keeps_below set states w.shared t (top_of h.below) h.frame h.outcome
-          (on_top set states w past good stands t h) h.comes))
-          (last_sum set (λ f. frame_tokens states d f) h.outcome.told
-          (frame_told_tokens set states d h.outcome.told) h.below)
+          (lower_tokens t h d).0 h.frame h.outcome.frames h.found h.frames
+          (lower_tokens t h d).1 (lower_tokens t h d).2
 
-  tokens_happen : (actor : Actor) (c : Change) → Happens set w actor.thread false c
+  tokens_happen : (actor : Actor) (c : Change) → Happens set w actor.thread c
       → OneTokenEach states c.world
   tokens_happen actor c (nothing reply right) = each
   tokens_happen actor c (steps h) = stepped_each actor.thread h
   tokens_happen actor c (issues h) =
       let n : ℕ = w.shared.issued in
-      begun_each actor.thread h.thread _ (serves_request set h.d h.device h.major n) c.world h.found
-      h.idle refl refl refl
+      begun_each actor.thread h.thread _ (Routine (serves_request set h.d h.device h.major n))
+      c.world
+      h.found h.idle refl refl refl
       (begun_tokens (begins_request set states good (n + 1) n (omega arith) h.d h.device h.major
       h.there)
       refl)
   tokens_happen actor c (begins h) =
-      begun_each actor.thread h.thread _ (dpc_activation set h.d h.routine) c.world h.found h.idle
-      refl refl refl
+      begun_each actor.thread h.thread _ (Routine (dpc_activation set h.d h.routine)) c.world
+      h.found
+      h.idle refl refl refl
       (begun_tokens (begins_dpc set states good w.shared.issued h.d h.routine h.there) refl)
   tokens_happen actor c (startio_begins h) = startio_each actor.thread h c.world refl refl
+  tokens_happen actor c (begins_cancel h) =
+      begun_each actor.thread h.thread (cancelling h.thread h.level h.n)
+      (CancelFrame (record { packet = h.n; next = AcquireStep })) c.world h.found h.idle refl refl
+      refl (λ d. refl)
 
-  pub tokens_kept : (actor : Actor) (c : Change) → GoesOnBy set w past actor false c
+  pub tokens_kept : (actor : Actor) (c : Change) → GoesOnBy set w past actor c
       → OneTokenEach states c.world
   tokens_kept actor c on = tokens_happen actor c on.happens
 

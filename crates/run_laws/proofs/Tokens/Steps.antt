@@ -20,29 +20,32 @@ use Rattle.model.specs.declared.world.Frame.TheVariants.{Routine, Walk, Cancel a
 use Rattle.model.specs.declared.world.Packet.{Packet}
 use Rattle.model.specs.declared.world.Value.{Value}
 use Rattle.model.specs.Action.{Action}
-use Rattle.model.specs.Effect.{Outcome, answered_in, completes_with, dispatched, operand_of, turned}
+use Rattle.model.specs.Effect.{Outcome, answered_in, completes_with, dispatched, operand_of, turned, routine_of_device}
 use Rattle.model.specs.LocalRule.{broken_if, form_fault, given_down, gives_back, handed, handed_at_label, holds_spin_lock, kept_fault, kind_of, least_of, left_packet, marked, refuses, settled_fault}
 use Rattle.model.specs.Queues.{StartState, next_of, started, with_slot}
-use Rattle.model.specs.Set.{Set, flow_of, instruction_at, lower_of, sort_of}
-use Rattle.model.specs.World.{Shared, asked_of, current_location, next, register, start_of}
+use Rattle.model.specs.Set.{Set, flow_of, instruction_at, lower_of, sort_of, cancels_for}
+use Rattle.model.specs.World.{Shared, asked_of, current_location, next, register, start_of, entered}
 use Rattle.run_laws.specs.Holder.{stack_sum}
 use Rattle.run_laws.specs.OneToken.{frame_tokens, slot_tokens, start_tokens}
 use Rattle.run_laws.proofs.Lists.{set_other, set_same}
 use Rattle.run_laws.proofs.Past.Packets.{named}
-use Rattle.run_laws.proofs.States.Entering.{Enters, begins_back, begins_lower, first_state}
+use Rattle.run_laws.proofs.States.Entering.{Enters, begins_back, begins_lower, first_state, begins_lent}
 use Rattle.run_laws.proofs.States.Frames.{Moved, Runs, state_of}
 use Rattle.run_laws.proofs.States.LoopEnds.{moved_end}
 use Rattle.run_laws.proofs.States.Moves.{arrives, arrives_next, falls_next, has_next, onto}
-use Rattle.run_laws.proofs.States.Never.{never_stands}
 use Rattle.run_laws.proofs.States.OnTop.{OnTop, runs}
 use Rattle.run_laws.proofs.States.Rules.{States, first_none, granted, second_none, unbroken}
 use Rattle.run_laws.proofs.States.Told.{told_frame}
-use Rattle.run_laws.proofs.Steps.Comes.{Comes, GoesTo, Queued, Reads, awaits_lock, calls_down, carries_up, completes_gone, completes_packet, computes, cancels, ends_cancel, ends_dpc, ends_startio, errs, exchanges, frees_lock, inserts, jumping, lends_to, lets_go, lets_walk, looks_at, marks_packet, onward, opens_loop, pages, passes_down, puts_in, removes, removes_none, resumes_gone, resumes_none, resumes_walk, retakes_lock, returns_status, starts_next, starts_packet, stops_none, stops_walk, takes_lock, takes_none, takes_out, tops_out, touches_gone, turns_loop, unlinks, walks_gone, walks_to, walks_up, works_on_queues, writes_info}
+use Rattle.run_laws.proofs.Steps.Comes.{Comes, GoesTo, Queued, Reads, awaits_lock, calls_down, carries_up, completes_gone, completes_packet, computes, cancels, ends_cancel, ends_dpc, ends_startio, errs, exchanges, frees_lock, inserts, jumping, lends_to, lets_go, lets_walk, looks_at, marks_packet, onward, opens_loop, pages, passes_down, puts_in, removes, removes_none, resumes_gone, resumes_none, resumes_walk, retakes_lock, returns_status, starts_next, starts_packet, stops_none, stops_walk, takes_lock, takes_none, takes_out, tops_out, touches_gone, turns_loop, unlinks, walks_gone, walks_to, walks_up, works_on_queues, writes_info, Cancels, takes_cancel, calls_cancel}
 use Rattle.run_laws.proofs.Steps.Locking.{LockWord, freed_word, taken_word}
-use Rattle.run_laws.proofs.Steps.Uncancelled.{never_lends}
 use Rattle.run_laws.proofs.Steps.Words.{Queueing, Work, is_touching, work_of}
 use Rattle.run_laws.proofs.Tests.{and_false}
 use Rattle.run_laws.proofs.Tokens.Sums.{FewTokens, at_most_one, own_token}
+use Rattle.model.specs.declared.set.QueueName.{QueueName}
+use Rattle.model.specs.declared.set.Sort.TheVariants.{Cancel}
+use Rattle.model.specs.declared.world.CancelStep.{CancelStep}
+use Rattle.run_laws.proofs.States.Cancelled.{begins_called}
+use Rattle.model.specs.declared.world.Value.TheVariants.{Ref}
 
 -- the tokens of a device with a frame and in what it has for StartIo, before and after a step, and
 -- whether it is busy
@@ -78,9 +81,14 @@ module _ (states : States) (a : Activation) (d : ℕ) where
       → frame_tokens states d (Routine b) ≡ frame_tokens states d (Routine a)
   same_tokens b device token = rw (device, token) refl
 
+pub cancel_without : (name : Option QueueName) → (first_state Cancel name).token ≡ false
+cancel_without None = refl
+cancel_without (Some list) = refl
+
 -- a routine that begins has none, unless StartIo begins
 pub begun_tokens : {set : Set} {states : States} {issued : ℕ} {a : Activation} {sort : Sort}
-    {first : Value} → Enters set states issued a sort first → (first_state sort).token ≡ false
+    {first : Value} → Enters set states issued a sort first
+    → (first_state sort (cancels_for set a.driver a.routine)).token ≡ false
     → (d : ℕ) → frame_tokens states d (Routine a) ≡ 0
 begun_tokens {states = states} {a = a} begins none d =
     no_tokens states a d (ap (λ (state : Abs). state.token) begins.start ∙ none)
@@ -434,6 +442,26 @@ module _ (set : Set) (states : States) (s : Shared) where
       (begun_tokens (begins_lower set states h.good s.issued n (named s (register a r) n reads)
       a.device lower (asked_of (current_location p)) below) refl)
 
+  -- IoCancelIrp has none, nor does the cancel routine that begins
+  cancel_tokens : (t n : ℕ) (step : CancelStep) (o : Outcome)
+      → OnTop set states s (CancelFrame (record { packet = n; next = step }))
+      → Cancels set s t n step o
+      → TokenStep states s (CancelFrame (record { packet = n; next = step })) o
+  cancel_tokens t n step o top (calls_cancel p armer routine there is named) =
+      same_starts (CancelFrame (record { packet = n; next = step })) o refl
+      (λ d. let none : frame_tokens states d
+      (Routine (entered (routine_of_device (slice_get set.devices armer.device)) routine
+      armer.device
+      (Ref n))) ≡ 0 =
+      begun_tokens
+      (begins_called set states s top.good top.fits n p armer routine top.stands there is named)
+      (cancel_without _) d in
+      omega arith)
+  cancel_tokens t n step o top (takes_cancel free) =
+      same_starts (CancelFrame (record { packet = n; next = step })) o refl (λ d. refl)
+  cancel_tokens t n step o top _ =
+      same_starts (CancelFrame (record { packet = n; next = step })) o refl (λ d. refl)
+
   pub token_step : (t : ℕ) (under : Option Frame) (f : Frame) (o : Outcome) → OnTop set states s f
       → FewTokens states s f → Comes set s t under f o → TokenStep states s f o
   token_step t under f o top few (errs a lacks) = goes_with a a o refl refl refl refl
@@ -510,13 +538,18 @@ module _ (set : Set) (states : States) (s : Shared) where
   token_step t under f o top few (walks_to n p c there set_there lends) =
       same_starts (Walk n) o refl
       (λ d. let none : frame_tokens states d (Routine (completes_with set c n)) ≡ 0 =
-      begun_tokens (begins_back set states s top.good top.fits n p c top.stands there set_there)
+      begun_tokens (begins_back set states s top.good top.fits n p c top.stands there set_there
+      lends)
       refl d in
       omega arith)
   token_step t under f o top few (lends_to n p c there set_there lends) =
-      absurd (never_lends top.good.quiet c lends)
-  token_step t under f o top few (cancels n step made moves) =
-      absurd (never_stands set states s _ top)
+      same_starts (Walk n) o refl
+      (λ d. let none : frame_tokens states d (Routine (completes_with set c n)) ≡ 0 =
+      begun_tokens (begins_lent set states s top.good top.fits n p c top.stands there set_there
+      lends)
+      refl d in
+      omega arith)
+  token_step t under f o top few (cancels n step made moves) = cancel_tokens t n step made top moves
   token_step t under f o top few (walks_gone n gone) = same_starts (Walk n) o refl (λ d. refl)
   token_step t under f o top few (walks_up n p there without deep unmarked) =
       same_starts (Walk n) o refl (λ d. refl)

@@ -1,16 +1,17 @@
 -- What was agreed on for a use isn't broken by what becomes of its packet, and what waits for the
 -- use below goes on to, until that is left.
 use Rattle.std.proofs.Common.{◌≡◌, ℕ, zero, suc, ◌-◌, ◌<◌, ◌≤◌, ◌⊎◌, inl, inr, List, [], ◌∷◌, length, drop, Option, None, Some, Bool, true, false, refl, ap, sym, ◌∙◌, subst, arith}
-use Rattle.std.specs.Prelude.{All, nat_eq, nat_lt, slice_get, slice_set, if◌then◌else◌}
+use Rattle.std.specs.Prelude.{◌||◌, All, nat_eq, nat_lt, slice_get, slice_set, if◌then◌else◌}
 use Rattle.std.proofs.lemmas.Bool.{lt-ltb}
 use Rattle.std.proofs.lemmas.Bool.Decides.{eqb_tells}
 use Rattle.model.specs.declared.world.Location.{Location}
 use Rattle.model.specs.declared.world.Packet.{Packet}
 use Rattle.model.specs.PendingAgreement.{is_use, marks_left, was_marked}
 use Rattle.model.specs.Trace.{Entry, Serving, uses, uses_opened}
-use Rattle.model.specs.World.{copied_location, current_location, is_marked, left_location, mark_current, marked_location, moved_up, new_packet, sent_down}
+use Rattle.model.specs.World.{copied_location, current_location, is_marked, mark_current, marked_location, new_packet, sent_down}
 use Rattle.run_laws.proofs.Uses.Fates.{nth_use, Falls, MarksTell, PacketUses, Traced, fate_in}
-use Rattle.run_laws.proofs.Uses.FateFacts.{copied_unmarked, fate_absent, fate_head, fate_marked, fate_rest, fate_same, fate_there, fate_true, marked_here, written_unmarked}
+use Rattle.run_laws.proofs.Room.Locations.{marked_here}
+use Rattle.run_laws.proofs.Uses.FateFacts.{copied_unmarked, fate_absent, fate_head, fate_marked, fate_rest, fate_same, fate_there, fate_true, written_unmarked}
 use Rattle.run_laws.proofs.Lists.{set_other}
 use Rattle.run_laws.proofs.Uses.Becomes.{Becomes, comes_in, gets_marked, goes_down, goes_out, goes_up, keeps_marks, never_live, IsCalled, IsIssued, IsKept, IsLeft, IsMarked, IsTopped, LeavesCurrent, Turn, Turns, UsesIn, not_use, uses_turn}
 
@@ -50,7 +51,8 @@ completes_still p q b h (inr is) = inr (h is)
 all_marked : (used : List ℕ) (locations : List Location) (below : Bool) (u : ℕ) (marked : Bool)
     (place : ℕ)
     → place ≡ length used - 1 → length used ≤ length locations
-    → fate_in used (marked_location (slice_get locations place) locations place) below u ≡ Some marked
+    → fate_in used (marked_location (slice_get locations place) locations place) below u
+    ≡ Some marked
     → marked ≡ true
 all_marked [] locations below u marked place at within h = cc
 all_marked (v ∷ upper) locations below u marked place at within h =
@@ -97,7 +99,8 @@ left_all past later n u b false left known h =
 current_known : (past : List Entry) (n u : ℕ) (used : List ℕ) (p : Packet) (late : ℕ) (b : Bool)
     → late ≡ 0
     → MarksTell past n used p.locations.items
-    → ((marked : Bool) → fate_in used p.locations.items (nat_lt 0 late) u ≡ Some marked → marked ≡ b)
+    → ((marked : Bool) → fate_in used p.locations.items (nat_lt 0 late) u ≡ Some marked
+    → marked ≡ b)
     → is_use n (slice_get used 0) (nth_use n u) ≡ true → was_marked past (nth_use n u) ≡ b
 current_known past n u [] p late b none tells known is = cc
 current_known past n u (v ∷ upper) p late b none tells known is =
@@ -136,6 +139,36 @@ left_fates (v ∷ upper) bound locations late lately place u marked falls none c
           let no : None ≡ Some marked = sym absent ∙ h in cc
       | inr e ↦ fate_rest v u upper locations (nat_lt 0 late) e.0 ∙ rw (none, ← below) h
     ]
+
+-- where the location above is marked, the others were true and are
+lent_true : (used : List ℕ) (bound : ℕ) (locations : List Location) (below under : Bool)
+    (place u : ℕ)
+    (marked : Bool)
+    → Falls bound used → place ≡ length used - 1 - 1 → is_marked (slice_get locations place) ≡ true
+    → fate_in (drop 1 used) locations under u ≡ Some marked
+    → (marked ≡ true) × (fate_in used locations below u ≡ Some true)
+lent_true [] bound locations below under place u marked falls at here h = cc
+lent_true (v ∷ []) bound locations below under place u marked falls at here h = cc
+lent_true (v ∷ x ∷ upper) bound locations below under place u marked falls at here h =
+    let same : length upper ≡ place = omega arith in
+    let is : is_marked (slice_get locations (length upper)) ≡ true =
+    ap (λ (k : ℕ). is_marked (slice_get locations k)) same ∙ here in
+    let next : Bool = below || is_marked (slice_get locations (length (x ∷ upper))) in
+    let there : (other : Bool) × (fate_in (x ∷ upper) locations next u ≡ Some other) =
+    fate_there (x ∷ upper) locations locations under next u marked h in
+    let all : there.0 ≡ true =
+    fate_marked (x ∷ upper) locations next u there.0 x upper refl is there.1 in (
+      fate_marked (x ∷ upper) locations under u marked x upper refl is h,
+      elim (eqb_tells v u) [
+        | inl e ↦
+            let same_use : v ≡ u = e.1 in
+            let absent : fate_in (x ∷ upper) locations under u ≡ None =
+            fate_absent v (x ∷ upper) locations under u falls.1 (omega arith) in
+            let no : None ≡ Some marked = sym absent ∙ h in cc
+        | inr e ↦ fate_rest v u (x ∷ upper) locations below e.0 ∙ there.1
+            ∙ ap (λ (b : Bool). Some b) all
+      ],
+    )
 
 -- whatever becomes of the packet
 module _ (past later : List Entry) (v : Serving) (before after : Option Packet) (late lately : ℕ)
@@ -182,7 +215,8 @@ module _ (past later : List Entry) (v : Serving) (before after : Option Packet) 
   agreed_kept turn =
       let same : fate_in (uses later v.packet) turn.q.locations.items (nat_lt 0 lately) v.«use»
       ≡ fate_in (uses past v.packet) turn.p.locations.items (nat_lt 0 late) v.«use» =
-      ap (λ (used : List ℕ). fate_in used turn.q.locations.items (nat_lt 0 lately) v.«use») turn.same.used
+      ap (λ (used : List ℕ). fate_in used turn.q.locations.items (nat_lt 0 lately) v.«use»)
+      turn.same.used
       ∙ ap (λ (x : ℕ). fate_in (uses past v.packet) turn.q.locations.items (nat_lt 0 x) v.«use»)
       turn.stays
       ∙ fate_same (uses past v.packet) turn.p.locations.items turn.q.locations.items (nat_lt 0 late)
@@ -231,7 +265,8 @@ module _ (past later : List Entry) (v : Serving) (before after : Option Packet) 
             let known : (earlier.0 ≡ b) × ((b ≡ true) ⊎ (p.completing ≡ true)) =
             h.stands p earlier.0 turn.was earlier.1 in
             let agreed_true : b ≡ true =
-            due_true (uses past v.packet) p late v.«use» earlier.0 b turn.due earlier.1 known.0 known.1 in
+            due_true (uses past v.packet) p late v.«use» earlier.0 b turn.due earlier.1 known.0
+            known.1 in
             (all ∙ sym agreed_true, inl agreed_true));
       }
 
@@ -270,19 +305,50 @@ module _ (past later : List Entry) (v : Serving) (before after : Option Packet) 
   agreed_left : IsLeft past later v.packet before after late lately → Stays
   agreed_left turn =
       let p : Packet = turn.p in
+      let q : Packet = turn.q in
       let told : PacketUses past v.packet p = in_past p turn.was in
       let deep : length (uses past v.packet) ≡ p.depth = told.deep in
+      let higher : q.depth ≡ p.depth - 1 = turn.higher in
+      let above : (marked : Bool)
+      → fate_in (uses later v.packet) q.locations.items (nat_lt 0 lately) v.«use» ≡ Some marked
+      → fate_in (drop 1 (uses past v.packet)) p.locations.items (nat_lt 0 lately) v.«use»
+      ≡ Some marked =
+      λ marked is.
+      ap (λ (ls : List Location). fate_in (drop 1 (uses past v.packet)) ls (nat_lt 0 lately)
+      v.«use»)
+      (sym turn.alike)
+      ∙ ap (λ (used : List ℕ). fate_in used q.locations.items (nat_lt 0 lately) v.«use»)
+      (sym turn.used)
+      ∙ is in
       record {
         opened = still_opened;
         left = left_now p turn.was turn.none turn.left;
-        stands = stands_of later v after lately b (moved_up (left_location p)) turn.now (λ marked is.
-            h.stands p marked turn.was
-            (left_fates (uses past v.packet) (uses_opened past) p.locations.items late lately
-            (p.depth - 1) v.«use» marked
-            (traced.falls v.packet) turn.none turn.carried (omega arith)
-            (subst (λ (used : List ℕ). fate_in used p.locations.items (nat_lt 0 lately) v.«use»
-            ≡ Some marked) turn.used
-            is)));
+        stands = stands_of later v after lately b q turn.now (λ marked is.
+            elim turn.carried [
+              | inl carried ↦ (
+                (h.stands p marked turn.was
+                    (left_fates (uses past v.packet) (uses_opened past) p.locations.items late
+                    lately
+                    (p.depth - 1) v.«use» marked
+                    (traced.falls v.packet) turn.none carried.0 (omega arith) (above marked is))).0,
+                inr carried.1,
+              )
+              | inr lent ↦
+                  let more : 1 < p.depth = turn.more told.some told.rooted in
+                  let here : is_marked (slice_get p.locations.items (p.depth - 1 - 1)) ≡ true =
+                  ap (λ (k : ℕ). is_marked (slice_get p.locations.items (k - 1))) (sym higher)
+                  ∙ ap (λ (ls : List Location). is_marked (slice_get ls (q.depth - 1)))
+                  (sym turn.alike)
+                  ∙ lent.1 more in
+                  let all : (marked ≡ true)
+                  × (fate_in (uses past v.packet) p.locations.items (nat_lt 0 late) v.«use»
+                  ≡ Some true) =
+                  lent_true (uses past v.packet) (uses_opened past) p.locations.items
+                  (nat_lt 0 late) (nat_lt 0 lately) (p.depth - 1 - 1) v.«use» marked
+                  (traced.falls v.packet) (omega arith) here (above marked is) in
+                  let known : true ≡ b = (h.stands p true turn.was all.1).0 in
+                  (all.0 ∙ known, inl (sym known))
+            ]);
       }
 
   agreed_topped : IsTopped past later v.packet before after late lately → Stays

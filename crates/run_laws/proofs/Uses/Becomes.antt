@@ -12,9 +12,10 @@ use Rattle.model.specs.declared.world.Packet.{Packet}
 use Rattle.model.specs.Fault.{depth, stack_size}
 use Rattle.model.specs.PendingAgreement.{is_use, marks_left, was_marked}
 use Rattle.model.specs.Trace.{Entry, Serving, current_use, uses, uses_opened}
-use Rattle.model.specs.World.{completion_of, copied_location, current_location, is_marked, left_location, mark_current, marked_location, moved_up, new_packet, sent_down, unused_location}
+use Rattle.model.specs.World.{completion_of, copied_location, current_location, is_marked, mark_current, marked_location, new_packet, sent_down, unused_location}
 use Rattle.run_laws.proofs.Uses.Fates.{nth_use, Falls, MarksTell, PacketUses, Traced, Unleft}
-use Rattle.run_laws.proofs.Uses.FateFacts.{marked_completion, copied_unmarked, marked_here, marked_other, written_unmarked}
+use Rattle.run_laws.proofs.Room.Locations.{marked_completion, marked_here, marked_other}
+use Rattle.run_laws.proofs.Uses.FateFacts.{copied_unmarked, written_unmarked}
 use Rattle.run_laws.proofs.Lists.{set_other}
 use Rattle.run_laws.proofs.Past.Stacks.{marked_length}
 use Rattle.run_laws.proofs.Uses.Traced.{SameUses}
@@ -80,11 +81,15 @@ module _ (past later : List Entry) (n : ℕ) (before after : Option Packet) (lat
       then was_marked past (nth_use n u) ∷ marks_left past (nth_use n u)
       else marks_left past (nth_use n u))
 
-  -- its completion leaves the current location, whose mark has to be carried up
+  -- its completion leaves the current location, whose mark has to be carried up; or it is lent, and
+  -- the location above is marked
   pub record IsLeft : Type 0 where
     pub p : Packet
+    pub q : Packet
     pub was : before ≡ Some p
-    pub now : after ≡ Some (moved_up (left_location p))
+    pub now : after ≡ Some q
+    pub alike : q.locations.items ≡ p.locations.items
+    pub higher : q.depth ≡ p.depth - 1
     pub used : uses later n ≡ drop 1 (uses past n)
     pub marked : (u : ℕ) → was_marked later (nth_use n u) ≡ was_marked past (nth_use n u)
     pub left : LeavesCurrent
@@ -92,7 +97,9 @@ module _ (past later : List Entry) (n : ℕ) (before after : Option Packet) (lat
     pub more : 1 ≤ p.depth → completion_of (slice_get p.locations.items 0) ≡ None → 1 < p.depth
     pub done : p.completing ≡ true
     pub none : late ≡ 0
-    pub carried : lately ≡ (if is_marked (current_location p) then 1 else 0)
+    pub carried : ((lately ≡ (if is_marked (current_location p) then 1 else 0))
+        × (q.completing ≡ true))
+        ⊎ ((lately ≡ 0) × (1 < p.depth → is_marked (current_location q) ≡ true))
 
   -- it tops out
   pub record IsTopped : Type 0 where
@@ -127,7 +134,8 @@ pub data Becomes (past later : List Entry) (n : ℕ) (before after : Option Pack
       → Becomes past later n before after late lately
   goes_down : IsCalled past later n before after late lately
       → Becomes past later n before after late lately
-  goes_up : IsLeft past later n before after late lately → Becomes past later n before after late lately
+  goes_up : IsLeft past later n before after late lately
+      → Becomes past later n before after late lately
   goes_out : IsTopped past later n before after late lately
       → Becomes past later n before after late lately
   comes_in : IsIssued past later n before after late lately
@@ -170,7 +178,8 @@ module _ (past later : List Entry) (n : ℕ) where
   -- and their locations are marked as before
   pub marks_as : (bound : ℕ) (used : List ℕ) (locations others : List Location) → Falls bound used
       → ((u : ℕ) → u < bound → was_marked later (nth_use n u) ≡ was_marked past (nth_use n u))
-      → ((k : ℕ) → k < length used → is_marked (slice_get others k) ≡ is_marked (slice_get locations k))
+      → ((k : ℕ) → k < length used → is_marked (slice_get others k)
+      ≡ is_marked (slice_get locations k))
       → MarksTell past n used locations → MarksTell later n used others
   marks_as bound [] locations others falls same marks h = tt
   marks_as bound (u ∷ upper) locations others falls same marks h =
@@ -193,7 +202,8 @@ module _ (past later : List Entry) (n : ℕ) where
             is_marked (slice_get (marked_location (slice_get locations place) locations place) k)
             ≡ was_marked later (nth_use n u)) (sym at)
             (marked_here locations place inside ∙ sym (marked u ∙ rw (own_use n u) refl)),
-        marks_as u upper locations (marked_location (slice_get locations place) locations place) falls.1
+        marks_as u upper locations (marked_location (slice_get locations place) locations place)
+            falls.1
             (λ v l. marked v
             ∙ rw (not_use n u v (λ e. (let same : u ≡ v = e in absurd (omega arith)))) refl)
             (λ k l. ap is_marked (marked_other (slice_get locations place) locations place k
@@ -208,7 +218,8 @@ module _ (past later : List Entry) (n : ℕ) where
   left_unleft [] bound falls left h = tt
   left_unleft (u ∷ upper) bound falls left h =
       unleft_as u upper falls.1
-      (λ v l. left v ∙ rw (not_use n u v (λ e. (let same : u ≡ v = e in absurd (omega arith)))) refl) h.1
+      (λ v l. left v ∙ rw (not_use n u v (λ e. (let same : u ≡ v = e in absurd (omega arith))))
+      refl) h.1
 
   left_marks : (used : List ℕ) (bound : ℕ) (locations : List Location) → Falls bound used
       → ((u : ℕ) → was_marked later (nth_use n u) ≡ was_marked past (nth_use n u))
@@ -263,7 +274,8 @@ module _ (past later : List Entry) (n : ℕ) (before after : Option Packet) (lat
       let sized : stack_size past n ≤ length p.locations.items = used.sized in
       let size : stack_size later n ≡ stack_size past n = turn.sized in
       let place : ℕ = p.depth - 1 in
-      let long : length (marked_location (slice_get p.locations.items place) p.locations.items place)
+      let long : length (marked_location (slice_get p.locations.items place) p.locations.items
+      place)
       ≡ length p.locations.items =
       marked_length (slice_get p.locations.items place) p.locations.items place in
       uses_of (mark_current p) turn.now (record {
@@ -331,24 +343,31 @@ module _ (past later : List Entry) (n : ℕ) (before after : Option Packet) (lat
   left_uses : IsLeft past later n before after late lately → UsesIn later n after
   left_uses turn =
       let p : Packet = turn.p in
+      let q : Packet = turn.q in
       let used : PacketUses past n p = h p turn.was in
       let deep : length (uses past n) ≡ p.depth = used.deep in
       let within : p.depth ≤ length p.locations.items = used.within in
       let sized : stack_size past n ≤ length p.locations.items = used.sized in
       let size : stack_size later n ≡ stack_size past n = turn.sized in
-      uses_of (moved_up (left_location p)) turn.now (record {
-        deep = ap length turn.used ∙ length_left (uses past n) ∙ ap (λ (d : ℕ). d - 1) deep;
+      let higher : q.depth ≡ p.depth - 1 = turn.higher in
+      let long : length q.locations.items ≡ length p.locations.items = ap length turn.alike in
+      uses_of q turn.now (record {
+        deep = ap length turn.used ∙ length_left (uses past n) ∙ ap (λ (d : ℕ). d - 1) deep
+            ∙ sym higher;
         some = let more : 1 < p.depth = turn.more used.some used.rooted in omega arith;
-        rooted = used.rooted;
+        rooted = ap (λ (ls : List Location). completion_of (slice_get ls 0)) turn.alike
+            ∙ used.rooted;
         within = omega arith;
         sized = omega arith;
         unleft = subst (λ (all : List ℕ). Unleft later n all) (sym turn.used)
             (left_unleft past later n (uses past n) (uses_opened past) (traced.falls n) turn.left
             used.unleft);
-        marks = subst (λ (all : List ℕ). MarksTell later n all p.locations.items) (sym turn.used)
+        marks = subst (λ (all : List ℕ). MarksTell later n all q.locations.items) (sym turn.used)
+            (subst (λ (ls : List Location). MarksTell later n (drop 1 (uses past n)) ls)
+            (sym turn.alike)
             (left_marks past later n (uses past n) (uses_opened past) p.locations.items
             (traced.falls n) turn.marked
-            used.marks);
+            used.marks));
       })
 
   issued_uses : IsIssued past later n before after late lately → UsesIn later n after

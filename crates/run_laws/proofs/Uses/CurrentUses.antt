@@ -20,7 +20,8 @@ use Rattle.run_laws.proofs.Past.LivePackets.{find}
 abbrev pub Others : List Entry → ℕ → ℕ → Type 0
 Others past n u = (upper : List ℕ) × (uses past n ≡ u ∷ upper)
 
-others_of : (used : List ℕ) (u : ℕ) → slice_get used 0 ≡ Some u → (upper : List ℕ) × (used ≡ u ∷ upper)
+others_of : (used : List ℕ) (u : ℕ) → slice_get used 0 ≡ Some u
+    → (upper : List ℕ) × (used ≡ u ∷ upper)
 others_of [] u h = cc
 others_of (v ∷ upper) u h = (upper, let same : v ≡ u = cc in rw same refl)
 
@@ -28,7 +29,8 @@ pub current_others : (past : List Entry) (n u : ℕ) → current_use past n ≡ 
 current_others past n u h = others_of (uses past n) u h
 
 -- a use that waits has the fate of the one below it
-waits_less : (bound : ℕ) (used : List ℕ) (locations : List Location) (u lower : ℕ) → Falls bound used
+waits_less : (bound : ℕ) (used : List ℕ) (locations : List Location) (u lower : ℕ)
+    → Falls bound used
     → WaitsAbove used locations u lower → (u < bound) × (lower < bound)
 waits_less bound [] locations u lower falls h = absurd h
 waits_less bound (x ∷ []) locations u lower falls h = absurd h
@@ -128,7 +130,8 @@ module _ (states : States) (w : World) (past : List Entry) where
             let same : p ≡ q = cc in
             let here : fate states w past n p u ≡ Some marked =
             subst (λ (x : Packet). fate states w past n x u ≡ Some marked) (sym same) fate_is in
-            let one : Some b ≡ Some marked = sym (current.fates ∙ ap (λ (x : Bool). Some x) is) ∙ here in
+            let one : Some b ≡ Some marked = sym (current.fates ∙ ap (λ (x : Bool). Some x) is)
+            ∙ here in
             let two : b ≡ marked = cc in
             (sym two, subst (λ (x : Packet). (b ≡ true) ⊎ (x.completing ≡ true)) same known);
       }

@@ -1,46 +1,60 @@
 -- What an event does to each packet and its uses; so it keeps what live packets and the trace tell
 -- of each other, what was agreed on for a use, and that a use waits for the one below it.
-use Rattle.std.proofs.Common.{◌≡◌, ℕ, ◌+◌, inl, inr, List, [], ◌∷◌, ◌++◌, None, Option, Some, Bool, refl, ap, sym, ◌∙◌, subst, arith, slice_get, false}
+use Rattle.std.proofs.Common.{◌≡◌, ℕ, ◌+◌, ◌-◌, true, inl, inr, List, [], ◌∷◌, ◌++◌, None, Option, Some, Bool, refl, ap, sym, ◌∙◌, subst, arith, slice_get}
 use Rattle.std.specs.Prelude.{nat_lt, slice_set}
 use Rattle.std.proofs.lemmas.Bool.Decides.{eqb_tells}
 use Rattle.model.specs.declared.world.Activation.{Activation}
 use Rattle.model.specs.declared.world.Frame.{Frame}
 use Rattle.model.specs.declared.world.Frame.TheVariants.{Routine, Walk, Cancel as CancelFrame}
-use Rattle.model.specs.declared.world.Irql.{Irql}
 use Rattle.model.specs.declared.world.Irql.TheVariants.{Passive, Dispatch as DispatchLevel}
 use Rattle.model.specs.declared.world.Packet.{Packet}
 use Rattle.model.specs.declared.world.Thread.{Thread}
 use Rattle.model.specs.Action.{Action, Issues}
 use Rattle.model.specs.Effect.{Outcome, top_of}
-use Rattle.model.specs.Events.{Change, rooted, serves_request, standing, with_new_packet, with_stack, dpc_activation}
+use Rattle.model.specs.Events.{Change, cancelling, rooted, serves_request, standing, with_new_packet, with_stack, dpc_activation}
 use Rattle.model.specs.Fault.{first_fault}
 use Rattle.model.specs.Run.{frames_on}
 use Rattle.model.specs.Set.{Set}
-use Rattle.model.specs.Trace.{Actor, Entry, Serving, recorded, uses}
+use Rattle.model.specs.Trace.{Actor, Entry, Managing, Serving, recorded, uses}
 use Rattle.model.specs.World.{World, new_packet}
 use Rattle.run_laws.proofs.Holders.Runs.{top_holding}
 use Rattle.run_laws.proofs.Holders.Sums.{Held}
 use Rattle.run_laws.proofs.Past.LivePackets.{find, find_above, find_push}
-use Rattle.run_laws.proofs.Runs.Events.{Happens, IssuesPacket, StepsFrame, issues, nothing, steps, begins, begins_startio}
+use Rattle.run_laws.proofs.Runs.Events.{Happens, IssuesPacket, StepsFrame, issues, nothing, steps, begins, begins_cancel, begins_startio}
 use Rattle.run_laws.proofs.Runs.Threads.{frames_there}
-use Rattle.run_laws.proofs.States.Frames.{IsGood}
+use Rattle.run_laws.proofs.States.Frames.{IsGood, Ready, state_of}
 use Rattle.run_laws.proofs.States.Entering.{startio_activation}
-use Rattle.run_laws.proofs.States.Never.{keeps_below, never_stands}
 use Rattle.run_laws.proofs.States.Rules.{States}
-use Rattle.run_laws.proofs.States.Stacks.{Stacked}
+use Rattle.run_laws.proofs.States.Stacks.{Stacked, Stands}
 use Rattle.run_laws.proofs.States.Standing.{Standing, on_top, stands_there}
 use Rattle.run_laws.proofs.States.Told.{last_under}
-use Rattle.run_laws.proofs.Steps.Below.{standing_is}
-use Rattle.run_laws.proofs.Steps.Comes.{Comes}
+use Rattle.run_laws.proofs.Steps.Below.{StopsBelow, stood}
+use Rattle.run_laws.proofs.Steps.Comes.{Comes, cancels}
 use Rattle.run_laws.proofs.Live.Sees.{AllSeen, seen_top}
 use Rattle.run_laws.proofs.Uses.AgreedStays.{AgreedIn, agreed_turns}
 use Rattle.run_laws.proofs.Uses.Becomes.{Turns, comes_in, uses_turns}
-use Rattle.run_laws.proofs.Uses.Fates.{Agreed, Linked, UsesTell, fate_in, late_in, late_marks}
-use Rattle.run_laws.proofs.Uses.LateMarks.{late_replaced, late_set, late_top, no_late_free, no_late_walk}
+use Rattle.run_laws.proofs.Uses.Fates.{Agreed, Linked, UsesTell, fate_in, late_in, late_marks, late_on}
+use Rattle.run_laws.proofs.Uses.LateMarks.{AllCarried, Carried, late_replaced, late_set, late_stopped, late_top, no_late_free, no_late_walk}
 use Rattle.run_laws.proofs.Uses.LinkedStays.{LinkedIn, linked_turns}
 use Rattle.run_laws.proofs.Uses.Steps.{UseStep, apart_becomes, late_of, turn_recorded}
-use Rattle.run_laws.proofs.Uses.RoutineSteps.{OnWalk, routine_used}
+use Rattle.run_laws.proofs.Uses.RoutineSteps.{OnWalk, none_on, routine_used}
+use Rattle.run_laws.proofs.Uses.CancelSteps.{cancel_used}
+use Rattle.run_laws.proofs.Uses.HoldRoutines.{hold_settled}
 use Rattle.run_laws.proofs.Uses.WalkSteps.{walk_used}
+use Rattle.run_laws.proofs.Room.Marked.{LentMarked}
+use Rattle.run_laws.proofs.Lists.{Each}
+use Rattle.run_laws.proofs.States.Known.{IsKnown}
+use Rattle.model.specs.LocalRule.{is_hold}
+use Rattle.model.specs.declared.world.Canceller.{Canceller}
+use Rattle.model.specs.declared.set.Sort.{Sort}
+use Rattle.model.specs.declared.set.Sort.TheVariants.{Hold}
+use Rattle.model.specs.declared.status.Status.{Status}
+use Rattle.model.specs.declared.status.Status.TheVariants.{Success}
+use Rattle.model.specs.Effect.{answered, answered_in, operand_of}
+use Rattle.model.specs.Set.{instruction_at, member, sort_of}
+use Rattle.run_laws.proofs.States.Entering.{sort_there}
+use Rattle.model.specs.declared.world.CancelStep.TheVariants.{Acquire as AcquireStep}
+use Rattle.model.specs.declared.instr.Return.TheVariants.{Stop}
 use Rattle.run_laws.proofs.Uses.TopFrames.{FrameOn, KnownTop, steps_routine, steps_walk}
 use Rattle.run_laws.proofs.Uses.Traced.{same_recorded, same_uses, traced_begun, traced_recorded}
 
@@ -52,7 +66,8 @@ late_in_world states w n =
 -- what becomes of a packet from one world to another
 abbrev pub WorldTurns : States → World → World → List Entry → List Entry → ℕ → Type 0
 WorldTurns states w after past later n =
-    Turns past later n (find w.shared.packets n) (find after.shared.packets n) (late_in_world states w n)
+    Turns past later n (find w.shared.packets n) (find after.shared.packets n)
+    (late_in_world states w n)
     (late_in_world states after n)
 
 -- a completion routine stands over the I/O manager's frame
@@ -65,19 +80,74 @@ module _ (set : Set) (states : States) (issued : ℕ) where
   on_walk under (CancelFrame c) [] a h = tt
   on_walk under g (e ∷ below) a h = on_walk (Some g) e below a h.1
 
+  cancel_alone : (g : Frame) (below : List Frame) (c : Canceller)
+      → Stacked set states issued (g ∷ below ++ CancelFrame c ∷ []) → ⊥
+  cancel_alone (Routine b) [] c h = h.0
+  cancel_alone (Walk n) [] c h = h.0
+  cancel_alone (CancelFrame d) [] c h = h.0
+  cancel_alone g (e ∷ below) c h = cancel_alone e below c h.1
+
   frame_on : (below : List Frame) (f : Frame) → Stacked set states issued (below ++ f ∷ [])
       → FrameOn set (last_under None below) f
   frame_on below (Walk n) h = tt
-  frame_on below (CancelFrame c) h = tt
+  frame_on [] (CancelFrame c) h = refl
+  frame_on (g ∷ below) (CancelFrame c) h = absurd (cancel_alone g below c h)
   frame_on [] (Routine a) h = tt
   frame_on (g ∷ below) (Routine a) h = on_walk None g below a h
 
--- what is known of a world and its past
+-- what is known of a world and its past: its frames stand, each packet has one holder, frames see
+-- what they should, and a location is marked under which a packet will be lent
 pub record KnownWorld (set : Set) (states : States) (w : World) (past : List Entry) : Type 0 where
   pub good : IsGood set states
   pub stands : Standing set states w past
-  pub kept : Held states w
+  pub kept : Held set states w
   pub sees : (t : ℕ) → AllSeen set states None (frames_on w t)
+  pub lends : (n : ℕ) (p : Packet) → find w.shared.packets n ≡ Some p → LentMarked set p
+
+hold_sort : (sort : Sort) → is_hold sort ≡ true → sort ≡ Hold
+hold_sort Hold is = refl
+hold_sort _ is = cc
+
+-- routines that are lent a packet have nothing to carry up, on all threads
+module _ (set : Set) (states : States) (good : IsGood set states) (issued : ℕ) where
+  ready_carried : (a : Activation) → Ready set states issued a → Carried set states (Routine a)
+  ready_carried a h is =
+      let known : IsKnown (member set a.driver a.routine h.0) (states a.driver a.routine) =
+      good.led.known a.driver a.routine h.0 h.1.is_of in
+      hold_settled (member set a.driver a.routine h.0) a.position (state_of states a)
+      (sym (sort_there set a.driver a.routine h.0 h.1.is_of)
+      ∙ hold_sort (sort_of set a.driver a.routine) is)
+      (known.follows.arrives a.position h.1.within)
+
+  told_carried : (a : Activation) (status : Status) (r : Option ℕ)
+      → Carried set states (Routine (answered_in a status r)) → Carried set states (Routine a)
+  told_carried a status None h = h
+  told_carried a status (Some r) h = h
+
+  stands_carried : (above : Option Frame) (f : Frame) → Stands set states issued above f
+      → Carried set states f
+  stands_carried above (Walk n) h = tt
+  stands_carried above (CancelFrame c) h = tt
+  stands_carried None (Routine a) h = ready_carried a h
+  stands_carried (Some (Walk n)) (Routine a) h = ready_carried a h.0
+  stands_carried (Some (Routine b)) (Routine a) h =
+      told_carried a Success (operand_of (instruction_at set a.driver a.routine (a.position - 1)))
+      (ready_carried (answered set a Success) (h.2 Success))
+  stands_carried (Some (CancelFrame c)) (Routine a) h = absurd h
+
+  stacked_carried : (frames : List Frame) → Stacked set states issued frames
+      → Each (Carried set states) frames
+  stacked_carried [] h = tt
+  stacked_carried (f ∷ []) h = (stands_carried None f h, tt)
+  stacked_carried (f ∷ g ∷ frames) h =
+      (stands_carried (Some g) f h.0, stacked_carried (g ∷ frames) h.1)
+
+pub all_carried : (set : Set) (states : States) (w : World) (past : List Entry)
+    → KnownWorld set states w past → AllCarried set states w.threads
+all_carried set states w past known t thread found =
+    stacked_carried set states known.good w.shared.issued thread.frames.items
+    (subst (λ (frames : List Frame). Stacked set states w.shared.issued frames)
+    (frames_there w t thread found) (known.stands.frames t))
 
 module _ (set : Set) (states : States) (w : World) (past : List Entry)
     (known : KnownWorld set states w past) where
@@ -92,7 +162,14 @@ module _ (set : Set) (states : States) (w : World) (past : List Entry)
             (frames_there w t h.thread h.found ∙ h.frames) (known.sees t))).0;
         on = frame_on set states w.shared.issued h.below h.frame
             (stands_there set states w past known.good known.stands t h);
+        lends = known.lends;
       }
+
+  cancel_turns : (actor : Actor) (below : Option Frame) (c : Canceller) (o : Outcome)
+      → Comes set w.shared actor.thread below (CancelFrame c) o
+      → UseStep states w.shared past actor None (CancelFrame c) o
+  cancel_turns actor below c o (cancels n step made moves) =
+      cancel_used set states w.shared past actor actor.thread n step made moves
 
   frame_used : (actor : Actor) (under below : Option Frame) (f : Frame) (o : Outcome)
       → KnownTop set states w.shared past under f → Comes set w.shared actor.thread below f o
@@ -104,12 +181,53 @@ module _ (set : Set) (states : States) (w : World) (past : List Entry)
       walk_used set states w.shared past actor actor.thread under n
       (steps_walk set states w.shared past actor under n h) below o comes
   frame_used actor under below (CancelFrame c) o h comes quiet =
-      absurd (never_stands set states w.shared c h.top)
+      subst (λ (u : Option Frame). UseStep states w.shared past actor u (CancelFrame c) o)
+      (sym h.on)
+      (cancel_turns actor below c o comes)
+
+  -- one that stops the completion had nothing to carry up
+  stopped_late : (t : ℕ) (h : StepsFrame set w t) (n : ℕ) (returned : Bool)
+      → StopsBelow set w.shared h.below h.frame h.outcome
+      → late_on states returned n (last_under None h.below) h.frame ≡ 0
+  stopped_late t h n returned stops =
+      let under : Option Frame = last_under None h.below in
+      let top : KnownTop set states w.shared past under (Routine stops.a) =
+      subst (λ (f : Frame). KnownTop set states w.shared past under f) stops.frame (known_top t h)
+      in
+      subst (λ (f : Frame). late_on states returned n under f ≡ 0) (sym stops.frame)
+      (none_on set states w.shared past (record { thread = t; tag = Managing; root = Passive }) t
+      under
+      stops.a (steps_routine set states w.shared past under stops.a top) Stop stops.at returned n
+      under
+      top.on)
+
+  stopped_even : (t : ℕ) (h : StepsFrame set w t) (n : ℕ) (returned : Bool)
+      → StopsBelow set w.shared h.below h.frame h.outcome
+      → late_marks states returned n
+      (slice_set w.threads t (with_stack h.thread (standing set h.below h.outcome)))
+      + late_on states returned n (last_under None h.below) h.frame
+      ≡ late_marks states returned n w.threads
+      + late_in states returned n (last_under None h.below) h.outcome.frames
+  stopped_even t h n returned stops =
+      let after : Thread = with_stack h.thread (standing set h.below h.outcome) in
+      let none : late_on states returned n (last_under None h.below) h.frame ≡ 0 =
+      stopped_late t h n returned stops in
+      let same : late_marks states returned n (slice_set w.threads t after)
+      ≡ late_marks states returned n w.threads =
+      late_stopped states returned n w.threads t h.thread after stops.others stops.n h.frame h.found
+      (h.frames ∙ ap (λ (below : List Frame). below ++ h.frame ∷ []) stops.below_is) stops.stands
+      (subst (λ (below : List Frame). late_on states returned n (last_under None below) h.frame ≡ 0)
+      stops.below_is none) in
+      let empty : late_in states returned n (last_under None h.below) h.outcome.frames ≡ 0 =
+      ap (λ (frames : List Frame). late_in states returned n (last_under None h.below) frames)
+      stops.frames in
+      omega arith
 
   frame_turns : (actor : Actor) (h : StepsFrame set w actor.thread)
       → first_fault past actor h.outcome.actions ≡ None → (n : ℕ) → WorldTurns states w
       (record {
-        threads = slice_set w.threads actor.thread (with_stack h.thread (standing set h.below h.outcome));
+        threads = slice_set w.threads actor.thread
+            (with_stack h.thread (standing set h.below h.outcome));
         shared = h.outcome.shared;
       }) past (recorded past actor h.outcome.actions) n
   frame_turns actor h quiet n =
@@ -118,38 +236,41 @@ module _ (set : Set) (states : States) (w : World) (past : List Entry)
       let under : Option Frame = last_under None h.below in
       let after : Thread = with_stack h.thread (standing set h.below o) in
       let threads : List Thread = slice_set w.threads t after in
+      let carried : AllCarried set states w.threads = all_carried set states w past known in
       frame_used actor under (top_of h.below) h.frame o (known_top t h) h.comes quiet n
       (λ returned. late_marks states returned n w.threads)
       (λ returned. late_marks states returned n threads)
       (record {
-        even = λ returned. late_replaced states returned n set w.threads t h.thread after h.below
-            h.frame o.told
-            o.frames h.found h.frames
-            (standing_is set w.shared t (top_of h.below) h.frame o h.below h.comes
-            (keeps_below set states w.shared t (top_of h.below) h.frame o (known_top t h).top
-            h.comes));
+        even = λ returned. elim (stood set w.shared t h.below h.frame o h.comes) [
+          | inl on ↦
+              late_replaced states returned n set w.threads t h.thread after h.below
+              h.frame o.told
+              o.frames h.found h.frames on
+          | inr stops ↦ stopped_even t h n returned stops
+        ];
         own = λ returned. late_top states returned n w.threads t h.thread h.below h.frame h.found
             h.frames;
-        free = λ free returned. no_late_free states w n returned known.kept free;
-        walked = λ is returned. no_late_walk states w t n h.thread h.below returned known.kept h.found
+        free = λ free returned. no_late_free set states w n returned known.kept carried free;
+        walked = λ is returned. no_late_walk set states w t n h.thread h.below returned known.kept
+            carried h.found
             (subst (λ (f : Frame). h.thread.frames.items ≡ h.below ++ f ∷ []) is h.frames);
       })
 
-  -- a routine that begins on an idle thread has marked nothing late
-  root_late : (t : ℕ) (thread : Thread) (level : Irql) (a : Activation) (n : ℕ)
+  -- a frame that begins on an idle thread has marked nothing late
+  root_late : (t : ℕ) (thread after : Thread) (f : Frame) (n : ℕ)
       → slice_get w.threads t ≡ Some thread
-      → thread.frames.items ≡ [] → (returned : Bool)
-      → late_marks states returned n (slice_set w.threads t (rooted thread level a))
+      → thread.frames.items ≡ [] → after.frames.items ≡ f ∷ [] → (returned : Bool)
+      → late_marks states returned n (slice_set w.threads t after)
       ≡ late_marks states returned n w.threads
-  root_late t thread level a n found idle returned =
-      let after : Thread = rooted thread level a in
+  root_late t thread after f n found idle begun returned =
       let put : late_marks states returned n (slice_set w.threads t after)
       + late_in states returned n None thread.frames.items
-      ≡ late_marks states returned n w.threads + late_in states returned n None (Routine a ∷ []) =
+      ≡ late_marks states returned n w.threads + late_in states returned n None after.frames.items =
       late_set states returned n w.threads t thread after found in
       let none : late_in states returned n None thread.frames.items ≡ 0 =
       ap (λ (frames : List Frame). late_in states returned n None frames) idle in
-      let new : late_in states returned n None (Routine a ∷ []) ≡ 0 = refl in
+      let new : late_in states returned n None after.frames.items ≡ 0 =
+      ap (λ (frames : List Frame). late_in states returned n None frames) begun in
       omega arith
 
   -- a packet is issued
@@ -172,8 +293,9 @@ module _ (set : Set) (states : States) (w : World) (past : List Entry)
       let late : Bool → ℕ = λ returned. late_marks states returned n w.threads in
       let lately : Bool → ℕ = λ returned. late_marks states returned n threads in
       let same : (returned : Bool) → lately returned ≡ late returned =
-      root_late t h.thread Passive a n h.found h.idle in
-      let push : find packets n ≡ _ = find_push 0 w.shared.packets m p known.stands.tells.rises refl n in
+      root_late t h.thread thread (Routine a) n h.found h.idle refl in
+      let push : find packets n ≡ _ = find_push 0 w.shared.packets m p known.stands.tells.rises refl
+      n in
       turn_recorded past actor actions n before (find packets n) (late_of late before)
       (late_of lately (find packets n))
       (elim (eqb_tells m n) [
@@ -197,13 +319,14 @@ module _ (set : Set) (states : States) (w : World) (past : List Entry)
             (λ q there. same q.pending_returned)
       ])
 
-  -- a routine begins on an idle thread for no request
-  root_turns : (actor : Actor) (after : World) (thread : Thread) (a : Activation)
+  -- a frame begins on an idle thread for no request
+  root_turns : (actor : Actor) (after : World) (thread begun : Thread) (f : Frame)
       → slice_get w.threads actor.thread ≡ Some thread → thread.frames.items ≡ []
-      → after.threads ≡ slice_set w.threads actor.thread (rooted thread DispatchLevel a)
+      → begun.frames.items ≡ f ∷ []
+      → after.threads ≡ slice_set w.threads actor.thread begun
       → after.shared.packets ≡ w.shared.packets → (n : ℕ)
       → WorldTurns states w after past (recorded past actor []) n
-  root_turns actor after thread a found idle threads packets n =
+  root_turns actor after thread begun f found idle items threads packets n =
       turn_recorded past actor [] n (find w.shared.packets n) (find after.shared.packets n)
       (late_in_world states w n) (late_in_world states after n)
       (apart_becomes past past n (find w.shared.packets n) (find after.shared.packets n)
@@ -211,10 +334,10 @@ module _ (set : Set) (states : States) (w : World) (past : List Entry)
       (λ returned. late_marks states returned n after.threads)
       (same_uses past n) (ap (λ (ps : List Packet). find ps n) packets)
       (λ p there. ap (λ (ts : List Thread). late_marks states p.pending_returned n ts) threads
-      ∙ root_late actor.thread thread DispatchLevel a n found idle p.pending_returned))
+      ∙ root_late actor.thread thread begun f n found idle items p.pending_returned))
 
   -- an event
-  pub event_turns : (actor : Actor) (c : Change) → Happens set w actor.thread false c
+  pub event_turns : (actor : Actor) (c : Change) → Happens set w actor.thread c
       → first_fault past actor c.actions ≡ None
       → (n : ℕ) → WorldTurns states w c.world past (recorded past actor c.actions) n
   event_turns actor c (nothing reply right) quiet n =
@@ -228,11 +351,16 @@ module _ (set : Set) (states : States) (w : World) (past : List Entry)
   event_turns actor c (steps h) quiet n = frame_turns actor h quiet n
   event_turns actor c (issues h) quiet n = issue_turns actor h n
   event_turns actor c (begins h) quiet n =
-      root_turns actor c.world h.thread (dpc_activation set h.d h.routine) h.found h.idle refl refl
-      n
+      let a : Activation = dpc_activation set h.d h.routine in
+      root_turns actor c.world h.thread (rooted h.thread DispatchLevel a) (Routine a) h.found h.idle
+      refl refl refl n
   event_turns actor c (begins_startio h) quiet n =
-      root_turns actor c.world h.thread (startio_activation set h.d h.routine h.n) h.found h.idle
-      refl refl n
+      let a : Activation = startio_activation set h.d h.routine h.n in
+      root_turns actor c.world h.thread (rooted h.thread DispatchLevel a) (Routine a) h.found h.idle
+      refl refl refl n
+  event_turns actor c (begins_cancel h) quiet n =
+      root_turns actor c.world h.thread (cancelling h.thread h.level h.n)
+      (CancelFrame (record { packet = h.n; next = AcquireStep })) h.found h.idle refl refl refl n
 
 -- what is agreed on in a world, in the words of the turns
 module _ (states : States) (w : World) (past : List Entry) where
@@ -286,10 +414,12 @@ module _ (states : States) (w : World) (past : List Entry) where
 -- what is kept, as each packet's uses turn
 module _ (states : States) (w after : World) (past later : List Entry) (told : UsesTell w past)
     (turns : (n : ℕ) → WorldTurns states w after past later n) where
-  pub agreed_by : (v : Serving) (b : Bool) → Agreed states w past v b → Agreed states after later v b
+  pub agreed_by : (v : Serving) (b : Bool) → Agreed states w past v b
+      → Agreed states after later v b
   agreed_by v b h =
       agreed_out states after later v b
-      (agreed_turns past later v (find w.shared.packets v.packet) (find after.shared.packets v.packet)
+      (agreed_turns past later v (find w.shared.packets v.packet)
+      (find after.shared.packets v.packet)
       (late_in_world states w v.packet) (late_in_world states after v.packet) b told.traced
       (told.live v.packet)
       (turns v.packet) (agreed_in states w past v b h))
@@ -305,7 +435,8 @@ module _ (states : States) (w after : World) (past later : List Entry) (told : U
       (told.live v.packet)
       (turns v.packet) h)
 
-  pub linked_by : (v lower : Serving) → Linked states w past v lower → Linked states after later v lower
+  pub linked_by : (v lower : Serving) → Linked states w past v lower
+      → Linked states after later v lower
   linked_by v lower (inl same) = inl same
   linked_by v lower (inr (inl waits)) =
       linked_turned v lower
@@ -336,7 +467,7 @@ uses_begun w none =
 -- an event keeps what live packets and the trace tell of each other
 pub uses_event : (set : Set) (states : States) (w : World) (past : List Entry) (actor : Actor)
     (c : Change)
-    → KnownWorld set states w past → UsesTell w past → Happens set w actor.thread false c
+    → KnownWorld set states w past → UsesTell w past → Happens set w actor.thread c
     → first_fault past actor c.actions ≡ None → UsesTell c.world (recorded past actor c.actions)
 uses_event set states w past actor c known told happens quiet =
     record {

@@ -1,15 +1,15 @@
 -- Facts of fates: where all are true, where they stay, and how a location that is marked or written
 -- changes them.
-use Rattle.std.proofs.Common.{◌≡◌, ◌≢◌, ℕ, ◌<◌, ◌≤◌, inl, inr, List, [], ◌∷◌, length, Option, None, Some, Bool, true, false, get_or, refl, ap, sym, ◌∙◌, subst, arith}
+use Rattle.std.proofs.Common.{◌≡◌, ℕ, ◌<◌, ◌≤◌, inl, inr, List, [], ◌∷◌, length, Option, None, Some, Bool, true, false, get_or, refl, ap, sym, ◌∙◌, subst, arith}
 use Rattle.std.specs.Prelude.{◌||◌, nat_eq, slice_get, slice_set, if◌then◌else◌}
 use Rattle.std.proofs.lemmas.Bool.{eq-eqb}
 use Rattle.std.proofs.lemmas.Bool.Decides.{eqb_tells}
-use Rattle.std.proofs.lemmas.Option.{slice_get-get_or}
 use Rattle.model.specs.declared.world.Completion.{Completion}
 use Rattle.model.specs.declared.world.Location.{Location}
-use Rattle.model.specs.World.{completion_of, copied_location, is_marked, marked_location, shared_location, unused_location}
+use Rattle.model.specs.World.{copied_location, is_marked, unused_location}
+use Rattle.run_laws.proofs.Room.Locations.{location_there}
 use Rattle.run_laws.proofs.Uses.Fates.{Falls, fate_in}
-use Rattle.run_laws.proofs.Lists.{set_other, set_same}
+use Rattle.run_laws.proofs.Lists.{set_same}
 
 -- below a mark all are marked
 pub fate_true : (used : List ℕ) (locations : List Location) (u : ℕ) (marked : Bool)
@@ -46,7 +46,8 @@ fate_marked used locations below u marked v upper is here h =
 
 -- fates are those of the marks
 pub fate_same : (used : List ℕ) (locations others : List Location) (below : Bool) (u : ℕ)
-    → ((k : ℕ) → k < length used → is_marked (slice_get others k) ≡ is_marked (slice_get locations k))
+    → ((k : ℕ) → k < length used → is_marked (slice_get others k)
+    ≡ is_marked (slice_get locations k))
     → fate_in used others below u ≡ fate_in used locations below u
 fate_same [] locations others below u h = refl
 fate_same (v ∷ upper) locations others below u h =
@@ -93,81 +94,11 @@ pub fate_head : (u : ℕ) (upper : List ℕ) (locations : List Location) (below 
     ≡ Some (below || is_marked (slice_get locations (length upper)))
 fate_head u upper locations below = rw (eq-eqb u u refl) refl
 
-pub fate_rest : (v u : ℕ) (upper : List ℕ) (locations : List Location) (below : Bool) → nat_eq v u ≡ false
+pub fate_rest : (v u : ℕ) (upper : List ℕ) (locations : List Location) (below : Bool)
+    → nat_eq v u ≡ false
     → fate_in (v ∷ upper) locations below u
     ≡ fate_in upper locations (below || is_marked (slice_get locations (length upper))) u
 fate_rest v u upper locations below h = rw h refl
-
--- a location is there
-pub location_there : (locations : List Location) (place : ℕ) → place < length locations
-    → slice_get locations place ≡ Some (get_or locations place unused_location)
-location_there locations place l = slice_get-get_or locations place unused_location l
-
--- a location is marked: it, and no other one
-pub marked_here : (locations : List Location) (place : ℕ) → place < length locations
-    → is_marked (slice_get (marked_location (slice_get locations place) locations place) place) ≡ true
-marked_here locations place l =
-    let there : slice_get locations place ≡ Some (get_or locations place unused_location) =
-    location_there locations place l in
-    let one : Location = get_or locations place unused_location in
-    subst (λ (o : Option Location). is_marked (slice_get (marked_location o locations place) place)
-    ≡ true) (sym there)
-    (ap is_marked (set_same locations place one (record one { marked = true }) there))
-
-pub marked_other : (o : Option Location) (locations : List Location) (place k : ℕ) → place ≢ k
-    → slice_get (marked_location o locations place) k ≡ slice_get locations k
-marked_other None locations place k apart = refl
-marked_other (Some l) locations place k apart =
-    set_other locations place k (record l { marked = true }) apart
-
--- a location is written with what another one has, at its place: what f tells of locations stays
-set_as : {A : Type 0} (f : Option Location → A) (locations : List Location) (place k : ℕ)
-    (l now : Location)
-    → slice_get locations place ≡ Some l → f (Some now) ≡ f (Some l)
-    → f (slice_get (slice_set locations place now) k) ≡ f (slice_get locations k)
-set_as f locations place k l now there same =
-    elim (eqb_tells place k) [
-      | inl e ↦ subst
-          (λ (j : ℕ). f (slice_get (slice_set locations place now) j) ≡ f (slice_get locations j))
-          e.1
-          (ap f (set_same locations place l now there) ∙ same ∙ sym (ap f there))
-      | inr e ↦ ap f (set_other locations place k now e.1)
-    ]
-
--- a mark leaves completion routines alone
-marked_as : (locations : List Location) (place k : ℕ) (o : Option Location)
-    → slice_get locations place ≡ o
-    → completion_of (slice_get (marked_location o locations place) k)
-    ≡ completion_of (slice_get locations k)
-marked_as locations place k None there = refl
-marked_as locations place k (Some l) there =
-    set_as completion_of locations place k l (record l { marked = true }) there refl
-
-pub marked_completion : (locations : List Location) (place k : ℕ)
-    → completion_of (slice_get (marked_location (slice_get locations place) locations place) k)
-    ≡ completion_of (slice_get locations k)
-marked_completion locations place k = marked_as locations place k (slice_get locations place) refl
-
--- a location is shared with a lower device: its mark stays, and its completion routine
-shared_as : {A : Type 0} (f : Option Location → A) (locations : List Location) (place device k : ℕ)
-    (o : Option Location) → slice_get locations place ≡ o
-    → ((l : Location) → f (Some (record l { device = device })) ≡ f (Some l))
-    → f (slice_get (shared_location o locations place device) k) ≡ f (slice_get locations k)
-shared_as f locations place device k None there same = refl
-shared_as f locations place device k (Some l) there same =
-    set_as f locations place k l (record l { device = device }) there (same l)
-
-pub shared_marks : (locations : List Location) (place device k : ℕ)
-    → is_marked (slice_get (shared_location (slice_get locations place) locations place device) k)
-    ≡ is_marked (slice_get locations k)
-shared_marks locations place device k =
-    shared_as is_marked locations place device k (slice_get locations place) refl (λ l. refl)
-
-pub shared_completion : (locations : List Location) (place device k : ℕ)
-    → completion_of (slice_get (shared_location (slice_get locations place) locations place device) k)
-    ≡ completion_of (slice_get locations k)
-shared_completion locations place device k =
-    shared_as completion_of locations place device k (slice_get locations place) refl (λ l. refl)
 
 -- a location of its own is unmarked
 pub copied_unmarked : (o : Option Location) (device : ℕ) (completion : Option Completion)

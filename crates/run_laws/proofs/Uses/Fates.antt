@@ -121,11 +121,12 @@ pub record Waits (w : World) (past : List Entry) (v lower : Serving) : Type 0 wh
   pub above : WaitsAbove (uses past v.packet) live.locations.items v.«use» lower.«use»
 
 -- a use was left so, and what it was left with is agreed on for the one above it
-pub record Followed (states : States) (w : World) (past : List Entry) (v lower : Serving) : Type 0 where
-  pub marked : Bool
-  pub turn : ℕ
-  pub left : slice_get (marks_left past lower) turn ≡ Some marked
-  pub agreed : Agreed states w past v marked
+pub record Followed (states : States) (w : World) (past : List Entry) (v lower : Serving) : Type 0
+  where
+    pub marked : Bool
+    pub turn : ℕ
+    pub left : slice_get (marks_left past lower) turn ≡ Some marked
+    pub agreed : Agreed states w past v marked
 
 -- what is agreed on for one use is agreed on for another one: itself, or the one that it was called
 -- from

@@ -1,14 +1,15 @@
 -- How many marks a packet's completion routines have still to carry up: at most one for each of the
--- I/O manager's frames of the packet that isn't the top one, and what a step changes of it.
-use Rattle.run_laws.specs.Holder.{frame_walks, stack_sum, thread_sum}
-use Rattle.run_laws.proofs.Holders.Sums.{Held, held, stack_append}
+-- I/O manager's frames of the packet that isn't the top one and isn't lent, and what a step changes
+-- of it.
+use Rattle.run_laws.specs.Holder.{all_walking, frame_walks, is_lent, walking}
+use Rattle.run_laws.proofs.Holders.Sums.{Held, held}
 use Rattle.run_laws.proofs.Past.LivePackets.{find}
 use Rattle.run_laws.proofs.States.Rules.{States}
 use Rattle.run_laws.proofs.States.Told.{last_under, told_frame, told_is, told_last}
 use Rattle.run_laws.proofs.Uses.Fates.{late_in, late_mark, late_marks, late_on}
-use Rattle.std.proofs.Common.{◌≡◌, ℕ, zero, suc, ◌+◌, ◌-◌, ◌≤◌, inl, inr, List, [], ◌∷◌, ◌++◌, Option, None, Some, Bool, true, false, refl, ap, ◌∙◌, arith}
-use Rattle.std.specs.Prelude.{slice_get, slice_set, if◌then◌else◌}
-use Rattle.std.proofs.lemmas.Bool.{eq-eqb}
+use Rattle.std.proofs.Common.{◌≡◌, ℕ, zero, suc, ◌+◌, ◌-◌, ◌≤◌, inl, inr, List, [], ◌∷◌, ◌++◌, Option, None, Some, Bool, true, false, cond, refl, ap, ◌∙◌, subst, arith}
+use Rattle.std.specs.Prelude.{⊤, slice_get, slice_set, if◌then◌else◌}
+use Rattle.std.proofs.lemmas.Bool.{cases_Bool, eq-eqb}
 use Rattle.std.proofs.lemmas.Bool.Decides.{eqb_tells}
 use Rattle.model.specs.declared.abs.Settled.{Settled}
 use Rattle.model.specs.declared.abs.Settled.TheVariants.{Open, NeedMark, Settled as SettledMark}
@@ -19,7 +20,9 @@ use Rattle.model.specs.declared.world.Frame.TheVariants.{Routine, Walk, Cancel a
 use Rattle.model.specs.declared.world.Packet.{Packet}
 use Rattle.model.specs.declared.world.Thread.{Thread}
 use Rattle.model.specs.Effect.{answered_in, operand_of, told_to}
-use Rattle.model.specs.Set.{Set, instruction_at}
+use Rattle.model.specs.LocalRule.{is_hold}
+use Rattle.model.specs.Set.{Set, instruction_at, sort_of}
+use Rattle.run_laws.proofs.Lists.{Each}
 use Rattle.model.specs.World.{World}
 
 -- at most one for each of the packet's frames
@@ -54,7 +57,8 @@ module _ (states : States) (returned : Bool) (n : ℕ) where
       ≡ lates under xs + lates (last_under under xs) ys
   late_append under [] ys = omega arith
   late_append under (f ∷ xs) ys =
-      let others : lates (Some f) (xs ++ ys) ≡ lates (Some f) xs + lates (last_under (Some f) xs) ys =
+      let others : lates (Some f) (xs ++ ys) ≡ lates (Some f) xs
+      + lates (last_under (Some f) xs) ys =
       late_append (Some f) xs ys in
       omega arith
 
@@ -122,13 +126,14 @@ module _ (states : States) (returned : Bool) (n : ℕ) where
       omega arith
 
   pub told_to_late : (set : Set) (under : Option Frame)
-      (told : Option Status) (below frames : List Frame) → lates under (told_to set below told ++ frames)
+      (told : Option Status) (below frames : List Frame)
+      → lates under (told_to set below told ++ frames)
       ≡ lates under below + lates (last_under under below) frames
   told_to_late set under told below frames =
       ap (λ (all : List Frame). lates under (all ++ frames)) (told_is set below told)
       ∙ last_late set under told below frames
 
-  late_under : (under : Option Frame) (f : Frame) → late under f ≤ walks_under under n
+  pub late_under : (under : Option Frame) (f : Frame) → late under f ≤ walks_under under n
   late_under None f = omega arith
   late_under (Some (Routine b)) f = omega arith
   late_under (Some (CancelFrame c)) f = omega arith
@@ -141,58 +146,6 @@ module _ (states : States) (returned : Bool) (n : ℕ) where
         | inl e ↦ rw e.0 (late_one returned (states a.driver a.routine a.position).settled)
         | inr e ↦ rw e.0 (omega arith)
       ]
-
-  late_few : (under : Option Frame) (frames : List Frame)
-      → lates under frames ≤ walks_under under n + stack_sum (λ f. frame_walks f n) frames
-  late_few under [] = omega arith
-  late_few under (f ∷ frames) =
-      let here : late under f ≤ walks_under under n = late_under under f in
-      let others : lates (Some f) frames ≤ frame_walks f n + stack_sum (λ g. frame_walks g n) frames =
-      late_few (Some f) frames in
-      omega arith
-
-  late_threads : (threads : List Thread) → all_late threads ≤ thread_sum (λ f. frame_walks f n) threads
-  late_threads [] = omega arith
-  late_threads (thread ∷ threads) =
-      let here : lates None thread.frames.items ≤ 0 + stack_sum (λ f. frame_walks f n)
-      thread.frames.items =
-      late_few None thread.frames.items in
-      let others : all_late threads ≤ thread_sum (λ f. frame_walks f n) threads =
-      late_threads threads in
-      omega arith
-
-  -- and none for the top one
-  late_below : (below : List Frame) → lates None (below ++ Walk n ∷ []) + 1
-      ≤ stack_sum (λ f. frame_walks f n) (below ++ Walk n ∷ [])
-  late_below below =
-      let parts : lates None (below ++ Walk n ∷ []) ≡ lates None below + lates
-      (last_under None below) (Walk n ∷ []) =
-      late_append None below (Walk n ∷ []) in
-      let top : late (last_under None below) (Walk n) ≡ 0 =
-      late_walk (last_under None below) n in
-      let few : lates None below ≤ 0 + stack_sum (λ f. frame_walks f n) below =
-      late_few None below in
-      let sums : stack_sum (λ f. frame_walks f n) (below ++ Walk n ∷ [])
-      ≡ stack_sum (λ f. frame_walks f n) below + stack_sum (λ f. frame_walks f n) (Walk n ∷ []) =
-      stack_append (λ f. frame_walks f n) below (Walk n ∷ []) in
-      let own : frame_walks (Walk n) n ≡ 1 = rw (eq-eqb n n refl) refl in
-      omega arith
-
-  late_less : (threads : List Thread) (t : ℕ) (thread : Thread) → slice_get threads t ≡ Some thread
-      → lates None thread.frames.items + 1 ≤ stack_sum (λ f. frame_walks f n) thread.frames.items
-      → all_late threads + 1 ≤ thread_sum (λ f. frame_walks f n) threads
-  late_less [] t thread found h = cc
-  late_less (x ∷ threads) zero thread found h =
-      let one : x ≡ thread = cc in
-      let others : all_late threads ≤ thread_sum (λ f. frame_walks f n) threads =
-      late_threads threads in
-      rw one (omega arith)
-  late_less (x ∷ threads) (suc t) thread found h =
-      let here : lates None x.frames.items ≤ 0 + stack_sum (λ f. frame_walks f n) x.frames.items =
-      late_few None x.frames.items in
-      let others : all_late threads + 1 ≤ thread_sum (λ f. frame_walks f n) threads =
-      late_less threads t thread found h in
-      omega arith
 
   -- other frames on a thread
   pub late_set : (threads : List Thread) (t : ℕ) (thread after : Thread)
@@ -222,12 +175,37 @@ module _ (states : States) (returned : Bool) (n : ℕ) where
       let old : lates None thread.frames.items ≡ lates None below + lates (last_under None below)
       (f ∷ []) =
       ap (λ (all : List Frame). lates None all) items ∙ late_append None below (f ∷ []) in
-      let new : lates None after.frames.items ≡ lates None below + lates (last_under None below) frames =
+      let new : lates None after.frames.items ≡ lates None below
+      + lates (last_under None below) frames =
       ap (λ (all : List Frame). lates None all) now ∙ told_to_late set None told below frames in
       omega arith
 
+  -- the top frame is gone with the I/O manager's frame below it, and had nothing to carry up
+  pub late_stopped : (threads : List Thread) (t : ℕ) (thread after : Thread) (others : List Frame)
+      (m : ℕ) (f : Frame)
+      → slice_get threads t ≡ Some thread → thread.frames.items ≡ (others ++ Walk m ∷ []) ++ f ∷ []
+      → after.frames.items ≡ others
+      → late (last_under None (others ++ Walk m ∷ [])) f ≡ 0
+      → all_late (slice_set threads t after) ≡ all_late threads
+  late_stopped threads t thread after others m f found items now none =
+      let put : all_late (slice_set threads t after) + lates None
+      thread.frames.items ≡ all_late threads + lates None after.frames.items =
+      late_set threads t thread after found in
+      let old : lates None thread.frames.items ≡ lates None (others ++ Walk m ∷ [])
+      + lates (last_under None (others ++ Walk m ∷ [])) (f ∷ []) =
+      ap (λ (all : List Frame). lates None all) items
+      ∙ late_append None (others ++ Walk m ∷ []) (f ∷ []) in
+      let under : lates None (others ++ Walk m ∷ []) ≡ lates None others
+      + lates (last_under None others) (Walk m ∷ []) =
+      late_append None others (Walk m ∷ []) in
+      let top : late (last_under None others) (Walk m) ≡ 0 = late_walk (last_under None others) m in
+      let new : lates None after.frames.items ≡ lates None others =
+      ap (λ (all : List Frame). lates None all) now in
+      omega arith
+
   -- the top frame's is among them
-  late_thread : (threads : List Thread) (t : ℕ) (thread : Thread) → slice_get threads t ≡ Some thread
+  late_thread : (threads : List Thread) (t : ℕ) (thread : Thread)
+      → slice_get threads t ≡ Some thread
       → lates None thread.frames.items ≤ all_late threads
   late_thread [] t thread found = cc
   late_thread (x ∷ threads) zero thread found = let one : x ≡ thread = cc in rw one (omega arith)
@@ -248,26 +226,202 @@ module _ (states : States) (returned : Bool) (n : ℕ) where
       ap (λ (frames : List Frame). lates None frames) items ∙ late_append None below (f ∷ []) in
       omega arith
 
+-- a routine that is lent a packet has none to carry up
+abbrev pub Carried : Set → States → Frame → Type 0
+Carried set states (Routine a) =
+    is_hold (sort_of set a.driver a.routine) ≡ true
+    → (states a.driver a.routine a.position).settled ≡ SettledMark
+Carried set states (Walk n) = ⊤
+Carried set states (CancelFrame c) = ⊤
+
+-- on all threads
+abbrev pub AllCarried : Set → States → List Thread → Type 0
+AllCarried set states threads =
+    (t : ℕ) (thread : Thread) → slice_get threads t ≡ Some thread
+    → Each (Carried set states) thread.frames.items
+
+either_none : (b : Bool) → cond {A = ℕ} b 0 0 ≡ 0
+either_none true = refl
+either_none false = refl
+
+-- so at most one for each of the I/O manager's frames whose packet isn't lent
+module _ (set : Set) (states : States) (returned : Bool) (n : ℕ) where
+  abbrev lates_on : Option Frame → List Frame → ℕ
+  lates_on under frames = late_in states returned n under frames
+
+  -- 0 or 1 for the frame below, if it isn't lent
+  abbrev unlent_under : List Frame → Option Frame → ℕ
+  unlent_under frames under = if is_lent set frames then 0 else walks_under under n
+
+  settled_none : (under : Option Frame) (a : Activation)
+      → (states a.driver a.routine a.position).settled ≡ SettledMark
+      → late_on states returned n under (Routine a) ≡ 0
+  settled_none None a is = refl
+  settled_none (Some (Routine b)) a is = refl
+  settled_none (Some (CancelFrame c)) a is = refl
+  settled_none (Some (Walk m)) a is =
+      elim (eqb_tells m n) [ inl e ↦ rw (e.0, is) refl | inr e ↦ rw e.0 refl ]
+
+  late_unlent : (under : Option Frame) (f : Frame) (frames : List Frame) → Carried set states f
+      → late_on states returned n under f ≤ unlent_under (f ∷ frames) under
+  late_unlent under (Walk m) frames carried = late_under states returned n under (Walk m)
+  late_unlent under (CancelFrame c) frames carried =
+      late_under states returned n under (CancelFrame c)
+  late_unlent under (Routine a) frames carried =
+      elim (cases_Bool (is_hold (sort_of set a.driver a.routine))) [
+        | inl lent ↦
+            let none : late_on states returned n under (Routine a) ≡ 0 =
+            settled_none under a (carried lent) in
+            rw (lent, none) (omega arith)
+        | inr free ↦ rw free (late_under states returned n under (Routine a))
+      ]
+
+  late_few : (under : Option Frame) (frames : List Frame) → Each (Carried set states) frames
+      → lates_on under frames ≤ unlent_under frames under + walking set frames n
+  late_few under [] carried = omega arith
+  late_few under (f ∷ frames) carried =
+      let here : late_on states returned n under f ≤ unlent_under (f ∷ frames) under =
+      late_unlent under f frames carried.0 in
+      let others : lates_on (Some f) frames ≤ unlent_under frames (Some f) + walking set frames n =
+      late_few (Some f) frames carried.1 in
+      let walks : walking set (f ∷ frames) n ≡ unlent_under frames (Some f) + walking set frames n =
+      refl in
+      let parts : lates_on under (f ∷ frames)
+      ≡ late_on states returned n under f + lates_on (Some f) frames = refl in
+      omega arith
+
+  late_first : (frames : List Frame) → Each (Carried set states) frames
+      → lates_on None frames ≤ walking set frames n
+  late_first frames carried =
+      let few : lates_on None frames ≤ unlent_under frames None + walking set frames n =
+      late_few None frames carried in
+      let none : unlent_under frames None ≡ 0 = either_none (is_lent set frames) in
+      omega arith
+
+  late_threads : (threads : List Thread) → AllCarried set states threads
+      → late_marks states returned n threads ≤ all_walking set threads n
+  late_threads [] carried = omega arith
+  late_threads (thread ∷ threads) carried =
+      let here : lates_on None thread.frames.items ≤ walking set thread.frames.items n =
+      late_first thread.frames.items (carried 0 thread refl) in
+      let others : late_marks states returned n threads ≤ all_walking set threads n =
+      late_threads threads (λ t other there. carried (suc t) other there) in
+      omega arith
+
+  -- and none for the top one
+  late_below : (under : Option Frame) (below : List Frame)
+      → Each (Carried set states) (below ++ Walk n ∷ [])
+      → lates_on under (below ++ Walk n ∷ []) + 1
+      ≤ unlent_under (below ++ Walk n ∷ []) under + walking set (below ++ Walk n ∷ []) n
+  late_below under [] carried =
+      let top : late_on states returned n under (Walk n)
+      ≡ 0 = late_walk states returned n under n in
+      let own : walking set (Walk n ∷ []) n ≡ 1 = rw (eq-eqb n n refl) refl in
+      let parts : lates_on under (Walk n ∷ []) ≡ late_on states returned n under (Walk n)
+      + 0 = refl in
+      omega arith
+  late_below under (f ∷ below) carried =
+      let frames : List Frame = below ++ Walk n ∷ [] in
+      let here : late_on states returned n under f ≤ unlent_under (f ∷ below ++ Walk n ∷ []) under =
+      late_unlent under f (below ++ Walk n ∷ []) carried.0 in
+      let others : lates_on (Some f) (below ++ Walk n ∷ []) + 1
+      ≤ unlent_under (below ++ Walk n ∷ []) (Some f) + walking set (below ++ Walk n ∷ []) n =
+      late_below (Some f) below carried.1 in
+      let walks : walking set (f ∷ below ++ Walk n ∷ []) n
+      ≡ unlent_under (below ++ Walk n ∷ []) (Some f) + walking set (below ++ Walk n ∷ []) n =
+      refl in
+      let parts : lates_on under (f ∷ below ++ Walk n ∷ [])
+      ≡ late_on states returned n under f + lates_on (Some f) (below ++ Walk n ∷ []) = refl in
+      omega arith
+
+  late_less : (threads : List Thread) (t : ℕ) (thread : Thread) → slice_get threads t ≡ Some thread
+      → AllCarried set states threads
+      → lates_on None thread.frames.items + 1 ≤ walking set thread.frames.items n
+      → late_marks states returned n threads + 1 ≤ all_walking set threads n
+  late_less [] t thread found carried h = cc
+  late_less (x ∷ threads) zero thread found carried h =
+      let one : x ≡ thread = cc in
+      let others : late_marks states returned n threads ≤ all_walking set threads n =
+      late_threads threads (λ t other there. carried (suc t) other there) in
+      rw one (omega arith)
+  late_less (x ∷ threads) (suc t) thread found carried h =
+      let here : lates_on None x.frames.items ≤ walking set x.frames.items n =
+      late_first x.frames.items (carried 0 x refl) in
+      let others : late_marks states returned n threads + 1 ≤ all_walking set threads n =
+      late_less threads t thread found (λ k other there. carried (suc k) other there) h in
+      omega arith
+
+  -- the I/O manager's frame under a routine that isn't lent its packet is one of those that have it
+  walks_under_top : (below : List Frame) (a : Activation) (under : Option Frame)
+      → last_under under below ≡ Some (Walk n) → is_hold (sort_of set a.driver a.routine) ≡ false
+      → 1 ≤ unlent_under (below ++ Routine a ∷ []) under + walking set (below ++ Routine a ∷ []) n
+  walks_under_top [] a under is free =
+      let own : unlent_under (Routine a ∷ []) under ≡ 1 = rw (free, is, eq-eqb n n refl) refl in
+      omega arith
+  walks_under_top (f ∷ below) a under is free =
+      let others : 1 ≤ unlent_under (below ++ Routine a ∷ []) (Some f)
+      + walking set (below ++ Routine a ∷ []) n =
+      walks_under_top below a (Some f) is free in
+      let walks : walking set (f ∷ below ++ Routine a ∷ []) n
+      ≡ unlent_under (below ++ Routine a ∷ []) (Some f) + walking set (below ++ Routine a ∷ []) n =
+      refl in
+      omega arith
+
+  thread_walking : (threads : List Thread) (t : ℕ) (thread : Thread)
+      → slice_get threads t ≡ Some thread
+      → walking set thread.frames.items n ≤ all_walking set threads n
+  thread_walking [] t thread found = cc
+  thread_walking (x ∷ threads) zero thread found = let one : x ≡ thread = cc in rw one (omega arith)
+  thread_walking (x ∷ threads) (suc t) thread found =
+      let others : walking set thread.frames.items n ≤ all_walking set threads n =
+      thread_walking threads t thread found in
+      omega arith
+
+  pub walks_on : (threads : List Thread) (t : ℕ) (thread : Thread) (below : List Frame)
+      (a : Activation)
+      → slice_get threads t ≡ Some thread → thread.frames.items ≡ below ++ Routine a ∷ []
+      → last_under None below ≡ Some (Walk n) → is_hold (sort_of set a.driver a.routine) ≡ false
+      → 1 ≤ all_walking set threads n
+  walks_on threads t thread below a found items is free =
+      let all : walking set thread.frames.items n ≤ all_walking set threads n =
+      thread_walking threads t thread found in
+      let same : walking set thread.frames.items n ≡ walking set (below ++ Routine a ∷ []) n =
+      ap (λ (frames : List Frame). walking set frames n) items in
+      let some : 1 ≤ unlent_under (below ++ Routine a ∷ []) None
+      + walking set (below ++ Routine a ∷ []) n = walks_under_top below a None is free in
+      let none : unlent_under (below ++ Routine a ∷ []) None ≡ 0 =
+      either_none (is_lent set (below ++ Routine a ∷ [])) in
+      omega arith
+
 -- where the I/O manager's frame of a packet is a top one, none is late
-pub no_late_walk : (states : States) (w : World) (t n : ℕ) (thread : Thread) (below : List Frame)
-    (returned : Bool)
-    → Held states w → slice_get w.threads t ≡ Some thread → thread.frames.items ≡ below ++ Walk n ∷ []
+pub no_late_walk : (set : Set) (states : States) (w : World) (t n : ℕ) (thread : Thread)
+    (below : List Frame) (returned : Bool)
+    → Held set states w → AllCarried set states w.threads → slice_get w.threads t ≡ Some thread
+    → thread.frames.items ≡ below ++ Walk n ∷ []
     → late_marks states returned n w.threads ≡ 0
-no_late_walk states w t n thread below returned kept found frames =
-    let less : late_marks states returned n w.threads + 1 ≤ thread_sum (λ f. frame_walks f n) w.threads =
-    late_less states returned n w.threads t thread found
-    (rw frames (late_below states returned n below)) in
-    let all : thread_sum (λ f. frame_walks f n) w.threads ≡ held (find w.shared.packets n) =
+no_late_walk set states w t n thread below returned kept carried found frames =
+    let each : Each (Carried set states) (below ++ Walk n ∷ []) =
+    subst (λ (items : List Frame). Each (Carried set states) items) frames (carried t thread found)
+    in
+    let under : late_in states returned n None (below ++ Walk n ∷ []) + 1
+    ≤ cond {A = ℕ} (is_lent set (below ++ Walk n ∷ [])) 0 0 + walking set (below ++ Walk n ∷ []) n =
+    late_below set states returned n None below each in
+    let none : cond {A = ℕ} (is_lent set (below ++ Walk n ∷ [])) 0 0 ≡ 0 =
+    either_none (is_lent set (below ++ Walk n ∷ [])) in
+    let less : late_marks states returned n w.threads + 1 ≤ all_walking set w.threads n =
+    late_less set states returned n w.threads t thread found carried (rw frames (omega arith)) in
+    let all : all_walking set w.threads n ≡ held (find w.shared.packets n) =
     kept.walks n in
     let one : held (find w.shared.packets n) ≤ 1 = held_one (find w.shared.packets n) in
     omega arith
 
 -- nor of a packet that the I/O manager doesn't have
-pub no_late_free : (states : States) (w : World) (n : ℕ) (returned : Bool) → Held states w
+pub no_late_free : (set : Set) (states : States) (w : World) (n : ℕ) (returned : Bool)
+    → Held set states w → AllCarried set states w.threads
     → held (find w.shared.packets n) ≡ 0 → late_marks states returned n w.threads ≡ 0
-no_late_free states w n returned kept free =
-    let few : late_marks states returned n w.threads ≤ thread_sum (λ f. frame_walks f n) w.threads =
-    late_threads states returned n w.threads in
-    let all : thread_sum (λ f. frame_walks f n) w.threads ≡ held (find w.shared.packets n) =
+no_late_free set states w n returned kept carried free =
+    let few : late_marks states returned n w.threads ≤ all_walking set w.threads n =
+    late_threads set states returned n w.threads carried in
+    let all : all_walking set w.threads n ≡ held (find w.shared.packets n) =
     kept.walks n in
     omega arith

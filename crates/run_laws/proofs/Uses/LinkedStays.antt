@@ -7,10 +7,11 @@ use Rattle.model.specs.declared.world.Location.{Location}
 use Rattle.model.specs.declared.world.Packet.{Packet}
 use Rattle.model.specs.PendingAgreement.{marks_left, was_marked}
 use Rattle.model.specs.Trace.{Entry, Serving, uses, uses_opened}
-use Rattle.model.specs.World.{copied_location, current_location, is_marked, left_location, mark_current, marked_location, moved_up, sent_down}
+use Rattle.model.specs.World.{copied_location, current_location, is_marked, mark_current, marked_location, sent_down}
 use Rattle.run_laws.proofs.Uses.AgreedStays.{AgreedIn, agreed_turn, bit_below, stands_of}
 use Rattle.run_laws.proofs.Uses.Fates.{nth_use, Falls, MarksTell, PacketUses, Traced, Unleft, WaitsAbove, fate_in}
-use Rattle.run_laws.proofs.Uses.FateFacts.{fate_head, marked_other}
+use Rattle.run_laws.proofs.Room.Locations.{marked_other}
+use Rattle.run_laws.proofs.Uses.FateFacts.{fate_head}
 use Rattle.run_laws.proofs.Lists.{set_other}
 use Rattle.run_laws.proofs.Uses.Becomes.{Becomes, comes_in, gets_marked, goes_down, goes_out, goes_up, keeps_marks, never_live, IsCalled, IsKept, IsLeft, IsMarked, Turn, Turns, UsesIn, not_use, own_use, uses_turn}
 
@@ -34,7 +35,8 @@ LinkedIn past v lower o late = WaitsIn past v lower o ⊎ FollowedIn past v lowe
 
 -- the locations above the current one are marked as before
 waits_same : (used : List ℕ) (locations others : List Location) (u lower : ℕ)
-    → ((k : ℕ) → k + 1 < length used → is_marked (slice_get others k) ≡ is_marked (slice_get locations k))
+    → ((k : ℕ) → k + 1 < length used → is_marked (slice_get others k)
+    ≡ is_marked (slice_get locations k))
     → WaitsAbove used locations u lower → WaitsAbove used others u lower
 waits_same [] locations others u lower same h = absurd h
 waits_same (x ∷ []) locations others u lower same h = absurd h
@@ -58,7 +60,8 @@ waits_few (x ∷ []) locations u lower few h = h
 waits_few (x ∷ y ∷ upper) locations u lower few h = absurd (omega arith)
 
 -- whatever becomes of the packet
-module _ (past later : List Entry) (v lower : Serving) (before after : Option Packet) (late lately : ℕ)
+module _ (past later : List Entry) (v lower : Serving) (before after : Option Packet)
+    (late lately : ℕ)
     (traced : Traced past) (in_past : UsesIn past v.packet before)
     (grows : uses_opened past ≤ uses_opened later) where
   abbrev Above : Packet → Type 0
@@ -78,7 +81,8 @@ module _ (past later : List Entry) (v lower : Serving) (before after : Option Pa
         packet = h.packet;
         live = turn.q;
         there = turn.now;
-        above = subst (λ (used : List ℕ). WaitsAbove used turn.q.locations.items v.«use» lower.«use»)
+        above = subst (λ (used : List ℕ). WaitsAbove used turn.q.locations.items v.«use»
+            lower.«use»)
             (sym turn.same.used)
             (waits_same (uses past v.packet) turn.p.locations.items turn.q.locations.items v.«use»
             lower.«use»
@@ -122,7 +126,8 @@ module _ (past later : List Entry) (v lower : Serving) (before after : Option Pa
         packet = h.packet;
         live = sent_down p turn.device turn.completion;
         there = turn.now;
-        above = subst (λ (used : List ℕ). WaitsAbove used others v.«use» lower.«use») (sym turn.used)
+        above = subst (λ (used : List ℕ). WaitsAbove used others v.«use» lower.«use»)
+            (sym turn.used)
             (waits_called (uses past v.packet) others v.«use» lower.«use» (uses_opened past)
             (waits_same (uses past v.packet) p.locations.items others v.«use» lower.«use»
             (λ k m. ap is_marked (set_other p.locations.items p.depth k l
@@ -159,40 +164,59 @@ module _ (past later : List Entry) (v lower : Serving) (before after : Option Pa
       turn.left y ∙ rw (is, not_use n x y (λ e. (let equal : x ≡ y = e in absurd (omega arith))))
       unleft.1.0 in
       let place : p.depth - 1 ≡ suc (length upper) = omega arith in
-      let carried : nat_lt 0 lately ≡ mark =
-      ap (λ (c : ℕ). nat_lt 0 c) turn.carried
-      ∙ bit_below (is_marked (current_location turn.p))
-      ∙ ap (λ (q : Packet). is_marked (current_location q)) same
-      ∙ ap (λ (k : ℕ). is_marked (slice_get p.locations.items k)) place
-      ∙ marks.0 in
-      inl (record {
-        marked = mark;
-        turn = 0;
-        left = ap (λ (s : Serving). slice_get (marks_left later s) 0) lower_is
-            ∙ ap (λ (xs : List Bool). slice_get xs 0) noted;
-        agreed = record {
-          opened = omega arith;
-          left = subst (λ (xs : List Bool). All (λ m. m ≡ mark) xs)
-              (sym (ap (λ (u : ℕ). marks_left later (nth_use n u)) (sym use_is) ∙ unnoted))
-              (All-nil (λ m. m ≡ mark));
-          stands = stands_of later v after lately mark (moved_up (left_location turn.p)) turn.now
-              (λ m fate_is.
-              let all : fate_in (uses later n) turn.p.locations.items (nat_lt 0 lately) v.«use»
-              ≡ Some (mark || false) =
-              ap (λ (used : List ℕ). fate_in used turn.p.locations.items (nat_lt 0 lately) v.«use»)
-              (turn.used ∙ ap (λ (used : List ℕ). drop 1 used) is)
-              ∙ ap (λ (q : Packet). fate_in (y ∷ upper) q.locations.items (nat_lt 0 lately) v.«use») same
-              ∙ ap (λ (u : ℕ). fate_in (y ∷ upper) p.locations.items (nat_lt 0 lately) u) (sym use_is)
-              ∙ fate_head y upper p.locations.items (nat_lt 0 lately)
-              ∙ rw (carried, here.2) refl
-              in
-              let one : Some (mark || false) ≡ Some m = sym all ∙ fate_is in
-              let two : (mark || false) ≡ m = cc in (
-                sym two ∙ elim mark as (λ b. (b || false) ≡ b) [ true ↦ refl | false ↦ refl ],
-                inr turn.done,
-              ));
-        };
-      })
+      let higher : turn.q.depth ≡ turn.p.depth - 1 = turn.higher in
+      let deep_same : turn.p.depth ≡ p.depth = ap (λ (q : Packet). q.depth) same in
+      let locations : turn.q.locations.items ≡ p.locations.items =
+      turn.alike ∙ ap (λ (q : Packet). q.locations.items) same in
+      elim turn.carried [
+        | inr lent ↦
+            let last : turn.q.depth - 1 ≡ length upper = omega arith in
+            let marked_above : is_marked (slice_get p.locations.items (length upper)) ≡ true =
+            ap (λ (k : ℕ). is_marked (slice_get p.locations.items k)) (sym last)
+            ∙ ap (λ (ls : List Location). is_marked (slice_get ls (turn.q.depth - 1)))
+            (sym locations)
+            ∙ lent.1 (omega arith) in
+            let no : true ≡ false = sym marked_above ∙ here.2 in cc
+        | inl went ↦
+            let carried : nat_lt 0 lately ≡ mark =
+            ap (λ (c : ℕ). nat_lt 0 c) went.0
+            ∙ bit_below (is_marked (current_location turn.p))
+            ∙ ap (λ (q : Packet). is_marked (current_location q)) same
+            ∙ ap (λ (k : ℕ). is_marked (slice_get p.locations.items k)) place
+            ∙ marks.0 in
+            inl (record {
+              marked = mark;
+              turn = 0;
+              left = ap (λ (s : Serving). slice_get (marks_left later s) 0) lower_is
+                  ∙ ap (λ (xs : List Bool). slice_get xs 0) noted;
+              agreed = record {
+                opened = omega arith;
+                left = subst (λ (xs : List Bool). All (λ m. m ≡ mark) xs)
+                    (sym (ap (λ (u : ℕ). marks_left later (nth_use n u)) (sym use_is) ∙ unnoted))
+                    (All-nil (λ m. m ≡ mark));
+                stands = stands_of later v after lately mark turn.q turn.now
+                    (λ m fate_is.
+                    let all : fate_in (uses later n) turn.q.locations.items (nat_lt 0 lately)
+                    v.«use»
+                    ≡ Some (mark || false) =
+                    ap (λ (used : List ℕ). fate_in used turn.q.locations.items (nat_lt 0 lately)
+                    v.«use»)
+                    (turn.used ∙ ap (λ (used : List ℕ). drop 1 used) is)
+                    ∙ ap (λ (ls : List Location). fate_in (y ∷ upper) ls (nat_lt 0 lately) v.«use»)
+                    locations
+                    ∙ ap (λ (u : ℕ). fate_in (y ∷ upper) p.locations.items (nat_lt 0 lately) u)
+                    (sym use_is)
+                    ∙ fate_head y upper p.locations.items (nat_lt 0 lately)
+                    ∙ rw (carried, here.2) refl
+                    in
+                    let one : Some (mark || false) ≡ Some m = sym all ∙ fate_is in
+                    let two : (mark || false) ≡ m = cc in (
+                      sym two ∙ elim mark as (λ b. (b || false) ≡ b) [ true ↦ refl | false ↦ refl ],
+                      inr went.1,
+                    ));
+              };
+            })
+      ]
 
   left_waits : IsLeft past later v.packet before after late lately
       → WaitsIn past v lower before → LinkedIn later v lower after lately
@@ -207,10 +231,13 @@ module _ (past later : List Entry) (v lower : Serving) (before after : Option Pa
         | inl followed ↦ inr followed
         | inr waits ↦ inl (record {
           packet = h.packet;
-          live = moved_up (left_location p);
+          live = turn.q;
           there = turn.now;
-          above = subst (λ (used : List ℕ). WaitsAbove used p.locations.items v.«use» lower.«use»)
-              (sym turn.used) waits;
+          above = subst
+              (λ (used : List ℕ). WaitsAbove used turn.q.locations.items v.«use» lower.«use»)
+              (sym turn.used)
+              (subst (λ (ls : List Location). WaitsAbove (drop 1 (uses past v.packet)) ls v.«use»
+              lower.«use») (sym turn.alike) waits);
         })
       ]
 
@@ -223,7 +250,8 @@ module _ (past later : List Entry) (v lower : Serving) (before after : Option Pa
   becomes_waits (goes_down called) h = inl (called_waits called h)
   becomes_waits (goes_up left) h = left_waits left h
   becomes_waits (goes_out topped) h =
-      let deep : length (uses past v.packet) ≡ topped.p.depth = (in_past topped.p topped.was).deep in
+      let deep : length (uses past v.packet) ≡ topped.p.depth = (in_past topped.p topped.was).deep
+      in
       let shallow : topped.p.depth ≤ 1 = topped.shallow in
       absurd (waits_few (uses past v.packet) h.live.locations.items v.«use» lower.«use»
       (omega arith) h.above)
@@ -235,7 +263,8 @@ pub linked_turn : (past later : List Entry) (v lower : Serving) (before after : 
     → Traced past → UsesIn past v.packet before → Turn past later v.packet before after late lately
     → LinkedIn past v lower before late → LinkedIn later v lower after lately
 linked_turn past later v lower before after late lately traced in_past turn (inl waits) =
-    becomes_waits past later v lower before after late lately traced in_past turn.grows turn.how waits
+    becomes_waits past later v lower before after late lately traced in_past turn.grows turn.how
+    waits
 linked_turn past later v lower before after late lately traced in_past turn (inr followed) =
     let noted : (j : ℕ) × (slice_get (marks_left later lower) j ≡ Some followed.marked) =
     turn.noted lower followed.turn followed.marked followed.left in
@@ -254,7 +283,8 @@ pub linked_turns : (past later : List Entry) (v lower : Serving) (before after :
 linked_turns past later v lower before after late lately traced in_past (inl turn) h =
     linked_turn past later v lower before after late lately traced in_past turn h
 linked_turns past later v lower before after late lately traced in_past (inr turns) h =
-    linked_turn turns.middle later v lower turns.between after turns.midway lately (turns.traced traced)
+    linked_turn turns.middle later v lower turns.between after turns.midway lately
+    (turns.traced traced)
     (uses_turn past turns.middle v.packet before turns.between late turns.midway traced in_past
     turns.first) turns.second
     (linked_turn past turns.middle v lower before turns.between late turns.midway traced in_past

@@ -1,5 +1,5 @@
 -- What a step of a routine does to each packet and its uses.
-use Rattle.std.proofs.Common.{◌≡◌, ℕ, ◌+◌, ◌-◌, ◌≤◌, ◌⊎◌, inl, inr, List, [], ◌∷◌, ◌++◌, length, Option, None, Some, Bool, true, false, refl, ap, sym, ◌∙◌, subst, arith}
+use Rattle.std.proofs.Common.{◌≡◌, ℕ, ◌+◌, ◌-◌, ◌≤◌, ◌⊎◌, inl, inr, List, [], ◌∷◌, ◌++◌, Option, None, Some, Bool, true, false, refl, ap, sym, ◌∙◌, subst, arith}
 use Rattle.std.specs.Prelude.{⊤, is_some, nat_eq, nat_le, not, slice_get}
 use Rattle.std.specs.List.{list_any}
 use Rattle.std.proofs.lemmas.Bool.{cond_both, eq-eqb, leb-false}
@@ -20,7 +20,7 @@ use Rattle.model.specs.declared.instr.Instr.TheVariants.{Call, Complete, End, Ge
 use Rattle.model.specs.declared.instr.Return.{Return}
 use Rattle.model.specs.declared.instr.Return.TheVariants.{Continue, Stop, Void}
 use Rattle.model.specs.declared.set.Sort.{Sort}
-use Rattle.model.specs.declared.set.Sort.TheVariants.{Propagate}
+use Rattle.model.specs.declared.set.Sort.TheVariants.{Cancel, Dispatch, Dpc, Hold, Propagate, StartIo}
 use Rattle.model.specs.declared.world.Activation.{Activation}
 use Rattle.model.specs.declared.world.Frame.{Frame}
 use Rattle.model.specs.declared.world.Frame.TheVariants.{Routine, Walk, Cancel as CancelFrame}
@@ -29,11 +29,11 @@ use Rattle.model.specs.declared.world.Packet.{Packet}
 use Rattle.model.specs.Action.{Action, Acquires, Calls, Completes, Continues, Exchanges, Executes, GoesWrong, Marks, Releases, Touches, TouchesPaged}
 use Rattle.model.specs.Effect.{Outcome, asks, dispatched, goes_on, goes_wrong, leaves, set_by, turned}
 use Rattle.model.specs.Fault.{depth, first_fault, stack_size, bug_if, first_or, topped}
-use Rattle.model.specs.LocalRule.{broken_if, given_down, is_settled, kind_of, look_fault, mark_fault, marked, refuses, settled_fault}
+use Rattle.model.specs.LocalRule.{broken_if, is_completion, is_settled, kind_of, look_fault, mark_fault, marked, refuses, settled_fault}
 use Rattle.model.specs.Kinds.{is_right, is_view}
 use Rattle.model.specs.Set.{Set, flow_of, sort_of}
 use Rattle.model.specs.Trace.{Actor, Entry}
-use Rattle.model.specs.World.{Shared, asked_of, completed, completion_of, current_location, innermost, is_marked, mark_current, next, packet_of, sent_down, shared_with, with_armer, with_info, with_locks, with_loops, with_owner, with_packet}
+use Rattle.model.specs.World.{Shared, asked_of, completed, current_location, innermost, mark_current, next, packet_of, sent_down, shared_with, with_armer, with_info, with_locks, with_loops, with_owner, with_packet}
 use Rattle.run_laws.specs.Holder.{frame_rights}
 use Rattle.run_laws.proofs.Holders.Sums.{held, own_if, unheld}
 use Rattle.run_laws.proofs.Past.LivePackets.{find}
@@ -44,22 +44,25 @@ use Rattle.run_laws.proofs.States.Moves.{arrives, arrives_next, falls_next, has_
 use Rattle.run_laws.proofs.States.Lacking.{down}
 use Rattle.run_laws.proofs.States.Obeyed.{returns_by}
 use Rattle.run_laws.proofs.Steps.Locking.{LockWord, freed_word, taken_word}
+use Rattle.run_laws.proofs.States.Entering.{IsCompleting, IsOfSort}
 use Rattle.run_laws.proofs.States.Rules.{States}
+use Rattle.run_laws.proofs.Uses.HoldRoutines.{given_settled}
 use Rattle.run_laws.proofs.Steps.Comes.{Queued, Comes, Executing, GoesTo, Reads, awaits_lock, calls_down, completes_gone, completes_packet, computes, ends_cancel, errs, exchanges, frees_lock, lets_go, lets_walk, looks_at, marks_packet, opens_loop, pages, passes_down, resumes_gone, resumes_none, resumes_walk, retakes_lock, returns_status, stops_none, stops_walk, takes_lock, touches_gone, turns_loop, writes_info, ends_dpc, works_on_queues, ends_startio}
 use Rattle.run_laws.proofs.Steps.Faults.{none_first, none_later}
 use Rattle.run_laws.proofs.Steps.Words.{Looking, Marking, Work, jumps_on, packet_operand, work_of}
 use Rattle.run_laws.proofs.Uses.Becomes.{gets_marked, goes_down}
-use Rattle.run_laws.proofs.Uses.FateFacts.{shared_completion, shared_marks}
+use Rattle.run_laws.proofs.Room.Locations.{shared_completion, shared_marks}
 use Rattle.run_laws.proofs.Past.Stacks.{shared_length}
 use Rattle.run_laws.proofs.Uses.Fates.{late_in, late_mark, late_on}
 use Rattle.run_laws.proofs.Uses.Traced.{is_about}
-use Rattle.run_laws.proofs.Uses.Steps.{UseStep, apart_at, becomes_at, found_other, found_put, kept_at, late_of, split_step}
+use Rattle.run_laws.proofs.Uses.Steps.{UseStep, apart_at, becomes_at, found_other, found_put, late_of, split_step, written_step}
 use Rattle.model.specs.Queues.{StartState}
 use Rattle.run_laws.proofs.Steps.Queues.{queued_work, queued_touches}
 use Rattle.run_laws.proofs.States.Queueing.{queue_moves, MovedOn}
 
 -- a routine that goes on has as much to carry up as before, and what stands on one carries nothing
-pub late_still : (states : States) (returned : Bool) (n : ℕ) (under : Option Frame) (a b : Activation)
+pub late_still : (states : States) (returned : Bool) (n : ℕ) (under : Option Frame)
+    (a b : Activation)
     → (state_of states b).settled ≡ (state_of states a).settled
     → late_on states returned n under (Routine b) ≡ late_on states returned n under (Routine a)
 late_still states returned n None a b h = refl
@@ -77,17 +80,21 @@ one_late : (states : States) (returned : Bool) (n : ℕ) (under : Option Frame) 
     → (state_of states b).settled ≡ (state_of states a).settled
     → late_in states returned n under (Routine b ∷ []) ≡ late_on states returned n under (Routine a)
 one_late states returned n under a b settled =
-    let same : late_on states returned n under (Routine b) ≡ late_on states returned n under (Routine a) =
+    let same : late_on states returned n under (Routine b)
+    ≡ late_on states returned n under (Routine a) =
     late_still states returned n under a b settled in
     omega arith
 
 two_late : (states : States) (returned : Bool) (n : ℕ) (under : Option Frame) (a b : Activation)
     (g : Frame)
     → (state_of states b).settled ≡ (state_of states a).settled
-    → late_in states returned n under (Routine b ∷ g ∷ []) ≡ late_on states returned n under (Routine a)
+    → late_in states returned n under (Routine b ∷ g ∷ [])
+    ≡ late_on states returned n under (Routine a)
 two_late states returned n under a b g settled =
-    let over : late_on states returned n (Some (Routine b)) g ≡ 0 = on_routine states returned n b g in
-    let same : late_on states returned n under (Routine b) ≡ late_on states returned n under (Routine a) =
+    let over : late_on states returned n (Some (Routine b)) g
+    ≡ 0 = on_routine states returned n b g in
+    let same : late_on states returned n under (Routine b)
+    ≡ late_on states returned n under (Routine a) =
     late_still states returned n under a b settled in
     omega arith
 
@@ -106,10 +113,6 @@ quiet_work : (i : Instr) → keeps_settled (work_of i) ≡ true → settles i �
 quiet_work (Mark r) h = cc
 quiet_work (IfPending r label) h = cc
 quiet_work _ h = refl
-
-given_settled : (s : Abs) (r : ℕ) (k : Kind) → (given_down s r k).settled ≡ s.settled
-given_settled s r New = refl
-given_settled s r _ = refl
 
 onto_settled : (set : Set) (driver : ℕ) (s : Abs) (i : Instr) (jumped : Bool) → settles i ≡ false
     → (onto set driver s i jumped).settled ≡ s.settled
@@ -139,7 +142,8 @@ looked_late : (set : Set) (driver : ℕ) (returned : Bool) (s : Abs) (r label : 
 looked_late set driver true s r label is = rw is refl
 looked_late set driver false s r label is = rw is refl
 
-looks_so : (s : Abs) (i : Instr) (sort : Sort) (set : Set) (driver r : ℕ) (p : Packet) (jumped : Bool)
+looks_so : (s : Abs) (i : Instr) (sort : Sort) (set : Set) (driver r : ℕ) (p : Packet)
+    (jumped : Bool)
     → refuses s i sort set driver ≡ None → work_of i ≡ Looking → packet_operand i ≡ Some r
     → jumped ≡ jumps_on i p
     → LooksSo s (onto set driver s i jumped) r p
@@ -198,9 +202,9 @@ none_late late (Some p) h = h p.pending_returned
 held_free : (p : Packet) → p.completing ≡ false → held (Some p) ≡ 0
 held_free p free = rw free refl
 
--- on what stands under a routine: a completion routine runs over the I/O manager's frame
+-- on what stands under a routine: completion routines run over the I/O manager's frame
 abbrev pub OnWalk : Set → Option Frame → Activation → Type 0
-OnWalk set (Some (Walk n)) a = sort_of set a.driver a.routine ≡ Propagate
+OnWalk set (Some (Walk n)) a = IsCompleting set a
 OnWalk set _ a = ⊤
 
 -- what is known of a routine's frame that steps
@@ -217,6 +221,16 @@ pub record StepsRoutine (set : Set) (states : States) (s : Shared) (past : List 
   pub views : (r n : ℕ) → is_view (kind_of (state_of states a) r) ≡ true → Reads s a r n
       → under ≡ Some (Walk n)
   pub on : OnWalk set under a
+  pub lent : IsOfSort set a Hold → (state_of states a).settled ≡ SettledMark
+
+-- a completion routine lets the completion go on, or is lent the packet
+pub completion_sort : (sort : Sort) → is_completion sort ≡ true → (sort ≡ Propagate) ⊎ (sort ≡ Hold)
+completion_sort Propagate is = inl refl
+completion_sort Hold is = inr refl
+completion_sort Dispatch is = cc
+completion_sort StartIo is = cc
+completion_sort Dpc is = cc
+completion_sort Cancel is = cc
 
 module _ (set : Set) (states : States) (s : Shared) (past : List Entry) (actor : Actor) (t : ℕ)
     (under : Option Frame) (a : Activation) (h : StepsRoutine set states s past under a) where
@@ -235,7 +249,8 @@ module _ (set : Set) (states : States) (s : Shared) (past : List Entry) (actor :
         late = λ p there. one_late states p.pending_returned n under a b settled;
       })
 
-  settled_on : (i : Instr) (b : Activation) (jumped : Bool) → Executing set a i → GoesTo a i b jumped
+  settled_on : (i : Instr) (b : Activation) (jumped : Bool) → Executing set a i
+      → GoesTo a i b jumped
       → settles i ≡ false → (state_of states b).settled ≡ (state_of states a).settled
   settled_on i b jumped at goes quiet =
       ap (λ (state : Abs). state.settled) (arrives set states s a i (h.runs i at) b jumped goes)
@@ -252,7 +267,8 @@ module _ (set : Set) (states : States) (s : Shared) (past : List Entry) (actor :
       → Queued s a i b queues lists actions full
       → (state_of states b).settled ≡ (state_of states a).settled
   queued_settled i b queues lists actions full at queued =
-      let on : MovedOn set states s a i b queues lists = queue_moves set states s a i (h.runs i at) queued in
+      let on : MovedOn set states s a i b queues lists = queue_moves set states s a i (h.runs i at)
+      queued in
       ap (λ (state : Abs). state.settled) on.moved.arrives
       ∙ onto_settled set a.driver (state_of states a) i on.jumped
       (quiet_work i (ap keeps_settled (queued_work queued)))
@@ -262,44 +278,9 @@ module _ (set : Set) (states : States) (s : Shared) (past : List Entry) (actor :
   settled_word i at word =
       settled_next i at (falls_next (flow_of i) word.on) (quiet_work i (ap keeps_settled word.work))
 
-  -- one packet is written back with its marks as they were
-  written_used : (n : ℕ) (p q : Packet) (frames : List Frame) (actions : List Action)
-      → packet_of s n ≡ Some p
-      → q.number ≡ p.number → q.pending_returned ≡ p.pending_returned
-      → ((k : ℕ) → is_marked (slice_get q.locations.items k) ≡ is_marked (slice_get p.locations.items k))
-      → completion_of (slice_get q.locations.items 0) ≡ completion_of (slice_get p.locations.items 0)
-      → q.depth ≡ p.depth → length q.locations.items ≡ length p.locations.items
-      → (p.completing ≡ true → q.completing ≡ true)
-      → ((m : ℕ) → list_any (is_about m) actions ≡ false)
-      → ((returned : Bool) (m : ℕ) → late_in states returned m under frames
-      ≡ late_on states returned m under (Routine a))
-      → UseStep states s past actor under (Routine a) (leaves (with_packet s n q) frames actions)
-  written_used n p q frames actions there number returned marks routed deep long completing quiet late =
-      let at : find s.packets n ≡ Some p = found s n (Some p) there in
-      let same : q.number ≡ n = number ∙ numbered s n p there in
-      let o : Outcome = leaves (with_packet s n q) frames actions in
-      split_step states s past actor under (Routine a) o n
-      (kept_at states s past actor under (Routine a) o n p q
-      (record {
-        there = at;
-        now = found_put s n p q at same;
-        returned = returned;
-        marks = marks;
-        routed = routed;
-        deep = deep;
-        long = long;
-        completing = completing;
-        quiet = quiet n;
-        late = late p.pending_returned n;
-      }))
-      (λ m apart. record {
-        there = found_other s n m p q at same apart;
-        quiet = quiet m;
-        late = λ x is. late x.pending_returned m;
-      })
-
   -- a look
-  looks_used : (i : Instr) (b : Activation) (jumped : Bool) (r n : ℕ) (p : Packet) → Executing set a i
+  looks_used : (i : Instr) (b : Activation) (jumped : Bool) (r n : ℕ) (p : Packet)
+      → Executing set a i
       → GoesTo a i b jumped → Reads s a r n → packet_of s n ≡ Some p
       → LooksSo (state_of states a) (onto set a.driver (state_of states a) i jumped) r p
       → UseStep states s past actor under (Routine a) (goes_on s b (Touches n ∷ []))
@@ -336,14 +317,16 @@ module _ (set : Set) (states : States) (s : Shared) (past : List Entry) (actor :
   record MarksIt (n : ℕ) (p : Packet) : Type 0 where
     due : (p.completing ≡ false) ⊎ (late_on states p.pending_returned n under (Routine a) ≡ 1)
     others : (m : ℕ) (returned : Bool) → nat_eq n m ≡ false
-        → late_on states returned m under (Routine (next a)) ≡ late_on states returned m under (Routine a)
+        → late_on states returned m under (Routine (next a))
+        ≡ late_on states returned m under (Routine a)
 
   mark_due : (late : Bool → ℕ) (p : Packet) (o : Option Packet) (own : ℕ) → o ≡ Some p
       → own ≤ late p.pending_returned → (p.completing ≡ false) ⊎ (own ≡ 1)
       → (p.completing ≡ false) ⊎ (1 ≤ late_of late o)
   mark_due late p o own there le (inl free) = inl free
   mark_due late p o own there le (inr one) =
-      let same : late_of late o ≡ late p.pending_returned = ap (late_of late) there in inr (omega arith)
+      let same : late_of late o ≡ late p.pending_returned = ap (late_of late) there in inr
+      (omega arith)
 
   marks_it : (n : ℕ) (p : Packet) → packet_of s n ≡ Some p → MarksIt n p
       → UseStep states s past actor under (Routine a)
@@ -351,9 +334,11 @@ module _ (set : Set) (states : States) (s : Shared) (past : List Entry) (actor :
   marks_it n p there known =
       let at : find s.packets n ≡ Some p = found s n (Some p) there in
       let number : p.number ≡ n = numbered s n p there in
-      let o : Outcome = goes_on (with_packet s n (mark_current p)) (next a) (Touches n ∷ Marks n ∷ []) in
+      let o : Outcome = goes_on (with_packet s n (mark_current p)) (next a)
+      (Touches n ∷ Marks n ∷ []) in
       split_step states s past actor under (Routine a) o n
-      (becomes_at states s past actor under (Routine a) o n (λ late lately lates. gets_marked (record {
+      (becomes_at states s past actor under (Routine a) o n
+      (λ late lately lates. gets_marked (record {
         p = p;
         was = at;
         now = found_put s n p (mark_current p) at number;
@@ -375,7 +360,8 @@ module _ (set : Set) (states : States) (s : Shared) (past : List Entry) (actor :
             omega arith;
       })
 
-  free_there : (r n : ℕ) (p : Packet) → is_right (kind_of (state_of states a) r) ≡ true → Reads s a r n
+  free_there : (r n : ℕ) (p : Packet) → is_right (kind_of (state_of states a) r) ≡ true
+      → Reads s a r n
       → packet_of s n ≡ Some p → p.completing ≡ false
   free_there r n p right reads there =
       let some : 1 ≤ frame_rights states (Routine a) n = h.owns r n right reads in
@@ -386,7 +372,8 @@ module _ (set : Set) (states : States) (s : Shared) (past : List Entry) (actor :
       let same : own.0 ≡ p = cc in
       ap (λ (q : Packet). q.completing) (sym same) ∙ own.2
 
-  marks_used : (r n : ℕ) (p : Packet) → Executing set a (Mark r) → Reads s a r n → packet_of s n ≡ Some p
+  marks_used : (r n : ℕ) (p : Packet) → Executing set a (Mark r) → Reads s a r n
+      → packet_of s n ≡ Some p
       → MarksIt n p
   marks_used r n p at reads there =
       let k : Kind = kind_of (state_of states a) r in
@@ -404,7 +391,8 @@ module _ (set : Set) (states : States) (s : Shared) (past : List Entry) (actor :
             let walk : under ≡ Some (Walk n) = h.views r n (rw view.0 refl) reads in
             record {
               due = inr (rw (walk, eq-eqb n n refl, view.1) refl);
-              others = λ m returned apart. walk_other states returned n m under a (next a) walk apart;
+              others =
+                  λ m returned apart. walk_other states returned n m under a (next a) walk apart;
             }
       ]
 
@@ -430,7 +418,8 @@ module _ (set : Set) (states : States) (s : Shared) (past : List Entry) (actor :
       let settled : (state_of states (next a)).settled ≡ (state_of states a).settled =
       settled_next (Call r f) at refl refl in
       let sent : Option Bug =
-      bug_if (nat_le (stack_size past n) (depth past n)) NoMoreIrpStackLocations (PacketSubject n) in
+      bug_if (nat_le (stack_size past n) (depth past n)) NoMoreIrpStackLocations (PacketSubject n)
+      in
       let room : nat_le (stack_size past n) (depth past n) ≡ false =
       bug_none (nat_le (stack_size past n) (depth past n)) NoMoreIrpStackLocations (PacketSubject n)
       (none_first sent None
@@ -438,7 +427,8 @@ module _ (set : Set) (states : States) (s : Shared) (past : List Entry) (actor :
       quiet)) in
       split_step states s past actor under (Routine a) o n
       (becomes_at states s past actor under (Routine a) o n (λ late lately lates.
-      let none : (returned : Bool) → late returned ≡ 0 = lates.free (ap held here ∙ held_free p free) in
+      let none : (returned : Bool) → late returned
+      ≡ 0 = lates.free (ap held here ∙ held_free p free) in
       goes_down (record {
         p = p;
         device = lower;
@@ -469,22 +459,34 @@ module _ (set : Set) (states : States) (s : Shared) (past : List Entry) (actor :
       })
 
   -- a return
-  carried_up : (form : Return) → Executing set a (Ret form) → sort_of set a.driver a.routine ≡ Propagate
+  carried_up : (form : Return) → Executing set a (Ret form)
+      → sort_of set a.driver a.routine ≡ Propagate
       → (state_of states a).settled ≡ SettledMark
   carried_up form at is =
       settled_mark (state_of states a) (sort_of set a.driver a.routine) form is
       (returns_by (state_of states a) (sort_of set a.driver a.routine) set a.driver form
       (h.runs (Ret form) at).obeys).settled
 
-  none_on : (form : Return) → Executing set a (Ret form) → (returned : Bool) (n : ℕ) (u : Option Frame)
+  all_carried : (form : Return) → Executing set a (Ret form) → IsCompleting set a
+      → (state_of states a).settled ≡ SettledMark
+  all_carried form at is =
+      elim (completion_sort (sort_of set a.driver a.routine) is) [
+        | inl propagates ↦ carried_up form at propagates
+        | inr holds ↦ h.lent holds
+      ]
+
+  pub none_on : (form : Return) → Executing set a (Ret form) → (returned : Bool) (n : ℕ)
+      (u : Option Frame)
       → OnWalk set u a → late_on states returned n u (Routine a) ≡ 0
   none_on form at returned n None on = refl
   none_on form at returned n (Some (Routine b)) on = refl
   none_on form at returned n (Some (CancelFrame c)) on = refl
   none_on form at returned n (Some (Walk m)) on =
-      rw (carried_up form at on) (cond_both (nat_eq m n) 0 0 (λ x. x ≡ 0) (λ is. refl) (λ isnt. refl))
+      rw (all_carried form at on) (cond_both (nat_eq m n) 0 0 (λ x. x ≡ 0) (λ is. refl)
+      (λ isnt. refl))
 
-  left_used : (form : Return) (o : Outcome) → Executing set a (Ret form) → o.frames ≡ [] → o.shared ≡ s
+  left_used : (form : Return) (o : Outcome) → Executing set a (Ret form) → o.frames ≡ []
+      → o.shared ≡ s
       → ((n : ℕ) → list_any (is_about n) o.actions ≡ false)
       → UseStep states s past actor under (Routine a) o
   left_used form o at none same quiet n =
@@ -526,15 +528,17 @@ module _ (set : Set) (states : States) (s : Shared) (past : List Entry) (actor :
       (h.runs i at).obeys work
       operand jumps)
   routine_used below o (writes_info b q r n p info at reads there number) quiet =
-      written_used n p (with_info p info) (Routine (next a) ∷ []) (Executes ∷ Touches n ∷ []) there
+      written_step states s past actor under (Routine a) n p (with_info p info)
+      (Routine (next a) ∷ []) (Executes ∷ Touches n ∷ []) there
       refl refl (λ k. refl)
       refl refl refl (λ done. done) (λ m. refl)
-      (λ returned m. one_late states returned m under a (next a) (settled_next (Put q r) at refl refl))
+      (λ returned m. one_late states returned m under a (next a)
+      (settled_next (Put q r) at refl refl))
   routine_used below o (marks_packet b r n p at reads there) quiet =
       marks_it n p there (marks_used r n p at reads there)
   routine_used below o (exchanges b i c jumped r n p armer at work goes operand reads there how)
       quiet =
-      written_used n p (with_armer p armer) (Routine c ∷ [])
+      written_step states s past actor under (Routine a) n p (with_armer p armer) (Routine c ∷ [])
       (Executes ∷ Touches n ∷ Exchanges n (is_some armer) ∷ []) there refl refl (λ k. refl) refl
       refl refl (λ done. done) (λ m. refl)
       (λ returned m. one_late states returned m under a c
@@ -557,10 +561,12 @@ module _ (set : Set) (states : States) (s : Shared) (past : List Entry) (actor :
       elim (queued_touches queued) [
         | inl none ↦ rw none (on_used after c (Executes ∷ []) Stepped settled refl (λ n. refl))
         | inr one ↦
-            rw one.1 (on_used after c (Executes ∷ Touches one.0 ∷ []) Stepped settled refl (λ n. refl))
+            rw one.1 (on_used after c (Executes ∷ Touches one.0 ∷ []) Stepped settled refl
+            (λ n. refl))
       ]
   routine_used below o (completes_packet b r status n p at reads there) quiet =
-      written_used n p (completed p status) (Routine (next a) ∷ Walk n ∷ [])
+      written_step states s past actor under (Routine a) n p (completed p status)
+      (Routine (next a) ∷ Walk n ∷ [])
       (Executes ∷ Completes n ∷ []) there refl
       refl (λ k. refl) refl refl refl (λ done. refl) (λ m. refl)
       (λ returned m. two_late states returned m under a (next a) (Walk n)
@@ -570,7 +576,8 @@ module _ (set : Set) (states : States) (s : Shared) (past : List Entry) (actor :
       (settled_next (Complete r status) at refl refl) refl
       (λ m. refl)
   routine_used below o (passes_down b r n p lower at reads there under_it) quiet =
-      written_used n p (shared_with p lower) (asks set a lower p n) (Executes ∷ Touches n ∷ [])
+      written_step states s past actor under (Routine a) n p (shared_with p lower)
+      (asks set a lower p n) (Executes ∷ Touches n ∷ [])
       there refl refl
       (shared_marks p.locations.items (p.depth - 1) lower)
       (shared_completion p.locations.items (p.depth - 1) lower 0)
@@ -578,19 +585,21 @@ module _ (set : Set) (states : States) (s : Shared) (past : List Entry) (actor :
       (p.depth - 1) lower)
       (λ done. done) (λ m. refl)
       (λ returned m. two_late states returned m under a (next a)
-      (Routine (dispatched set lower (slice_get set.devices lower) (asked_of (current_location p)) n))
+      (Routine (dispatched set lower (slice_get set.devices lower) (asked_of (current_location p))
+      n))
       (settled_next (Pass r) at refl refl))
   routine_used below o (calls_down b r f n p lower at reads there under_it) quiet =
       calls_used r f n p lower at reads there
       (down set states s a (Call r f) r (h.runs (Call r f) at) refl refl).right quiet
   routine_used below o (returns_status b form status at sort there) quiet =
       left_used form o at refl refl (λ n. refl)
-  routine_used below o (lets_go b at sort bare) quiet = left_used Continue o at refl refl (λ n. refl)
+  routine_used below o (lets_go b at sort bare) quiet =
+      left_used Continue o at refl refl (λ n. refl)
   routine_used below o (ends_startio b at sort) quiet = left_used Void o at refl refl (λ n. refl)
   routine_used below o (ends_dpc b at sort) quiet = left_used Void o at refl refl (λ n. refl)
   routine_used below o (lets_walk b n at sort) quiet = left_used Continue o at refl refl (λ m. refl)
   routine_used below o (resumes_walk b n p at sort there) quiet =
-      written_used n p (record p { completing = true }) []
+      written_step states s past actor under (Routine a) n p (record p { completing = true }) []
       (Executes ∷ Touches n ∷ Continues n ∷ []) there refl refl (λ k. refl) refl refl refl
       (λ done. refl) (λ m. refl)
       (λ returned m. sym (none_on Continue at returned m under h.on))

@@ -9,11 +9,12 @@ use Rattle.model.specs.declared.world.Frame.{Frame}
 use Rattle.model.specs.declared.world.Frame.TheVariants.{Walk}
 use Rattle.model.specs.declared.world.Packet.{Packet}
 use Rattle.model.specs.Action.{Action}
-use Rattle.model.specs.Effect.{Outcome}
+use Rattle.model.specs.Effect.{Outcome, leaves}
 use Rattle.model.specs.Trace.{Actor, Entry, recorded}
-use Rattle.model.specs.World.{Shared, completion_of, is_marked, place_of}
+use Rattle.model.specs.World.{Shared, completion_of, is_marked, packet_of, place_of, with_packet}
 use Rattle.run_laws.proofs.Holders.Sums.{held}
 use Rattle.run_laws.proofs.Past.LivePackets.{find, find_set}
+use Rattle.run_laws.proofs.Past.Packets.{found, numbered}
 use Rattle.run_laws.proofs.States.Rules.{States}
 use Rattle.run_laws.proofs.Uses.Becomes.{Becomes, Turns, keeps_marks, never_live}
 use Rattle.run_laws.proofs.Uses.Fates.{late_in, late_on}
@@ -95,13 +96,15 @@ module _ (states : States) (s : Shared) (past : List Entry) (actor : Actor) (und
       (late_of late (find s.packets n)) (late_of lately (find o.shared.packets n))) → UseAt o n
   becomes_at o n h late lately lates =
       turn_recorded past actor o.actions n (find s.packets n) (find o.shared.packets n)
-      (late_of late (find s.packets n)) (late_of lately (find o.shared.packets n)) (h late lately lates)
+      (late_of late (find s.packets n)) (late_of lately (find o.shared.packets n))
+      (h late lately lates)
 
   pub record Apart (o : Outcome) (n : ℕ) : Type 0 where
     pub there : find o.shared.packets n ≡ find s.packets n
     pub quiet : list_any (is_about n) o.actions ≡ false
     pub late : (p : Packet) → find s.packets n ≡ Some p
-        → late_in states p.pending_returned n under o.frames ≡ late_on states p.pending_returned n under f
+        → late_in states p.pending_returned n under o.frames
+        ≡ late_on states p.pending_returned n under f
 
   pub apart_at : (o : Outcome) (n : ℕ) → Apart o n → UseAt o n
   apart_at o n h =
@@ -167,3 +170,42 @@ module _ (states : States) (s : Shared) (past : List Entry) (actor : Actor) (und
             ∙ sym (ap (late_of late) h.there);
         completing = h.completing;
       }))
+
+  -- one packet is written back with its marks as they were
+  pub written_step : (n : ℕ) (p q : Packet) (frames : List Frame) (actions : List Action)
+      → packet_of s n ≡ Some p
+      → q.number ≡ p.number → q.pending_returned ≡ p.pending_returned
+      → ((k : ℕ) → is_marked (slice_get q.locations.items k)
+      ≡ is_marked (slice_get p.locations.items k))
+      → completion_of (slice_get q.locations.items 0)
+      ≡ completion_of (slice_get p.locations.items 0)
+      → q.depth ≡ p.depth → length q.locations.items ≡ length p.locations.items
+      → (p.completing ≡ true → q.completing ≡ true)
+      → ((m : ℕ) → list_any (is_about m) actions ≡ false)
+      → ((returned : Bool) (m : ℕ) → late_in states returned m under frames
+      ≡ late_on states returned m under f)
+      → UseStep (leaves (with_packet s n q) frames actions)
+  written_step n p q frames actions there number returned marks routed deep long completing quiet
+      late =
+      let at : find s.packets n ≡ Some p = found s n (Some p) there in
+      let same : q.number ≡ n = number ∙ numbered s n p there in
+      let o : Outcome = leaves (with_packet s n q) frames actions in
+      split_step o n
+      (kept_at o n p q
+      (record {
+        there = at;
+        now = found_put s n p q at same;
+        returned = returned;
+        marks = marks;
+        routed = routed;
+        deep = deep;
+        long = long;
+        completing = completing;
+        quiet = quiet n;
+        late = late p.pending_returned n;
+      }))
+      (λ m apart. record {
+        there = found_other s n m p q at same apart;
+        quiet = quiet m;
+        late = λ x is. late x.pending_returned m;
+      })

@@ -5,7 +5,7 @@ use Rattle.std.specs.Prelude.{⊤}
 use Rattle.model.specs.declared.abs.Abs.{Abs}
 use Rattle.model.specs.declared.instr.Instr.TheVariants.{End}
 use Rattle.model.specs.declared.set.Sort.{Sort}
-use Rattle.model.specs.declared.set.Sort.TheVariants.{Propagate, Dispatch}
+use Rattle.model.specs.declared.set.Sort.TheVariants.{Propagate, Dispatch, Hold}
 use Rattle.model.specs.declared.world.Activation.{Activation}
 use Rattle.model.specs.declared.world.Frame.{Frame}
 use Rattle.model.specs.declared.world.Frame.TheVariants.{Routine, Walk, Cancel as CancelFrame}
@@ -17,12 +17,16 @@ use Rattle.model.specs.World.{Shared, register}
 use Rattle.run_laws.specs.Holder.{right, rights}
 use Rattle.run_laws.proofs.Holders.Counts.{Holding, reads_ref, walk_taken}
 use Rattle.run_laws.proofs.Holders.Rights.{one_right, right_le}
-use Rattle.run_laws.proofs.Past.LivePackets.{find_place}
-use Rattle.run_laws.proofs.States.Entering.{IsOfSort, sort_there, begins_back}
+use Rattle.run_laws.proofs.Past.LivePackets.{find, find_place}
+use Rattle.run_laws.proofs.Room.Marked.{LentMarked}
+use Rattle.run_laws.proofs.Uses.HoldRoutines.{hold_settled}
+use Rattle.model.specs.declared.abs.Settled.TheVariants.{Settled as SettledMark}
+use Rattle.model.specs.declared.world.Packet.{Packet}
+use Rattle.run_laws.proofs.States.Entering.{IsOfSort, sort_there, begins_back, begins_lent}
 use Rattle.run_laws.proofs.States.Frames.{Stays, state_of}
 use Rattle.run_laws.proofs.States.Known.{IsKnown}
 use Rattle.run_laws.proofs.States.LoopEnds.{moved_end}
-use Rattle.run_laws.proofs.States.NoViews.{propagate_no_new, deferred_no_new, HasNone, deferred_no_view, dispatch_no_view, no_view_at}
+use Rattle.run_laws.proofs.States.NoViews.{propagate_no_new, deferred_no_new, HasNone, deferred_no_view, dispatch_no_view, no_view_at, hold_no_view}
 use Rattle.run_laws.proofs.States.OnTop.{OnTop, runs}
 use Rattle.run_laws.proofs.States.Rules.{States}
 use Rattle.run_laws.proofs.Steps.Comes.{Reads}
@@ -30,19 +34,20 @@ use Rattle.run_laws.proofs.Live.Sees.{IsDeferred, reads_view, Seen}
 use Rattle.run_laws.proofs.Uses.RoutineSteps.{OnWalk, StepsRoutine}
 use Rattle.run_laws.proofs.Uses.WalkSteps.{StepsWalk}
 
--- what stands under a frame
+-- what stands under a frame: nothing under one of IoCancelIrp
 abbrev pub FrameOn : Set → Option Frame → Frame → Type 0
 FrameOn set under (Routine a) = OnWalk set under a
 FrameOn set under (Walk n) = ⊤
-FrameOn set under (CancelFrame c) = ⊤
+FrameOn set under (CancelFrame c) = under ≡ None
 
 pub record KnownTop (set : Set) (states : States) (s : Shared) (past : List Entry)
     (under : Option Frame) (f : Frame)
     : Type 0 where
   pub top : OnTop set states s f
-  pub holding : Holding states s past f
+  pub holding : Holding set states s past f
   pub seen : Seen set states under f
   pub on : FrameOn set under f
+  pub lends : (n : ℕ) (p : Packet) → find s.packets n ≡ Some p → LentMarked set p
 
 module _ (set : Set) (states : States) (s : Shared) (past : List Entry) (under : Option Frame)
     (a : Activation)
@@ -59,10 +64,12 @@ module _ (set : Set) (states : States) (s : Shared) (past : List Entry) (under :
   pub unseen : IsOfSort set a Dispatch → (r : ℕ) → is_view (kind_of (state_of states a) r) ≡ false
   unseen is r =
       no_view_at (state_of states a).kinds r
-      (dispatch_no_view (member set a.driver a.routine h.top.stands.0) a.position (state_of states a)
+      (dispatch_no_view (member set a.driver a.routine h.top.stands.0) a.position
+      (state_of states a)
       (sort_is Dispatch is) (known.follows.arrives a.position stays.within))
 
-  never_views : IsOfSort set a Dispatch → (r : ℕ) → is_view (kind_of (state_of states a) r) ≡ true → ⊥
+  never_views : IsOfSort set a Dispatch → (r : ℕ) → is_view (kind_of (state_of states a) r) ≡ true
+      → ⊥
   never_views is r views = let no : false ≡ true = sym (unseen is r) ∙ views in cc
 
   pub deferred_views : IsDeferred set a → (r : ℕ)
@@ -71,7 +78,8 @@ module _ (set : Set) (states : States) (s : Shared) (past : List Entry) (under :
       let sort : Sort = sort_of set a.driver a.routine in
       let none : is_view (kind_of (state_of states a) r) ≡ false =
       no_view_at (state_of states a).kinds r
-      (deferred_no_view (member set a.driver a.routine h.top.stands.0) a.position (state_of states a)
+      (deferred_no_view (member set a.driver a.routine h.top.stands.0) a.position
+      (state_of states a)
       sort (sort_is sort refl) is (known.follows.arrives a.position stays.within)) in
       let no : false ≡ true = sym none ∙ views in cc
 
@@ -87,6 +95,18 @@ module _ (set : Set) (states : States) (s : Shared) (past : List Entry) (under :
       propagate_no_new (member set a.driver a.routine h.top.stands.0) a.position (state_of states a)
       (sort_is Propagate is) (known.follows.arrives a.position stays.within)
 
+  -- a completion routine that is lent a packet has nothing to carry up, and none on its way up
+  pub lent_settled : IsOfSort set a Hold → (state_of states a).settled ≡ SettledMark
+  lent_settled is =
+      hold_settled (member set a.driver a.routine h.top.stands.0) a.position (state_of states a)
+      (sort_is Hold is) (known.follows.arrives a.position stays.within)
+
+  pub lent_views : IsOfSort set a Hold → (r : ℕ) → is_view (kind_of (state_of states a) r) ≡ false
+  lent_views is r =
+      no_view_at (state_of states a).kinds r
+      (hold_no_view (member set a.driver a.routine h.top.stands.0) a.position (state_of states a)
+      (sort_is Hold is) (known.follows.arrives a.position stays.within))
+
   views_under : (u : Option Frame) → Seen set states u (Routine a) → (r n : ℕ)
       → is_view (kind_of (state_of states a) r) ≡ true → Reads s a r n → u ≡ Some (Walk n)
   views_under None seen r n views reads =
@@ -96,7 +116,7 @@ module _ (set : Set) (states : States) (s : Shared) (past : List Entry) (under :
       ]
   views_under (Some (Routine b)) seen r n views reads = absurd (never_views seen r views)
   views_under (Some (Walk m)) seen r n views reads =
-      ap (λ (k : ℕ). Some (Walk k)) (sym (reads_view states m s a seen r n views reads))
+      ap (λ (k : ℕ). Some (Walk k)) (sym (reads_view states m s a seen.0 r n views reads))
   views_under (Some (CancelFrame c)) seen r n views reads = absurd seen
 
   pub steps_routine : StepsRoutine set states s past under a
@@ -117,6 +137,7 @@ module _ (set : Set) (states : States) (s : Shared) (past : List Entry) (under :
             omega arith;
         views = views_under under h.seen;
         on = h.on;
+        lent = lent_settled;
       }
 
 pub steps_walk : (set : Set) (states : States) (s : Shared) (past : List Entry) (actor : Actor)
@@ -124,10 +145,15 @@ pub steps_walk : (set : Set) (states : States) (s : Shared) (past : List Entry) 
     (n : ℕ) → KnownTop set states s past under (Walk n) → StepsWalk set states s n
 steps_walk set states s past actor under n h =
     record {
-      quiet = h.top.good.quiet;
       rises = h.holding.tells.rises;
-      done = λ p at. walk_taken states s past n h.holding p (find_place s.packets n ∙ at);
-      starts = λ p c there routed.
+      done = λ p at. walk_taken set states s past n h.holding p (find_place s.packets n ∙ at);
+      starts = λ p c there routed free.
           ap (λ (state : Abs). state.settled)
-          (begins_back set states s h.top.good h.top.fits n p c h.top.stands there routed).start;
+          (begins_back set states s h.top.good h.top.fits n p c h.top.stands there routed
+          free).start;
+      lent = λ p c there routed holds.
+          ap (λ (state : Abs). state.settled)
+          (begins_lent set states s h.top.good h.top.fits n p c h.top.stands there routed
+          holds).start;
+      lends = h.lends n;
     }

@@ -12,13 +12,15 @@ use Rattle.run_laws.proofs.Uses.Fates.{Falls, Traced}
 use Rattle.run_laws.proofs.Tests.{and_false}
 use Rattle.run_laws.proofs.Tests.{or_left, or_right}
 
-pub falls_more : (bound more : ℕ) (used : List ℕ) → bound ≤ more → Falls bound used → Falls more used
+pub falls_more : (bound more : ℕ) (used : List ℕ) → bound ≤ more → Falls bound used
+    → Falls more used
 falls_more bound more [] le h = tt
 falls_more bound more (u ∷ upper) le h = (let l : u < bound = h.0 in omega arith, h.1)
 
 pub falls_drop : (bound : ℕ) (used : List ℕ) → Falls bound used → Falls bound (drop 1 used)
 falls_drop bound [] h = tt
-falls_drop bound (u ∷ upper) h = let l : u < bound = h.0 in falls_more u bound upper (omega arith) h.1
+falls_drop bound (u ∷ upper) h =
+    let l : u < bound = h.0 in falls_more u bound upper (omega arith) h.1
 
 pub opens_more : (action : Action) (count : ℕ) → count ≤ opens action count
 opens_more (Issues n stack) count = omega arith
@@ -27,7 +29,8 @@ opens_more _ count = omega arith
 
 -- uses fall still after an action
 entry_falls : (past : List Entry) (action : Action) (n : ℕ) → Falls (uses_opened past) (uses past n)
-    → Falls (opens action (uses_opened past)) (uses_after action n (use_of past action) (uses past n))
+    → Falls (opens action (uses_opened past)) (uses_after action n (use_of past action)
+    (uses past n))
 entry_falls past (Issues m stack) n h =
     elim (eqb_tells m n) [
       | inl e ↦ rw e.0 (omega arith, tt)
@@ -54,8 +57,10 @@ length_dropped (u ∷ upper) = omega arith
 entry_depths : (past : List Entry) (action : Action) (n : ℕ) → depth past n ≡ length (uses past n)
     → depth_after action n (depth past n)
     ≡ length (uses_after action n (use_of past action) (uses past n))
-entry_depths past (Issues m stack) n h = elim (eqb_tells m n) [ inl e ↦ rw e.0 refl | inr e ↦ rw e.0 h ]
-entry_depths past (Calls m) n h = elim (eqb_tells m n) [ inl e ↦ rw e.0 (omega arith) | inr e ↦ rw e.0 h ]
+entry_depths past (Issues m stack) n h =
+    elim (eqb_tells m n) [ inl e ↦ rw e.0 refl | inr e ↦ rw e.0 h ]
+entry_depths past (Calls m) n h =
+    elim (eqb_tells m n) [ inl e ↦ rw e.0 (omega arith) | inr e ↦ rw e.0 h ]
 entry_depths past (Ups m) n h =
     elim (eqb_tells m n) [
       | inl e ↦ rw e.0 (ap (λ (d : ℕ). d - 1) h ∙ length_dropped (uses past n))
@@ -110,13 +115,15 @@ pub traced_recorded : (past : List Entry) (actor : Actor) (actions : List Action
     → Traced (recorded past actor actions)
 traced_recorded past actor [] h = h
 traced_recorded past actor (action ∷ actions) h =
-    traced_recorded (entry past actor action ∷ past) actor actions (traced_entry past actor action h)
+    traced_recorded (entry past actor action ∷ past) actor actions
+    (traced_entry past actor action h)
 
 pub opened_recorded : (past : List Entry) (actor : Actor) (actions : List Action)
     → uses_opened past ≤ uses_opened (recorded past actor actions)
 opened_recorded past actor [] = omega arith
 opened_recorded past actor (action ∷ actions) =
-    let one : uses_opened past ≤ opens action (uses_opened past) = opens_more action (uses_opened past) in
+    let one : uses_opened past ≤ opens action (uses_opened past) = opens_more action
+    (uses_opened past) in
     let others : opens action (uses_opened past) ≤ uses_opened
     (recorded (entry past actor action ∷ past) actor actions) =
     opened_recorded (entry past actor action ∷ past) actor actions in
@@ -124,7 +131,13 @@ opened_recorded past actor (action ∷ actions) =
 
 pub traced_begun : Traced []
 traced_begun =
-    record { falls = λ n. tt; depths = λ n. refl; never_left = λ v l. refl; never_marked = λ v l. refl }
+    record {
+      falls = λ n. tt;
+      depths = λ n. refl;
+      never_left = λ v l. refl;
+      never_marked = λ v l.
+          refl;
+    }
 
 -- an action is about the uses of a packet
 abbrev pub is_about : ℕ → Action → Bool
@@ -149,7 +162,8 @@ not_other : (m n u : ℕ) (location : Option ℕ) → nat_eq m n ≡ false
 not_other m n u None h = refl
 not_other m n u (Some v) h = rw h refl
 
-same_entry : (past : List Entry) (actor : Actor) (action : Action) (n : ℕ) → is_about n action ≡ false
+same_entry : (past : List Entry) (actor : Actor) (action : Action) (n : ℕ)
+    → is_about n action ≡ false
     → SameUses past (entry past actor action ∷ past) n
 same_entry past actor (Issues m stack) n h =
     record { used = rw h refl; marked = λ u. refl; left = λ u. refl; sized = rw h refl }
@@ -171,7 +185,8 @@ same_entry past actor (Leaves m) n h =
       left = λ u. rw (not_other m n u (current_use past m) h) refl;
       sized = refl;
     }
-same_entry past actor _ n h = record { used = refl; marked = λ u. refl; left = λ u. refl; sized = refl }
+same_entry past actor _ n h =
+    record { used = refl; marked = λ u. refl; left = λ u. refl; sized = refl }
 
 pub same_uses : (past : List Entry) (n : ℕ) → SameUses past past n
 same_uses past n = record { used = refl; marked = λ u. refl; left = λ u. refl; sized = refl }
@@ -199,11 +214,13 @@ same_recorded past actor (action ∷ actions) n none =
 -- what a use was left with stays noted
 noted_entry : (past : List Entry) (v : Serving) (b now : Bool) (k : ℕ) (marked : Bool)
     → slice_get (marks_left past v) k ≡ Some marked
-    → (j : ℕ) × (slice_get (if b then now ∷ marks_left past v else marks_left past v) j ≡ Some marked)
+    → (j : ℕ) × (slice_get (if b then now ∷ marks_left past v else marks_left past v) j
+    ≡ Some marked)
 noted_entry past v true now k marked h = (suc k, h)
 noted_entry past v false now k marked h = (k, h)
 
-pub noted_recorded : (past : List Entry) (actor : Actor) (actions : List Action) (v : Serving) (k : ℕ)
+pub noted_recorded : (past : List Entry) (actor : Actor) (actions : List Action) (v : Serving)
+    (k : ℕ)
     (marked : Bool) → slice_get (marks_left past v) k ≡ Some marked
     → (j : ℕ) × (slice_get (marks_left (recorded past actor actions) v) j ≡ Some marked)
 noted_recorded past actor [] v k marked h = (k, h)

@@ -1,31 +1,34 @@
 -- What a step of the I/O manager's frame does to each packet and its uses.
-use Rattle.std.proofs.Common.{◌≡◌, ℕ, ◌+◌, ◌-◌, ◌<◌, ◌≤◌, inl, inr, List, [], ◌∷◌, Option, None, Some, Bool, true, false, refl, ap, sym, ◌∙◌, arith}
+use Rattle.std.proofs.Common.{◌≡◌, ℕ, suc, ◌+◌, ◌-◌, ◌<◌, ◌≤◌, ◌⊎◌, inl, inr, List, [], ◌∷◌, drop, Option, None, Some, Bool, true, false, refl, ap, sym, ◌∙◌, arith}
 use Rattle.std.specs.Prelude.{nat_eq, nat_lt, slice_get, if◌then◌else◌}
-use Rattle.std.proofs.lemmas.Bool.{cases_lt, eq-eqb, ltb-false, ltb-true}
-use Rattle.model.specs.declared.abs.Settled.TheVariants.{Open}
+use Rattle.std.proofs.lemmas.Bool.{cases_lt, cond_both, eq-eqb, ltb-false, ltb-true}
+use Rattle.model.specs.declared.abs.Settled.TheVariants.{Open, Settled as SettledMark}
 use Rattle.model.specs.declared.event.Reply.TheVariants.{Topped}
 use Rattle.model.specs.declared.world.Completion.{Completion}
 use Rattle.model.specs.declared.world.Frame.{Frame}
 use Rattle.model.specs.declared.world.Frame.TheVariants.{Routine, Walk}
 use Rattle.model.specs.declared.world.Packet.{Packet}
-use Rattle.model.specs.Action.{Action, Leaves, Marks, Touches, TopsOut, Ups}
-use Rattle.model.specs.Effect.{Outcome, completes_with, leaves}
-use Rattle.model.specs.LocalRule.{marked}
+use Rattle.model.specs.Action.{Action, Leaves, Lends, Marks, Touches, TopsOut, Ups}
+use Rattle.model.specs.Effect.{Outcome, completes_with, leaves, sort_of_completion}
+use Rattle.model.specs.declared.set.Sort.TheVariants.{Hold}
+use Rattle.model.specs.declared.world.Location.{Location}
+use Rattle.model.specs.Fault.{stack_size}
+use Rattle.model.specs.LocalRule.{is_hold, marked}
+use Rattle.std.specs.List.{list_any}
+use Rattle.run_laws.proofs.Room.Marked.{LentMarked}
 use Rattle.model.specs.PendingAgreement.{is_use, marks_left, was_marked}
 use Rattle.model.specs.Set.{Set}
-use Rattle.model.specs.Trace.{Actor, Entry, current_use, recorded}
+use Rattle.model.specs.Trace.{Actor, Entry, current_use, recorded, uses}
 use Rattle.model.specs.World.{Shared, completion_of, current_location, is_marked, left_location, mark_current, moved_up, packet_of, with_packet, without_packet}
-use Rattle.run_laws.specs.CancelsNothing.{CancelsNothing}
 use Rattle.run_laws.proofs.Past.LivePackets.{Rises, find, find_remove}
 use Rattle.run_laws.proofs.Past.Packets.{found, numbered}
 use Rattle.run_laws.proofs.States.Frames.{state_of}
 use Rattle.run_laws.proofs.States.Rules.{States}
 use Rattle.run_laws.proofs.Steps.Comes.{Comes, carries_up, lends_to, tops_out, walks_gone, walks_to, walks_up}
-use Rattle.run_laws.proofs.Steps.Uncancelled.{never_lends}
 use Rattle.run_laws.proofs.Uses.Becomes.{gets_marked, goes_out, goes_up}
 use Rattle.run_laws.proofs.Uses.Fates.{late_in, late_on}
 use Rattle.run_laws.proofs.Uses.LateMarks.{late_walk}
-use Rattle.run_laws.proofs.Uses.Traced.{noted_recorded, opened_recorded, traced_recorded}
+use Rattle.run_laws.proofs.Uses.Traced.{is_about, noted_recorded, opened_recorded, traced_recorded}
 use Rattle.run_laws.proofs.Uses.Steps.{UseStep, apart_at, becomes_at, found_other, found_put, late_of, split_step}
 
 -- completion leaves the current location
@@ -39,7 +42,8 @@ left_current : (past : List Entry) (actor : Actor) (n u : ℕ)
 left_current past actor n u = refl
 
 -- a location with a completion routine isn't the first one
-routed_deep : (p : Packet) (c : Completion) → completion_of (current_location p) ≡ Some c → 1 ≤ p.depth
+routed_deep : (p : Packet) (c : Completion) → completion_of (current_location p) ≡ Some c
+    → 1 ≤ p.depth
     → completion_of (slice_get p.locations.items 0) ≡ None → 1 < p.depth
 routed_deep p c there some rooted =
     elim (cases_lt 1 p.depth) [
@@ -53,29 +57,65 @@ routed_deep p c there some rooted =
 
 -- what is known of the I/O manager's frame that steps
 pub record StepsWalk (set : Set) (states : States) (s : Shared) (n : ℕ) : Type 0 where
-  pub quiet : CancelsNothing set
   pub rises : Rises 0 s.packets s.issued
   pub done : (p : Packet) → find s.packets n ≡ Some p → p.completing ≡ true
   pub starts : (p : Packet) (c : Completion) → packet_of s n ≡ Some p
       → completion_of (current_location p) ≡ Some c
+      → is_hold (sort_of_completion set c) ≡ false
       → (state_of states (completes_with set c n)).settled ≡ Open
+  pub lent : (p : Packet) (c : Completion) → packet_of s n ≡ Some p
+      → completion_of (current_location p) ≡ Some c → sort_of_completion set c ≡ Hold
+      → (state_of states (completes_with set c n)).settled ≡ SettledMark
+  pub lends : (p : Packet) → find s.packets n ≡ Some p → LentMarked set p
+
+-- where a packet is lent, the location above is marked
+lent_above : (set : Set) (p q : Packet) (c : Completion) → LentMarked set p
+    → completion_of (current_location p) ≡ Some c → sort_of_completion set c ≡ Hold
+    → q.locations.items ≡ p.locations.items → q.depth ≡ p.depth - 1
+    → 1 < p.depth → is_marked (current_location q) ≡ true
+lent_above set p q c lends routed holds alike higher more =
+    let place : suc (p.depth - 1 - 1) ≡ p.depth - 1 = omega arith in
+    let next : suc (p.depth - 1 - 1) < p.depth = omega arith in
+    let last : q.depth - 1 ≡ p.depth - 1 - 1 = omega arith in
+    let there : completion_of (slice_get p.locations.items (suc (p.depth - 1 - 1))) ≡ Some c =
+    ap (λ (k : ℕ). completion_of (slice_get p.locations.items k)) place ∙ routed in
+    ap (λ (ls : List Location). is_marked (slice_get ls (q.depth - 1))) alike
+    ∙ ap (λ (k : ℕ). is_marked (slice_get p.locations.items k)) last
+    ∙ lends (p.depth - 1 - 1) c next there holds
 
 module _ (set : Set) (states : States) (s : Shared) (past : List Entry) (actor : Actor) (t : ℕ)
     (under : Option Frame) (n : ℕ) (h : StepsWalk set states s n) where
+  -- what is told where the packet goes up: its completion leaves the current location
+  record TellsUp (actions : List Action) : Type 0 where
+    used : uses (recorded past actor actions) n ≡ drop 1 (uses past n)
+    marked : (u : ℕ) → was_marked (recorded past actor actions) (record { packet = n; «use» = u })
+        ≡ was_marked past (record { packet = n; «use» = u })
+    left : (u : ℕ) → marks_left (recorded past actor actions) (record { packet = n; «use» = u })
+        ≡ (if is_use n (current_use past n) (record { packet = n; «use» = u })
+        then was_marked past (record { packet = n; «use» = u }) ∷ marks_left past
+        (record { packet = n; «use» = u })
+        else marks_left past (record { packet = n; «use» = u }))
+    sized : stack_size (recorded past actor actions) n ≡ stack_size past n
+    quiet : (m : ℕ) → nat_eq n m ≡ false → list_any (is_about m) actions ≡ false
+
   -- it goes up to the next location; what stands in place of the frame carries a mark up as the
-  -- location says
-  goes_up_at : (p : Packet) (frames : List Frame) → packet_of s n ≡ Some p
+  -- location says, or is lent the packet, and the next location is marked already
+  goes_up_at : (p q : Packet) (frames : List Frame) (actions : List Action) → packet_of s n ≡ Some p
+      → q.number ≡ p.number → q.locations.items ≡ p.locations.items → q.depth ≡ p.depth - 1
+      → TellsUp actions
       → (1 ≤ p.depth → completion_of (slice_get p.locations.items 0) ≡ None → 1 < p.depth)
-      → late_in states (is_marked (current_location p)) n under frames
-      ≡ (if is_marked (current_location p) then 1 else 0)
-      → ((m : ℕ) (returned : Bool) → nat_eq n m ≡ false → late_in states returned m under frames ≡ 0)
+      → ((late_in states q.pending_returned n under frames
+      ≡ (if is_marked (current_location p) then 1 else 0)) × (q.completing ≡ true))
+      ⊎ ((late_in states q.pending_returned n under frames ≡ 0)
+      × (1 < p.depth → is_marked (current_location q) ≡ true))
+      → ((m : ℕ) (returned : Bool) → nat_eq n m ≡ false
+      → late_in states returned m under frames ≡ 0)
       → UseStep states s past actor under (Walk n)
-      (leaves (with_packet s n (moved_up (left_location p))) frames (Touches n ∷ Leaves n ∷ Ups n ∷ []))
-  goes_up_at p frames there more own others =
+      (leaves (with_packet s n q) frames actions)
+  goes_up_at p q frames actions there same alike higher tells more own others =
       let at : find s.packets n ≡ Some p = found s n (Some p) there in
-      let q : Packet = moved_up (left_location p) in
-      let number : p.number ≡ n = numbered s n p there in
-      let o : Outcome = leaves (with_packet s n q) frames (Touches n ∷ Leaves n ∷ Ups n ∷ []) in
+      let number : q.number ≡ n = same ∙ numbered s n p there in
+      let o : Outcome = leaves (with_packet s n q) frames actions in
       let now : find o.shared.packets n ≡ Some q = found_put s n p q at number in
       split_step states s past actor under (Walk n) o n
       (becomes_at states s past actor under (Walk n) o n (λ late lately lates.
@@ -86,31 +126,55 @@ module _ (set : Set) (states : States) (s : Shared) (past : List Entry) (actor :
       let top : late_on states q.pending_returned n under (Walk n) ≡ 0 =
       late_walk states q.pending_returned n under n in
       let zero_before : late q.pending_returned ≡ 0 = none q.pending_returned in
-      let carried : lately q.pending_returned ≡ (if is_marked (current_location p) then 1 else 0) =
-      (let same : lately q.pending_returned ≡ late_in states q.pending_returned n under frames =
+      let onwards : lately q.pending_returned ≡ late_in states q.pending_returned n under frames =
       omega arith in
-      same ∙ own) in
       goes_up (record {
         p = p;
+        q = q;
         was = at;
         now = now;
-        used = rw (eq-eqb n n refl) refl;
-        marked = λ u. refl;
-        left = left_current past actor n;
-        sized = refl;
+        alike = alike;
+        higher = higher;
+        used = tells.used;
+        marked = tells.marked;
+        left = tells.left;
+        sized = tells.sized;
         more = more;
         done = h.done p at;
         none = ap (late_of late) at ∙ none p.pending_returned;
-        carried = ap (late_of lately) now ∙ carried;
+        carried = elim own [
+          | inl went ↦ inl (ap (late_of lately) now ∙ onwards ∙ went.0, went.1)
+          | inr lent ↦ inr (ap (late_of lately) now ∙ onwards ∙ lent.0, lent.1)
+        ];
       })))
       (λ m apart. record {
         there = found_other s n m p q at number apart;
-        quiet = rw apart refl;
+        quiet = tells.quiet m apart;
         late = λ x is.
             let top : late_on states x.pending_returned m under (Walk n) ≡ 0 =
             late_walk states x.pending_returned m under n in
             others m x.pending_returned apart ∙ sym top;
       })
+
+  goes_tells : TellsUp (Touches n ∷ Leaves n ∷ Ups n ∷ [])
+  goes_tells =
+      record {
+        used = rw (eq-eqb n n refl) refl;
+        marked = λ u. refl;
+        left = left_current past actor n;
+        sized = refl;
+        quiet = λ m apart. rw apart refl;
+      }
+
+  lends_tells : TellsUp (Touches n ∷ Leaves n ∷ Ups n ∷ Lends n ∷ [])
+  lends_tells =
+      record {
+        used = rw (eq-eqb n n refl) refl;
+        marked = λ u. refl;
+        left = λ u. refl;
+        sized = refl;
+        quiet = λ m apart. rw apart refl;
+      }
 
   -- the mark is carried up at once
   carries_at : (p : Packet) → packet_of s n ≡ Some p → nat_lt 1 p.depth ≡ true
@@ -140,8 +204,11 @@ module _ (set : Set) (states : States) (s : Shared) (past : List Entry) (actor :
           noted = λ v k marked h. noted_recorded past actor first v k marked h;
           how = goes_up (record {
             p = p;
+            q = up;
             was = at;
             now = refl;
+            alike = refl;
+            higher = refl;
             used = rw (eq-eqb n n refl) refl;
             marked = λ u. refl;
             left = left_current past actor n;
@@ -149,7 +216,7 @@ module _ (set : Set) (states : States) (s : Shared) (past : List Entry) (actor :
             more = λ some rooted. ltb-true 1 p.depth deep;
             done = h.done p at;
             none = ap (late_of late) at ∙ none p.pending_returned;
-            carried = rw is refl;
+            carried = inl (rw is refl, h.done p at);
           });
         };
         second = record {
@@ -216,9 +283,21 @@ module _ (set : Set) (states : States) (s : Shared) (past : List Entry) (actor :
       → late_in states returned m under (Walk n ∷ Routine (completes_with set c n) ∷ [])
       ≡ (if b then if returned then 1 else 0 else 0)
   routine_late c returned m b same starts =
-      let top : late_on states returned m under (Walk n) ≡ 0 = late_walk states returned m under n in
+      let top : late_on states returned m under (Walk n)
+      ≡ 0 = late_walk states returned m under n in
       let over : late_on states returned m (Some (Walk n)) (Routine (completes_with set c n))
       ≡ (if b then if returned then 1 else 0 else 0) = rw (same, starts) refl in
+      omega arith
+
+  -- one that is lent the packet has nothing to carry up
+  lent_late : (c : Completion) (returned : Bool) (m : ℕ)
+      → (state_of states (completes_with set c n)).settled ≡ SettledMark
+      → late_in states returned m under (Walk n ∷ Routine (completes_with set c n) ∷ []) ≡ 0
+  lent_late c returned m starts =
+      let top : late_on states returned m under (Walk n)
+      ≡ 0 = late_walk states returned m under n in
+      let over : late_on states returned m (Some (Walk n)) (Routine (completes_with set c n)) ≡ 0 =
+      rw starts (cond_both (nat_eq n m) 0 0 (λ x. x ≡ 0) (λ is. refl) (λ other. refl)) in
       omega arith
 
   pub walk_used : (below : Option Frame) (o : Outcome) → Comes set s t below (Walk n) o
@@ -232,14 +311,35 @@ module _ (set : Set) (states : States) (s : Shared) (past : List Entry) (actor :
       })
   walk_used below o (walks_to m p c there routed lends) =
       let starts : (state_of states (completes_with set c n)).settled ≡ Open =
-      h.starts p c there routed in
-      goes_up_at p (Walk n ∷ Routine (completes_with set c n) ∷ []) there
+      h.starts p c there routed lends in
+      goes_up_at p (moved_up (left_location p)) (Walk n ∷ Routine (completes_with set c n) ∷ [])
+      (Touches n ∷ Leaves n ∷ Ups n ∷ []) there refl refl refl goes_tells
       (λ some rooted. routed_deep p c routed some rooted)
-      (routine_late c (is_marked (current_location p)) n true (eq-eqb n n refl) starts)
+      (inl (
+        routine_late c (is_marked (current_location p)) n true (eq-eqb n n refl) starts,
+        h.done p (found s n (Some p) there),
+      ))
       (λ k returned apart. routine_late c returned k false apart starts)
-  walk_used below o (lends_to m p c there routed lends) = absurd (never_lends h.quiet c lends)
+  walk_used below o (lends_to m p c there routed lends) =
+      let starts : (state_of states (completes_with set c n)).settled ≡ SettledMark =
+      h.lent p c there routed lends in
+      let q : Packet = record (moved_up (left_location p)) { completing = false } in
+      goes_up_at p q (Walk n ∷ Routine (completes_with set c n) ∷ [])
+      (Touches n ∷ Leaves n ∷ Ups n ∷ Lends n ∷ []) there refl refl refl lends_tells
+      (λ some rooted. routed_deep p c routed some rooted)
+      (inr (
+        lent_late c (is_marked (current_location p)) n starts,
+        lent_above set p q c (h.lends p (found s n (Some p) there)) routed lends refl refl,
+      ))
+      (λ k returned apart. lent_late c returned k starts)
   walk_used below o (walks_up m p there unrouted deep unmarked) =
-      goes_up_at p (Walk n ∷ []) there (λ some rooted. ltb-true 1 p.depth deep)
-      (rw unmarked (walk_late false n)) (λ k returned apart. walk_late returned k)
+      goes_up_at p (moved_up (left_location p)) (Walk n ∷ []) (Touches n ∷ Leaves n ∷ Ups n ∷ [])
+      there refl refl refl goes_tells (λ some rooted. ltb-true 1 p.depth deep)
+      (inl (
+        walk_late (is_marked (current_location p)) n
+            ∙ sym (ap (λ (b : Bool). if b then 1 else 0) unmarked),
+        h.done p (found s n (Some p) there),
+      ))
+      (λ k returned apart. walk_late returned k)
   walk_used below o (carries_up m p there unrouted deep marked) = carries_at p there deep marked
   walk_used below o (tops_out m p there unrouted last) = tops_at p there last

@@ -4,7 +4,7 @@ use Rattle.model.specs.Sound.{IsSound}
 use Rattle.interleave.proofs.run.AcceptedRun.new.Goals as goal
 
 pub returns-in-Ok-clause-rules : goal.returns-in-Ok-clause-rules
-returns-in-Ok-clause-rules c = λ calm events.
+returns-in-Ok-clause-rules c = λ events.
     c.accepted_runs_keep_the_rules.ensures c.args.accepted c.set.ensures.typable
-    (subst (λ (s : Set). IsSound s) c.set.ensures.same c.new.ensures.sound) calm c.args.threads
+    (subst (λ (s : Set). IsSound s) c.set.ensures.same c.new.ensures.sound) c.args.threads
     events

@@ -1,0 +1,228 @@
+-- The steps of IoCancelIrp keep claims, and so does a packet that tops out: the cancel routine
+-- that is
+-- called has the right that the word had.
+use Rattle.std.proofs.Common.{◌≡◌, ℕ, ◌+◌, ◌≤◌, Bool, true, false, List, [], ◌∷◌, Option, None, Some, refl, ap, sym, ◌∙◌, subst, arith, inl, inr, ◌<◌, cond}
+use Rattle.std.specs.Prelude.{nat_eq, slice_get, if◌then◌else◌}
+use Rattle.std.proofs.lemmas.Bool.Decides.{eqb_tells}
+use Rattle.model.specs.declared.abs.Kind.{Kind}
+use Rattle.model.specs.declared.abs.Kind.TheVariants.{Cancelling}
+use Rattle.model.specs.declared.set.QueueName.TheVariants.{Declared}
+use Rattle.model.specs.declared.world.Activation.{Activation}
+use Rattle.model.specs.declared.world.Frame.{Frame}
+use Rattle.model.specs.declared.world.Frame.TheVariants.{Routine, Walk, Cancel as CancelFrame}
+use Rattle.model.specs.declared.world.Value.TheVariants.{Ref}
+use Rattle.model.specs.Effect.{routine_of_device, Outcome}
+use Rattle.model.specs.Kinds.{is_armed, is_cancelling, is_listed, is_name}
+use Rattle.model.specs.Set.{Set, cancel_routine_named, cancels_for}
+use Rattle.model.specs.Trace.{Entry}
+use Rattle.model.specs.World.{Shared, World, packet_of, with_armer, with_packet, entered, without_packet}
+use Rattle.run_laws.specs.Holder.{named_as, named_in, stack_sum, thread_sum, times_listed, times_waiting, frame_rights}
+use Rattle.run_laws.proofs.Claims.Balance.{balanced_calls}
+use Rattle.run_laws.proofs.Claims.Held.{word_holds}
+use Rattle.run_laws.proofs.Claims.Names.{OfQueues, armed_queues, cancelling_queues, listed_queues, names, taken_queues, was_queues, queue_packets}
+use Rattle.run_laws.proofs.Claims.Quiet.{Quiet}
+use Rattle.run_laws.proofs.Claims.Steps.{after, all_apart, at_kind, at_none}
+use Rattle.run_laws.proofs.Claims.Sums.{Claimed, FrameApart, frame_names, is_taken, numbers, takes_in, was_taken, word_at}
+use Rattle.run_laws.proofs.Holders.Counts.{Holding, walk_taken}
+use Rattle.run_laws.proofs.Holders.Rights.{handed_names}
+use Rattle.run_laws.proofs.Holders.Sums.{Held, unheld}
+use Rattle.run_laws.proofs.Lists.{Each}
+use Rattle.run_laws.proofs.Past.LivePackets.{find, find_remove}
+use Rattle.run_laws.proofs.Runs.Events.{StepsFrame}
+use Rattle.run_laws.proofs.States.Fine.{StepLeaves}
+use Rattle.run_laws.proofs.States.Frames.{IsGood}
+use Rattle.run_laws.proofs.States.Rules.{States}
+use Rattle.run_laws.proofs.States.Standing.{Standing}
+use Rattle.model.specs.declared.set.QueueName.{QueueName}
+use Rattle.model.specs.declared.world.Armer.{Armer}
+use Rattle.model.specs.declared.world.Packet.{Packet}
+use Rattle.run_laws.proofs.Past.Packets.{found}
+use Rattle.model.specs.declared.world.Canceller.{Canceller}
+use Rattle.model.specs.declared.set.Sort.TheVariants.{Cancel}
+use Rattle.model.specs.declared.abs.Abs.{Abs}
+use Rattle.run_laws.proofs.Claims.Changed.{changed}
+use Rattle.run_laws.proofs.Claims.WordSteps.{word_emptied}
+use Rattle.run_laws.proofs.States.Entering.{Begins, begins_cancelled, cancelled_name, first_state}
+use Rattle.run_laws.proofs.States.Fits.{ArmerLeads, word_leads}
+
+one_name : (one other : Bool) → cond {A = ℕ} one (cond {A = ℕ} other 1 0) 0 ≤ 1
+one_name true true = omega arith
+one_name true false = omega arith
+one_name false other = omega arith
+
+module _ (set : Set) (states : States) (w : World) (past : List Entry) (good : IsGood set states)
+    (stands : Standing set states w past) (c : Claimed set states w) (t : ℕ)
+    (h : StepsFrame set w t)
+    (leaves : StepLeaves set states w.shared h.frame h.outcome) where
+  abbrev to : World
+  to = after set states w past good stands c t h leaves
+
+  -- the cancel routine begins
+  module _ (cancel : Canceller) (n : ℕ) (p : Packet) (armer : Armer) (routine : ℕ)
+      (frame : h.frame ≡ CancelFrame cancel) (low : n < w.shared.issued)
+      (there : packet_of w.shared n ≡ Some p) (is_set : p.armer ≡ Some armer)
+      (named : cancel_routine_named set (routine_of_device (slice_get set.devices armer.device))
+      armer.queue ≡ Some routine)
+      (frames : h.outcome.frames
+      ≡ Routine (entered (routine_of_device (slice_get set.devices armer.device)) routine
+      armer.device
+      (Ref n)) ∷ [])
+      (shared : h.outcome.shared ≡ with_packet w.shared n (with_armer p None)) where
+    abbrev called : Activation
+    called =
+        entered (routine_of_device (slice_get set.devices armer.device)) routine armer.device
+        (Ref n)
+
+    called_begins : Begins set states w.shared.issued called Cancel n
+    called_begins =
+        begins_cancelled set states good w.shared.issued n low armer routine
+        (subst (ArmerLeads set) is_set (word_leads set w.shared stands.fits n p there)) named
+
+    called_names : (g : Kind → Bool) → OfQueues g → (m : ℕ)
+        → names states g called m ≡ named_as g (Cancelling armer.queue) (Ref n) m
+    called_names g of m =
+        let only : cancels_for set called.driver called.routine ≡ Some armer.queue =
+        cancelled_name set called.driver called.routine armer.queue
+        (cancels_for set called.driver called.routine) named refl
+        (called_begins.named called_begins.of_sort) in
+        ap (λ (state : Abs). named_in g state.kinds called.registers m) called_begins.start
+        ∙ ap (λ (name : Option QueueName). named_in g (first_state Cancel name).kinds
+        called.registers m)
+        only
+        ∙ handed_names g (queue_packets g of) (Cancelling armer.queue) (Ref n) m
+
+    called_sums : (g : Kind → Bool) → OfQueues g → (on : ℕ → Bool) (m : ℕ)
+        → thread_sum (frame_names states g on m) to.threads
+        ≡ thread_sum (frame_names states g on m) w.threads
+        + at_kind g on armer.device (Cancelling armer.queue) n m
+    called_sums g of on m =
+        let sums : thread_sum (frame_names states g on m) to.threads
+        + frame_names states g on m h.frame
+        ≡ thread_sum (frame_names states g on m) w.threads
+        + stack_sum (frame_names states g on m) h.outcome.frames =
+        changed set states g of on m w past good stands t h leaves in
+        let was : frame_names states g on m h.frame ≡ 0 = ap (frame_names states g on m) frame in
+        let now : stack_sum (frame_names states g on m) h.outcome.frames
+        ≡ frame_names states g on m (Routine called) + 0 =
+        ap (stack_sum (frame_names states g on m)) frames in
+        let its : frame_names states g on m (Routine called)
+        ≡ at_kind g on armer.device (Cancelling armer.queue) n m =
+        ap (λ (sum : ℕ). if on armer.device then sum else 0) (called_names g of m) in
+        omega arith
+
+    called_same : (g : Kind → Bool) → OfQueues g → g (Cancelling armer.queue) ≡ false
+        → (on : ℕ → Bool) (m : ℕ)
+        → thread_sum (frame_names states g on m) to.threads
+        ≡ thread_sum (frame_names states g on m) w.threads
+    called_same g of none on m =
+        let sums : thread_sum (frame_names states g on m) to.threads
+        ≡ thread_sum (frame_names states g on m) w.threads
+        + at_kind g on armer.device (Cancelling armer.queue) n m = called_sums g of on m in
+        let zero_more : at_kind g on armer.device (Cancelling armer.queue) n m ≡ 0 =
+        at_none g on armer.device (Cancelling armer.queue) n m none in
+        omega arith
+
+    called_for : (name : QueueName) → armer.queue ≡ name → Claimed set states to
+    called_for (Declared q) is =
+        let sums : (g : Kind → Bool) → OfQueues g → (on : ℕ → Bool) (m : ℕ)
+        → thread_sum (frame_names states g on m) to.threads
+        ≡ thread_sum (frame_names states g on m) w.threads
+        + at_kind g on armer.device (Cancelling (Declared q)) n m =
+        λ g of on m. called_sums g of on m
+        ∙ ap (λ (name : QueueName). thread_sum (frame_names states g on m) w.threads
+        + at_kind g on armer.device (Cancelling name) n m) is in
+        record {
+          balanced = balanced_calls set (numbers states w) (numbers states to) c.balanced
+              (λ m.
+              let took : takes_in states m to.threads ≡ takes_in states m w.threads =
+              called_same was_taken was_queues refl (λ e. true) m in
+              let before : takes_in states m w.threads + times_listed w.shared m ≤ 1 =
+              c.balanced.once m in
+              let lists : times_listed h.outcome.shared m
+              ≡ times_listed w.shared m = rw shared refl in
+              omega arith)
+              armer.device q n
+              (λ d l m. called_same (is_armed (Declared l)) (armed_queues (Declared l)) refl
+              (λ e. nat_eq e d) m)
+              (λ d l m. called_same (is_taken (Declared l)) (taken_queues (Declared l)) refl
+              (λ e. nat_eq e d) m)
+              (λ d l m. called_same (is_listed (Declared l)) (listed_queues (Declared l)) refl
+              (λ e. nat_eq e d) m)
+              (λ d l m. sums (is_cancelling (Declared l)) (cancelling_queues (Declared l))
+              (λ e. nat_eq e d) m)
+              (λ d l m. rw shared (word_emptied w.shared n armer.device q p there armer (refl, is)
+              is_set
+              d l m))
+              (λ d l m. rw shared refl);
+          apart = all_apart set states w past good stands c t h leaves
+              (rw frames (
+                (λ l m.
+                    let armed : names states (is_armed (Declared l)) called m
+                    ≡ named_as (is_armed (Declared l)) (Cancelling armer.queue) (Ref n) m =
+                    called_names (is_armed (Declared l)) (armed_queues (Declared l)) m in
+                    let taken : names states (is_taken (Declared l)) called m
+                    ≡ named_as (is_taken (Declared l)) (Cancelling armer.queue) (Ref n) m =
+                    called_names (is_taken (Declared l)) (taken_queues (Declared l)) m in
+                    let cancelling : names states (is_cancelling (Declared l)) called m
+                    ≡ named_as (is_cancelling (Declared l)) (Cancelling armer.queue) (Ref n) m =
+                    called_names (is_cancelling (Declared l)) (cancelling_queues (Declared l)) m in
+                    let one : named_as (is_cancelling (Declared l)) (Cancelling armer.queue) (Ref n)
+                    m ≤ 1 =
+                    one_name (is_name armer.queue (Declared l)) (nat_eq n m) in
+                    omega arith),
+                tt,
+              ));
+        }
+
+    pub calls_claims : Claimed set states to
+    calls_claims = called_for armer.queue refl
+
+module _ (states : States) (s : Shared) where
+  -- IoCancelIrp goes on, or ends
+  pub cancel_quiet : (cancel : Canceller) (frames : List Frame) (o : Outcome) → o.frames ≡ frames
+      → ((g : Kind → Bool) → OfQueues g → (on : ℕ → Bool) (m : ℕ)
+      → stack_sum (frame_names states g on m) frames ≡ 0)
+      → Each (FrameApart states) frames
+      → ((m d q : ℕ) → word_at (find o.shared.packets m) d q ≡ word_at (find s.packets m) d q)
+      → o.shared.queues ≡ s.queues → o.shared.starts ≡ s.starts
+      → Quiet states s (CancelFrame cancel) o
+  cancel_quiet cancel frames o is none others words queues starts =
+      record {
+        names = λ g of on m. rw is (none g of on m);
+        apart = λ h. rw is others;
+        words = words;
+        queues = queues;
+        starts = starts;
+      }
+
+  -- a packet that tops out has an empty word
+  module _ (set : Set) (w : World) (past : List Entry) (n : ℕ) (p : Packet) where
+    pub tops_quiet : (o : Outcome) → w.shared ≡ s → Held set states w
+        → Holding set states s past (Walk n) → packet_of s n ≡ Some p → o.frames ≡ []
+        → o.shared ≡ without_packet s n → Quiet states s (Walk n) o
+    tops_quiet o is kept holding there frames shared =
+        let done : p.completing ≡ true = walk_taken set states s past n holding p there in
+        let all : thread_sum (λ f. frame_rights states f n) w.threads + times_waiting set w.shared n
+        ≡ unheld (find w.shared.packets n) = kept.rights n in
+        let its : unheld (find w.shared.packets n) ≡ 0 =
+        ap (λ (x : Shared). unheld (find x.packets n)) is
+        ∙ (rw (found s n (Some p) there, done) refl) in
+        record {
+          names = λ g of on m. rw frames refl;
+          apart = λ h. rw frames tt;
+          words = λ m d q.
+              let word : word_at (find w.shared.packets n) d q ≤ times_waiting set w.shared n =
+              word_holds set states w kept n d q in
+              let same : word_at (find w.shared.packets n) d q ≡ word_at (find s.packets n) d q =
+              ap (λ (x : Shared). word_at (find x.packets n) d q) is in
+              let empty : word_at (find s.packets n) d q ≡ 0 = omega arith in
+              let removed : find (without_packet s n).packets m
+              ≡ (if nat_eq n m then None else find s.packets m) =
+              find_remove 0 s.packets s.issued n holding.tells.rises m in
+              rw (shared, removed) (elim (eqb_tells n m) [
+                | inl here ↦ rw (here.0, ← here.1) (sym empty)
+                | inr other ↦ rw other.0 refl
+              ]);
+          queues = rw shared refl;
+          starts = rw shared refl;
+        }

@@ -1,0 +1,122 @@
+-- The sums of names over threads after a step: those of the frame that ran go, and those of the
+-- frames
+-- in place of it come.
+use Rattle.std.proofs.Common.{◌≡◌, ℕ, ◌+◌, ◌-◌, Bool, List, [], ◌∷◌, ◌++◌, Option, None, Some, refl, ap, ◌∙◌, arith, inl, inr}
+use Rattle.std.specs.Prelude.{slice_set, if◌then◌else◌}
+use Rattle.model.specs.declared.abs.Kind.{Kind}
+use Rattle.model.specs.declared.status.Status.{Status}
+use Rattle.model.specs.declared.world.Activation.{Activation}
+use Rattle.model.specs.declared.world.Frame.{Frame}
+use Rattle.model.specs.declared.world.Frame.TheVariants.{Routine, Walk, Cancel as CancelFrame}
+use Rattle.model.specs.declared.world.Thread.{Thread}
+use Rattle.model.specs.Effect.{Outcome, answered_in, operand_of, told_to}
+use Rattle.model.specs.Events.{standing, with_stack}
+use Rattle.model.specs.Set.{Set, instruction_at}
+use Rattle.model.specs.Trace.{Entry}
+use Rattle.model.specs.World.{World}
+use Rattle.run_laws.specs.Holder.{stack_sum, thread_sum}
+use Rattle.run_laws.proofs.Claims.Names.{OfQueues, queue_packets}
+use Rattle.run_laws.proofs.Claims.Sums.{frame_names}
+use Rattle.run_laws.proofs.Holders.Rights.{named_told}
+use Rattle.run_laws.proofs.Holders.Sums.{stack_append, thread_set}
+use Rattle.run_laws.proofs.Runs.Events.{StepsFrame}
+use Rattle.run_laws.proofs.States.Fine.{StepLeaves}
+use Rattle.run_laws.proofs.States.Frames.{IsGood, Ready, state_of}
+use Rattle.run_laws.proofs.States.Rules.{States}
+use Rattle.run_laws.proofs.States.Stacks.{Replaces, Stacked, Stands}
+use Rattle.run_laws.proofs.States.Standing.{Standing, stands_there}
+use Rattle.run_laws.proofs.States.Told.{last_same, told_frame, told_is, told_last}
+use Rattle.run_laws.proofs.Steps.Below.{stood}
+
+module _ (set : Set) (states : States) (f : Kind → Bool) (queues : OfQueues f) (on : ℕ → Bool)
+    (n : ℕ) where
+  abbrev count : Frame → ℕ
+  count g = frame_names states f on n g
+
+  -- a frame that is told a status names the same packets
+  answered_names : (issued : ℕ) (a : Activation) (status : Status) (r : Option ℕ)
+      → Ready set states issued (answered_in a status r)
+      → count (Routine (answered_in a status r)) ≡ count (Routine a)
+  answered_names issued a status None h = refl
+  answered_names issued a status (Some r) h =
+      ap (λ (sum : ℕ). if on a.device then sum else 0)
+      (named_told f (queue_packets f queues) issued (state_of states a).kinds a.registers r status n
+      h.1.kinds)
+
+  told_names : (issued : ℕ) (told : Option Status) (g : Frame)
+      → Stands set states issued None (told_frame set told g)
+      → count (told_frame set told g) ≡ count g
+  told_names issued None (Routine a) h = refl
+  told_names issued None (Walk m) h = refl
+  told_names issued (Some status) (Walk m) h = refl
+  told_names issued None (CancelFrame c) h = refl
+  told_names issued (Some status) (CancelFrame c) h = refl
+  told_names issued (Some status) (Routine a) h =
+      answered_names issued a status
+      (operand_of (instruction_at set a.driver a.routine (a.position - 1))) h
+
+  last_names : (issued : ℕ) (below : List Frame) (g : Frame) (told : Option Status)
+      → Stacked set states issued (below ++ g ∷ [])
+      → Replaces set states issued g told []
+      → stack_sum count (told_last set told below) ≡ stack_sum count below
+  last_names issued [] g told h to = refl
+  last_names issued (e ∷ []) g told h to =
+      let same : count (told_frame set told e) ≡ count e = told_names issued told e (to e h.0) in
+      omega arith
+  last_names issued (e ∷ x ∷ below) g told h to =
+      ap (λ (sum : ℕ). count e + sum) (last_names issued (x ∷ below) g told h.1 to)
+
+  last_after : (issued : ℕ) (below : List Frame) (g : Frame) (told : Option Status)
+      (frames : List Frame)
+      → Stacked set states issued (below ++ g ∷ []) → Replaces set states issued g told frames
+      → stack_sum count (told_last set told below) ≡ stack_sum count below
+  last_after issued below g told [] h to = last_names issued below g told h to
+  last_after issued below g None (e ∷ frames) h to = ap (stack_sum count) (last_same set below)
+  last_after issued below g (Some status) (e ∷ frames) h to =
+      let no : Some status ≡ None = to.0 in cc
+
+  pub changed : (w : World) (past : List Entry) → IsGood set states → Standing set states w past
+      → (t : ℕ) (h : StepsFrame set w t) → StepLeaves set states w.shared h.frame h.outcome
+      → thread_sum (frame_names states f on n)
+      (slice_set w.threads t (with_stack h.thread (standing set h.below h.outcome)))
+      + frame_names states f on n h.frame
+      ≡ thread_sum (frame_names states f on n) w.threads
+      + stack_sum (frame_names states f on n) h.outcome.frames
+  changed w past good stands t h leaves =
+      let o : Outcome = h.outcome in
+      let after : Thread = with_stack h.thread (standing set h.below o) in
+      let sums : thread_sum count (slice_set w.threads t after)
+      + stack_sum count h.thread.frames.items
+      ≡ thread_sum count w.threads + stack_sum count after.frames.items =
+      thread_set count w.threads t h.thread after h.found in
+      let old : stack_sum count h.thread.frames.items
+      ≡ stack_sum count h.below + stack_sum count (h.frame ∷ []) =
+      ap (stack_sum count) h.frames ∙ stack_append count h.below (h.frame ∷ []) in
+      let new : stack_sum count (standing set h.below o)
+      ≡ stack_sum count h.below + stack_sum count o.frames =
+      elim (stood set w.shared t h.below h.frame o h.comes) [
+        | inl is ↦
+            let told : stack_sum count (told_last set o.told h.below) ≡ stack_sum count h.below =
+            last_after w.shared.issued h.below h.frame o.told o.frames
+            (stands_there set states w past good stands t h) leaves.stands in
+            let parts : stack_sum count (told_to set h.below o.told ++ o.frames)
+            ≡ stack_sum count (told_to set h.below o.told) + stack_sum count o.frames =
+            stack_append count (told_to set h.below o.told) o.frames in
+            let same : stack_sum count (told_to set h.below o.told)
+            ≡ stack_sum count (told_last set o.told h.below) =
+            ap (stack_sum count) (told_is set h.below o.told) in
+            let stand : stack_sum count (standing set h.below o)
+            ≡ stack_sum count (told_to set h.below o.told ++ o.frames) = ap (stack_sum count) is in
+            omega arith
+        | inr stops ↦
+            let stand : stack_sum count (standing set h.below o) ≡ stack_sum count stops.others =
+            ap (stack_sum count) stops.stands in
+            let under : stack_sum count h.below
+            ≡ stack_sum count stops.others + stack_sum count (Walk stops.n ∷ []) =
+            ap (stack_sum count) stops.below_is ∙ stack_append count stops.others
+            (Walk stops.n ∷ []) in
+            let none : stack_sum count o.frames ≡ 0 = ap (stack_sum count) stops.frames in
+            let walk : stack_sum count (Walk stops.n ∷ []) ≡ 0 = refl in
+            omega arith
+      ] in
+      omega arith

@@ -1,0 +1,237 @@
+-- A queue, a start list and a device queue have room for a packet that a routine has the right to,
+-- and the start list for the first one of the device queue: the packet and the entries are
+-- different live packets, and there are no more of these than a list takes.
+use Rattle.std.proofs.Common.{true, ◌≡◌, ◌≤◌, ◌+◌, ℕ, Bool, false, List, [], ◌∷◌, length, Option, None, Some, refl, ap, arith, subst, is_some, ◌∙◌, ◌++◌}
+use Rattle.std.specs.Prelude.{nat_eq, not, if◌then◌else◌, ⊤}
+use Rattle.std.proofs.lemmas.Bool.{cond_both}
+use Rattle.std.proofs.lemmas.List.{length-append}
+use Rattle.model.specs.declared.abs.Kind.{Kind}
+use Rattle.model.specs.declared.abs.Kind.TheVariants.{Blank as BlankKind, Own}
+use Rattle.model.specs.declared.instr.Instr.{Instr}
+use Rattle.model.specs.declared.instr.Instr.TheVariants.{Insert, Start}
+use Rattle.model.specs.declared.limits.TheConstants.{MAX_ENTRIES, MAX_LIVE_PACKETS}
+use Rattle.model.specs.declared.set.QueueName.TheVariants.{Declared}
+use Rattle.model.specs.declared.world.Activation.{Activation}
+use Rattle.model.specs.declared.world.Frame.{Frame}
+use Rattle.model.specs.declared.world.Frame.TheVariants.{Routine, Walk, Cancel as CancelFrame}
+use Rattle.model.specs.declared.world.Packet.{Packet}
+use Rattle.model.specs.declared.world.Value.{Value}
+use Rattle.model.specs.declared.world.Value.TheVariants.{Ref}
+use Rattle.model.specs.Action.{Action}
+use Rattle.model.specs.Effect.{Outcome}
+use Rattle.model.specs.Kinds.{is_right, is_cancelling, is_listed}
+use Rattle.model.specs.LocalRule.{handed, kind_of}
+use Rattle.model.specs.Queues.{StartState, inserted, is_full, room_for_next}
+use Rattle.model.specs.Set.{Set, flow_of, cancel_routine_of}
+use Rattle.model.specs.Trace.{Entry}
+use Rattle.model.specs.World.{Shared, next, start_of, queue_of, register, World}
+use Rattle.run_laws.specs.Holder.{frame_rights, times_at, times_in, times_started, times_waiting, named_in, times_plain, named_as, thread_sum}
+use Rattle.run_laws.proofs.Claims.Held.{is_own, owns_in, rights_cover, word_holds}
+use Rattle.run_laws.proofs.Claims.Sums.{Claimed, frame_names, is_cancelable, names_on, times_of, word_at}
+use Rattle.run_laws.proofs.Holders.Counts.{Holding, reads_ref}
+use Rattle.run_laws.proofs.Holders.Plain.{plain_le}
+use Rattle.run_laws.proofs.Holders.Queued.{entries_few, times_pushed}
+use Rattle.run_laws.proofs.Holders.Rights.{named_le}
+use Rattle.run_laws.proofs.Holders.Started.{started_le}
+use Rattle.run_laws.proofs.Holders.Sums.{own_if, unheld, unheld_one, Held, top_le}
+use Rattle.run_laws.proofs.Holders.Waits.{counts_here, plain_at, gives_right, inserts_blank, kinds_with, rights_given, device_driver}
+use Rattle.run_laws.proofs.Past.LivePackets.{find}
+use Rattle.run_laws.proofs.Runs.Events.{StepsFrame}
+use Rattle.run_laws.proofs.States.Frames.{Runs, state_of, IsGood}
+use Rattle.run_laws.proofs.States.Moves.{has_next}
+use Rattle.run_laws.proofs.States.Obeyed.{inserts_right}
+use Rattle.run_laws.proofs.States.OnTop.{OnTop, runs}
+use Rattle.run_laws.proofs.States.Rules.{States, first_none}
+use Rattle.run_laws.proofs.States.Standing.{Standing, on_top}
+use Rattle.run_laws.proofs.Steps.Comes.{Comes, Queued, Reads, inserts, puts_in, removes, removes_none, starts_next, starts_packet, takes_none, takes_out, unlinks, works_on_queues}
+use Rattle.run_laws.proofs.Tests.{not_at_most}
+
+-- a list has room for a packet, where that and the entries are different live packets
+room_for : (s : Shared) → length s.packets ≤ MAX_LIVE_PACKETS → (entries : List ℕ) (n : ℕ)
+    → ((m : ℕ) → times_in entries m + (if nat_eq n m then 1 else 0) ≤ unheld (find s.packets m))
+    → is_full entries ≡ false
+room_for s limit entries n once =
+    let all : (m : ℕ) → times_in (inserted entries n) m ≤ unheld (find s.packets m) =
+    (λ m.
+    let le : times_in entries m + (if nat_eq n m then 1 else 0) ≤ unheld (find s.packets m) =
+    once m in
+    let pushed : times_in (inserted entries n) m
+    ≡ times_in entries m + (if nat_eq n m then 1 else 0) = times_pushed entries n m in
+    omega arith) in
+    let few : length (inserted entries n) ≤ length s.packets =
+    entries_few s.packets (inserted entries n)
+    (λ m.
+    let le : times_in (inserted entries n) m ≤ unheld (find s.packets m) = all m in
+    let one : unheld (find s.packets m) ≤ 1 = unheld_one (find s.packets m) in
+    omega arith)
+    (λ m some.
+    let le : times_in (inserted entries n) m ≤ unheld (find s.packets m) = all m in
+    let its : (p : Packet) × (find s.packets m ≡ Some p) × (p.completing ≡ false) =
+    own_if (find s.packets m) (omega arith) in (its.0, its.1)) in
+    let long : length (inserted entries n) ≡ length entries + length (n ∷ []) =
+    length-append entries (n ∷ []) in
+    let last : length (n ∷ []) ≡ 1 = refl in
+    not_at_most MAX_ENTRIES (length entries) (omega arith)
+
+-- a packet that is a routine's own doesn't stand in a queue of its device that has a cancel routine
+abbrev pub OwnApart : Set → States → Shared → Frame → Type 0
+OwnApart set states s (Routine a) =
+    (q cancel m : ℕ) (entries : List ℕ) → queue_of s a.device q ≡ Some entries
+    → cancel_routine_of set a.driver q ≡ Some cancel
+    → times_in entries m + named_in is_own (state_of states a).kinds a.registers m
+    ≤ unheld (find s.packets m)
+OwnApart set states s (Walk n) = ⊤
+OwnApart set states s (CancelFrame c) = ⊤
+
+own_named : (k : Kind) (v : Value) (n m : ℕ) → k ≡ Own → v ≡ Ref n
+    → named_as is_own k v m ≡ (if nat_eq n m then 1 else 0)
+own_named k v n m is refers = rw (is, refers) refl
+
+module _ (set : Set) (states : States) (s : Shared) (past : List Entry) (a : Activation)
+    (holding : Holding set states s past (Routine a)) (apart : OwnApart set states s (Routine a))
+  where
+    -- a packet that a routine gives away, to a list of packets that wait
+    room_left : (i : Instr) (h : Runs set states s a i) (r n : ℕ) (entries : List ℕ)
+        → has_next (flow_of i) ≡ true
+        → (handed set a.driver (state_of states a) i).kinds
+        ≡ kinds_with set states s a i h r BlankKind
+        → is_right (kind_of (state_of states a) r) ≡ true → Reads s a r n
+        → ((m : ℕ) → times_in entries m ≤ times_waiting set s m) → is_full entries ≡ false
+    room_left i h r n entries on kinds own reads among =
+        room_for s h.fits.few entries n
+        (λ m.
+        let le : times_in entries m ≤ times_waiting set s m = among m in
+        let gone : frame_rights states (Routine (next a)) m + (if nat_eq n m then 1 else 0)
+        ≡ frame_rights states (Routine a) m =
+        rights_given set states s a i h r n on kinds own reads m in
+        let count : frame_rights states (Routine a) m + times_waiting set s m
+        ≤ unheld (find s.packets m) =
+        holding.waiting m in
+        omega arith)
+
+    -- the first packet that waits while the device is busy, and the start list
+    next_room : (start : StartState) (entries : List ℕ) → length s.packets ≤ MAX_LIVE_PACKETS
+        → start_of s a.device ≡ Some start
+        → start.device_queue ≡ entries → not (room_for_next start.start_list entries) ≡ false
+    next_room start [] limit there is = refl
+    next_room start (n ∷ entries) limit there is =
+        let room : is_full start.start_list ≡ false =
+        room_for s limit start.start_list n
+        (λ m.
+        let first : times_in start.device_queue m
+        ≡ (if nat_eq n m then 1 else 0) + times_in entries m =
+        ap (λ (xs : List ℕ). times_in xs m) is in
+        let le : times_at start m ≤ times_started s.starts m =
+        started_le s.starts a.device start m there in
+        let count : frame_rights states (Routine a) m + times_waiting set s m
+        ≤ unheld (find s.packets m) =
+        holding.waiting m in
+        omega arith) in
+        rw room refl
+
+    -- a packet that is put into a queue, with or without a cancel routine
+    inserted_room : (r q n : ℕ) (entries : List ℕ) → Runs set states s a (Insert r q) → Reads s a r n
+        → queue_of s a.device q ≡ Some entries → (cancel : Option ℕ)
+        → cancel_routine_of set a.driver q ≡ cancel → is_full entries ≡ false
+    inserted_room r q n entries h reads there None is =
+        room_left (Insert r q) h r n entries refl (inserts_blank set states s a (Insert r q) h r q is)
+        (gives_right (kind_of (state_of states a) r) _ h.obeys) reads
+        (λ m.
+        let counts : plain_at set states s a q entries m ≡ times_in entries m =
+        counts_here set states s a (Insert r q) h q entries is m in
+        let le : plain_at set states s a q entries m ≤ times_plain set 0 s.queues m =
+        plain_le set m s a.device q entries there in
+        omega arith)
+    inserted_room r q n entries h reads there (Some cancel) is =
+        room_for s h.fits.few entries n
+        (λ m.
+        let own : kind_of (state_of states a) r ≡ Own =
+        inserts_right (kind_of (state_of states a) r) (first_none _ _ h.obeys) in
+        let one : named_as is_own (kind_of (state_of states a) r) (register a r) m
+        ≡ (if nat_eq n m then 1 else 0) =
+        own_named (kind_of (state_of states a) r) (register a r) n m own
+        (reads_ref s (register a r) n reads) in
+        let le : named_as is_own (kind_of (state_of states a) r) (register a r) m
+        ≤ named_in is_own (state_of states a).kinds a.registers m =
+        named_le is_own s.issued (state_of states a).kinds a.registers r m h.stays.kinds in
+        let both : times_in entries m + named_in is_own (state_of states a).kinds a.registers m
+        ≤ unheld (find s.packets m) = apart q cancel m entries there is in
+        omega arith)
+
+    queued_full : (i : Instr) → Runs set states s a i → {b : Activation}
+        {queues : List (List (List ℕ))} {lists : List StartState} {actions : List Action}
+        {full : Bool}
+        → Queued s a i b queues lists actions full → full ≡ false
+    queued_full i h (inserts r q n entries reads there) =
+        inserted_room r q n entries h reads there (cancel_routine_of set a.driver q) refl
+    queued_full i h (removes r q label n entries there) = refl
+    queued_full i h (removes_none r q label there) = refl
+    queued_full i h (unlinks r q n entries reads there) = refl
+    queued_full i h (starts_packet r n start reads there) =
+        let room : (entries : List ℕ) → ((m : ℕ) → times_in entries m ≤ times_at start m)
+        → not (not (is_full entries)) ≡ false =
+        (λ entries among.
+        rw (room_left (Start r) h r n entries refl refl
+        (gives_right (kind_of (state_of states a) r) _ h.obeys) reads
+        (λ m.
+        let its : times_in entries m ≤ times_at start m = among m in
+        let le : times_at start m ≤ times_started s.starts m =
+        started_le s.starts a.device start m there in
+        omega arith)) refl) in
+        cond_both start.busy start.device_queue start.start_list
+        (λ (entries : List ℕ). not (not (is_full entries)) ≡ false)
+        (λ busy. room start.device_queue (λ m. omega arith))
+        (λ free. room start.start_list (λ m. omega arith))
+    queued_full i h (takes_out r label n start there slot) = refl
+    queued_full i h (takes_none r label start there slot) = refl
+    queued_full i h (puts_in r n start reads there) = refl
+    queued_full i h (starts_next start there) =
+        next_room start start.device_queue h.fits.few there refl
+
+    -- so no list gets an entry more than it has room for
+    pub never_full : (t : ℕ) (under : Option Frame) (o : Outcome) → OnTop set states s (Routine a)
+        → Comes set s t under (Routine a) o → o.full ≡ false
+    never_full t under o top (works_on_queues b i c queues starts actions full at queued) =
+        queued_full i (runs set states s a i top at) queued
+    never_full t under o top _ = refl
+
+-- who has the right to a packet that stands in a queue with a cancel routine is its cancel word, or
+-- a register of kind Listed or Cancelling
+module _ (set : Set) (states : States) (w : World) (past : List Entry) (good : IsGood set states)
+    (stands : Standing set states w past) (kept : Held set states w)
+    (claimed : Claimed set states w) where
+  pub own_apart : (t : ℕ) (h : StepsFrame set w t) → OwnApart set states w.shared h.frame
+  own_apart t h = apart_of h.frame refl
+    where
+      apart_of : (f : Frame) → h.frame ≡ f → OwnApart set states w.shared f
+      apart_of (Walk n) is = tt
+      apart_of (CancelFrame c) is = tt
+      apart_of (Routine a) is = λ q cancel m entries there has.
+          let on : OnTop set states w.shared (Routine a) =
+          subst (λ (f : Frame). OnTop set states w.shared f) is
+          (on_top set states w past good stands t h) in
+          let may : is_cancelable set a.device q ≡ true =
+          ap (λ (driver : ℕ). is_some (cancel_routine_of set driver q))
+          (device_driver set a.device a.driver on.stands.1.serves) ∙ ap is_some has in
+          let entered : times_of (queue_of w.shared a.device q) m
+          ≤ word_at (find w.shared.packets m) a.device q
+          + names_on states (is_cancelling (Declared q)) a.device m w.threads
+          + names_on states (is_listed (Declared q)) a.device m w.threads =
+          claimed.balanced.entered a.device q m may in
+          let here : times_of (queue_of w.shared a.device q) m ≡ times_in entries m =
+          ap (λ (o : Option (List ℕ)). times_of o m) there in
+          let cover : names_on states (is_listed (Declared q)) a.device m w.threads
+          + names_on states (is_cancelling (Declared q)) a.device m w.threads
+          + owns_in states m w.threads ≤ thread_sum (λ f. frame_rights states f m) w.threads =
+          rights_cover states a.device q m w.threads in
+          let word : word_at (find w.shared.packets m) a.device q ≤ times_waiting set w.shared m =
+          word_holds set states w kept m a.device q in
+          let all : thread_sum (λ f. frame_rights states f m) w.threads
+          + times_waiting set w.shared m
+          ≡ unheld (find w.shared.packets m) = kept.rights m in
+          let top : frame_names states is_own (λ e. true) m (Routine a)
+          ≤ owns_in states m w.threads =
+          top_le (frame_names states is_own (λ e. true) m) w.threads t h.thread h.below (Routine a)
+          h.found
+          (h.frames ∙ ap (λ (f : Frame). h.below ++ f ∷ []) is) in
+          omega arith

@@ -1,0 +1,335 @@
+-- What the holders of packets say of claims: a register of kind Listed or Cancelling, one of kind
+-- Own,
+-- and a cancel word that isn't empty hold the packet, and it has one holder.
+use Rattle.std.proofs.Common.{◌≡◌, ℕ, ◌+◌, ◌≤◌, Bool, true, false, List, [], ◌∷◌, Option, None, Some, refl, ap, arith, eq-eqb}
+use Rattle.std.specs.Prelude.{nat_eq, is_some, if◌then◌else◌}
+use Rattle.model.specs.declared.abs.Kind.{Kind}
+use Rattle.model.specs.declared.abs.Kind.TheVariants.{Own, Listed, Taken, Cancelling}
+use Rattle.model.specs.declared.set.QueueName.{QueueName}
+use Rattle.model.specs.declared.set.QueueName.TheVariants.{Declared}
+use Rattle.model.specs.declared.world.Armer.{Armer}
+use Rattle.model.specs.declared.world.Frame.{Frame}
+use Rattle.model.specs.declared.world.Frame.TheVariants.{Routine, Walk, Cancel as CancelFrame}
+use Rattle.model.specs.declared.world.Packet.{Packet}
+use Rattle.model.specs.declared.world.Thread.{Thread}
+use Rattle.model.specs.declared.world.Value.{Value}
+use Rattle.model.specs.Kinds.{is_armed, is_cancelling, is_listed, is_right}
+use Rattle.model.specs.Set.{Set}
+use Rattle.model.specs.World.{World, packet_of, queue_of}
+use Rattle.run_laws.specs.Holder.{frame_rights, named_as, named_in, names as value_names, stack_sum, thread_sum, times_listed, times_named, times_queued, times_started, times_to_start, times_waiting}
+use Rattle.run_laws.proofs.Claims.Names.{names}
+use Rattle.run_laws.proofs.Claims.Queues.{queued_zero, to_start_le}
+use Rattle.run_laws.proofs.Claims.Sums.{Balanced, frame_names, is_taken, names_on, numbers, takes_in, times_of, was_taken, word_at, word_for}
+use Rattle.run_laws.proofs.Holders.Sums.{Held, unheld, unheld_one}
+use Rattle.run_laws.proofs.Past.LivePackets.{find, find_place}
+use Rattle.run_laws.proofs.States.Frames.{state_of}
+use Rattle.run_laws.proofs.States.Rules.{States}
+
+-- sums over frames, and over threads
+pub stack_most : (few more : Frame → ℕ) → ((f : Frame) → few f ≤ more f) → (frames : List Frame)
+    → stack_sum few frames ≤ stack_sum more frames
+stack_most few more h [] = omega arith
+stack_most few more h (f ∷ frames) =
+    let one : few f ≤ more f = h f in
+    let others : stack_sum few frames ≤ stack_sum more frames = stack_most few more h frames in
+    omega arith
+
+pub thread_most : (few more : Frame → ℕ) → ((f : Frame) → few f ≤ more f) → (threads : List Thread)
+    → thread_sum few threads ≤ thread_sum more threads
+thread_most few more h [] = omega arith
+thread_most few more h (thread ∷ threads) =
+    let one : stack_sum few thread.frames.items ≤ stack_sum more thread.frames.items =
+    stack_most few more h thread.frames.items in
+    let others : thread_sum few threads ≤ thread_sum more threads = thread_most few more h threads
+    in
+    omega arith
+
+stack_three : (one two three all : Frame → ℕ) → ((f : Frame) → one f + two f + three f ≤ all f)
+    → (frames : List Frame)
+    → stack_sum one frames + stack_sum two frames + stack_sum three frames ≤ stack_sum all frames
+stack_three one two three all h [] = omega arith
+stack_three one two three all h (f ∷ frames) =
+    let first : one f + two f + three f ≤ all f = h f in
+    let others : stack_sum one frames + stack_sum two frames + stack_sum three frames
+    ≤ stack_sum all frames = stack_three one two three all h frames in
+    omega arith
+
+thread_three : (one two three all : Frame → ℕ) → ((f : Frame) → one f + two f + three f ≤ all f)
+    → (threads : List Thread)
+    → thread_sum one threads + thread_sum two threads + thread_sum three threads
+    ≤ thread_sum all threads
+thread_three one two three all h [] = omega arith
+thread_three one two three all h (thread ∷ threads) =
+    let first : stack_sum one thread.frames.items + stack_sum two thread.frames.items
+    + stack_sum three thread.frames.items ≤ stack_sum all thread.frames.items =
+    stack_three one two three all h thread.frames.items in
+    let others : thread_sum one threads + thread_sum two threads + thread_sum three threads
+    ≤ thread_sum all threads = thread_three one two three all h threads in
+    omega arith
+
+-- a packet that is the routine's own
+abbrev pub is_own : Kind → Bool
+is_own Own = true
+is_own _ = false
+
+some_le : (b : Bool) (m : ℕ) → (if b then m else 0) ≤ m
+some_le true m = omega arith
+some_le false m = omega arith
+
+kind_three : (name : QueueName) (k : Kind) (v : Value) (n : ℕ)
+    → named_as (is_listed name) k v n + named_as (is_cancelling name) k v n + named_as is_own k v n
+    ≤ named_as is_right k v n
+kind_three name (Listed other) v n =
+    let le : named_as (is_listed name) (Listed other) v n ≤ value_names v n =
+    some_le (is_listed name (Listed other)) (value_names v n) in
+    omega arith
+kind_three name (Cancelling other) v n =
+    let le : named_as (is_cancelling name) (Cancelling other) v n ≤ value_names v n =
+    some_le (is_cancelling name (Cancelling other)) (value_names v n) in
+    omega arith
+kind_three name Own v n = omega arith
+kind_three name _ v n = omega arith
+
+kinds_three : (name : QueueName) (kinds : List Kind) (values : List Value) (n : ℕ)
+    → named_in (is_listed name) kinds values n + named_in (is_cancelling name) kinds values n
+    + named_in is_own kinds values n ≤ named_in is_right kinds values n
+kinds_three name [] values n = omega arith
+kinds_three name (k ∷ kinds) [] n = omega arith
+kinds_three name (k ∷ kinds) (v ∷ values) n =
+    let one : named_as (is_listed name) k v n + named_as (is_cancelling name) k v n
+    + named_as is_own k v n ≤ named_as is_right k v n = kind_three name k v n in
+    let others : named_in (is_listed name) kinds values n
+    + named_in (is_cancelling name) kinds values n
+    + named_in is_own kinds values n ≤ named_in is_right kinds values n =
+    kinds_three name kinds values n in
+    omega arith
+
+-- packets that are routines' own, over all frames
+abbrev pub owns_in : States → ℕ → List Thread → ℕ
+owns_in states n threads = thread_sum (frame_names states is_own (λ device. true) n) threads
+
+three_if : (b : Bool) (one two three all : ℕ) → one + two + three ≤ all
+    → (if b then one else 0) + (if b then two else 0) + three ≤ all
+three_if true one two three all h = h
+three_if false one two three all h = omega arith
+
+module _ (states : States) (d q n : ℕ) where
+  rights_three : (f : Frame)
+      → frame_names states (is_listed (Declared q)) (λ e. nat_eq e d) n f
+      + frame_names states (is_cancelling (Declared q)) (λ e. nat_eq e d) n f
+      + frame_names states is_own (λ e. true) n f ≤ frame_rights states f n
+  rights_three (Routine a) =
+      three_if (nat_eq a.device d) (names states (is_listed (Declared q)) a n)
+      (names states (is_cancelling (Declared q)) a n) (names states is_own a n)
+      (frame_rights states (Routine a) n)
+      (kinds_three (Declared q) (state_of states a).kinds a.registers n)
+  rights_three (Walk m) = omega arith
+  rights_three (CancelFrame c) = omega arith
+
+  pub rights_cover : (threads : List Thread)
+      → names_on states (is_listed (Declared q)) d n threads
+      + names_on states (is_cancelling (Declared q)) d n threads
+      + owns_in states n threads ≤ thread_sum (λ f. frame_rights states f n) threads
+  rights_cover threads =
+      thread_three (frame_names states (is_listed (Declared q)) (λ e. nat_eq e d) n)
+      (frame_names states (is_cancelling (Declared q)) (λ e. nat_eq e d) n)
+      (frame_names states is_own (λ e. true) n) (λ f. frame_rights states f n) rights_three threads
+
+-- what a cancel word names, one word names
+named_word : (o : Option Armer) (d q : ℕ) → word_for o d q ≤ (if is_some o then 1 else 0)
+named_word None d q = omega arith
+named_word (Some armer) d q = some_le _ 1
+
+word_named : (o : Option Packet) (d q : ℕ) → word_at o d q ≤ times_named o
+word_named None d q = omega arith
+word_named (Some p) d q = named_word p.armer d q
+
+-- a packet that no register of kind Taken for a queue names is named by none
+kind_takes : (k : Kind) (v : Value) (n : ℕ) → ((q : ℕ) → named_as (is_taken (Declared q)) k v n ≡ 0)
+    → named_as was_taken k v n ≡ 0
+kind_takes (Taken (Declared q)) v n none = takes_of q none
+  where
+    takes_of : (q : ℕ) → ((p : ℕ) → named_as (is_taken (Declared p)) (Taken (Declared q)) v n ≡ 0)
+        → value_names v n ≡ 0
+    takes_of q none =
+        let one : named_as (is_taken (Declared q)) (Taken (Declared q)) v n ≡ 0 = none q in
+        let same : nat_eq q q ≡ true = eq-eqb q q refl in
+        rw same at one
+kind_takes _ v n none = refl
+
+kinds_takes : (kinds : List Kind) (values : List Value) (n : ℕ)
+    → ((q : ℕ) → named_in (is_taken (Declared q)) kinds values n ≡ 0)
+    → named_in was_taken kinds values n ≡ 0
+kinds_takes [] values n none = refl
+kinds_takes (k ∷ kinds) [] n none = refl
+kinds_takes (k ∷ kinds) (v ∷ values) n none =
+    let one : named_as was_taken k v n ≡ 0 =
+    kind_takes k v n (λ q.
+    let both : named_as (is_taken (Declared q)) k v n
+    + named_in (is_taken (Declared q)) kinds values n
+    ≡ 0 = none q in omega arith) in
+    let others : named_in was_taken kinds values n ≡ 0 =
+    kinds_takes kinds values n (λ q.
+    let both : named_as (is_taken (Declared q)) k v n
+    + named_in (is_taken (Declared q)) kinds values n
+    ≡ 0 = none q in omega arith) in
+    omega arith
+
+frame_no_takes : (states : States) (n : ℕ) (f : Frame)
+    → ((d q : ℕ) → frame_names states (is_taken (Declared q)) (λ e. nat_eq e d) n f ≡ 0)
+    → frame_names states was_taken (λ e. true) n f ≡ 0
+frame_no_takes states n (Walk m) none = refl
+frame_no_takes states n (CancelFrame c) none = refl
+frame_no_takes states n (Routine a) none =
+    kinds_takes (state_of states a).kinds a.registers n (λ q.
+    let one : frame_names states (is_taken (Declared q)) (λ e. nat_eq e a.device) n (Routine a)
+    ≡ 0 =
+    none a.device q in
+    let same : nat_eq a.device a.device ≡ true = eq-eqb a.device a.device refl in
+    rw same at one)
+
+stack_no_takes : (states : States) (n : ℕ) (frames : List Frame)
+    → ((d q : ℕ) → stack_sum (frame_names states (is_taken (Declared q)) (λ e. nat_eq e d) n) frames
+    ≡ 0)
+    → stack_sum (frame_names states was_taken (λ e. true) n) frames ≡ 0
+stack_no_takes states n [] none = refl
+stack_no_takes states n (f ∷ frames) none =
+    let one : frame_names states was_taken (λ e. true) n f ≡ 0 =
+    frame_no_takes states n f (λ d q.
+    let both : frame_names states (is_taken (Declared q)) (λ e. nat_eq e d) n f
+    + stack_sum (frame_names states (is_taken (Declared q)) (λ e. nat_eq e d) n) frames ≡ 0 =
+    none d q in
+    omega arith) in
+    let others : stack_sum (frame_names states was_taken (λ e. true) n) frames ≡ 0 =
+    stack_no_takes states n frames (λ d q.
+    let both : frame_names states (is_taken (Declared q)) (λ e. nat_eq e d) n f
+    + stack_sum (frame_names states (is_taken (Declared q)) (λ e. nat_eq e d) n) frames ≡ 0 =
+    none d q in
+    omega arith) in
+    omega arith
+
+no_takes : (states : States) (n : ℕ) (threads : List Thread)
+    → ((d q : ℕ) → names_on states (is_taken (Declared q)) d n threads ≡ 0)
+    → takes_in states n threads ≡ 0
+no_takes states n [] none = refl
+no_takes states n (thread ∷ threads) none =
+    let one : stack_sum (frame_names states was_taken (λ e. true) n) thread.frames.items ≡ 0 =
+    stack_no_takes states n thread.frames.items (λ d q.
+    let both : stack_sum (frame_names states (is_taken (Declared q)) (λ e. nat_eq e d) n)
+    thread.frames.items + names_on states (is_taken (Declared q)) d n threads ≡ 0 = none d q in
+    omega arith) in
+    let others : takes_in states n threads ≡ 0 =
+    no_takes states n threads (λ d q.
+    let both : stack_sum (frame_names states (is_taken (Declared q)) (λ e. nat_eq e d) n)
+    thread.frames.items + names_on states (is_taken (Declared q)) d n threads ≡ 0 = none d q in
+    omega arith) in
+    omega arith
+
+module _ (set : Set) (states : States) (w : World) (kept : Held set states w) (n : ℕ) where
+  -- the holders of a packet are one
+  pub one_holder : (d q : ℕ)
+      → names_on states (is_listed (Declared q)) d n w.threads
+      + names_on states (is_cancelling (Declared q)) d n w.threads
+      + owns_in states n w.threads
+      + times_waiting set w.shared n ≤ 1
+  one_holder d q =
+      let all : thread_sum (λ f. frame_rights states f n) w.threads + times_waiting set w.shared n
+      ≡ unheld (find w.shared.packets n) = kept.rights n in
+      let most : unheld (find w.shared.packets n) ≤ 1 = unheld_one (find w.shared.packets n) in
+      let cover : names_on states (is_listed (Declared q)) d n w.threads
+      + names_on states (is_cancelling (Declared q)) d n w.threads
+      + owns_in states n w.threads ≤ thread_sum (λ f. frame_rights states f n) w.threads =
+      rights_cover states d q n w.threads in
+      omega arith
+
+  -- and its cancel word, where it isn't empty, is one
+  pub word_holds : (d q : ℕ) → word_at (find w.shared.packets n) d q
+      ≤ times_waiting set w.shared n
+  word_holds d q =
+      let le : word_at (packet_of w.shared n) d q ≤ times_named (packet_of w.shared n) =
+      word_named (packet_of w.shared n) d q in
+      let same : word_at (packet_of w.shared n) d q ≡ word_at (find w.shared.packets n) d q =
+      ap (λ (o : Option Packet). word_at o d q) (find_place w.shared.packets n) in
+      omega arith
+
+  -- a packet that has none of these holders stands in no list, and was taken off none
+  pub none_alone : Balanced set (numbers states w)
+      → ((d q : ℕ)
+      → names_on states (is_listed (Declared q)) d n w.threads
+      + names_on states (is_cancelling (Declared q)) d n w.threads
+      + times_waiting set w.shared n ≡ 0)
+      → takes_in states n w.threads + times_listed w.shared n ≡ 0
+  none_alone b nothing =
+      let waiting : times_waiting set w.shared n ≡ 0 =
+      (let none : names_on states (is_listed (Declared 0)) 0 n w.threads
+      + names_on states (is_cancelling (Declared 0)) 0 n w.threads
+      + times_waiting set w.shared n ≡ 0 = nothing 0 0 in omega arith) in
+      let takes : takes_in states n w.threads ≡ 0 =
+      no_takes states n w.threads (λ d q.
+      let none : names_on states (is_listed (Declared q)) d n w.threads
+      + names_on states (is_cancelling (Declared q)) d n w.threads
+      + times_waiting set w.shared n ≡ 0 = nothing d q in
+      let word : word_at (find w.shared.packets n) d q
+      ≤ times_waiting set w.shared n = word_holds d q in
+      let backed : names_on states (is_armed (Declared q)) d n w.threads
+      + names_on states (is_taken (Declared q)) d n w.threads
+      ≤ word_at (find w.shared.packets n) d q
+      + names_on states (is_cancelling (Declared q)) d n w.threads = b.backed d q n in
+      omega arith) in
+      let queued : times_queued w.shared.queues n ≡ 0 =
+      queued_zero set w.shared n (omega arith) (λ d q may.
+      let none : names_on states (is_listed (Declared q)) d n w.threads
+      + names_on states (is_cancelling (Declared q)) d n w.threads
+      + times_waiting set w.shared n ≡ 0 = nothing d q in
+      let word : word_at (find w.shared.packets n) d q
+      ≤ times_waiting set w.shared n = word_holds d q in
+      let entered : times_of (queue_of w.shared d q) n
+      ≤ word_at (find w.shared.packets n) d q
+      + names_on states (is_cancelling (Declared q)) d n w.threads
+      + names_on states (is_listed (Declared q)) d n w.threads = b.entered d q n may in
+      omega arith) in
+      let starts : times_to_start w.shared.starts n ≤ times_started w.shared.starts n =
+      to_start_le w.shared.starts n in
+      omega arith
+
+  -- nor does one that is a routine's own
+  pub own_alone : Balanced set (numbers states w) → 1 ≤ owns_in states n w.threads
+      → takes_in states n w.threads + times_listed w.shared n ≡ 0
+  own_alone b own =
+      none_alone b (λ d q.
+      let one : names_on states (is_listed (Declared q)) d n w.threads
+      + names_on states (is_cancelling (Declared q)) d n w.threads
+      + owns_in states n w.threads
+      + times_waiting set w.shared n ≤ 1 = one_holder d q in
+      omega arith)
+
+  -- nor one that isn't live, or is completing
+  pub gone_alone : Balanced set (numbers states w) → unheld (find w.shared.packets n) ≡ 0
+      → takes_in states n w.threads + times_listed w.shared n ≡ 0
+  gone_alone b gone =
+      none_alone b (λ d q.
+      let all : thread_sum (λ f. frame_rights states f n) w.threads + times_waiting set w.shared n
+      ≡ unheld (find w.shared.packets n) = kept.rights n in
+      let cover : names_on states (is_listed (Declared q)) d n w.threads
+      + names_on states (is_cancelling (Declared q)) d n w.threads
+      + owns_in states n w.threads ≤ thread_sum (λ f. frame_rights states f n) w.threads =
+      rights_cover states d q n w.threads in
+      omega arith)
+
+  -- one whose word names a queue, which its cancel routine was called for or which is listed, is
+  -- live
+  pub holder_lives : (d q : ℕ) (count : ℕ)
+      → count ≤ word_at (find w.shared.packets n) d q
+      + names_on states (is_cancelling (Declared q)) d n w.threads
+      + names_on states (is_listed (Declared q)) d n w.threads
+      → count ≤ unheld (find w.shared.packets n)
+  holder_lives d q count le =
+      let all : thread_sum (λ f. frame_rights states f n) w.threads + times_waiting set w.shared n
+      ≡ unheld (find w.shared.packets n) = kept.rights n in
+      let cover : names_on states (is_listed (Declared q)) d n w.threads
+      + names_on states (is_cancelling (Declared q)) d n w.threads
+      + owns_in states n w.threads ≤ thread_sum (λ f. frame_rights states f n) w.threads =
+      rights_cover states d q n w.threads in
+      let word : word_at (find w.shared.packets n) d q
+      ≤ times_waiting set w.shared n = word_holds d q in
+      omega arith

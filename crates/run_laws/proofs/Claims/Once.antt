@@ -1,0 +1,69 @@
+-- A packet stands at most once in all lists together, and in none where it isn't live: who has it is
+-- a queue without a cancel routine, what a device has for StartIo, its cancel word, or a register.
+use Rattle.std.proofs.Common.{◌≡◌, ℕ, ◌+◌, ◌≤◌, Option, None, Some, refl, ap, arith}
+use Rattle.std.specs.Prelude.{if◌then◌else◌}
+use Rattle.model.specs.declared.set.QueueName.TheVariants.{Declared}
+use Rattle.model.specs.declared.world.Packet.{Packet}
+use Rattle.model.specs.Kinds.{is_cancelling, is_listed}
+use Rattle.model.specs.Run.{Run}
+use Rattle.model.specs.Set.{Set}
+use Rattle.model.specs.World.{World, packet_of, queue_of}
+use Rattle.run_laws.specs.Holder.{alive, frame_rights, is_live, thread_sum, times_listed, times_queued, times_started, times_to_start, times_waiting}
+use Rattle.run_laws.proofs.Claims.Held.{owns_in, rights_cover, word_holds}
+use Rattle.run_laws.proofs.Claims.Queues.{queued_zero, to_start_le}
+use Rattle.run_laws.proofs.Claims.Sums.{Claimed, names_on, takes_in, times_of, word_at}
+use Rattle.run_laws.proofs.Holders.Runs.{live_listed}
+use Rattle.run_laws.proofs.Holders.Sums.{Held, unheld}
+use Rattle.run_laws.proofs.Past.LivePackets.{find, find_place}
+use Rattle.run_laws.proofs.Past.Packets.{Tells}
+use Rattle.run_laws.proofs.States.Rules.{States}
+
+module _ (set : Set) (states : States) (w : World) (kept : Held set states w)
+    (claimed : Claimed set states w) (n : ℕ) where
+  -- a packet that no register has a right to and that waits nowhere stands in no list
+  pub none_listed : unheld (find w.shared.packets n) ≡ 0 → times_listed w.shared n ≡ 0
+  none_listed nobody =
+      let all : thread_sum (λ f. frame_rights states f n) w.threads + times_waiting set w.shared n
+      ≡ unheld (find w.shared.packets n) = kept.rights n in
+      let queued : times_queued w.shared.queues n ≡ 0 =
+      queued_zero set w.shared n (omega arith) (λ d q may.
+      let cover : names_on states (is_listed (Declared q)) d n w.threads
+      + names_on states (is_cancelling (Declared q)) d n w.threads
+      + owns_in states n w.threads ≤ thread_sum (λ f. frame_rights states f n) w.threads =
+      rights_cover states d q n w.threads in
+      let word : word_at (find w.shared.packets n) d q ≤ times_waiting set w.shared n =
+      word_holds set states w kept n d q in
+      let entered : times_of (queue_of w.shared d q) n
+      ≤ word_at (find w.shared.packets n) d q
+      + names_on states (is_cancelling (Declared q)) d n w.threads
+      + names_on states (is_listed (Declared q)) d n w.threads =
+      claimed.balanced.entered d q n may in
+      omega arith) in
+      let starts : times_to_start w.shared.starts n ≤ times_started w.shared.starts n =
+      to_start_le w.shared.starts n in
+      omega arith
+
+  pub listed_once : times_listed w.shared n ≤ 1
+  listed_once =
+      let both : takes_in states n w.threads + times_listed w.shared n
+      ≤ 1 = claimed.balanced.once n in
+      omega arith
+
+  alive_once : (o : Option Packet) → find w.shared.packets n ≡ o
+      → times_listed w.shared n ≤ alive o
+  alive_once None gone =
+      let none : times_listed w.shared n ≡ 0 = none_listed (ap unheld gone) in omega arith
+  alive_once (Some p) there = let one : times_listed w.shared n ≤ 1 = listed_once in omega arith
+
+-- in the words of the law
+pub lists_live : (set : Set) (states : States) (r : Run) → Tells r.world.shared r.past
+    → Held set states r.world → Claimed set states r.world → (n : ℕ)
+    → times_listed r.world.shared n ≤ (if is_live r n then 1 else 0)
+lists_live set states r tells kept claimed n =
+    let few : times_listed r.world.shared n ≤ alive (find r.world.shared.packets n) =
+    alive_once set states r.world kept claimed n (find r.world.shared.packets n) refl in
+    let same : alive (packet_of r.world.shared n) ≡ alive (find r.world.shared.packets n) =
+    ap alive (find_place r.world.shared.packets n) in
+    let live : alive (packet_of r.world.shared n) ≡ (if is_live r n then 1 else 0) =
+    live_listed r tells n in
+    omega arith

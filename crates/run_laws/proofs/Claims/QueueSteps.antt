@@ -1,0 +1,610 @@
+-- An instruction about queues keeps claims: a packet goes into a queue or off it, or to what a
+-- device
+-- has for StartIo.
+use Rattle.std.proofs.Common.{◌≡◌, ℕ, ◌+◌, ◌≤◌, Bool, true, false, List, [], ◌∷◌, Option, None, Some, refl, ap, ◌∙◌, subst, arith, inl, inr, eq-eqb}
+use Rattle.std.specs.Prelude.{nat_eq, if◌then◌else◌}
+use Rattle.std.specs.List.{list_any}
+use Rattle.std.proofs.lemmas.Bool.{cases_lt}
+use Rattle.model.specs.declared.abs.Kind.{Kind}
+use Rattle.model.specs.declared.abs.Kind.TheVariants.{Blank as BlankKind, Own, Listed, Taken, Cancelling}
+use Rattle.model.specs.declared.abs.Rule.TheVariants.{Guard}
+use Rattle.model.specs.declared.instr.Instr.{Instr}
+use Rattle.model.specs.declared.instr.Instr.TheVariants.{Insert, Remove, Unlink}
+use Rattle.model.specs.declared.set.QueueName.TheVariants.{Declared}
+use Rattle.model.specs.declared.world.Activation.{Activation}
+use Rattle.model.specs.declared.world.Frame.TheVariants.{Routine}
+use Rattle.model.specs.declared.world.Value.TheVariants.{Ref}
+use Rattle.model.specs.Kinds.{is_armed, is_cancelling, is_listed, kind_inserted, kind_removed, names_list}
+use Rattle.model.specs.LocalRule.{guard_fault, is_guarded, kind_of, unlink_kind}
+use Rattle.model.specs.Queues.{inserted, unlinked}
+use Rattle.model.specs.Set.{Set, cancel_routine_of, guard_of}
+use Rattle.model.specs.Sound.{OperandFits}
+use Rattle.model.specs.Trace.{Entry}
+use Rattle.model.specs.World.{World, next, queue_of, register, with_queue, with_register}
+use Rattle.run_laws.specs.Holder.{named_as, named_in, stack_sum, thread_sum, times_in, times_listed, times_queued, times_waiting}
+use Rattle.run_laws.proofs.Claims.Balance.{balanced_cancels, balanced_inserts, balanced_joins, balanced_leaves, balanced_less, balanced_removes, balanced_unlinks, hit}
+use Rattle.run_laws.proofs.Claims.Guards.{NeedsGuard, armed_needs, excluded, listed_needs, taken_needs}
+use Rattle.run_laws.proofs.Claims.Held.{is_own, one_holder, own_alone, owns_in}
+use Rattle.run_laws.proofs.Claims.Names.{KeepsNames, OfQueues, TurnsNames, armed_queues, cancelling_queues, listed_queues, names, next_takes, next_turns, taken_queues, was_queues}
+use Rattle.run_laws.proofs.Claims.Queues.{unlinked_other, unlinked_out, entries_fewer, entries_more, entries_others, unlinked_fewer, unlinked_none}
+use Rattle.run_laws.proofs.Claims.Quiet.{apart_keeps, frame_keeps}
+use Rattle.run_laws.proofs.Claims.Steps.{after, all_apart, apart_here, fewer_sum, kept_sum, more_sum, names_among, same_sums, takes_sum}
+use Rattle.run_laws.proofs.Claims.Sums.{Claimed, FrameApart, frame_names, is_taken, names_on, numbers, takes_in, times_of, was_taken, word_at}
+use Rattle.run_laws.proofs.Claims.Working.{Unlinks, apart_down, apart_up, cancelable_is, some_none, taken_le, unlinked_kind}
+use Rattle.run_laws.proofs.Claims.Waiting.{once_more}
+use Rattle.run_laws.proofs.Holders.Counts.{reads_ref}
+use Rattle.run_laws.proofs.Holders.Queued.{times_le, times_pushed, times_put}
+use Rattle.run_laws.proofs.Holders.Rights.{named_le, named_nowhere}
+use Rattle.run_laws.proofs.Holders.Sums.{Held, top_le}
+use Rattle.run_laws.proofs.Lists.{all_at}
+use Rattle.run_laws.proofs.Locks.Runs.{LocksAgree}
+use Rattle.run_laws.proofs.Past.LivePackets.{find}
+use Rattle.run_laws.proofs.Past.Owners.{Owned}
+use Rattle.run_laws.proofs.Runs.Events.{StepsFrame}
+use Rattle.run_laws.proofs.States.Fine.{StepLeaves}
+use Rattle.run_laws.proofs.States.Frames.{IsGood, Runs, state_of}
+use Rattle.run_laws.proofs.States.Obeyed.{inserts_right}
+use Rattle.run_laws.proofs.States.Rules.{States, first_none, granted, second_none, unbroken}
+use Rattle.run_laws.proofs.States.Standing.{Standing}
+use Rattle.run_laws.proofs.Steps.Comes.{Reads}
+use Rattle.run_laws.proofs.Tests.{or_left, or_right}
+
+module _ (set : Set) (states : States) (w : World) (past : List Entry) (good : IsGood set states)
+    (stands : Standing set states w past) (c : Claimed set states w) (t : ℕ)
+    (h : StepsFrame set w t)
+    (leaves : StepLeaves set states w.shared h.frame h.outcome) (kept : Held set states w)
+    (a : Activation) (frame : h.frame ≡ Routine a)
+    (packets : h.outcome.shared.packets ≡ w.shared.packets) where
+  abbrev to : World
+  to = after set states w past good stands c t h leaves
+
+  words_same : (d q n : ℕ) → word_at (find to.shared.packets n) d q
+      ≡ word_at (find w.shared.packets n) d q
+  words_same d q n = rw packets refl
+
+  -- the packets that registers name stay so, and queues are as before; or lists alone change
+  pub lists_claims : (b : Activation) → KeepsNames states a b → b.device ≡ a.device
+      → h.outcome.frames ≡ Routine b ∷ []
+      → h.outcome.shared.queues ≡ w.shared.queues
+      → ((n : ℕ) → takes_in states n w.threads + times_listed h.outcome.shared n ≤ 1)
+      → Claimed set states to
+  lists_claims b keeps device frames queues once =
+      let same : (g : Kind → Bool) → OfQueues g → (on : ℕ → Bool) (n : ℕ)
+      → thread_sum (frame_names states g on n) to.threads
+      ≡ thread_sum (frame_names states g on n) w.threads =
+      λ g of on n. same_sums set states w past good stands c t h leaves g of on n
+      (let one : frame_names states g on n (Routine b) ≡ frame_names states g on n (Routine a) =
+      frame_keeps states a b keeps device g of on n in
+      let was : frame_names states g on n h.frame ≡ frame_names states g on n (Routine a) =
+      ap (frame_names states g on n) frame in
+      let now : stack_sum (frame_names states g on n) h.outcome.frames
+      ≡ frame_names states g on n (Routine b) + 0 =
+      ap (stack_sum (frame_names states g on n)) frames in
+      omega arith) in
+      record {
+        balanced = balanced_less set (numbers states w) (numbers states to) c.balanced
+            (λ n.
+            let took : takes_in states n to.threads ≡ takes_in states n w.threads =
+            same was_taken was_queues (λ e. true) n in
+            let least : takes_in states n w.threads + times_listed h.outcome.shared n
+            ≤ 1 = once n in
+            omega arith)
+            (λ d q n. let one : names_on states (is_armed (Declared q)) d n to.threads
+            ≡ names_on states (is_armed (Declared q)) d n w.threads =
+            same (is_armed (Declared q)) (armed_queues (Declared q)) (λ e. nat_eq e d) n in omega
+            arith)
+            (λ d q n. let one : names_on states (is_taken (Declared q)) d n to.threads
+            ≡ names_on states (is_taken (Declared q)) d n w.threads =
+            same (is_taken (Declared q)) (taken_queues (Declared q)) (λ e. nat_eq e d) n in omega
+            arith)
+            (λ d q n. same (is_listed (Declared q)) (listed_queues (Declared q)) (λ e. nat_eq e d)
+            n)
+            (λ d q n. same (is_cancelling (Declared q)) (cancelling_queues (Declared q))
+            (λ e. nat_eq e d) n)
+            words_same
+            (λ d q n. rw queues refl);
+        apart = all_apart set states w past good stands c t h leaves
+            (rw frames (
+              apart_keeps states a b keeps
+                  (subst (FrameApart states) frame
+                  (apart_here set states w past good stands c t h leaves)),
+              tt,
+            ));
+      }
+
+  apart_a : FrameApart states (Routine a)
+  apart_a = subst (FrameApart states) frame (apart_here set states w past good stands c t h leaves)
+
+  -- a packet of the routine's own stands in no list, and was taken off none
+  pub own_there : (i : Instr) (r m : ℕ) → Runs set states w.shared a i
+      → kind_of (state_of states a) r ≡ Own → Reads w.shared a r m
+      → takes_in states m w.threads + times_listed w.shared m ≡ 0
+  own_there i r m run is reads =
+      let refers : register a r ≡ Ref m = reads_ref w.shared (register a r) m reads in
+      let le : named_as is_own (kind_of (state_of states a) r) (register a r) m
+      ≤ named_in is_own (state_of states a).kinds a.registers m =
+      named_le is_own w.shared.issued (state_of states a).kinds a.registers r m run.stays.kinds in
+      let one : named_as is_own (kind_of (state_of states a) r) (register a r) m ≡ 1 =
+      rw (is, refers, eq-eqb m m refl) refl in
+      let top : frame_names states is_own (λ e. true) m h.frame ≤ owns_in states m w.threads =
+      top_le (frame_names states is_own (λ e. true) m) w.threads t h.thread h.below h.frame
+      h.found h.frames in
+      let same : frame_names states is_own (λ e. true) m h.frame
+      ≡ named_in is_own (state_of states a).kinds a.registers m =
+      ap (frame_names states is_own (λ e. true) m) frame in
+      own_alone set states w kept m c.balanced (omega arith)
+
+  -- one more list, for a packet that stood in none
+  pub once_put : (m : ℕ) → takes_in states m w.threads + times_listed w.shared m ≡ 0
+      → ((n : ℕ) → times_listed h.outcome.shared n
+      ≡ times_listed w.shared n + (if nat_eq m n then 1 else 0))
+      → (n : ℕ) → takes_in states n w.threads + times_listed h.outcome.shared n ≤ 1
+  once_put m none lists =
+      once_more m (λ n. takes_in states n w.threads + times_listed w.shared n)
+      (λ n. takes_in states n w.threads + times_listed h.outcome.shared n)
+      c.balanced.once none
+      (λ n. let one : times_listed h.outcome.shared n
+      ≡ times_listed w.shared n + (if nat_eq m n then 1 else 0) = lists n in omega arith)
+
+  pub once_less : ((n : ℕ) → times_listed h.outcome.shared n ≤ times_listed w.shared n)
+      → (n : ℕ) → takes_in states n w.threads + times_listed h.outcome.shared n ≤ 1
+  once_less lists n =
+      let one : times_listed h.outcome.shared n ≤ times_listed w.shared n = lists n in
+      let before : takes_in states n w.threads + times_listed w.shared n ≤ 1 = c.balanced.once n in
+      omega arith
+
+  -- a packet is put into a queue
+  module _ (r q m : ℕ) (entries : List ℕ) (run : Runs set states w.shared a (Insert r q))
+      (reads : Reads w.shared a r m) (there : queue_of w.shared a.device q ≡ Some entries)
+      (frames : h.outcome.frames ≡ Routine (next a) ∷ [])
+      (queues : h.outcome.shared.queues ≡ (with_queue w.shared a.device q
+      (inserted entries m)).queues)
+      (starts : h.outcome.shared.starts ≡ w.shared.starts) where
+    inserted_own : kind_of (state_of states a) r ≡ Own
+    inserted_own = inserts_right (kind_of (state_of states a) r) (first_none _ _ run.obeys)
+
+    inserted_lists : (n : ℕ) → times_listed h.outcome.shared n
+        ≡ times_listed w.shared n + (if nat_eq m n then 1 else 0)
+    inserted_lists n =
+        let put : times_queued (with_queue w.shared a.device q (inserted entries m)).queues n
+        + times_in entries n
+        ≡ times_queued w.shared.queues n + times_in (inserted entries m) n =
+        times_put w.shared a.device q entries (inserted entries m) n there in
+        let pushed : times_in (inserted entries m) n
+        ≡ times_in entries n + (if nat_eq m n then 1 else 0) = times_pushed entries m n in
+        rw (queues, starts) (omega arith)
+
+    inserted_turns : TurnsNames states a (next a) Own
+        (kind_inserted (cancel_routine_of set a.driver q) q) m
+    inserted_turns =
+        next_turns set states w.shared a (Insert r q) run r Own
+        (kind_inserted (cancel_routine_of set a.driver q) q) m refl refl inserted_own
+        (reads_ref w.shared (register a r) m reads)
+
+    inserted_entries : (d p n : ℕ) → times_of (queue_of to.shared d p) n
+        ≡ times_of (queue_of w.shared d p) n + hit a.device q m d p n
+    inserted_entries d p n =
+        rw queues (entries_more w.shared a.device q m entries (inserted entries m) there
+        (λ n. times_pushed entries m n) d p n)
+
+    inserts_by : (cancel : Option ℕ) → cancel_routine_of set a.driver q ≡ cancel
+        → TurnsNames states a (next a) Own (kind_inserted cancel q) m → Claimed set states to
+    inserts_by None none turns =
+        record {
+          balanced = balanced_joins set (numbers states w) (numbers states to) c.balanced
+              (λ n.
+              let took : takes_in states n to.threads + 0 ≡ takes_in states n w.threads + 0 =
+              takes_sum set states w past good stands c t h leaves a (next a) Own BlankKind m frame
+              frames refl turns n in
+              let least : takes_in states n w.threads + times_listed h.outcome.shared n ≤ 1 =
+              once_put m (own_there (Insert r q) r m run inserted_own reads) inserted_lists n in
+              omega arith)
+              a.device q m
+              (cancelable_is set a.device a.driver q None run.stays.serves none)
+              (λ d p n. kept_sum set states w past good stands c t h leaves a (next a) Own
+              BlankKind m frame frames refl turns
+              (is_armed (Declared p)) (armed_queues (Declared p)) refl refl d n)
+              (λ d p n. kept_sum set states w past good stands c t h leaves a (next a) Own
+              BlankKind m frame frames refl turns
+              (is_taken (Declared p)) (taken_queues (Declared p)) refl refl d n)
+              (λ d p n. kept_sum set states w past good stands c t h leaves a (next a) Own
+              BlankKind m frame frames refl turns
+              (is_listed (Declared p)) (listed_queues (Declared p)) refl refl d n)
+              (λ d p n. kept_sum set states w past good stands c t h leaves a (next a) Own
+              BlankKind m frame frames refl turns
+              (is_cancelling (Declared p)) (cancelling_queues (Declared p)) refl refl d n)
+              words_same inserted_entries;
+          apart = all_apart set states w past good stands c t h leaves
+              (rw frames (
+                apart_down states a (next a) Own BlankKind m turns
+                    (λ p. (refl, refl, refl)) apart_a,
+                tt,
+              ));
+        }
+    inserts_by (Some cancel) some turns =
+        record {
+          balanced = balanced_inserts set (numbers states w) (numbers states to) c.balanced
+              (λ n.
+              let took : takes_in states n to.threads + 0 ≡ takes_in states n w.threads + 0 =
+              takes_sum set states w past good stands c t h leaves a (next a) Own (Listed (Declared
+              q)) m frame frames refl turns n in
+              let least : takes_in states n w.threads + times_listed h.outcome.shared n ≤ 1 =
+              once_put m (own_there (Insert r q) r m run inserted_own reads) inserted_lists n in
+              omega arith)
+              a.device q m
+              (λ d p n. kept_sum set states w past good stands c t h leaves a (next a) Own (Listed
+              (Declared q)) m frame frames refl turns
+              (is_armed (Declared p)) (armed_queues (Declared p)) refl refl d n)
+              (λ d p n. kept_sum set states w past good stands c t h leaves a (next a) Own (Listed
+              (Declared q)) m frame frames refl turns
+              (is_taken (Declared p)) (taken_queues (Declared p)) refl refl d n)
+              (λ d p n. more_sum set states w past good stands c t h leaves a (next a) Own (Listed
+              (Declared q)) m frame frames refl turns
+              (is_listed (Declared p)) (listed_queues (Declared p)) refl d n)
+              (λ d p n. kept_sum set states w past good stands c t h leaves a (next a) Own (Listed
+              (Declared q)) m frame frames refl turns
+              (is_cancelling (Declared p)) (cancelling_queues (Declared p)) refl refl d n)
+              words_same inserted_entries;
+          apart = all_apart set states w past good stands c t h leaves
+              (rw frames (
+                apart_down states a (next a) Own (Listed (Declared q)) m turns
+                    (λ p. (refl, refl, refl)) apart_a,
+                tt,
+              ));
+        }
+
+    pub inserts_claims : Claimed set states to
+    inserts_claims = inserts_by (cancel_routine_of set a.driver q) refl inserted_turns
+
+  -- who holds the guard of a queue is alone with its packets
+  module _ (agree : LocksAgree states w past) (owned : Owned w.shared.locks past) where
+    alone : (i : Instr) (q : ℕ) → Runs set states w.shared a i
+        → guard_fault (state_of states a) set a.driver q ≡ None → (g : Kind → Bool)
+        → NeedsGuard set a.driver g q → (n : ℕ)
+        → names_on states g a.device n w.threads ≡ names states g a n
+    alone i q run rule g needs n =
+        excluded set states w past good stands agree owned t h a q g frame run.stays.serves
+        (granted (is_guarded (state_of states a) (guard_of set a.driver q)) Guard rule) needs n
+
+    -- a packet is taken off a queue
+    module _ (r q label m : ℕ) (entries : List ℕ) (run : Runs set states w.shared a
+        (Remove r q label))
+        (there : queue_of w.shared a.device q ≡ Some (m ∷ entries))
+        (frames : h.outcome.frames ≡ Routine (next (with_register a r (Ref m))) ∷ [])
+        (queues : h.outcome.shared.queues ≡ (with_queue w.shared a.device q entries).queues)
+        (starts : h.outcome.shared.starts ≡ w.shared.starts) where
+      abbrev taker : Activation
+      taker = next (with_register a r (Ref m))
+
+      no_names : list_any (names_list (Declared q)) (state_of states a).kinds ≡ false
+      no_names = unbroken _ _ (second_none _ _ (second_none _ _ run.obeys))
+
+      none_listed : (n : ℕ) → names states (is_listed (Declared q)) a n ≡ 0
+      none_listed n =
+          named_nowhere (is_listed (Declared q)) (state_of states a).kinds a.registers n
+          (some_none (is_listed (Declared q)) (names_list (Declared q)) (λ k h. or_left _ _ h)
+          (state_of states a).kinds no_names)
+
+      none_armed : (n : ℕ) → names states (is_armed (Declared q)) a n ≡ 0
+      none_armed n =
+          named_nowhere (is_armed (Declared q)) (state_of states a).kinds a.registers n
+          (some_none (is_armed (Declared q)) (names_list (Declared q))
+          (λ k h. or_left _ _ (or_right _ _ h)) (state_of states a).kinds no_names)
+
+      none_cancelling : (n : ℕ) → names states (is_cancelling (Declared q)) a n ≡ 0
+      none_cancelling n =
+          named_nowhere (is_cancelling (Declared q)) (state_of states a).kinds a.registers n
+          (some_none (is_cancelling (Declared q)) (names_list (Declared q))
+          (λ k h. or_right _ _ (or_right _ _ h)) (state_of states a).kinds no_names)
+
+      removed_listed : names_on states (is_listed (Declared q)) a.device m w.threads ≡ 0
+      removed_listed =
+          alone (Remove r q label) q run (first_none _ _ run.obeys) (is_listed (Declared q))
+          (listed_needs set a.driver q) m ∙ none_listed m
+
+      removed_armed : names_on states (is_armed (Declared q)) a.device m w.threads ≡ 0
+      removed_armed =
+          alone (Remove r q label) q run (first_none _ _ run.obeys) (is_armed (Declared q))
+          (armed_needs set a.driver q) m ∙ none_armed m
+
+      -- it stands in the queue, so that it wasn't taken off one
+      removed_takes : takes_in states m w.threads ≡ 0
+      removed_takes =
+          let le : times_in (m ∷ entries) m ≤ times_queued w.shared.queues m =
+          times_le w.shared a.device q (m ∷ entries) m there in
+          let first : times_in (m ∷ entries) m ≡ 1
+          + times_in entries m = rw (eq-eqb m m refl) refl in
+          let once : takes_in states m w.threads + times_listed w.shared m
+          ≤ 1 = c.balanced.once m in
+          omega arith
+
+      removed_taken : names_on states (is_taken (Declared q)) a.device m w.threads ≡ 0
+      removed_taken =
+          let le : names_on states (is_taken (Declared q)) a.device m w.threads
+          ≤ takes_in states m w.threads = taken_le states w a.device q m in
+          let none : takes_in states m w.threads ≡ 0 = removed_takes in
+          omega arith
+
+      removed_fewer : (n : ℕ) → times_in entries n + (if nat_eq m n then 1 else 0)
+          ≡ times_in (m ∷ entries) n
+      removed_fewer n = omega arith
+
+      removed_lists : (n : ℕ) → times_listed h.outcome.shared n + (if nat_eq m n then 1 else 0)
+          ≡ times_listed w.shared n
+      removed_lists n =
+          let put : times_queued (with_queue w.shared a.device q entries).queues n
+          + times_in (m ∷ entries) n
+          ≡ times_queued w.shared.queues n + times_in entries n =
+          times_put w.shared a.device q (m ∷ entries) entries n there in
+          let fewer : times_in entries n + (if nat_eq m n then 1 else 0)
+          ≡ times_in (m ∷ entries) n =
+          removed_fewer n in
+          rw (queues, starts) (omega arith)
+
+      removed_entries : (d p n : ℕ) → times_of (queue_of to.shared d p) n + hit a.device q m d p n
+          ≡ times_of (queue_of w.shared d p) n
+      removed_entries d p n =
+          rw queues (entries_fewer w.shared a.device q m (m ∷ entries) entries there removed_fewer d
+          p n)
+
+      removed_turns : TurnsNames states a taker BlankKind
+          (kind_removed (cancel_routine_of set a.driver q) q) m
+      removed_turns =
+          next_takes set states w.shared a (Remove r q label) run r
+          (kind_removed (cancel_routine_of set a.driver q) q) m refl refl
+          (unbroken _ _ (first_none _ _ (second_none _ _ run.obeys)))
+          (all_at OperandFits run.routine.code a.position (Remove r q label) run.known.operands
+          run.here)
+
+      removes_by : (cancel : Option ℕ) → cancel_routine_of set a.driver q ≡ cancel
+          → TurnsNames states a taker BlankKind (kind_removed cancel q) m → Claimed set states to
+      removes_by None none turns =
+          record {
+            balanced = balanced_leaves set (numbers states w) (numbers states to) c.balanced
+                (λ n.
+                let took : takes_in states n to.threads + 0 ≡ takes_in states n w.threads + 0 =
+                takes_sum set states w past good stands c t h leaves a taker BlankKind Own m frame
+                frames refl turns n in
+                let lists : times_listed h.outcome.shared n + (if nat_eq m n then 1 else 0)
+                ≡ times_listed w.shared n = removed_lists n in
+                let before : takes_in states n w.threads + times_listed w.shared n ≤ 1 =
+                c.balanced.once n in
+                omega arith)
+                a.device q m removed_armed removed_listed
+                (λ d p n. kept_sum set states w past good stands c t h leaves a taker BlankKind Own
+                m frame frames refl turns
+                (is_armed (Declared p)) (armed_queues (Declared p)) refl refl d n)
+                (λ d p n. kept_sum set states w past good stands c t h leaves a taker BlankKind Own
+                m frame frames refl turns
+                (is_taken (Declared p)) (taken_queues (Declared p)) refl refl d n)
+                (λ d p n. kept_sum set states w past good stands c t h leaves a taker BlankKind Own
+                m frame frames refl turns
+                (is_listed (Declared p)) (listed_queues (Declared p)) refl refl d n)
+                (λ d p n. kept_sum set states w past good stands c t h leaves a taker BlankKind Own
+                m frame frames refl turns
+                (is_cancelling (Declared p)) (cancelling_queues (Declared p)) refl refl d n)
+                words_same removed_entries;
+            apart = all_apart set states w past good stands c t h leaves
+                (rw frames (
+                  apart_down states a taker BlankKind Own m turns
+                      (λ p. (refl, refl, refl)) apart_a,
+                  tt,
+                ));
+          }
+      removes_by (Some cancel) some turns =
+          record {
+            balanced = balanced_removes set (numbers states w) (numbers states to) c.balanced
+                (λ n.
+                let took : takes_in states n to.threads + 0
+                ≡ takes_in states n w.threads + (if nat_eq m n then 1 else 0) =
+                takes_sum set states w past good stands c t h leaves a taker BlankKind (Taken
+                (Declared q)) m frame frames refl turns n in
+                let lists : times_listed h.outcome.shared n + (if nat_eq m n then 1 else 0)
+                ≡ times_listed w.shared n = removed_lists n in
+                let before : takes_in states n w.threads + times_listed w.shared n ≤ 1 =
+                c.balanced.once n in
+                omega arith)
+                a.device q m
+                (cancelable_is set a.device a.driver q (Some cancel) run.stays.serves some)
+                removed_armed removed_taken removed_listed
+                (λ d p n. kept_sum set states w past good stands c t h leaves a taker BlankKind
+                (Taken (Declared q)) m frame frames refl turns
+                (is_armed (Declared p)) (armed_queues (Declared p)) refl refl d n)
+                (λ d p n. more_sum set states w past good stands c t h leaves a taker BlankKind
+                (Taken (Declared q)) m frame frames refl turns
+                (is_taken (Declared p)) (taken_queues (Declared p)) refl d n)
+                (λ d p n. kept_sum set states w past good stands c t h leaves a taker BlankKind
+                (Taken (Declared q)) m frame frames refl turns
+                (is_listed (Declared p)) (listed_queues (Declared p)) refl refl d n)
+                (λ d p n. kept_sum set states w past good stands c t h leaves a taker BlankKind
+                (Taken (Declared q)) m frame frames refl turns
+                (is_cancelling (Declared p)) (cancelling_queues (Declared p)) refl refl d n)
+                words_same removed_entries;
+            apart = all_apart set states w past good stands c t h leaves
+                (rw frames (
+                  apart_up states a taker BlankKind (Taken (Declared q)) m q turns
+                      ((λ p n e. omega arith), (λ p. refl))
+                      (let armed : names states (is_armed (Declared q)) a m ≡ 0 = none_armed m in
+                      let cancelling : names states (is_cancelling (Declared q)) a m ≡ 0 =
+                      none_cancelling m in
+                      let taken : names states (is_taken (Declared q)) a m
+                      ≤ names_on states (is_taken (Declared q)) a.device m w.threads =
+                      names_among set states w past good stands c t h leaves a (is_taken (Declared
+                      q)) m frame in
+                      let none : names_on states (is_taken (Declared q)) a.device m w.threads ≡ 0 =
+                      removed_taken in
+                      omega arith)
+                      apart_a,
+                  tt,
+                ));
+          }
+
+      pub removes_claims : Claimed set states to
+      removes_claims = removes_by (cancel_routine_of set a.driver q) refl removed_turns
+
+    -- a packet is unlinked
+    module _ (r q m : ℕ) (entries : List ℕ) (run : Runs set states w.shared a (Unlink r q))
+        (reads : Reads w.shared a r m) (there : queue_of w.shared a.device q ≡ Some entries)
+        (frames : h.outcome.frames ≡ Routine (next a) ∷ [])
+        (queues : h.outcome.shared.queues ≡ (with_queue w.shared a.device q
+        (unlinked entries m)).queues)
+        (starts : h.outcome.shared.starts ≡ w.shared.starts) where
+      unlinked_turns : (j : Kind) → kind_of (state_of states a) r ≡ j
+          → TurnsNames states a (next a) j Own m
+      unlinked_turns j is =
+          next_turns set states w.shared a (Unlink r q) run r j Own m refl refl is
+          (reads_ref w.shared (register a r) m reads)
+
+      -- a register of the kind names it
+      unlinked_name : (j : Kind) (g : Kind → Bool) → kind_of (state_of states a) r ≡ j → g j ≡ true
+          → 1 ≤ names states g a m
+      unlinked_name j g is of =
+          let le : named_as g (kind_of (state_of states a) r) (register a r) m
+          ≤ names states g a m =
+          named_le g w.shared.issued (state_of states a).kinds a.registers r m run.stays.kinds in
+          let one : named_as g (kind_of (state_of states a) r) (register a r) m ≡ 1 =
+          rw (is, of, reads_ref w.shared (register a r) m reads, eq-eqb m m refl) refl in
+          omega arith
+
+      unlinked_times : (n : ℕ) → times_in (unlinked entries m) n ≤ times_in entries n
+      unlinked_times n =
+          elim (cases_lt 0 (times_in entries m)) [
+            | inl some ↦
+                let fewer : times_in (unlinked entries m) n + (if nat_eq m n then 1 else 0)
+                ≡ times_in entries n = unlinked_fewer entries m n some in
+                omega arith
+            | inr few ↦
+                let same : times_in (unlinked entries m) n ≡ times_in entries n =
+                ap (λ (xs : List ℕ). times_in xs n) (unlinked_none entries m (omega arith)) in
+                omega arith
+          ]
+
+      unlinked_lists : (n : ℕ) → times_listed h.outcome.shared n ≤ times_listed w.shared n
+      unlinked_lists n =
+          let put : times_queued (with_queue w.shared a.device q (unlinked entries m)).queues n
+          + times_in entries n
+          ≡ times_queued w.shared.queues n + times_in (unlinked entries m) n =
+          times_put w.shared a.device q entries (unlinked entries m) n there in
+          let less : times_in (unlinked entries m) n ≤ times_in entries n = unlinked_times n in
+          rw (queues, starts) (omega arith)
+
+      unlinks_by : Unlinks q (kind_of (state_of states a) r) → Claimed set states to
+      unlinks_by (inl is) =
+          let turns : TurnsNames states a (next a) (Listed (Declared q)) Own m =
+          unlinked_turns (Listed (Declared q)) is in
+          let one : 1 ≤ names states (is_listed (Declared q)) a m =
+          unlinked_name (Listed (Declared q)) (is_listed (Declared q)) is (eq-eqb q q refl) in
+          let among : names states (is_listed (Declared q)) a m
+          ≤ names_on states (is_listed (Declared q)) a.device m w.threads =
+          names_among set states w past good stands c t h leaves a (is_listed (Declared q)) m frame
+          in
+          let stand : names_on states (is_listed (Declared q)) a.device m w.threads
+          + names_on states (is_armed (Declared q)) a.device m w.threads
+          ≤ times_of (queue_of w.shared a.device q) m = c.balanced.standing a.device q m in
+          let its : times_of (queue_of w.shared a.device q) m ≡ times_in entries m =
+          ap (λ (o : Option (List ℕ)). times_of o m) there in
+          let some : 1 ≤ times_in entries m = omega arith in
+          record {
+            balanced = balanced_unlinks set (numbers states w) (numbers states to) c.balanced
+                (λ n.
+                let took : takes_in states n to.threads + 0 ≡ takes_in states n w.threads + 0 =
+                takes_sum set states w past good stands c t h leaves a (next a) (Listed (Declared
+                q)) Own m frame frames refl turns n in
+                let least : takes_in states n w.threads + times_listed h.outcome.shared n ≤ 1 =
+                once_less unlinked_lists n in
+                omega arith)
+                a.device q m
+                (λ d p n. kept_sum set states w past good stands c t h leaves a (next a) (Listed
+                (Declared q)) Own m frame frames refl turns
+                (is_armed (Declared p)) (armed_queues (Declared p)) refl refl d n)
+                (λ d p n. kept_sum set states w past good stands c t h leaves a (next a) (Listed
+                (Declared q)) Own m frame frames refl turns
+                (is_taken (Declared p)) (taken_queues (Declared p)) refl refl d n)
+                (λ d p n. fewer_sum set states w past good stands c t h leaves a (next a) (Listed
+                (Declared q)) Own m frame frames refl turns
+                (is_listed (Declared p)) (listed_queues (Declared p)) refl d n)
+                (λ d p n. kept_sum set states w past good stands c t h leaves a (next a) (Listed
+                (Declared q)) Own m frame frames refl turns
+                (is_cancelling (Declared p)) (cancelling_queues (Declared p)) refl refl d n)
+                words_same
+                (λ d p n. rw queues (entries_fewer w.shared a.device q m entries
+                (unlinked entries m)
+                there (λ n. unlinked_fewer entries m n some) d p n));
+            apart = all_apart set states w past good stands c t h leaves
+                (rw frames (
+                  apart_down states a (next a) (Listed (Declared q)) Own m turns
+                      (λ p. (refl, refl, refl)) apart_a,
+                  tt,
+                ));
+          }
+      unlinks_by (inr is) =
+          let turns : TurnsNames states a (next a) (Cancelling (Declared q)) Own m =
+          unlinked_turns (Cancelling (Declared q)) is in
+          let one : 1 ≤ names states (is_cancelling (Declared q)) a m =
+          unlinked_name (Cancelling (Declared q)) (is_cancelling (Declared q)) is (eq-eqb q q refl)
+          in
+          let among : names states (is_cancelling (Declared q)) a m
+          ≤ names_on states (is_cancelling (Declared q)) a.device m w.threads =
+          names_among set states w past good stands c t h leaves a (is_cancelling (Declared q)) m
+          frame in
+          let holder : names_on states (is_listed (Declared q)) a.device m w.threads
+          + names_on states (is_cancelling (Declared q)) a.device m w.threads
+          + owns_in states m w.threads + times_waiting set w.shared m ≤ 1 =
+          one_holder set states w kept m a.device q in
+          let free : names states (is_armed (Declared q)) a m
+          + names states (is_taken (Declared q)) a m
+          + names states (is_cancelling (Declared q)) a m ≤ 1 = apart_a q m in
+          let rule : guard_fault (state_of states a) set a.driver q ≡ None =
+          second_none (unlink_kind (Declared q) (kind_of (state_of states a) r))
+          (guard_fault (state_of states a) set a.driver q) run.obeys in
+          let armed : names_on states (is_armed (Declared q)) a.device m w.threads
+          ≡ names states (is_armed (Declared q)) a m =
+          alone (Unlink r q) q run rule (is_armed (Declared q))
+          (armed_needs set a.driver q) m in
+          let taken : names_on states (is_taken (Declared q)) a.device m w.threads
+          ≡ names states (is_taken (Declared q)) a m =
+          alone (Unlink r q) q run rule (is_taken (Declared q))
+          (taken_needs set a.driver q) m in
+          let le : times_in entries m ≤ times_queued w.shared.queues m =
+          times_le w.shared a.device q entries m there in
+          let once : takes_in states m w.threads + times_listed w.shared m
+          ≤ 1 = c.balanced.once m in
+          let few : times_in entries m ≤ 1 = omega arith in
+          record {
+            balanced = balanced_cancels set (numbers states w) (numbers states to) c.balanced
+                (λ n.
+                let took : takes_in states n to.threads + 0 ≡ takes_in states n w.threads + 0 =
+                takes_sum set states w past good stands c t h leaves a (next a) (Cancelling
+                (Declared q)) Own m frame frames refl turns n in
+                let least : takes_in states n w.threads + times_listed h.outcome.shared n ≤ 1 =
+                once_less unlinked_lists n in
+                omega arith)
+                a.device q m (omega arith) (omega arith) (omega arith)
+                (rw queues (unlinked_out w.shared a.device q m entries there few))
+                (λ d p n none. rw queues (entries_others w.shared a.device q m entries
+                (unlinked entries m) there (λ n other. unlinked_other entries m n other) d p n
+                none))
+                (λ d p n. kept_sum set states w past good stands c t h leaves a (next a)
+                (Cancelling (Declared q)) Own m frame frames refl turns
+                (is_armed (Declared p)) (armed_queues (Declared p)) refl refl d n)
+                (λ d p n. kept_sum set states w past good stands c t h leaves a (next a)
+                (Cancelling (Declared q)) Own m frame frames refl turns
+                (is_taken (Declared p)) (taken_queues (Declared p)) refl refl d n)
+                (λ d p n. kept_sum set states w past good stands c t h leaves a (next a)
+                (Cancelling (Declared q)) Own m frame frames refl turns
+                (is_listed (Declared p)) (listed_queues (Declared p)) refl refl d n)
+                (λ d p n. fewer_sum set states w past good stands c t h leaves a (next a)
+                (Cancelling (Declared q)) Own m frame frames refl turns
+                (is_cancelling (Declared p)) (cancelling_queues (Declared p)) refl d n)
+                words_same;
+            apart = all_apart set states w past good stands c t h leaves
+                (rw frames (
+                  apart_down states a (next a) (Cancelling (Declared q)) Own m turns
+                      (λ p. (refl, refl, refl)) apart_a,
+                  tt,
+                ));
+          }
+
+      pub unlinks_claims : Claimed set states to
+      unlinks_claims =
+          unlinks_by (unlinked_kind q (kind_of (state_of states a) r) (first_none _ _ run.obeys))

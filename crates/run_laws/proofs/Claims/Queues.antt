@@ -1,0 +1,252 @@
+-- How often packets stand in queues with a cancel routine, after one is put into a queue or taken
+-- off
+-- it; and a packet that stands in no list.
+use Rattle.std.proofs.Common.{◌≡◌, ℕ, zero, suc, ◌+◌, ◌≤◌, ◌⊎◌, inl, inr, true, false, List, [], ◌∷◌, Option, Some, refl, ap, sym, ◌∙◌, subst, arith, eq-eqb}
+use Rattle.std.specs.Prelude.{is_some, nat_eq, option_and_then, slice_get, slice_index_or, slice_set, if◌then◌else◌}
+use Rattle.std.proofs.lemmas.Bool.{cases_Bool}
+use Rattle.std.proofs.lemmas.Bool.Decides.{eqb_tells}
+use Rattle.std.proofs.lemmas.Option.{get_or_from_slice_get}
+use Rattle.model.specs.Effect.{routine_of_device}
+use Rattle.model.specs.Queues.{StartState, unlinked}
+use Rattle.model.specs.Set.{Set, cancel_routine_of}
+use Rattle.model.specs.World.{Shared, queue_of, with_queue}
+use Rattle.run_laws.specs.Holder.{times_in, times_on, times_plain, times_plain_on, times_queued, times_started, times_to_start}
+use Rattle.run_laws.proofs.Claims.Balance.{hit}
+use Rattle.run_laws.proofs.Claims.Sums.{is_cancelable, times_of}
+use Rattle.run_laws.proofs.Lists.{set_other, set_same}
+use Rattle.run_laws.proofs.States.Fits.{queue_row}
+
+-- a queue that was put: it, or another one as it was
+abbrev pub PutOrNot : Shared → ℕ → ℕ → List ℕ → List ℕ → ℕ → ℕ → Type 0
+PutOrNot s d q before after e p =
+    ((nat_eq d e ≡ true) × (nat_eq q p ≡ true) × (queue_of s e p ≡ Some before)
+    × (queue_of (with_queue s d q after) e p ≡ Some after))
+    ⊎ (((n m : ℕ) → hit d q n e p m ≡ 0) × (queue_of (with_queue s d q after) e p ≡ queue_of s e p))
+
+pub put_or_not : (s : Shared) (d q : ℕ) (before after : List ℕ) (e p : ℕ)
+    → queue_of s d q ≡ Some before
+    → PutOrNot s d q before after e p
+put_or_not s d q before after e p there =
+    let row : (lists : List (List ℕ)) × (slice_get s.queues d ≡ Some lists)
+    × (slice_get lists q ≡ Some before) = queue_row s d q before there in
+    let same : slice_index_or s.queues d [] ≡ row.0 =
+    get_or_from_slice_get s.queues d row.0 [] row.1 in
+    elim (eqb_tells d e) [
+      | inr apart ↦ inr (
+        λ n m. rw apart.0 refl,
+        ap (λ (o : Option (List (List ℕ))). option_and_then (λ lists. slice_get lists p) o)
+            (set_other s.queues d e (slice_set (slice_index_or s.queues d []) q after)
+            (λ same. apart.1 same)),
+      )
+      | inl here ↦
+          let put : slice_get (slice_set s.queues d
+          (slice_set (slice_index_or s.queues d []) q after)) e
+          ≡ Some (slice_set row.0 q after) =
+          rw (← here.1, same) (set_same s.queues d row.0 (slice_set row.0 q after) row.1) in
+          let old : slice_get s.queues e ≡ Some row.0 = rw (← here.1) row.1 in
+          elim (eqb_tells q p) [
+            | inr other ↦ inr (
+              λ n m. rw (here.0, other.0) refl,
+              ap (λ (o : Option (List (List ℕ))). option_and_then (λ lists. slice_get lists p) o)
+                  put
+                  ∙ set_other row.0 q p after (λ same. other.1 same)
+                  ∙ sym (ap (λ (o : Option (List (List ℕ))). option_and_then (λ lists. slice_get
+                  lists p) o) old),
+            )
+            | inl its ↦ inl (
+              here.0,
+              its.0,
+              ap (λ (o : Option (List (List ℕ))). option_and_then (λ lists. slice_get lists p) o)
+                  old
+                  ∙ subst (λ (x : ℕ). slice_get row.0 x ≡ Some before) its.1 row.2,
+              ap (λ (o : Option (List (List ℕ))). option_and_then (λ lists. slice_get lists p) o)
+                  put
+                  ∙ subst (λ (x : ℕ). slice_get (slice_set row.0 q after) x ≡ Some after) its.1
+                  (set_same row.0 q before after row.2),
+            )
+          ]
+    ]
+
+module _ (s : Shared) (d q m : ℕ) (before after : List ℕ) (there : queue_of s d q ≡ Some before)
+  where
+    abbrev now : ℕ → ℕ → ℕ → ℕ
+    now e p n = times_of (queue_of (with_queue s d q after) e p) n
+
+    abbrev was : ℕ → ℕ → ℕ → ℕ
+    was e p n = times_of (queue_of s e p) n
+
+    pub entries_more : ((n : ℕ) → times_in after n ≡ times_in before n
+        + (if nat_eq m n then 1 else 0))
+        → (e p n : ℕ) → now e p n ≡ was e p n + hit d q m e p n
+    entries_more more e p n =
+        elim (put_or_not s d q before after e p there) [
+          | inl its ↦ rw (its.0, its.1, its.2, its.3) (more n)
+          | inr other ↦
+              let none : hit d q m e p n ≡ 0 = other.0 m n in
+              let same : now e p n ≡ was e p n = ap (λ (o : Option (List ℕ)). times_of o n) other.1 in
+              omega arith
+        ]
+
+    pub entries_fewer : ((n : ℕ) → times_in after n + (if nat_eq m n then 1 else 0)
+        ≡ times_in before n)
+        → (e p n : ℕ) → now e p n + hit d q m e p n ≡ was e p n
+    entries_fewer fewer e p n =
+        elim (put_or_not s d q before after e p there) [
+          | inl its ↦ rw (its.0, its.1, its.2, its.3) (fewer n)
+          | inr other ↦
+              let none : hit d q m e p n ≡ 0 = other.0 m n in
+              let same : now e p n ≡ was e p n = ap (λ (o : Option (List ℕ)). times_of o n) other.1 in
+              omega arith
+        ]
+
+    pub entries_others : ((n : ℕ) → nat_eq m n ≡ false → times_in after n ≡ times_in before n)
+        → (e p n : ℕ) → hit d q m e p n ≡ 0 → now e p n ≡ was e p n
+    entries_others others e p n none =
+        elim (put_or_not s d q before after e p there) [
+          | inl its ↦
+              let missed : (if nat_eq m n then 1 else 0) ≡ zero = rw (its.0, its.1) at none in
+              rw (its.2, its.3) (elim (cases_Bool (nat_eq m n)) [
+                | inl same ↦ let no : 1 ≡ zero = rw same at missed in absurd (omega arith)
+                | inr apart ↦ others n apart
+              ])
+          | inr other ↦ ap (λ (o : Option (List ℕ)). times_of o n) other.1
+        ]
+
+-- a packet that is unlinked
+pub unlinked_fewer : (entries : List ℕ) (m n : ℕ) → 1 ≤ times_in entries m
+    → times_in (unlinked entries m) n + (if nat_eq m n then 1 else 0) ≡ times_in entries n
+unlinked_fewer [] m n some = absurd (omega arith)
+unlinked_fewer (k ∷ entries) m n some =
+    elim (eqb_tells k m) [
+      | inl same ↦ rw (same.0, same.1) (omega arith)
+      | inr apart ↦
+          let more : 1 ≤ 0 + times_in entries m = rw apart.0 at some in
+          let later : 1 ≤ times_in entries m = omega arith in
+          let others : times_in (unlinked entries m) n + (if nat_eq m n then 1 else 0)
+          ≡ times_in entries n = unlinked_fewer entries m n later in
+          rw apart.0 (omega arith)
+    ]
+
+pub unlinked_none : (entries : List ℕ) (m : ℕ) → times_in entries m ≡ 0
+    → unlinked entries m ≡ entries
+unlinked_none [] m none = refl
+unlinked_none (k ∷ entries) m none =
+    elim (eqb_tells k m) [
+      | inl same ↦
+          let no : 1 + times_in entries m ≡ 0 = rw same.0 at none in
+          absurd (omega arith)
+      | inr apart ↦
+          let more : 0 + times_in entries m ≡ 0 = rw apart.0 at none in
+          let later : times_in entries m ≡ 0 = omega arith in
+          rw apart.0 (ap (λ (xs : List ℕ). k ∷ xs) (unlinked_none entries m later))
+    ]
+
+pub unlinked_other : (entries : List ℕ) (m n : ℕ) → nat_eq m n ≡ false
+    → times_in (unlinked entries m) n ≡ times_in entries n
+unlinked_other [] m n other = refl
+unlinked_other (k ∷ entries) m n other =
+    elim (eqb_tells k m) [
+      | inl same ↦ rw (same.0, same.1, other) (omega arith)
+      | inr apart ↦
+          let others : times_in (unlinked entries m) n ≡ times_in entries n =
+          unlinked_other entries m n other in
+          rw apart.0 (omega arith)
+    ]
+
+-- one that stood there at most once stands there no more
+unlinked_gone : (entries : List ℕ) (m : ℕ) → times_in entries m ≤ 1
+    → times_in (unlinked entries m) m ≡ 0
+unlinked_gone [] m few = refl
+unlinked_gone (k ∷ entries) m few =
+    elim (eqb_tells k m) [
+      | inl same ↦
+          let one : 1 + times_in entries m ≤ 1 = rw same.0 at few in
+          rw same.0 (omega arith)
+      | inr apart ↦
+          let later : 0 + times_in entries m ≤ 1 = rw apart.0 at few in
+          let none : times_in (unlinked entries m) m ≡ 0 = unlinked_gone entries m (omega arith) in
+          rw (apart.0, apart.0) (omega arith)
+    ]
+
+pub unlinked_out : (s : Shared) (d q m : ℕ) (entries : List ℕ) → queue_of s d q ≡ Some entries
+    → times_in entries m ≤ 1
+    → times_of (queue_of (with_queue s d q (unlinked entries m)) d q) m ≡ 0
+unlinked_out s d q m entries there few =
+    elim (put_or_not s d q entries (unlinked entries m) d q there) [
+      | inl its ↦ rw its.3 (unlinked_gone entries m few)
+      | inr other ↦
+          let no : hit d q m d q m ≡ 0 = other.0 m m in
+          let one : 1 ≡ zero = rw (eq-eqb d d refl, eq-eqb q q refl, eq-eqb m m refl) at no in
+          absurd (omega arith)
+    ]
+
+-- what devices have for StartIo holds what stands in their lists
+pub to_start_le : (starts : List StartState) (n : ℕ)
+    → times_to_start starts n ≤ times_started starts n
+to_start_le [] n = omega arith
+to_start_le (start ∷ starts) n =
+    let others : times_to_start starts n ≤ times_started starts n = to_start_le starts n in
+    omega arith
+
+-- a packet that stands in no queue without a cancel routine, and in none that has one
+on_zero : (set : Set) (driver q : ℕ) (lists : List (List ℕ)) (n : ℕ)
+    → times_plain_on set driver q lists n ≡ 0
+    → ((i : ℕ) (entries : List ℕ) → slice_get lists i ≡ Some entries
+    → is_some (cancel_routine_of set driver (q + i)) ≡ true → times_in entries n ≡ 0)
+    → times_on lists n ≡ 0
+on_zero set driver q [] n plain none = refl
+on_zero set driver q (entries ∷ lists) n plain none =
+    let place : q + zero ≡ q = omega arith in
+    let others : times_on lists n ≡ 0 =
+    on_zero set driver (q + 1) lists n (omega arith)
+    (λ i found there has.
+    let next : q + 1 + i ≡ q + suc i = omega arith in
+    none (suc i) found there (subst (λ (x : ℕ). is_some (cancel_routine_of set driver x) ≡ true)
+    next has)) in
+    let first : times_in entries n ≡ 0 =
+    elim (cases_Bool (is_some (cancel_routine_of set driver q))) [
+      | inl has ↦
+          none zero entries refl
+          (subst (λ (x : ℕ). is_some (cancel_routine_of set driver x) ≡ true) (sym place) has)
+      | inr hasnt ↦
+          let sum : times_in entries n + times_plain_on set driver (q + 1) lists n ≡ 0 =
+          rw hasnt at plain in
+          omega arith
+    ] in
+    omega arith
+
+queues_zero : (set : Set) (d : ℕ) (queues : List (List (List ℕ))) (n : ℕ)
+    → times_plain set d queues n ≡ 0
+    → ((i q : ℕ) (lists : List (List ℕ)) (entries : List ℕ) → slice_get queues i ≡ Some lists
+    → slice_get lists q ≡ Some entries
+    → is_cancelable set (d + i) q ≡ true → times_in entries n ≡ 0)
+    → times_queued queues n ≡ 0
+queues_zero set d [] n plain none = refl
+queues_zero set d (lists ∷ queues) n plain none =
+    let place : d + zero ≡ d = omega arith in
+    let first : times_on lists n ≡ 0 =
+    on_zero set (routine_of_device (slice_get set.devices d)) 0 lists n (omega arith)
+    (λ q entries there has.
+    let its : 0 + q ≡ q = omega arith in
+    none zero q lists entries refl there
+    (subst (λ (x : ℕ). is_cancelable set x q ≡ true) (sym place)
+    (subst (λ (x : ℕ). is_cancelable set d x ≡ true) its has))) in
+    let others : times_queued queues n ≡ 0 =
+    queues_zero set (d + 1) queues n (omega arith)
+    (λ i q found entries there its has.
+    let next : d + 1 + i ≡ d + suc i = omega arith in
+    none (suc i) q found entries there its
+    (subst (λ (x : ℕ). is_cancelable set x q ≡ true) next has)) in
+    omega arith
+
+pub queued_zero : (set : Set) (s : Shared) (n : ℕ) → times_plain set 0 s.queues n ≡ 0
+    → ((d q : ℕ) → is_cancelable set d q ≡ true → times_of (queue_of s d q) n ≡ 0)
+    → times_queued s.queues n ≡ 0
+queued_zero set s n plain none =
+    queues_zero set 0 s.queues n plain
+    (λ i q lists entries there its has.
+    let place : 0 + i ≡ i = omega arith in
+    let found : queue_of s i q ≡ Some entries = rw there its in
+    let zero_times : times_of (queue_of s i q) n ≡ 0 =
+    none i q (subst (λ (x : ℕ). is_cancelable set x q ≡ true) place has) in
+    sym (ap (λ (o : Option (List ℕ)). times_of o n) found) ∙ zero_times)

@@ -1,0 +1,380 @@
+-- Every shape of a step keeps claims.
+use Rattle.std.proofs.Common.{◌≡◌, ℕ, ◌+◌, Bool, true, false, List, [], ◌∷◌, Option, None, Some, refl, ap, sym, ◌∙◌, subst, arith, ◌<◌}
+use Rattle.std.specs.Prelude.{nat_eq, slice_get, if◌then◌else◌, is_none}
+use Rattle.model.specs.declared.abs.Kind.TheVariants.{Blank as BlankKind, Own}
+use Rattle.model.specs.declared.instr.Instr.{Instr}
+use Rattle.model.specs.declared.instr.Instr.TheVariants.{Begin, Next, Remove, Start, Take, Arm, Disarm, Release, ReleaseCancel}
+use Rattle.model.specs.declared.world.Activation.{Activation}
+use Rattle.model.specs.declared.world.Frame.{Frame}
+use Rattle.model.specs.declared.world.Frame.TheVariants.{Routine, Walk, Cancel as CancelFrame}
+use Rattle.model.specs.declared.world.Value.TheVariants.{Ref}
+use Rattle.model.specs.Action.{Action}
+use Rattle.model.specs.Effect.{routine_of_device, armer_of, Outcome}
+use Rattle.model.specs.LocalRule.{kind_of}
+use Rattle.model.specs.Queues.{StartState, next_started, started, with_slot}
+use Rattle.model.specs.Set.{Set, cancel_routine_named}
+use Rattle.model.specs.Sound.{OperandFits}
+use Rattle.model.specs.Trace.{Entry, Actor}
+use Rattle.model.specs.World.{World, at_label, next, register, with_register, with_start, packet_of, with_armer, with_packet, cancelled}
+use Rattle.run_laws.specs.Holder.{times_listed, times_queued, times_to_start}
+use Rattle.run_laws.proofs.Claims.Names.{kinds_names, label_names, next_takes, next_turns, turns_nothing}
+use Rattle.run_laws.proofs.Claims.Quiet.{word_kept, Quiet, on_quiet, quiet_step}
+use Rattle.run_laws.proofs.Claims.Steps.{after, quiet_claims}
+use Rattle.run_laws.proofs.Claims.Sums.{Claimed}
+use Rattle.run_laws.proofs.Claims.Waiting.{to_start_put, waits_given, waits_in, waits_next}
+use Rattle.run_laws.proofs.Holders.Counts.{reads_ref, Holding}
+use Rattle.run_laws.proofs.Holders.Sums.{Held}
+use Rattle.run_laws.proofs.Lists.{all_at}
+use Rattle.run_laws.proofs.Locks.Runs.{LocksAgree}
+use Rattle.run_laws.proofs.Past.Owners.{Owned}
+use Rattle.run_laws.proofs.Runs.Events.{StepsFrame}
+use Rattle.run_laws.proofs.States.Fine.{StepLeaves}
+use Rattle.run_laws.proofs.States.Frames.{IsGood, Runs, state_of}
+use Rattle.run_laws.proofs.States.Obeyed.{inserts_right}
+use Rattle.run_laws.proofs.States.Rules.{States, first_none, second_none, unbroken}
+use Rattle.run_laws.proofs.States.Standing.{Standing}
+use Rattle.run_laws.proofs.Steps.Comes.{Queued, Reads, inserts, puts_in, removes, removes_none, starts_next, starts_packet, takes_none, takes_out, unlinks, Cancels, Comes, Exchanged, GoesTo, arms_for, awaits_cancel, calls_cancel, cancels, disarms, errs, exchanges, exchanges_gone, finds_empty, finds_none, flags_gone, frees_lock, jumping, keeps_all, makes_number, onward, queued_to, retakes_cancel, sets_flag, takes_cancel, tops_out, works_on_queues}
+use Rattle.model.specs.declared.world.Armer.{Armer}
+use Rattle.model.specs.declared.world.Packet.{Packet}
+use Rattle.run_laws.proofs.Claims.WordSteps.{arms_claims, empties_claims, gives_claims, releases_claims}
+use Rattle.run_laws.proofs.States.Fits.{ArmerLeads, word_leads, WordLeads}
+use Rattle.model.specs.declared.event.Lock.{Lock}
+use Rattle.model.specs.declared.world.CancelStep.{CancelStep}
+use Rattle.run_laws.proofs.Claims.CancelSteps.{cancel_quiet, calls_claims, tops_quiet}
+use Rattle.run_laws.proofs.Claims.QueueSteps.{inserts_claims, lists_claims, once_less, once_put, own_there, removes_claims, unlinks_claims}
+use Rattle.run_laws.proofs.States.Lacking.{never_lacks}
+use Rattle.run_laws.proofs.States.OnTop.{OnTop, runs}
+use Rattle.run_laws.proofs.Steps.Faults.{fault_among, is_touch}
+use Rattle.run_laws.proofs.Steps.Words.{lock_freed, packet_operand}
+
+module _ (set : Set) (states : States) (w : World) (past : List Entry) (good : IsGood set states)
+    (stands : Standing set states w past) (agree : LocksAgree states w past)
+    (owned : Owned w.shared.locks past) (kept : Held set states w) (c : Claimed set states w)
+    (actor : Actor) (h : StepsFrame set w actor.thread)
+    (leaves : StepLeaves set states w.shared h.frame h.outcome) where
+  abbrev t : ℕ
+  t = actor.thread
+
+  abbrev to : World
+  to = after set states w past good stands c t h leaves
+
+  -- what is quiet
+  quiet_by : (f : Frame) (o : Outcome) → h.frame ≡ f → h.outcome ≡ o → Quiet states w.shared f o
+      → Claimed set states to
+  quiet_by f o frame outcome quiet =
+      quiet_claims set states w past good stands c t h leaves
+      (subst (λ (g : Frame). Quiet states w.shared g h.outcome) (sym frame)
+      (subst (λ (x : Outcome). Quiet states w.shared f x) (sym outcome) quiet))
+
+  -- a lock is freed
+  frees_by : (a : Activation) (i : Instr) (lock : Lock) (o : Outcome) → h.frame ≡ Routine a
+      → h.outcome ≡ o → Runs set states w.shared a i → lock_freed a i ≡ Some lock
+      → o.frames ≡ Routine (next a) ∷ [] → o.shared.packets ≡ w.shared.packets
+      → o.shared.queues ≡ w.shared.queues → o.shared.starts ≡ w.shared.starts
+      → Claimed set states to
+  frees_by a (Release l) lock o frame outcome run is frames packets queues starts =
+      releases_claims set states w past good stands c t h leaves kept a frame l run
+      (ap (λ (x : Outcome). x.frames) outcome ∙ frames)
+      (ap (λ (x : Outcome). x.shared.packets) outcome ∙ packets)
+      (ap (λ (x : Outcome). x.shared.queues) outcome ∙ queues)
+      (ap (λ (x : Outcome). x.shared.starts) outcome ∙ starts)
+  frees_by a ReleaseCancel lock o frame outcome run is frames packets queues starts =
+      quiet_by (Routine a) o frame outcome
+      (on_quiet set states w.shared past actor a (next a) o
+      (kinds_names set states w.shared a ReleaseCancel run refl refl) refl frames
+      (λ n d q. rw packets refl) queues starts)
+  frees_by a _ lock o frame outcome run is frames packets queues starts = cc
+
+  -- a cancel word is exchanged
+  arms_by : (a : Activation) (x q n : ℕ) (p : Packet) (b : Activation) (o : Outcome)
+      → h.frame ≡ Routine a → h.outcome ≡ o
+      → Runs set states w.shared a (Arm x q) → GoesTo a (Arm x q) b false
+      → Reads w.shared a x n → packet_of w.shared n ≡ Some p
+      → o.frames ≡ Routine b ∷ []
+      → o.shared ≡ with_packet w.shared n (with_armer p (Some (armer_of a q)))
+      → Claimed set states to
+  arms_by a x q n p b o frame outcome run (onward registers on (keeps_all _ same)) reads there
+      frames
+      shared =
+      arms_claims set states w past good stands c t h leaves kept a frame x q n p run reads there
+      (ap (λ (y : Outcome). y.frames) outcome ∙ frames)
+      (ap (λ (y : Outcome). y.shared) outcome ∙ shared)
+  arms_by a x q n p b o frame outcome run (onward registers on (makes_number _ r k is)) reads there
+      frames shared = cc
+
+  empties_by : (a : Activation) (x label n : ℕ) (p : Packet) (o : Outcome) (word : Option Armer)
+      → h.frame ≡ Routine a → h.outcome ≡ o
+      → Runs set states w.shared a (Disarm x label) → false ≡ is_none word → p.armer ≡ word
+      → Reads w.shared a x n → packet_of w.shared n ≡ Some p
+      → o.frames ≡ Routine (next a) ∷ []
+      → o.shared ≡ with_packet w.shared n (with_armer p None)
+      → Claimed set states to
+  empties_by a x label n p o None frame outcome run is word reads there frames shared = cc
+  empties_by a x label n p o (Some armer) frame outcome run is word reads there frames shared =
+      empties_claims set states w past good stands c t h leaves kept a frame x label n p run reads
+      there
+      (ap (λ (y : Outcome). y.shared) outcome ∙ shared) armer word
+      (ap (λ (y : Outcome). y.frames) outcome ∙ frames)
+
+  gives_by : (a : Activation) (x label n : ℕ) (p : Packet) (o : Outcome) (word : Option Armer)
+      → h.frame ≡ Routine a → h.outcome ≡ o
+      → Runs set states w.shared a (Disarm x label) → true ≡ is_none word → p.armer ≡ word
+      → Reads w.shared a x n → packet_of w.shared n ≡ Some p
+      → o.frames ≡ Routine (at_label a label) ∷ []
+      → o.shared ≡ with_packet w.shared n (with_armer p None)
+      → Claimed set states to
+  gives_by a x label n p o (Some armer) frame outcome run is word reads there frames shared = cc
+  gives_by a x label n p o None frame outcome run is word reads there frames shared =
+      gives_claims set states w past good stands c t h leaves kept a frame x label n p run reads
+      there
+      (ap (λ (y : Outcome). y.shared) outcome ∙ shared) word
+      (ap (λ (y : Outcome). y.frames) outcome ∙ frames)
+
+  disarms_by : (a : Activation) (x label n : ℕ) (p : Packet) (b : Activation) (jumped : Bool)
+      (o : Outcome) → h.frame ≡ Routine a → h.outcome ≡ o
+      → Runs set states w.shared a (Disarm x label) → jumped ≡ is_none p.armer
+      → GoesTo a (Disarm x label) b jumped
+      → Reads w.shared a x n → packet_of w.shared n ≡ Some p
+      → o.frames ≡ Routine b ∷ []
+      → o.shared ≡ with_packet w.shared n (with_armer p None)
+      → Claimed set states to
+  disarms_by a x label n p b jumped o frame outcome run is (onward registers on (keeps_all _ same))
+      reads
+      there frames shared =
+      empties_by a x label n p o p.armer frame outcome run is refl reads there frames shared
+  disarms_by a x label n p b jumped o frame outcome run is
+      (onward registers on (makes_number _ r k its))
+      reads there frames shared = cc
+  disarms_by a x label n p b jumped o frame outcome run is (jumping l labelled) reads there frames
+      shared =
+      let same : label ≡ l = cc in
+      gives_by a x label n p o p.armer frame outcome run is refl reads there
+      (frames ∙ ap (λ (y : ℕ). Routine (at_label a y) ∷ []) (sym same)) shared
+
+  exchanges_by : (a : Activation) (i : Instr) (b : Activation) (jumped : Bool) (r n : ℕ)
+      (p : Packet)
+      (armer : Option Armer) (o : Outcome) → h.frame ≡ Routine a → h.outcome ≡ o
+      → Runs set states w.shared a i → GoesTo a i b jumped → packet_operand i ≡ Some r
+      → Reads w.shared a r n → packet_of w.shared n ≡ Some p → Exchanged set a p i jumped armer
+      → o.frames ≡ Routine b ∷ [] → o.shared ≡ with_packet w.shared n (with_armer p armer)
+      → Claimed set states to
+  exchanges_by a i b jumped r n p armer o frame outcome run goes operand reads there
+      (arms_for x q routine is) frames shared =
+      let same : x ≡ r = cc in
+      arms_by a x q n p b o frame outcome run goes
+      (subst (λ (y : ℕ). Reads w.shared a y n) (sym same) reads) there frames shared
+  exchanges_by a i b jumped r n p armer o frame outcome run goes operand reads there
+      (disarms x label) frames shared =
+      let same : x ≡ r = cc in
+      disarms_by a x label n p b jumped o frame outcome run refl goes
+      (subst (λ (y : ℕ). Reads w.shared a y n) (sym same) reads) there frames shared
+
+  -- an instruction about queues
+  queues_by : (a : Activation) (i : Instr) → h.frame ≡ Routine a → Runs set states w.shared a i
+      → {b : Activation} {queues : List (List (List ℕ))} {lists : List StartState}
+      {actions : List Action} {full : Bool}
+      → h.outcome ≡ queued_to w.shared b queues lists actions full
+      → Queued w.shared a i b queues lists actions full → Claimed set states to
+  queues_by a i frame run outcome (inserts r q n entries reads there) =
+      inserts_claims set states w past good stands c t h leaves kept a frame
+      (ap (λ (x : Outcome). x.shared.packets) outcome) r q n entries run
+      reads there (ap (λ (x : Outcome). x.frames) outcome)
+      (ap (λ (x : Outcome). x.shared.queues) outcome)
+      (ap (λ (x : Outcome). x.shared.starts) outcome)
+  queues_by a i frame run outcome (removes r q label n entries there) =
+      removes_claims set states w past good stands c t h leaves kept a frame
+      (ap (λ (x : Outcome). x.shared.packets) outcome) agree owned
+      r q label n entries run there (ap (λ (x : Outcome). x.frames) outcome)
+      (ap (λ (x : Outcome). x.shared.queues) outcome)
+      (ap (λ (x : Outcome). x.shared.starts) outcome)
+  queues_by a i frame run outcome (unlinks r q n entries reads there) =
+      unlinks_claims set states w past good stands c t h leaves kept a frame
+      (ap (λ (x : Outcome). x.shared.packets) outcome) agree owned
+      r q n entries run reads there (ap (λ (x : Outcome). x.frames) outcome)
+      (ap (λ (x : Outcome). x.shared.queues) outcome)
+      (ap (λ (x : Outcome). x.shared.starts) outcome)
+  queues_by a i frame run outcome (removes_none r q label there) =
+      lists_claims set states w past good stands c t h leaves kept a frame
+      (ap (λ (x : Outcome). x.shared.packets) outcome) (at_label a label)
+      (label_names set states w.shared a (Remove r q label) run r label refl refl
+      (unbroken _ _ (first_none _ _ (second_none _ _ run.obeys)))) refl
+      (ap (λ (x : Outcome). x.frames) outcome) (ap (λ (x : Outcome). x.shared.queues) outcome)
+      (once_less set states w past good stands c t h leaves kept a frame
+      (ap (λ (x : Outcome). x.shared.packets) outcome)
+      (λ n. let same : times_listed h.outcome.shared n ≡ times_listed w.shared n =
+      ap (λ (x : Outcome). times_listed x.shared n) outcome in omega arith))
+  queues_by a i frame run outcome (starts_packet r n start reads there) =
+      let own : kind_of (state_of states a) r ≡ Own =
+      inserts_right (kind_of (state_of states a) r) (first_none _ _ run.obeys) in
+      lists_claims set states w past good stands c t h leaves kept a frame
+      (ap (λ (x : Outcome). x.shared.packets) outcome) (next a)
+      (turns_nothing states a (next a) Own BlankKind n refl refl
+      (next_turns set states w.shared a (Start r) run r Own BlankKind n refl refl own
+      (reads_ref w.shared (register a r) n reads))) refl
+      (ap (λ (x : Outcome). x.frames) outcome) (ap (λ (x : Outcome). x.shared.queues) outcome)
+      (once_put set states w past good stands c t h leaves kept a frame
+      (ap (λ (x : Outcome). x.shared.packets) outcome) n
+      (own_there set states w past good stands c t h leaves kept a frame
+      (ap (λ (x : Outcome). x.shared.packets) outcome) (Start r) r n run own
+      reads)
+      (λ m.
+      let now : times_listed h.outcome.shared m
+      ≡ times_queued w.shared.queues m
+      + times_to_start (with_start w.shared a.device (started start n)).starts m =
+      ap (λ (x : Outcome). times_listed x.shared m) outcome in
+      let put : times_to_start (with_start w.shared a.device (started start n)).starts m
+      + waits_in start m
+      ≡ times_to_start w.shared.starts m + waits_in (started start n) m =
+      to_start_put w.shared.starts a.device start (started start n) m there in
+      let given : waits_in (started start n) m ≡ waits_in start m + (if nat_eq n m then 1 else 0) =
+      waits_given start n m in
+      omega arith))
+  queues_by a i frame run outcome (takes_out r label n start there slot) =
+      lists_claims set states w past good stands c t h leaves kept a frame
+      (ap (λ (x : Outcome). x.shared.packets) outcome)
+      (next (with_register a r (Ref n)))
+      (turns_nothing states a (next (with_register a r (Ref n))) BlankKind Own n refl refl
+      (next_takes set states w.shared a (Take r label) run r Own n refl refl
+      (unbroken _ _ (second_none _ _ run.obeys))
+      (all_at OperandFits run.routine.code a.position (Take r label) run.known.operands run.here)))
+      refl
+      (ap (λ (x : Outcome). x.frames) outcome) (ap (λ (x : Outcome). x.shared.queues) outcome)
+      (once_less set states w past good stands c t h leaves kept a frame
+      (ap (λ (x : Outcome). x.shared.packets) outcome)
+      (λ m.
+      let now : times_listed h.outcome.shared m
+      ≡ times_queued w.shared.queues m
+      + times_to_start (with_start w.shared a.device (with_slot start None)).starts m =
+      ap (λ (x : Outcome). times_listed x.shared m) outcome in
+      let put : times_to_start (with_start w.shared a.device (with_slot start None)).starts m
+      + waits_in start m
+      ≡ times_to_start w.shared.starts m + waits_in (with_slot start None) m =
+      to_start_put w.shared.starts a.device start (with_slot start None) m there in
+      let same : waits_in (with_slot start None) m ≡ waits_in start m = refl in
+      omega arith))
+  queues_by a i frame run outcome (takes_none r label start there slot) =
+      lists_claims set states w past good stands c t h leaves kept a frame
+      (ap (λ (x : Outcome). x.shared.packets) outcome) (at_label a label)
+      (label_names set states w.shared a (Take r label) run r label refl refl
+      (unbroken _ _ (second_none _ _ run.obeys))) refl
+      (ap (λ (x : Outcome). x.frames) outcome) (ap (λ (x : Outcome). x.shared.queues) outcome)
+      (once_less set states w past good stands c t h leaves kept a frame
+      (ap (λ (x : Outcome). x.shared.packets) outcome)
+      (λ n. let same : times_listed h.outcome.shared n ≡ times_listed w.shared n =
+      ap (λ (x : Outcome). times_listed x.shared n) outcome in omega arith))
+  queues_by a i frame run outcome (puts_in r n start reads there) =
+      let own : kind_of (state_of states a) r ≡ Own =
+      inserts_right (kind_of (state_of states a) r) (first_none _ _ run.obeys) in
+      lists_claims set states w past good stands c t h leaves kept a frame
+      (ap (λ (x : Outcome). x.shared.packets) outcome) (next a)
+      (turns_nothing states a (next a) Own BlankKind n refl refl
+      (next_turns set states w.shared a (Begin r) run r Own BlankKind n refl refl own
+      (reads_ref w.shared (register a r) n reads))) refl
+      (ap (λ (x : Outcome). x.frames) outcome) (ap (λ (x : Outcome). x.shared.queues) outcome)
+      (once_less set states w past good stands c t h leaves kept a frame
+      (ap (λ (x : Outcome). x.shared.packets) outcome)
+      (λ m.
+      let now : times_listed h.outcome.shared m
+      ≡ times_queued w.shared.queues m
+      + times_to_start (with_start w.shared a.device (with_slot start (Some n))).starts m =
+      ap (λ (x : Outcome). times_listed x.shared m) outcome in
+      let put : times_to_start (with_start w.shared a.device (with_slot start (Some n))).starts m
+      + waits_in start m
+      ≡ times_to_start w.shared.starts m + waits_in (with_slot start (Some n)) m =
+      to_start_put w.shared.starts a.device start (with_slot start (Some n)) m there in
+      let same : waits_in (with_slot start (Some n)) m ≡ waits_in start m = refl in
+      omega arith))
+  queues_by a i frame run outcome (starts_next start there) =
+      lists_claims set states w past good stands c t h leaves kept a frame
+      (ap (λ (x : Outcome). x.shared.packets) outcome) (next a)
+      (kinds_names set states w.shared a Next run refl refl) refl
+      (ap (λ (x : Outcome). x.frames) outcome) (ap (λ (x : Outcome). x.shared.queues) outcome)
+      (once_less set states w past good stands c t h leaves kept a frame
+      (ap (λ (x : Outcome). x.shared.packets) outcome)
+      (λ m.
+      let now : times_listed h.outcome.shared m
+      ≡ times_queued w.shared.queues m
+      + times_to_start (with_start w.shared a.device (next_started start)).starts m =
+      ap (λ (x : Outcome). times_listed x.shared m) outcome in
+      let put : times_to_start (with_start w.shared a.device (next_started start)).starts m
+      + waits_in start m
+      ≡ times_to_start w.shared.starts m + waits_in (next_started start) m =
+      to_start_put w.shared.starts a.device start (next_started start) m there in
+      let same : waits_in (next_started start) m ≡ waits_in start m = waits_next start m in
+      omega arith))
+
+  -- IoCancelIrp
+  never_finds : (p : Packet) (armer : Armer) → p.armer ≡ Some armer → WordLeads set p
+      → cancel_routine_named set (routine_of_device (slice_get set.devices armer.device))
+      armer.queue
+      ≡ None → ⊥
+  never_finds p armer is leads none =
+      let its : ArmerLeads set (Some armer) = subst (ArmerLeads set) is leads in
+      let driver : routine_of_device (slice_get set.devices armer.device) ≡ its.0.driver =
+      ap routine_of_device its.1 in
+      let no : None ≡ Some its.2 =
+      sym none ∙ ap (λ (d : ℕ). cancel_routine_named set d armer.queue) driver ∙ its.3 in
+      cc
+
+  cancels_by : (n : ℕ) (step : CancelStep) (o : Outcome)
+      → h.frame ≡ CancelFrame (record { packet = n; next = step }) → h.outcome ≡ o
+      → n < w.shared.issued → Cancels set w.shared t n step o → Claimed set states to
+  cancels_by n step o frame outcome low (takes_cancel free) =
+      quiet_by _ o frame outcome (cancel_quiet states w.shared _ _ o refl (λ g of on m. refl)
+      (tt, tt)
+      (λ m d q. refl) refl refl)
+  cancels_by n step o frame outcome low (retakes_cancel its) =
+      quiet_by _ o frame outcome (cancel_quiet states w.shared _ _ o refl (λ g of on m. refl)
+      (tt, tt)
+      (λ m d q. refl) refl refl)
+  cancels_by n step o frame outcome low (awaits_cancel owner its other) =
+      quiet_by _ o frame outcome (cancel_quiet states w.shared _ _ o refl (λ g of on m. refl)
+      (tt, tt)
+      (λ m d q. refl) refl refl)
+  cancels_by n step o frame outcome low (flags_gone gone) =
+      quiet_by _ o frame outcome (cancel_quiet states w.shared _ _ o refl (λ g of on m. refl) tt
+      (λ m d q. refl) refl refl)
+  cancels_by n step o frame outcome low (sets_flag p there) =
+      quiet_by _ o frame outcome (cancel_quiet states w.shared _ _ o refl (λ g of on m. refl)
+      (tt, tt)
+      (word_kept w.shared n p (cancelled p) there refl refl) refl refl)
+  cancels_by n step o frame outcome low (exchanges_gone gone) =
+      quiet_by _ o frame outcome (cancel_quiet states w.shared _ _ o refl (λ g of on m. refl) tt
+      (λ m d q. refl) refl refl)
+  cancels_by n step o frame outcome low (finds_empty p there empty) =
+      quiet_by _ o frame outcome (cancel_quiet states w.shared _ _ o refl (λ g of on m. refl) tt
+      (word_kept w.shared n p (with_armer p None) there refl (sym empty)) refl refl)
+  cancels_by n step o frame outcome low (finds_none p armer there is none) =
+      absurd (never_finds p armer is (word_leads set w.shared stands.fits n p there) none)
+  cancels_by n step o frame outcome low (calls_cancel p armer routine there is named) =
+      calls_claims set states w past good stands c t h leaves (record { packet = n; next = step }) n
+      p armer routine frame low there is named
+      (ap (λ (x : Outcome). x.frames) outcome) (ap (λ (x : Outcome). x.shared) outcome)
+
+  -- every shape
+  pub shape_claims : (under : Option Frame) (f : Frame) (o : Outcome) → h.frame ≡ f → h.outcome ≡ o
+      → OnTop set states w.shared f → Holding set states w.shared past f
+      → fault_among is_touch past actor o.actions ≡ None
+      → Comes set w.shared t under f o → Claimed set states to
+  shape_claims under f o frame outcome top holding quiet
+      (exchanges a i b jumped r n p armer at is goes operand reads there how) =
+      exchanges_by a i b jumped r n p armer o frame outcome (runs set states w.shared a i top at)
+      goes
+      operand reads there how refl refl
+  shape_claims under f o frame outcome top holding quiet
+      (frees_lock a i lock owner at frees there) =
+      frees_by a i lock o frame outcome (runs set states w.shared a i top at) frees refl refl refl
+      refl
+  shape_claims under f o frame outcome top holding quiet
+      (works_on_queues a i b queues starts actions full at queued) =
+      queues_by a i frame (runs set states w.shared a i top at) outcome queued
+  shape_claims under f o frame outcome top holding quiet (tops_out n p there none last) =
+      quiet_by (Walk n) o frame outcome
+      (tops_quiet states w.shared set w past n p o refl kept holding there refl refl)
+  shape_claims under f o frame outcome top holding quiet (cancels n step made moves) =
+      cancels_by n step o frame outcome top.stands moves
+  shape_claims under f o frame outcome top holding quiet (errs a lacks) =
+      absurd (never_lacks set states w.shared a top lacks)
+  shape_claims under f o frame outcome top holding quiet come =
+      quiet_by f o frame outcome
+      (quiet_step set states w.shared past actor under f o top holding come refl quiet)

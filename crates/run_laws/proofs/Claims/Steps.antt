@@ -1,0 +1,287 @@
+-- A step keeps the balance of claims: how the numbers of claims change where one register's packet
+-- becomes of another kind, and what the other frames have.
+use Rattle.std.proofs.Common.{◌≡◌, ℕ, ◌+◌, ◌-◌, ◌≤◌, Bool, true, false, List, [], ◌∷◌, ◌++◌, Option, None, Some, refl, ap, sym, ◌∙◌, subst, arith, inl, inr, eq-eqb}
+use Rattle.std.specs.Prelude.{nat_eq, if◌then◌else◌}
+use Rattle.std.proofs.lemmas.Bool.{cond_both}
+use Rattle.model.specs.declared.abs.Kind.{Kind}
+use Rattle.model.specs.declared.set.QueueName.TheVariants.{Declared}
+use Rattle.model.specs.declared.status.Status.{Status}
+use Rattle.model.specs.declared.world.Activation.{Activation}
+use Rattle.model.specs.declared.world.Frame.{Frame}
+use Rattle.model.specs.declared.world.Frame.TheVariants.{Routine, Walk, Cancel as CancelFrame}
+use Rattle.model.specs.declared.world.Value.TheVariants.{Ref}
+use Rattle.model.specs.Effect.{Outcome, answered_in, operand_of}
+use Rattle.model.specs.Events.{standing, with_stack, with_thread}
+use Rattle.model.specs.Kinds.{is_armed, is_cancelling, is_listed}
+use Rattle.model.specs.Run.{frames_on}
+use Rattle.model.specs.Set.{Set, instruction_at}
+use Rattle.model.specs.Trace.{Entry}
+use Rattle.model.specs.World.{World}
+use Rattle.run_laws.specs.Holder.{named_as, stack_sum, thread_sum, times_listed}
+use Rattle.run_laws.proofs.Claims.Balance.{balanced_less}
+use Rattle.run_laws.proofs.Claims.Changed.{changed}
+use Rattle.run_laws.proofs.Claims.Names.{KeepsNames, OfQueues, TurnsNames, armed_queues, cancelling_queues, listed_queues, names, queue_packets, taken_queues, was_queues}
+use Rattle.run_laws.proofs.Claims.Quiet.{Quiet, apart_keeps}
+use Rattle.run_laws.proofs.Claims.Sums.{Claimed, FrameApart, frame_names, is_taken, names_on, numbers, takes_in, was_taken}
+use Rattle.run_laws.proofs.Holders.Rights.{named_told}
+use Rattle.run_laws.proofs.Holders.Sums.{top_le}
+use Rattle.run_laws.proofs.Lists.{Each, each_after, each_append, each_before}
+use Rattle.run_laws.proofs.Runs.Events.{StepsFrame}
+use Rattle.run_laws.proofs.Runs.Threads.{each_frames, frames_there}
+use Rattle.run_laws.proofs.States.Fine.{StepLeaves}
+use Rattle.run_laws.proofs.States.Frames.{IsGood, Ready, state_of}
+use Rattle.run_laws.proofs.States.Rules.{States}
+use Rattle.run_laws.proofs.States.Stacks.{Replaces, Stacked, Stands}
+use Rattle.run_laws.proofs.States.Standing.{Standing, stands_there}
+use Rattle.run_laws.proofs.States.Told.{last_same, told_frame, told_is, told_last}
+use Rattle.run_laws.proofs.Steps.Below.{stood}
+
+-- a packet in a register of a kind, of a frame for a device
+abbrev pub at_kind : (Kind → Bool) → (ℕ → Bool) → ℕ → Kind → ℕ → ℕ → ℕ
+at_kind g on d k m n = if on d then named_as g k (Ref m) n else 0
+
+pub at_none : (g : Kind → Bool) (on : ℕ → Bool) (d : ℕ) (k : Kind) (m n : ℕ) → g k ≡ false
+    → at_kind g on d k m n ≡ 0
+at_none g on d k m n none =
+    cond_both (on d) (named_as g k (Ref m) n) 0 (λ (sum : ℕ). sum ≡ 0)
+    (λ its. rw none refl) (λ other. refl)
+
+if_sums : (b : Bool) (one two three four : ℕ) → one + two ≡ three + four
+    → (if b then one else 0) + (if b then two else 0) ≡ (if b then three else 0)
+    + (if b then four else 0)
+if_sums true one two three four h = h
+if_sums false one two three four h = refl
+
+pub frame_turns : (states : States) (a b : Activation) (j k : Kind) (m : ℕ)
+    → TurnsNames states a b j k m → b.device ≡ a.device → (g : Kind → Bool) → OfQueues g
+    → (on : ℕ → Bool) (n : ℕ)
+    → frame_names states g on n (Routine b) + at_kind g on a.device j m n
+    ≡ frame_names states g on n (Routine a) + at_kind g on a.device k m n
+frame_turns states a b j k m turns device g queues on n =
+    let here : frame_names states g on n (Routine b)
+    ≡ (if on a.device then names states g b n else 0) =
+    ap (λ (d : ℕ). if on d then names states g b n else 0) device in
+    let both : (if on a.device then names states g b n else 0) + at_kind g on a.device j m n
+    ≡ (if on a.device then names states g a n else 0) + at_kind g on a.device k m n =
+    if_sums (on a.device) (names states g b n) (named_as g j (Ref m) n) (names states g a n)
+    (named_as g k (Ref m) n) (turns g queues n) in
+    omega arith
+
+-- in a frame that is told a status packets are as apart as before
+told_keeps : (set : Set) (states : States) (issued : ℕ) (a : Activation) (status : Status)
+    (r : Option ℕ)
+    → Ready set states issued (answered_in a status r)
+    → KeepsNames states a (answered_in a status r)
+told_keeps set states issued a status None h g queues n = refl
+told_keeps set states issued a status (Some r) h g queues n =
+    named_told g (queue_packets g queues) issued (state_of states a).kinds a.registers r status n
+    h.1.kinds
+
+module _ (set : Set) (states : States) (issued : ℕ) where
+  told_apart : (told : Option Status) (g : Frame) → Stands set states issued None
+      (told_frame set told g)
+      → FrameApart states g → FrameApart states (told_frame set told g)
+  told_apart None (Routine a) stands h = h
+  told_apart None (Walk m) stands h = h
+  told_apart (Some status) (Walk m) stands h = h
+  told_apart None (CancelFrame c) stands h = h
+  told_apart (Some status) (CancelFrame c) stands h = h
+  told_apart (Some status) (Routine a) stands h =
+      let r : Option ℕ = operand_of (instruction_at set a.driver a.routine (a.position - 1)) in
+      apart_keeps states a (answered_in a status r)
+      (told_keeps set states issued a status r stands) h
+
+  last_apart : (below : List Frame) (f : Frame) (told : Option Status)
+      → Stacked set states issued (below ++ f ∷ []) → Replaces set states issued f told []
+      → Each (FrameApart states) below → Each (FrameApart states) (told_last set told below)
+  last_apart [] f told stacked to h = tt
+  last_apart (g ∷ []) f told stacked to h = (told_apart told g (to g stacked.0) h.0, tt)
+  last_apart (g ∷ e ∷ below) f told stacked to h =
+      (h.0, last_apart (e ∷ below) f told stacked.1 to h.1)
+
+  after_apart : (below : List Frame) (f : Frame) (told : Option Status) (frames : List Frame)
+      → Stacked set states issued (below ++ f ∷ []) → Replaces set states issued f told frames
+      → Each (FrameApart states) below → Each (FrameApart states) (told_last set told below)
+  after_apart below f told [] stacked to h = last_apart below f told stacked to h
+  after_apart below f None (e ∷ frames) stacked to h =
+      subst (λ (xs : List Frame). Each (FrameApart states) xs) (sym (last_same set below)) h
+  after_apart below f (Some status) (e ∷ frames) stacked to h =
+      let no : Some status ≡ None = to.0 in cc
+
+module _ (set : Set) (states : States) (w : World) (past : List Entry) (good : IsGood set states)
+    (stands : Standing set states w past) (c : Claimed set states w) (t : ℕ)
+    (h : StepsFrame set w t)
+    (leaves : StepLeaves set states w.shared h.frame h.outcome) where
+  abbrev pub after : World
+  after = with_thread w t h.outcome.shared (with_stack h.thread (standing set h.below h.outcome))
+
+  apart_there : Each (FrameApart states) (h.below ++ h.frame ∷ [])
+  apart_there =
+      subst (λ (frames : List Frame). Each (FrameApart states) frames)
+      (frames_there w t h.thread h.found ∙ h.frames) (c.apart t)
+
+  pub apart_here : FrameApart states h.frame
+  apart_here = (each_after (FrameApart states) h.below (h.frame ∷ []) apart_there).0
+
+  -- packets are apart in every frame after the step, where they are in those in place of the one
+  -- that ran
+  stood_apart : Each (FrameApart states) h.outcome.frames
+      → Each (FrameApart states) (standing set h.below h.outcome)
+  stood_apart new =
+      let o : Outcome = h.outcome in
+      let below : Each (FrameApart states) h.below =
+      each_before (FrameApart states) h.below (h.frame ∷ []) apart_there in
+      elim (stood set w.shared t h.below h.frame o h.comes) [
+        | inl is ↦
+            subst (λ (xs : List Frame). Each (FrameApart states) xs)
+            (sym (is ∙ ap (λ (xs : List Frame). xs ++ o.frames) (told_is set h.below o.told)))
+            (each_append (FrameApart states) (told_last set o.told h.below) o.frames
+            (after_apart set states w.shared.issued h.below h.frame o.told o.frames
+            (stands_there set states w past good stands t h) leaves.stands below) new)
+        | inr stops ↦
+            subst (λ (xs : List Frame). Each (FrameApart states) xs) (sym stops.stands)
+            (each_before (FrameApart states) stops.others (Walk stops.n ∷ [])
+            (subst (λ (xs : List Frame). Each (FrameApart states) xs) stops.below_is below))
+      ]
+
+  pub all_apart : Each (FrameApart states) h.outcome.frames
+      → (k : ℕ) → Each (FrameApart states) (frames_on after k)
+  all_apart new =
+      each_frames w t h.outcome.shared (with_stack h.thread (standing set h.below h.outcome))
+      (λ k frames. Each (FrameApart states) frames) h.thread h.found (stood_apart new)
+      (λ k apart. c.apart k)
+
+  -- the sums where the frames name as much as the one that ran
+  pub same_sums : (g : Kind → Bool) → OfQueues g → (on : ℕ → Bool) (n : ℕ)
+      → stack_sum (frame_names states g on n) h.outcome.frames ≡ frame_names states g on n h.frame
+      → thread_sum (frame_names states g on n) after.threads
+      ≡ thread_sum (frame_names states g on n) w.threads
+  same_sums g queues on n same =
+      let sums : thread_sum (frame_names states g on n) after.threads
+      + frame_names states g on n h.frame
+      ≡ thread_sum (frame_names states g on n) w.threads
+      + stack_sum (frame_names states g on n) h.outcome.frames =
+      changed set states g queues on n w past good stands t h leaves in
+      omega arith
+
+  -- or less
+  pub less_sums : (g : Kind → Bool) → OfQueues g → (on : ℕ → Bool) (n : ℕ)
+      → stack_sum (frame_names states g on n) h.outcome.frames ≤ frame_names states g on n h.frame
+      → thread_sum (frame_names states g on n) after.threads
+      ≤ thread_sum (frame_names states g on n) w.threads
+  less_sums g queues on n less =
+      let sums : thread_sum (frame_names states g on n) after.threads
+      + frame_names states g on n h.frame
+      ≡ thread_sum (frame_names states g on n) w.threads
+      + stack_sum (frame_names states g on n) h.outcome.frames =
+      changed set states g queues on n w past good stands t h leaves in
+      omega arith
+
+  -- or one register's packet became of another kind
+  module _ (a b : Activation) (j k : Kind) (m : ℕ) (frame : h.frame ≡ Routine a)
+      (frames : h.outcome.frames ≡ Routine b ∷ []) (device : b.device ≡ a.device)
+      (turns : TurnsNames states a b j k m) where
+    pub turned_sums : (g : Kind → Bool) → OfQueues g → (on : ℕ → Bool) (n : ℕ)
+        → thread_sum (frame_names states g on n) after.threads + at_kind g on a.device j m n
+        ≡ thread_sum (frame_names states g on n) w.threads + at_kind g on a.device k m n
+    turned_sums g queues on n =
+        let sums : thread_sum (frame_names states g on n) after.threads
+        + frame_names states g on n h.frame
+        ≡ thread_sum (frame_names states g on n) w.threads
+        + stack_sum (frame_names states g on n) h.outcome.frames =
+        changed set states g queues on n w past good stands t h leaves in
+        let was : frame_names states g on n h.frame ≡ frame_names states g on n (Routine a) =
+        ap (frame_names states g on n) frame in
+        let now : stack_sum (frame_names states g on n) h.outcome.frames
+        ≡ frame_names states g on n (Routine b) + 0 =
+        ap (stack_sum (frame_names states g on n)) frames in
+        let turn : frame_names states g on n (Routine b) + at_kind g on a.device j m n
+        ≡ frame_names states g on n (Routine a) + at_kind g on a.device k m n =
+        frame_turns states a b j k m turns device g queues on n in
+        omega arith
+
+    pub kept_sum : (g : Kind → Bool) → OfQueues g → g j ≡ false → g k ≡ false → (d n : ℕ)
+        → names_on states g d n after.threads ≡ names_on states g d n w.threads
+    kept_sum g queues no_j no_k d n =
+        let both : names_on states g d n after.threads
+        + at_kind g (λ e. nat_eq e d) a.device j m n
+        ≡ names_on states g d n w.threads + at_kind g (λ e. nat_eq e d) a.device k m n =
+        turned_sums g queues (λ e. nat_eq e d) n in
+        let before : at_kind g (λ e. nat_eq e d) a.device j m n ≡ 0 =
+        at_none g (λ e. nat_eq e d) a.device j m n no_j in
+        let now : at_kind g (λ e. nat_eq e d) a.device k m n ≡ 0 =
+        at_none g (λ e. nat_eq e d) a.device k m n no_k in
+        omega arith
+
+    pub more_sum : (g : Kind → Bool) → OfQueues g → g j ≡ false → (d n : ℕ)
+        → names_on states g d n after.threads
+        ≡ names_on states g d n w.threads + at_kind g (λ e. nat_eq e d) a.device k m n
+    more_sum g queues no_j d n =
+        let both : names_on states g d n after.threads
+        + at_kind g (λ e. nat_eq e d) a.device j m n
+        ≡ names_on states g d n w.threads + at_kind g (λ e. nat_eq e d) a.device k m n =
+        turned_sums g queues (λ e. nat_eq e d) n in
+        let before : at_kind g (λ e. nat_eq e d) a.device j m n ≡ 0 =
+        at_none g (λ e. nat_eq e d) a.device j m n no_j in
+        omega arith
+
+    pub fewer_sum : (g : Kind → Bool) → OfQueues g → g k ≡ false → (d n : ℕ)
+        → names_on states g d n after.threads + at_kind g (λ e. nat_eq e d) a.device j m n
+        ≡ names_on states g d n w.threads
+    fewer_sum g queues no_k d n =
+        let both : names_on states g d n after.threads
+        + at_kind g (λ e. nat_eq e d) a.device j m n
+        ≡ names_on states g d n w.threads + at_kind g (λ e. nat_eq e d) a.device k m n =
+        turned_sums g queues (λ e. nat_eq e d) n in
+        let now : at_kind g (λ e. nat_eq e d) a.device k m n ≡ 0 =
+        at_none g (λ e. nat_eq e d) a.device k m n no_k in
+        omega arith
+
+    pub takes_sum : (n : ℕ)
+        → takes_in states n after.threads + named_as was_taken j (Ref m) n
+        ≡ takes_in states n w.threads + named_as was_taken k (Ref m) n
+    takes_sum n = turned_sums was_taken was_queues (λ e. true) n
+
+  -- a frame's names are among all
+  pub names_among : (a : Activation) (g : Kind → Bool) (n : ℕ) → h.frame ≡ Routine a
+      → names states g a n ≤ names_on states g a.device n w.threads
+  names_among a g n frame =
+      let le : frame_names states g (λ e. nat_eq e a.device) n h.frame
+      ≤ names_on states g a.device n w.threads =
+      top_le (frame_names states g (λ e. nat_eq e a.device) n) w.threads t h.thread h.below h.frame
+      h.found h.frames in
+      let same : frame_names states g (λ e. nat_eq e a.device) n h.frame ≡ names states g a n =
+      ap (frame_names states g (λ e. nat_eq e a.device) n) frame
+      ∙ (rw (eq-eqb a.device a.device refl) refl) in
+      omega arith
+
+  -- quiet steps
+  pub quiet_claims : Quiet states w.shared h.frame h.outcome → Claimed set states after
+  quiet_claims q =
+      let same : (g : Kind → Bool) → OfQueues g → (d n : ℕ)
+      → names_on states g d n after.threads ≡ names_on states g d n w.threads =
+      λ g of d n. same_sums g of (λ e. nat_eq e d) n (q.names g of (λ e. nat_eq e d) n) in
+      let takes : (n : ℕ) → takes_in states n after.threads ≡ takes_in states n w.threads =
+      λ n. same_sums was_taken was_queues (λ e. true) n (q.names was_taken was_queues (λ e. true) n)
+      in
+      record {
+        balanced = balanced_less set (numbers states w) (numbers states after) c.balanced
+            (λ n.
+            let before : takes_in states n w.threads + times_listed w.shared n
+            ≤ 1 = c.balanced.once n in
+            let took : takes_in states n after.threads ≡ takes_in states n w.threads = takes n in
+            let lists : times_listed h.outcome.shared n ≡ times_listed w.shared n =
+            rw (q.queues, q.starts) refl in
+            omega arith)
+            (λ d q n. let one : names_on states (is_armed (Declared q)) d n after.threads
+            ≡ names_on states (is_armed (Declared q)) d n w.threads =
+            same (is_armed (Declared q)) (armed_queues (Declared q)) d n in omega arith)
+            (λ d q n. let one : names_on states (is_taken (Declared q)) d n after.threads
+            ≡ names_on states (is_taken (Declared q)) d n w.threads =
+            same (is_taken (Declared q)) (taken_queues (Declared q)) d n in omega arith)
+            (λ d q n. same (is_listed (Declared q)) (listed_queues (Declared q)) d n)
+            (λ d q n. same (is_cancelling (Declared q)) (cancelling_queues (Declared q)) d n)
+            (λ d p n. q.words n d p)
+            (λ d p n. rw q.queues refl);
+        apart = all_apart (q.apart apart_here);
+      }

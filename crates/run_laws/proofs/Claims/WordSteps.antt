@@ -1,0 +1,570 @@
+-- An exchange of a packet's cancel word keeps claims, and so does the release of a lock: the word
+-- has the
+-- right that a register of kind Listed had, and gives it back, or to the cancel routine.
+use Rattle.std.proofs.Common.{◌≡◌, ◌⊎◌, ℕ, ◌+◌, ◌≤◌, Bool, true, false, List, [], ◌∷◌, Option, None, Some, refl, ap, sym, ◌∙◌, subst, arith, inl, inr, eq-eqb, eqb-true}
+use Rattle.std.specs.Prelude.{is_some, nat_eq, slice_set, if◌then◌else◌, ◌&&◌}
+use Rattle.std.proofs.lemmas.Bool.{cases_Bool}
+use Rattle.std.proofs.lemmas.Bool.Decides.{eqb_tells}
+use Rattle.model.specs.declared.abs.Kind.{Kind}
+use Rattle.model.specs.declared.abs.Kind.TheVariants.{Blank as BlankKind, Own, Listed, Armed, Taken}
+use Rattle.model.specs.declared.instr.Instr.{Instr}
+use Rattle.model.specs.declared.instr.Instr.TheVariants.{Arm, Disarm, Release}
+use Rattle.model.specs.declared.set.QueueName.TheVariants.{Declared}
+use Rattle.model.specs.declared.world.Activation.{Activation}
+use Rattle.model.specs.declared.world.Frame.TheVariants.{Routine}
+use Rattle.model.specs.declared.world.Value.TheVariants.{Ref}
+use Rattle.model.specs.Effect.{armer_of}
+use Rattle.model.specs.Kinds.{is_armed, is_cancelling, is_listed, all_let_go, is_exchanged, is_name, kind_disarmed}
+use Rattle.model.specs.LocalRule.{kind_of, queued_kind}
+use Rattle.model.specs.Set.{Set}
+use Rattle.model.specs.Trace.{Entry}
+use Rattle.model.specs.World.{Shared, World, at_label, next, queue_of, register, packet_of, with_armer, with_packet}
+use Rattle.run_laws.specs.Holder.{named_as, named_in, stack_sum, thread_sum, times_listed, times_queued, times_waiting, times_named}
+use Rattle.run_laws.proofs.Claims.Balance.{balanced_less, hit, balanced_arms, balanced_disarms, balanced_keeps_taken}
+use Rattle.run_laws.proofs.Claims.Held.{one_holder, owns_in, word_holds}
+use Rattle.run_laws.proofs.Claims.Names.{OfQueues, TurnsNames, armed_queues, cancelling_queues, listed_queues, names, next_turns, taken_queues, was_queues, gone_names, label_turns, next_names, stay_names}
+use Rattle.run_laws.proofs.Claims.Quiet.{word_kept, word_put}
+use Rattle.run_laws.proofs.Claims.Steps.{after, all_apart, apart_here, fewer_sum, kept_sum, more_sum, names_among, same_sums, takes_sum, at_kind, less_sums}
+use Rattle.run_laws.proofs.Claims.Sums.{Claimed, FrameApart, frame_names, is_taken, names_on, numbers, takes_in, times_of, was_taken, word_at, word_for}
+use Rattle.run_laws.proofs.Claims.Working.{apart_down, apart_up, taken_le}
+use Rattle.run_laws.proofs.Holders.Counts.{reads_ref}
+use Rattle.run_laws.proofs.Holders.Queued.{times_le}
+use Rattle.run_laws.proofs.Holders.Rights.{named_le}
+use Rattle.run_laws.proofs.Holders.Sums.{Held}
+use Rattle.run_laws.proofs.Past.LivePackets.{find}
+use Rattle.run_laws.proofs.Runs.Events.{StepsFrame}
+use Rattle.run_laws.proofs.States.Fine.{StepLeaves}
+use Rattle.run_laws.proofs.States.Frames.{IsGood, Runs, state_of}
+use Rattle.run_laws.proofs.States.Rules.{States, first_none}
+use Rattle.run_laws.proofs.States.Standing.{Standing}
+use Rattle.run_laws.proofs.Steps.Comes.{Reads}
+use Rattle.model.specs.declared.set.QueueName.{QueueName}
+use Rattle.model.specs.declared.world.Armer.{Armer}
+use Rattle.model.specs.declared.world.Packet.{Packet}
+use Rattle.run_laws.proofs.Past.Packets.{found}
+
+-- an exchange wants a packet that stands in a queue, or a claim
+armed_kind : (q : ℕ) (k : Kind) → queued_kind (is_listed (Declared q) k) k ≡ None
+    → k ≡ Listed (Declared q)
+armed_kind q (Listed (Declared p)) h =
+    elim (eqb_tells p q) [
+      | inl same ↦ ap (λ (x : ℕ). Listed (Declared x)) same.1
+      | inr apart ↦ let no = rw apart.0 at h in cc
+    ]
+armed_kind q _ h = cc
+
+abbrev pub Claims : Kind → Type 0
+Claims k = (q : ℕ) × ((k ≡ Armed (Declared q)) ⊎ (k ≡ Taken (Declared q)))
+
+disarmed_kind : (k : Kind) → queued_kind (is_exchanged k) k ≡ None → Claims k
+disarmed_kind (Armed (Declared q)) h = (q, inl refl)
+disarmed_kind (Taken (Declared q)) h = (q, inr refl)
+disarmed_kind _ h = cc
+
+no_armer : (o : Option Armer) → (if is_some o then 1 else 0) ≤ 0 → o ≡ None
+no_armer None h = refl
+no_armer (Some armer) h = absurd (omega arith)
+
+-- an armer that a word for a queue of a device names
+names_both : (here its : Bool) → 1 ≤ (if here && its then 1 else 0) → (here ≡ true) × (its ≡ true)
+names_both true true h = (refl, refl)
+names_both true false h = absurd (omega arith)
+names_both false its h = absurd (omega arith)
+
+named_queue : (name : QueueName) (q : ℕ) → is_name name (Declared q) ≡ true → name ≡ Declared q
+named_queue (Declared p) q h = ap (λ (x : ℕ). Declared x) (eqb-true p q h)
+
+abbrev pub IsFor : Armer → ℕ → ℕ → Type 0
+IsFor armer d q = (armer.device ≡ d) × (armer.queue ≡ Declared q)
+
+word_is_for : (armer : Armer) (d q : ℕ) → 1 ≤ word_for (Some armer) d q → IsFor armer d q
+word_is_for armer d q h =
+    let both : (nat_eq armer.device d ≡ true) × (is_name armer.queue (Declared q) ≡ true) =
+    names_both (nat_eq armer.device d) (is_name armer.queue (Declared q)) h in
+    (eqb-true armer.device d both.0, named_queue armer.queue q both.1)
+
+-- what a word says of each queue
+word_hit : (armer : Armer) (d q m e p : ℕ) → IsFor armer d q
+    → word_for (Some armer) e p ≡ hit d q m e p m
+word_hit armer d q m e p is =
+    rw (is.0, is.1, eq-eqb m m refl) (elim (cases_Bool (nat_eq d e)) [
+      | inl here ↦ rw here refl
+      | inr apart ↦ rw apart refl
+    ])
+
+-- a packet's word before and after: filled, or emptied
+module _ (s : Shared) (m d q : ℕ) (p : Packet) (there : packet_of s m ≡ Some p) (armer : Armer)
+    (is : IsFor armer d q) where
+  hit_other : (e l n : ℕ) → nat_eq m n ≡ false → hit d q m e l n ≡ 0
+  hit_other e l n other =
+      rw other (elim (cases_Bool (nat_eq d e)) [
+        | inr apart ↦ rw apart refl
+        | inl here ↦ rw here (elim (cases_Bool (nat_eq q l)) [
+          | inr apart ↦ rw apart refl
+          | inl its ↦ rw its refl
+        ])
+      ])
+
+  word_there : (e l : ℕ) → word_at (find s.packets m) e l ≡ word_for p.armer e l
+  word_there e l = ap (λ (o : Option Packet). word_at o e l) (found s m (Some p) there)
+
+  pub word_filled : p.armer ≡ None → (e l n : ℕ)
+      → word_at (find (with_packet s m (with_armer p (Some armer))).packets n) e l
+      ≡ word_at (find s.packets n) e l + hit d q m e l n
+  word_filled empty e l n =
+      let put : word_at (find (with_packet s m (with_armer p (Some armer))).packets n) e l
+      ≡ (if nat_eq m n then word_for (Some armer) e l else word_at (find s.packets n) e l) =
+      word_put s m p (with_armer p (Some armer)) there refl n e l in
+      elim (eqb_tells m n) [
+        | inr other ↦
+            let now : word_at (find (with_packet s m (with_armer p (Some armer))).packets n) e l
+            ≡ word_at (find s.packets n) e l = put ∙ (rw other.0 refl) in
+            let none : hit d q m e l n ≡ 0 = hit_other e l n other.0 in
+            omega arith
+        | inl same ↦
+            let now : word_at (find (with_packet s m (with_armer p (Some armer))).packets n) e l
+            ≡ word_for (Some armer) e l = put ∙ (rw same.0 refl) in
+            let its : word_for (Some armer) e l ≡ hit d q m e l m = word_hit armer d q m e l is in
+            let moved : hit d q m e l m ≡ hit d q m e l n =
+            ap (λ (x : ℕ). hit d q m e l x) same.1 in
+            let before : word_at (find s.packets m) e l ≡ 0 =
+            word_there e l ∙ ap (λ (o : Option Armer). word_for o e l) empty in
+            let here : word_at (find s.packets m) e l ≡ word_at (find s.packets n) e l =
+            ap (λ (x : ℕ). word_at (find s.packets x) e l) same.1 in
+            omega arith
+      ]
+
+  pub word_emptied : p.armer ≡ Some armer → (e l n : ℕ)
+      → word_at (find (with_packet s m (with_armer p None)).packets n) e l + hit d q m e l n
+      ≡ word_at (find s.packets n) e l
+  word_emptied set_to e l n =
+      let put : word_at (find (with_packet s m (with_armer p None)).packets n) e l
+      ≡ (if nat_eq m n then 0 else word_at (find s.packets n) e l) =
+      word_put s m p (with_armer p None) there refl n e l in
+      elim (eqb_tells m n) [
+        | inr other ↦
+            let now : word_at (find (with_packet s m (with_armer p None)).packets n) e l
+            ≡ word_at (find s.packets n) e l = put ∙ (rw other.0 refl) in
+            let none : hit d q m e l n ≡ 0 = hit_other e l n other.0 in
+            omega arith
+        | inl same ↦
+            let now : word_at (find (with_packet s m (with_armer p None)).packets n) e l
+            ≡ 0 = put ∙ (rw same.0 refl) in
+            let its : word_for (Some armer) e l ≡ hit d q m e l m = word_hit armer d q m e l is in
+            let moved : hit d q m e l m ≡ hit d q m e l n =
+            ap (λ (x : ℕ). hit d q m e l x) same.1 in
+            let before : word_at (find s.packets m) e l ≡ word_for (Some armer) e l =
+            word_there e l ∙ ap (λ (o : Option Armer). word_for o e l) set_to in
+            let here : word_at (find s.packets m) e l ≡ word_at (find s.packets n) e l =
+            ap (λ (x : ℕ). word_at (find s.packets x) e l) same.1 in
+            omega arith
+      ]
+
+-- a packet that stands in a queue stands in all
+pub times_of_le : (s : Shared) (d q n : ℕ) (o : Option (List ℕ)) → queue_of s d q ≡ o
+    → times_of o n ≤ times_queued s.queues n
+times_of_le s d q n None there = omega arith
+times_of_le s d q n (Some entries) there = times_le s d q entries n there
+
+some_less : (b : Bool) (few more : ℕ) → few ≤ more
+    → (if b then few else 0) ≤ (if b then more else 0)
+some_less true few more h = h
+some_less false few more h = omega arith
+
+-- a cancel word that isn't empty is for the queue of a claim
+pub word_names : (set : Set) (states : States) (w : World) → Held set states w
+    → Claimed set states w
+    → (d q m : ℕ) (p : Packet) (armer : Armer) → packet_of w.shared m ≡ Some p
+    → p.armer ≡ Some armer
+    → 1 ≤ names_on states (is_armed (Declared q)) d m w.threads
+    + names_on states (is_taken (Declared q)) d m w.threads
+    → IsFor armer d q
+word_names set states w kept c d q m p armer there is claims =
+    let backed : names_on states (is_armed (Declared q)) d m w.threads
+    + names_on states (is_taken (Declared q)) d m w.threads
+    ≤ word_at (find w.shared.packets m) d q
+    + names_on states (is_cancelling (Declared q)) d m w.threads = c.balanced.backed d q m in
+    let named : times_named (packet_of w.shared m) ≡ 1 = rw (there, is) refl in
+    let holder : names_on states (is_listed (Declared q)) d m w.threads
+    + names_on states (is_cancelling (Declared q)) d m w.threads
+    + owns_in states m w.threads + times_waiting set w.shared m ≤ 1 =
+    one_holder set states w kept m d q in
+    let word : word_at (find w.shared.packets m) d q ≡ word_for (Some armer) d q =
+    ap (λ (o : Option Packet). word_at o d q) (found w.shared m (Some p) there)
+    ∙ ap (λ (o : Option Armer). word_for o d q) is in
+    word_is_for armer d q (omega arith)
+
+module _ (set : Set) (states : States) (w : World) (past : List Entry) (good : IsGood set states)
+    (stands : Standing set states w past) (c : Claimed set states w) (t : ℕ)
+    (h : StepsFrame set w t)
+    (leaves : StepLeaves set states w.shared h.frame h.outcome) (kept : Held set states w)
+    (a : Activation) (frame : h.frame ≡ Routine a) where
+  abbrev to : World
+  to = after set states w past good stands c t h leaves
+
+  apart_a : FrameApart states (Routine a)
+  apart_a = subst (FrameApart states) frame (apart_here set states w past good stands c t h leaves)
+
+  -- a register of a kind names a packet
+  module _ (i : Instr) (r m : ℕ) (run : Runs set states w.shared a i) (reads : Reads w.shared a r m)
+    where
+      named_here : (j : Kind) (g : Kind → Bool) → kind_of (state_of states a) r ≡ j → g j ≡ true
+          → 1 ≤ names_on states g a.device m w.threads
+      named_here j g is of =
+          let le : named_as g (kind_of (state_of states a) r) (register a r) m ≤ names states g a m =
+          named_le g w.shared.issued (state_of states a).kinds a.registers r m run.stays.kinds in
+          let one : named_as g (kind_of (state_of states a) r) (register a r) m ≡ 1 =
+          rw (is, of, reads_ref w.shared (register a r) m reads, eq-eqb m m refl) refl in
+          let among : names states g a m ≤ names_on states g a.device m w.threads =
+          names_among set states w past good stands c t h leaves a g m frame in
+          omega arith
+
+  -- a cancel routine is set
+  module _ (r q m : ℕ) (p : Packet) (run : Runs set states w.shared a (Arm r q))
+      (reads : Reads w.shared a r m) (there : packet_of w.shared m ≡ Some p)
+      (frames : h.outcome.frames ≡ Routine (next a) ∷ [])
+      (shared : h.outcome.shared ≡ with_packet w.shared m (with_armer p (Some (armer_of a q))))
+    where
+      pub arms_claims : Claimed set states to
+      arms_claims =
+          let is : kind_of (state_of states a) r ≡ Listed (Declared q) =
+          armed_kind q (kind_of (state_of states a) r) (first_none _ _ run.obeys) in
+          let turns : TurnsNames states a (next a) (Listed (Declared q)) (Armed (Declared q)) m =
+          next_turns set states w.shared a (Arm r q) run r (Listed (Declared q)) (Armed (Declared q))
+          m
+          refl refl is (reads_ref w.shared (register a r) m reads) in
+          let one : 1 ≤ names_on states (is_listed (Declared q)) a.device m w.threads =
+          named_here (Arm r q) r m run reads (Listed (Declared q)) (is_listed (Declared q)) is
+          (eq-eqb q q refl) in
+          let holder : names_on states (is_listed (Declared q)) a.device m w.threads
+          + names_on states (is_cancelling (Declared q)) a.device m w.threads
+          + owns_in states m w.threads + times_waiting set w.shared m ≤ 1 =
+          one_holder set states w kept m a.device q in
+          let named : times_named (packet_of w.shared m) ≡ (if is_some p.armer then 1 else 0) =
+          ap times_named there in
+          let empty : p.armer ≡ None = no_armer p.armer (omega arith) in
+          let word : word_at (find w.shared.packets m) a.device q ≤ times_waiting set w.shared m =
+          word_holds set states w kept m a.device q in
+          let backed : names_on states (is_armed (Declared q)) a.device m w.threads
+          + names_on states (is_taken (Declared q)) a.device m w.threads
+          ≤ word_at (find w.shared.packets m) a.device q
+          + names_on states (is_cancelling (Declared q)) a.device m w.threads =
+          c.balanced.backed a.device q m in
+          let armed : names states (is_armed (Declared q)) a m
+          ≤ names_on states (is_armed (Declared q)) a.device m w.threads =
+          names_among set states w past good stands c t h leaves a (is_armed (Declared q)) m frame in
+          let taken : names states (is_taken (Declared q)) a m
+          ≤ names_on states (is_taken (Declared q)) a.device m w.threads =
+          names_among set states w past good stands c t h leaves a (is_taken (Declared q)) m frame in
+          let cancelling : names states (is_cancelling (Declared q)) a m
+          ≤ names_on states (is_cancelling (Declared q)) a.device m w.threads =
+          names_among set states w past good stands c t h leaves a (is_cancelling (Declared q)) m
+          frame in
+          record {
+            balanced = balanced_arms set (numbers states w) (numbers states to) c.balanced
+                (λ n.
+                let took : takes_in states n to.threads + 0 ≡ takes_in states n w.threads + 0 =
+                takes_sum set states w past good stands c t h leaves a (next a) (Listed (Declared q))
+                (Armed (Declared q)) m frame frames refl
+                turns n in
+                let before : takes_in states n w.threads + times_listed w.shared n ≤ 1 =
+                c.balanced.once n in
+                let lists : times_listed h.outcome.shared n
+                ≡ times_listed w.shared n = rw shared refl in
+                omega arith)
+                a.device q m
+                (λ d l n. more_sum set states w past good stands c t h leaves a (next a) (Listed
+                (Declared q)) (Armed (Declared q)) m frame frames
+                refl turns (is_armed (Declared l)) (armed_queues (Declared l)) refl d n)
+                (λ d l n. kept_sum set states w past good stands c t h leaves a (next a) (Listed
+                (Declared q)) (Armed (Declared q)) m frame frames
+                refl turns (is_taken (Declared l)) (taken_queues (Declared l)) refl refl d n)
+                (λ d l n. fewer_sum set states w past good stands c t h leaves a (next a) (Listed
+                (Declared q)) (Armed (Declared q)) m frame frames
+                refl turns (is_listed (Declared l)) (listed_queues (Declared l)) refl d n)
+                (λ d l n. kept_sum set states w past good stands c t h leaves a (next a) (Listed
+                (Declared q)) (Armed (Declared q)) m frame frames
+                refl turns (is_cancelling (Declared l)) (cancelling_queues (Declared l)) refl refl d
+                n)
+                (λ d l n. rw shared (word_filled w.shared m a.device q p there (armer_of a q)
+                (refl, refl)
+                empty d l n))
+                (λ d l n. rw shared refl);
+            apart = all_apart set states w past good stands c t h leaves
+                (rw frames (
+                  apart_up states a (next a) (Listed (Declared q)) (Armed (Declared q)) m q turns
+                      ((λ l n e. omega arith), (λ l. refl)) (omega arith) apart_a,
+                  tt,
+                ));
+          }
+
+  -- the word is emptied
+  module _ (r label m : ℕ) (p : Packet) (run : Runs set states w.shared a (Disarm r label))
+      (reads : Reads w.shared a r m) (there : packet_of w.shared m ≡ Some p)
+      (shared : h.outcome.shared ≡ with_packet w.shared m (with_armer p None)) where
+    disarmed_turns : (j : Kind) → kind_of (state_of states a) r ≡ j
+        → TurnsNames states a (next a) j (kind_disarmed j) m
+    disarmed_turns j is =
+        next_turns set states w.shared a (Disarm r label) run r j (kind_disarmed j) m refl
+        (ap (λ (k : Kind). slice_set (state_of states a).kinds r (kind_disarmed k)) is) is
+        (reads_ref w.shared (register a r) m reads)
+
+    module _ (armer : Armer) (is_set : p.armer ≡ Some armer)
+        (frames : h.outcome.frames ≡ Routine (next a) ∷ []) where
+      empties_by : (q : ℕ) → (kind_of (state_of states a) r ≡ Armed (Declared q))
+          ⊎ (kind_of (state_of states a) r ≡ Taken (Declared q)) → Claimed set states to
+      empties_by q (inl is) =
+          let turns : TurnsNames states a (next a) (Armed (Declared q)) (Listed (Declared q)) m =
+          disarmed_turns (Armed (Declared q)) is in
+          let one : 1 ≤ names_on states (is_armed (Declared q)) a.device m w.threads =
+          named_here (Disarm r label) r m run reads (Armed (Declared q)) (is_armed (Declared q)) is
+          (eq-eqb q q refl) in
+          let its : IsFor armer a.device q =
+          word_names set states w kept c a.device q m p armer there is_set (omega arith) in
+          record {
+            balanced = balanced_disarms set (numbers states w) (numbers states to) c.balanced
+                (λ n.
+                let took : takes_in states n to.threads + 0 ≡ takes_in states n w.threads + 0 =
+                takes_sum set states w past good stands c t h leaves a (next a) (Armed (Declared
+                q)) (Listed (Declared q)) m frame frames refl
+                turns n in
+                let before : takes_in states n w.threads + times_listed w.shared n ≤ 1 =
+                c.balanced.once n in
+                let lists : times_listed h.outcome.shared n
+                ≡ times_listed w.shared n = rw shared refl in
+                omega arith)
+                a.device q m
+                (λ d l n. fewer_sum set states w past good stands c t h leaves a (next a) (Armed
+                (Declared q)) (Listed (Declared q)) m frame
+                frames refl turns (is_armed (Declared l)) (armed_queues (Declared l)) refl d n)
+                (λ d l n. kept_sum set states w past good stands c t h leaves a (next a) (Armed
+                (Declared q)) (Listed (Declared q)) m frame
+                frames refl turns (is_taken (Declared l)) (taken_queues (Declared l)) refl refl d n)
+                (λ d l n. more_sum set states w past good stands c t h leaves a (next a) (Armed
+                (Declared q)) (Listed (Declared q)) m frame
+                frames refl turns (is_listed (Declared l)) (listed_queues (Declared l)) refl d n)
+                (λ d l n. kept_sum set states w past good stands c t h leaves a (next a) (Armed
+                (Declared q)) (Listed (Declared q)) m frame
+                frames refl turns (is_cancelling (Declared l)) (cancelling_queues (Declared l)) refl
+                refl d n)
+                (λ d l n. rw shared (word_emptied w.shared m a.device q p there armer its is_set d l
+                n))
+                (λ d l n. rw shared refl);
+            apart = all_apart set states w past good stands c t h leaves
+                (rw frames (
+                  apart_down states a (next a) (Armed (Declared q)) (Listed (Declared q)) m
+                      turns (λ l. (refl, refl, refl)) apart_a,
+                  tt,
+                ));
+          }
+      empties_by q (inr is) =
+          let turns : TurnsNames states a (next a) (Taken (Declared q)) Own m =
+          disarmed_turns (Taken (Declared q)) is in
+          let one : 1 ≤ names_on states (is_taken (Declared q)) a.device m w.threads =
+          named_here (Disarm r label) r m run reads (Taken (Declared q)) (is_taken (Declared q)) is
+          (eq-eqb q q refl) in
+          let its : IsFor armer a.device q =
+          word_names set states w kept c a.device q m p armer there is_set (omega arith) in
+          let takes : names_on states (is_taken (Declared q)) a.device m w.threads
+          ≤ takes_in states m w.threads = taken_le states w a.device q m in
+          let once : takes_in states m w.threads + times_listed w.shared m
+          ≤ 1 = c.balanced.once m in
+          let entries : times_of (queue_of w.shared a.device q) m ≤ times_queued w.shared.queues m =
+          times_of_le w.shared a.device q m (queue_of w.shared a.device q) refl in
+          record {
+            balanced = balanced_keeps_taken set (numbers states w) (numbers states to) c.balanced
+                (λ n.
+                let took : takes_in states n to.threads
+                + named_as was_taken (Taken (Declared q)) (Ref m) n
+                ≡ takes_in states n w.threads + 0 =
+                takes_sum set states w past good stands c t h leaves a (next a) (Taken (Declared
+                q)) Own m frame frames refl turns n in
+                let before : takes_in states n w.threads + times_listed w.shared n ≤ 1 =
+                c.balanced.once n in
+                let lists : times_listed h.outcome.shared n
+                ≡ times_listed w.shared n = rw shared refl in
+                omega arith)
+                a.device q m (omega arith)
+                (λ d l n. kept_sum set states w past good stands c t h leaves a (next a) (Taken
+                (Declared q)) Own m frame
+                frames refl turns (is_armed (Declared l)) (armed_queues (Declared l)) refl refl d n)
+                (λ d l n. fewer_sum set states w past good stands c t h leaves a (next a) (Taken
+                (Declared q)) Own m frame
+                frames refl turns (is_taken (Declared l)) (taken_queues (Declared l)) refl d n)
+                (λ d l n. kept_sum set states w past good stands c t h leaves a (next a) (Taken
+                (Declared q)) Own m frame
+                frames refl turns (is_listed (Declared l)) (listed_queues (Declared l)) refl refl d
+                n)
+                (λ d l n. kept_sum set states w past good stands c t h leaves a (next a) (Taken
+                (Declared q)) Own m frame
+                frames refl turns (is_cancelling (Declared l)) (cancelling_queues (Declared l)) refl
+                refl d n)
+                (λ d l n. rw shared (word_emptied w.shared m a.device q p there armer its is_set d l
+                n))
+                (λ d l n. rw shared refl);
+            apart = all_apart set states w past good stands c t h leaves
+                (rw frames (
+                  apart_down states a (next a) (Taken (Declared q)) Own m
+                      turns (λ l. (refl, refl, refl)) apart_a,
+                  tt,
+                ));
+          }
+
+      pub empties_claims : Claimed set states to
+      empties_claims =
+          let claims : Claims (kind_of (state_of states a) r) =
+          disarmed_kind (kind_of (state_of states a) r) run.obeys in
+          empties_by claims.0 claims.1
+
+    -- it was empty: the claim is given up
+    module _ (is_empty : p.armer ≡ None) (frames : h.outcome.frames
+        ≡ Routine (at_label a label) ∷ [])
+      where
+        gives_up : (j : Kind) → kind_of (state_of states a) r ≡ j
+            → ((q : ℕ) → (is_listed (Declared q) j ≡ false)
+            × (is_cancelling (Declared q) j ≡ false))
+            → Claimed set states to
+        gives_up j is plain =
+            let turns : TurnsNames states a (at_label a label) j BlankKind m =
+            label_turns set states w.shared a (Disarm r label) run r j m label refl refl is
+            (reads_ref w.shared (register a r) m reads) in
+            record {
+              balanced = balanced_less set (numbers states w) (numbers states to) c.balanced
+                  (λ n.
+                  let took : takes_in states n to.threads + named_as was_taken j (Ref m) n
+                  ≡ takes_in states n w.threads + 0 =
+                  takes_sum set states w past good stands c t h leaves a (at_label a label) j
+                  BlankKind m frame frames refl turns n in
+                  let before : takes_in states n w.threads + times_listed w.shared n ≤ 1 =
+                  c.balanced.once n in
+                  let lists : times_listed h.outcome.shared n
+                  ≡ times_listed w.shared n = rw shared refl in
+                  omega arith)
+                  (λ d l n.
+                  let less : names_on states (is_armed (Declared l)) d n to.threads
+                  + at_kind (is_armed (Declared l)) (λ e. nat_eq e d) a.device j m n
+                  ≡ names_on states (is_armed (Declared l)) d n w.threads =
+                  fewer_sum set states w past good stands c t h leaves a (at_label a label) j
+                  BlankKind m frame frames refl turns
+                  (is_armed (Declared l)) (armed_queues (Declared l)) refl d n in omega arith)
+                  (λ d l n.
+                  let less : names_on states (is_taken (Declared l)) d n to.threads
+                  + at_kind (is_taken (Declared l)) (λ e. nat_eq e d) a.device j m n
+                  ≡ names_on states (is_taken (Declared l)) d n w.threads =
+                  fewer_sum set states w past good stands c t h leaves a (at_label a label) j
+                  BlankKind m frame frames refl turns
+                  (is_taken (Declared l)) (taken_queues (Declared l)) refl d n in omega arith)
+                  (λ d l n. kept_sum set states w past good stands c t h leaves a (at_label a
+                  label) j BlankKind m frame frames refl turns
+                  (is_listed (Declared l)) (listed_queues (Declared l)) (plain l).0 refl d n)
+                  (λ d l n. kept_sum set states w past good stands c t h leaves a (at_label a
+                  label) j BlankKind m frame frames refl turns
+                  (is_cancelling (Declared l)) (cancelling_queues (Declared l)) (plain l).1 refl d
+                  n)
+                  (λ d l n. rw shared (word_kept w.shared m p (with_armer p None) there refl
+                  (sym is_empty) n d l))
+                  (λ d l n. rw shared refl);
+              apart = all_apart set states w past good stands c t h leaves
+                  (rw frames (
+                    apart_down states a (at_label a label) j BlankKind m
+                        turns (λ l. (refl, refl, refl)) apart_a,
+                    tt,
+                  ));
+            }
+
+        pub gives_claims : Claimed set states to
+        gives_claims =
+            let claims : Claims (kind_of (state_of states a) r) =
+            disarmed_kind (kind_of (state_of states a) r) run.obeys in
+            elim claims.1 [
+              | inl is ↦ gives_up (Armed (Declared claims.0)) is (λ q. (refl, refl))
+              | inr is ↦ gives_up (Taken (Declared claims.0)) is (λ q. (refl, refl))
+            ]
+
+  -- a lock is released
+  pub releases_claims : (lock : ℕ) (run : Runs set states w.shared a (Release lock))
+      → h.outcome.frames ≡ Routine (next a) ∷ []
+      → h.outcome.shared.packets ≡ w.shared.packets → h.outcome.shared.queues ≡ w.shared.queues
+      → h.outcome.shared.starts ≡ w.shared.starts → Claimed set states to
+  releases_claims lock run frames packets queues starts =
+      let less : (g : Kind → Bool) → OfQueues g → (n : ℕ)
+      → names states g (next a) n ≤ names states g a n =
+      λ g of n.
+      let now : names states g (next a) n
+      ≡ named_in g (all_let_go set a.driver lock (state_of states a).kinds) a.registers n =
+      next_names set states w.shared a (Release lock) run refl g n in
+      let gone : named_in g (all_let_go set a.driver lock (state_of states a).kinds) a.registers n
+      ≤ names states g a n =
+      gone_names set a.driver lock g of (state_of states a).kinds a.registers n in
+      omega arith in
+      let same : (g : Kind → Bool) → OfQueues g → ((name : QueueName) → g (Armed name) ≡ false)
+      → (n : ℕ) → names states g (next a) n ≡ names states g a n =
+      λ g of free n.
+      next_names set states w.shared a (Release lock) run refl g n
+      ∙ stay_names set a.driver lock g of free (state_of states a).kinds a.registers n in
+      let less_all : (g : Kind → Bool) → OfQueues g → (on : ℕ → Bool) (n : ℕ)
+      → thread_sum (frame_names states g on n) to.threads
+      ≤ thread_sum (frame_names states g on n) w.threads =
+      λ g of on n. less_sums set states w past good stands c t h leaves g of on n
+      (let one : frame_names states g on n (Routine (next a))
+      ≤ frame_names states g on n (Routine a) =
+      some_less (on a.device) (names states g (next a) n) (names states g a n) (less g of n) in
+      let was : frame_names states g on n h.frame ≡ frame_names states g on n (Routine a) =
+      ap (frame_names states g on n) frame in
+      let now : stack_sum (frame_names states g on n) h.outcome.frames
+      ≡ frame_names states g on n (Routine (next a)) + 0 =
+      ap (stack_sum (frame_names states g on n)) frames in
+      omega arith) in
+      let same_all : (g : Kind → Bool) → OfQueues g → ((name : QueueName) → g (Armed name) ≡ false)
+      → (on : ℕ → Bool) (n : ℕ)
+      → thread_sum (frame_names states g on n) to.threads
+      ≡ thread_sum (frame_names states g on n) w.threads =
+      λ g of free on n. same_sums set states w past good stands c t h leaves g of on n
+      (let one : frame_names states g on n (Routine (next a))
+      ≡ frame_names states g on n (Routine a) =
+      ap (λ (sum : ℕ). if on a.device then sum else 0) (same g of free n) in
+      let was : frame_names states g on n h.frame ≡ frame_names states g on n (Routine a) =
+      ap (frame_names states g on n) frame in
+      let now : stack_sum (frame_names states g on n) h.outcome.frames
+      ≡ frame_names states g on n (Routine (next a)) + 0 =
+      ap (stack_sum (frame_names states g on n)) frames in
+      omega arith) in
+      record {
+        balanced = balanced_less set (numbers states w) (numbers states to) c.balanced
+            (λ n.
+            let took : takes_in states n to.threads ≤ takes_in states n w.threads =
+            less_all was_taken was_queues (λ e. true) n in
+            let before : takes_in states n w.threads + times_listed w.shared n ≤ 1 =
+            c.balanced.once n in
+            let lists : times_listed h.outcome.shared n ≡ times_listed w.shared n =
+            rw (queues, starts) refl in
+            omega arith)
+            (λ d l n. less_all (is_armed (Declared l)) (armed_queues (Declared l)) (λ e. nat_eq e d)
+            n)
+            (λ d l n. less_all (is_taken (Declared l)) (taken_queues (Declared l)) (λ e. nat_eq e d)
+            n)
+            (λ d l n. same_all (is_listed (Declared l)) (listed_queues (Declared l)) (λ name. refl)
+            (λ e. nat_eq e d) n)
+            (λ d l n. same_all (is_cancelling (Declared l)) (cancelling_queues (Declared l))
+            (λ name. refl) (λ e. nat_eq e d) n)
+            (λ d l n. rw packets refl)
+            (λ d l n. rw queues refl);
+        apart = all_apart set states w past good stands c t h leaves
+            (rw frames (
+              (λ q n.
+                  let armed : names states (is_armed (Declared q)) (next a) n
+                  ≤ names states (is_armed (Declared q)) a n =
+                  less (is_armed (Declared q)) (armed_queues (Declared q)) n in
+                  let taken : names states (is_taken (Declared q)) (next a) n
+                  ≤ names states (is_taken (Declared q)) a n =
+                  less (is_taken (Declared q)) (taken_queues (Declared q)) n in
+                  let cancelling : names states (is_cancelling (Declared q)) (next a) n
+                  ≤ names states (is_cancelling (Declared q)) a n =
+                  less (is_cancelling (Declared q)) (cancelling_queues (Declared q)) n in
+                  let before : names states (is_armed (Declared q)) a n
+                  + names states (is_taken (Declared q)) a n
+                  + names states (is_cancelling (Declared q)) a n ≤ 1 = apart_a q n in
+                  omega arith),
+              tt,
+            ));
+      }

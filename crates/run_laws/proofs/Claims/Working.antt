@@ -1,0 +1,197 @@
+-- The instructions about queues keep the balance of claims.
+use Rattle.std.proofs.Common.{◌≡◌, ◌⊎◌, ℕ, ◌+◌, ◌≤◌, Bool, true, false, List, [], ◌∷◌, Option, None, refl, ap, ◌∙◌, subst, arith, inl, inr}
+use Rattle.std.specs.Prelude.{is_some, nat_eq, slice_get, if◌then◌else◌}
+use Rattle.std.specs.List.{list_any}
+use Rattle.std.proofs.lemmas.Bool.{cases_Bool}
+use Rattle.std.proofs.lemmas.Bool.Decides.{eqb_tells}
+use Rattle.model.specs.declared.abs.Kind.{Kind}
+use Rattle.model.specs.declared.abs.Kind.TheVariants.{Listed, Taken, Cancelling}
+use Rattle.model.specs.declared.set.QueueName.TheVariants.{Declared}
+use Rattle.model.specs.declared.world.Activation.{Activation}
+use Rattle.model.specs.declared.world.Frame.{Frame}
+use Rattle.model.specs.declared.world.Frame.TheVariants.{Routine}
+use Rattle.model.specs.declared.world.Value.{Value}
+use Rattle.model.specs.declared.world.Value.TheVariants.{Ref}
+use Rattle.model.specs.Effect.{routine_of_device}
+use Rattle.model.specs.Kinds.{is_armed, is_cancelling}
+use Rattle.model.specs.LocalRule.{unlink_kind}
+use Rattle.model.specs.Set.{Set, cancel_routine_of}
+use Rattle.model.specs.World.{World}
+use Rattle.run_laws.specs.Holder.{named_as, named_in}
+use Rattle.run_laws.proofs.Claims.Held.{thread_most}
+use Rattle.run_laws.proofs.Claims.Names.{TurnsNames, armed_queues, cancelling_queues, names, taken_queues}
+use Rattle.run_laws.proofs.Claims.Sums.{FrameApart, frame_names, is_cancelable, is_taken, names_on, takes_in, was_taken}
+use Rattle.run_laws.proofs.Holders.Rights.{named_none}
+use Rattle.run_laws.proofs.States.Frames.{Serves, state_of}
+use Rattle.run_laws.proofs.States.Rules.{States}
+use Rattle.run_laws.proofs.Tests.{or_left, or_right}
+
+-- a queue is unlinked from by one that stands there, or that the cancel routine was called for
+abbrev pub Unlinks : ℕ → Kind → Type 0
+Unlinks q k = (k ≡ Listed (Declared q)) ⊎ (k ≡ Cancelling (Declared q))
+
+pub unlinked_kind : (q : ℕ) (k : Kind) → unlink_kind (Declared q) k ≡ None → Unlinks q k
+unlinked_kind q (Listed (Declared p)) h =
+    elim (eqb_tells p q) [
+      | inl same ↦ inl (ap (λ (x : ℕ). Listed (Declared x)) same.1)
+      | inr apart ↦ let no = rw apart.0 at h in cc
+    ]
+unlinked_kind q (Cancelling (Declared p)) h =
+    elim (eqb_tells p q) [
+      | inl same ↦ inr (ap (λ (x : ℕ). Cancelling (Declared x)) same.1)
+      | inr apart ↦ let no = rw apart.0 at h in cc
+    ]
+unlinked_kind q _ h = cc
+
+-- registers that name no packet of a queue
+pub some_none : (f g : Kind → Bool) → ((k : Kind) → g k ≡ false → f k ≡ false) → (kinds : List Kind)
+    → list_any g kinds ≡ false → list_any f kinds ≡ false
+some_none f g less [] h = refl
+some_none f g less (k ∷ kinds) h =
+    rw (
+      less k (or_left (g k) (list_any g kinds) h),
+      some_none f g less kinds (or_right (g k) (list_any g kinds) h),
+    )
+    refl
+
+-- in one frame
+pub apart_down : (states : States) (a b : Activation) (j k : Kind) (m : ℕ)
+    → TurnsNames states a b j k m
+    → ((q : ℕ) → (is_armed (Declared q) k ≡ false) × (is_taken (Declared q) k ≡ false)
+    × (is_cancelling (Declared q) k ≡ false))
+    → FrameApart states (Routine a) → FrameApart states (Routine b)
+apart_down states a b j k m turns none h q n =
+    let armed : names states (is_armed (Declared q)) b n
+    + named_as (is_armed (Declared q)) j (Ref m) n
+    ≡ names states (is_armed (Declared q)) a n + named_as (is_armed (Declared q)) k (Ref m) n =
+    turns (is_armed (Declared q)) (armed_queues (Declared q)) n in
+    let taken : names states (is_taken (Declared q)) b n
+    + named_as (is_taken (Declared q)) j (Ref m) n
+    ≡ names states (is_taken (Declared q)) a n + named_as (is_taken (Declared q)) k (Ref m) n =
+    turns (is_taken (Declared q)) (taken_queues (Declared q)) n in
+    let cancelling : names states (is_cancelling (Declared q)) b n
+    + named_as (is_cancelling (Declared q)) j (Ref m) n
+    ≡ names states (is_cancelling (Declared q)) a n
+    + named_as (is_cancelling (Declared q)) k (Ref m) n =
+    turns (is_cancelling (Declared q)) (cancelling_queues (Declared q)) n in
+    let no_armed : named_as (is_armed (Declared q)) k (Ref m) n ≡ 0 =
+    named_none (is_armed (Declared q)) k (Ref m) n (none q).0 in
+    let no_taken : named_as (is_taken (Declared q)) k (Ref m) n ≡ 0 =
+    named_none (is_taken (Declared q)) k (Ref m) n (none q).1 in
+    let no_cancelling : named_as (is_cancelling (Declared q)) k (Ref m) n ≡ 0 =
+    named_none (is_cancelling (Declared q)) k (Ref m) n (none q).2 in
+    let before : names states (is_armed (Declared q)) a n + names states (is_taken (Declared q)) a n
+    + names states (is_cancelling (Declared q)) a n ≤ 1 = h q n in
+    omega arith
+
+-- a claim comes for a packet that is in none
+abbrev pub NewClaim : Kind → ℕ → Type 0
+NewClaim k q =
+    ((p n m : ℕ) → named_as (is_armed (Declared p)) k (Ref m) n
+    + named_as (is_taken (Declared p)) k (Ref m) n
+    ≡ (if nat_eq q p then (if nat_eq m n then 1 else 0) else 0))
+    × ((p : ℕ) → is_cancelling (Declared p) k ≡ false)
+
+claim_tells : (l q m n sum : ℕ) → sum ≡ (if nat_eq l q then (if nat_eq m n then 1 else 0) else 0)
+    → (sum ≡ 0) ⊎ ((l ≡ q) × (m ≡ n) × (sum ≡ 1))
+claim_tells l q m n sum h =
+    elim (eqb_tells l q) [
+      | inr apart ↦ inl (rw apart.0 at h)
+      | inl its ↦ elim (eqb_tells m n) [
+        | inr other ↦ inl (rw (its.0, other.0) at h)
+        | inl same ↦ inr (its.1, same.1, rw (its.0, same.0) at h)
+      ]
+    ]
+
+pub apart_up : (states : States) (a b : Activation) (j k : Kind) (m l : ℕ)
+    → TurnsNames states a b j k m
+    → NewClaim k l
+    → names states (is_armed (Declared l)) a m + names states (is_taken (Declared l)) a m
+    + names states (is_cancelling (Declared l)) a m ≡ 0
+    → FrameApart states (Routine a) → FrameApart states (Routine b)
+apart_up states a b j k m l turns new free h q n =
+    let armed : names states (is_armed (Declared q)) b n
+    + named_as (is_armed (Declared q)) j (Ref m) n
+    ≡ names states (is_armed (Declared q)) a n + named_as (is_armed (Declared q)) k (Ref m) n =
+    turns (is_armed (Declared q)) (armed_queues (Declared q)) n in
+    let taken : names states (is_taken (Declared q)) b n
+    + named_as (is_taken (Declared q)) j (Ref m) n
+    ≡ names states (is_taken (Declared q)) a n + named_as (is_taken (Declared q)) k (Ref m) n =
+    turns (is_taken (Declared q)) (taken_queues (Declared q)) n in
+    let cancelling : names states (is_cancelling (Declared q)) b n
+    + named_as (is_cancelling (Declared q)) j (Ref m) n
+    ≡ names states (is_cancelling (Declared q)) a n
+    + named_as (is_cancelling (Declared q)) k (Ref m) n =
+    turns (is_cancelling (Declared q)) (cancelling_queues (Declared q)) n in
+    let no_cancelling : named_as (is_cancelling (Declared q)) k (Ref m) n ≡ 0 =
+    named_none (is_cancelling (Declared q)) k (Ref m) n (new.1 q) in
+    let before : names states (is_armed (Declared q)) a n + names states (is_taken (Declared q)) a n
+    + names states (is_cancelling (Declared q)) a n ≤ 1 = h q n in
+    elim (claim_tells l q m n (named_as (is_armed (Declared q)) k (Ref m) n
+    + named_as (is_taken (Declared q)) k (Ref m) n) (new.0 q n m)) [
+      | inl none ↦
+          let claim : named_as (is_armed (Declared q)) k (Ref m) n
+          + named_as (is_taken (Declared q)) k (Ref m) n ≡ 0 = none in
+          omega arith
+      | inr one ↦
+          let claim : named_as (is_armed (Declared q)) k (Ref m) n
+          + named_as (is_taken (Declared q)) k (Ref m) n ≡ 1 = one.2 in
+          let zero_before : names states (is_armed (Declared q)) a n
+          + names states (is_taken (Declared q)) a n
+          + names states (is_cancelling (Declared q)) a n ≡ 0 =
+          subst (λ (x : ℕ). names states (is_armed (Declared q)) a x
+          + names states (is_taken (Declared q)) a x
+          + names states (is_cancelling (Declared q)) a x ≡ 0) one.1
+          (subst (λ (x : ℕ). names states (is_armed (Declared x)) a m
+          + names states (is_taken (Declared x)) a m
+          + names states (is_cancelling (Declared x)) a m ≡ 0) one.0 free) in
+          omega arith
+    ]
+
+-- registers of kind Taken for a queue of a device are among those for any
+taken_some : (name : ℕ) (k : Kind) (v : Value) (n : ℕ)
+    → named_as (is_taken (Declared name)) k v n ≤ named_as was_taken k v n
+taken_some name (Taken (Declared q)) v n =
+    elim (cases_Bool (nat_eq q name)) [
+      | inl same ↦ rw same (omega arith)
+      | inr apart ↦ rw apart (omega arith)
+    ]
+taken_some name _ v n = omega arith
+
+taken_many : (q : ℕ) (kinds : List Kind) (values : List Value) (n : ℕ)
+    → named_in (is_taken (Declared q)) kinds values n ≤ named_in was_taken kinds values n
+taken_many q [] values n = omega arith
+taken_many q (k ∷ kinds) [] n = omega arith
+taken_many q (k ∷ kinds) (v ∷ values) n =
+    let one : named_as (is_taken (Declared q)) k v n
+    ≤ named_as was_taken k v n = taken_some q k v n in
+    let others : named_in (is_taken (Declared q)) kinds values n
+    ≤ named_in was_taken kinds values n =
+    taken_many q kinds values n in
+    omega arith
+
+taken_frame : (states : States) (d q n : ℕ) (f : Frame)
+    → frame_names states (is_taken (Declared q)) (λ e. nat_eq e d) n f
+    ≤ frame_names states was_taken (λ e. true) n f
+taken_frame states d q n (Routine a) =
+    let many : names states (is_taken (Declared q)) a n ≤ names states was_taken a n =
+    taken_many q (state_of states a).kinds a.registers n in
+    elim (cases_Bool (nat_eq a.device d)) [
+      | inl same ↦ rw same many
+      | inr apart ↦ rw apart (omega arith)
+    ]
+taken_frame states d q n _ = omega arith
+
+pub taken_le : (states : States) (w : World) (d q n : ℕ)
+    → names_on states (is_taken (Declared q)) d n w.threads ≤ takes_in states n w.threads
+taken_le states w d q n =
+    thread_most (frame_names states (is_taken (Declared q)) (λ e. nat_eq e d) n)
+    (frame_names states was_taken (λ e. true) n) (taken_frame states d q n) w.threads
+
+-- a queue of the device has a cancel routine
+pub cancelable_is : (set : Set) (d driver q : ℕ) (o : Option ℕ) → Serves set d driver
+    → cancel_routine_of set driver q ≡ o → is_cancelable set d q ≡ is_some o
+cancelable_is set d driver q o serves is =
+    let its : routine_of_device (slice_get set.devices d) ≡ driver =
+    ap routine_of_device serves.1 ∙ serves.2 in
+    rw (its, is) refl

@@ -1,0 +1,156 @@
+-- The rights of a routine's frame after an instruction that leaves the packets with who has them,
+-- and after a mark; and those that a packet which is sent down takes along.
+use Rattle.std.proofs.Common.{◌≡◌, ℕ, ◌+◌, ◌<◌, List, length, None, Some, Bool, true, false, refl, ap, sym, ◌∙◌, arith}
+use Rattle.std.specs.Prelude.{nat_lt, slice_set, slice_index_or}
+use Rattle.std.proofs.lemmas.Bool.{cond_both}
+use Rattle.model.specs.declared.abs.Abs.{Abs}
+use Rattle.model.specs.declared.abs.Kind.{Kind}
+use Rattle.model.specs.declared.abs.Kind.TheVariants.{Blank as BlankKind, Num as NumKind, Lower as LowerKind, New, Own}
+use Rattle.model.specs.declared.instr.Instr.{Instr}
+use Rattle.model.specs.declared.instr.Instr.TheVariants.{Const, Move, Add, Subtract, Load, LoadPaged, Get}
+use Rattle.model.specs.declared.limits.TheConstants.{REGISTERS}
+use Rattle.model.specs.declared.set.Sort.{Sort}
+use Rattle.model.specs.declared.world.Activation.{Activation}
+use Rattle.model.specs.declared.world.Frame.TheVariants.{Routine}
+use Rattle.model.specs.declared.world.OpenLoop.{OpenLoop}
+use Rattle.model.specs.declared.world.Value.{Value}
+use Rattle.model.specs.declared.world.Value.TheVariants.{Blank, Num}
+use Rattle.model.specs.Effect.{turned}
+use Rattle.model.specs.Kinds.{is_right}
+use Rattle.model.specs.LocalRule.{kind_of, handed, marked, given_down, number_kind, refuses}
+use Rattle.model.specs.Set.{Set, flow_of, sort_of}
+use Rattle.model.specs.Sound.{OperandFits}
+use Rattle.model.specs.World.{Shared, register, next}
+use Rattle.run_laws.specs.Holder.{right, rights, frame_rights}
+use Rattle.run_laws.proofs.Holders.Exchanges.{rights_still}
+use Rattle.run_laws.proofs.Holders.Rights.{rights_write, rights_turn, rights_move, not_right}
+use Rattle.run_laws.proofs.Lists.{all_at}
+use Rattle.run_laws.proofs.States.Frames.{state_of, Runs}
+use Rattle.run_laws.proofs.States.Kinds.{HasKinds, kinds_get, kinds_set, label_kinds, number_kinds}
+use Rattle.run_laws.proofs.States.Moves.{has_next, falls_next, arrives, arrives_next}
+use Rattle.run_laws.proofs.States.NoViews.{is_queued}
+use Rattle.run_laws.proofs.States.Rules.{States, first_none, second_none, unbroken}
+use Rattle.run_laws.proofs.Steps.Comes.{Written, keeps_all, makes_number, moves_over, makes_blank, GoesTo, onward, jumping}
+use Rattle.run_laws.proofs.Steps.Locking.{LockWord}
+use Rattle.run_laws.proofs.Steps.Words.{is_giving, work_of, keeps_registers, numbered_by}
+
+number_free : (k : Kind) → number_kind k ≡ None → is_right k ≡ false
+number_free NumKind h = refl
+number_free _ h = cc
+
+-- a register that becomes a number had no right
+numbered_free : (s : Abs) (i : Instr) (r : ℕ) (sort : Sort) (set : Set) (driver : ℕ)
+    → numbered_by i ≡ Some r
+    → refuses s i sort set driver ≡ None → is_right (kind_of s r) ≡ false
+numbered_free s (Const q n) r sort set driver is h =
+    let one : q ≡ r = cc in rw (← one) (not_right _ (unbroken _ _ h))
+numbered_free s (Load q c) r sort set driver is h =
+    let one : q ≡ r = cc in rw (← one) (not_right _ (unbroken _ _ h))
+numbered_free s (LoadPaged q c) r sort set driver is h =
+    let one : q ≡ r = cc in rw (← one) (not_right _ (unbroken _ _ (second_none _ _ h)))
+numbered_free s (Get q p field) r sort set driver is h =
+    let one : q ≡ r = cc in rw (← one) (not_right _ (unbroken _ _ (second_none _ _ h)))
+numbered_free s (Add q p) r sort set driver is h =
+    let one : q ≡ r = cc in rw (← one) (number_free _ (first_none _ _ h))
+numbered_free s (Subtract q p) r sort set driver is h =
+    let one : q ≡ r = cc in rw (← one) (number_free _ (first_none _ _ h))
+numbered_free s _ r sort set driver is h = cc
+
+-- a mark leaves the right where it is, and what is given down leaves its register
+pub mark_rights : (issued : ℕ) (s : Abs) (values : List Value) (r : ℕ) (k : Kind) (m : ℕ)
+    → HasKinds issued s.kinds values
+    → k ≡ kind_of s r → rights (marked s r k).kinds values m ≡ rights s.kinds values m
+mark_rights issued s values r New m h is =
+    let turn : rights (slice_set s.kinds r Own) values m + right (kind_of s r)
+    (slice_index_or values r Blank) m
+    ≡ rights s.kinds values m + right Own (slice_index_or values r Blank) m =
+    rights_turn issued s.kinds values r Own m h in
+    let same : right (kind_of s r) (slice_index_or values r Blank) m
+    ≡ right Own (slice_index_or values r Blank) m =
+    ap (λ (k : Kind). right k (slice_index_or values r Blank) m) (sym is) in
+    omega arith
+mark_rights issued s values r _ m h is = refl
+
+pub given_rights : (issued : ℕ) (s : Abs) (values : List Value) (r : ℕ) (k : Kind) (m : ℕ)
+    → HasKinds issued s.kinds values
+    → is_right k ≡ true → is_queued k ≡ false
+    → rights (given_down s r k).kinds values m + right (kind_of s r) (slice_index_or values r Blank)
+    m
+    ≡ rights s.kinds values m
+given_rights issued s values r New m h is unlisted =
+    let turn : rights (slice_set s.kinds r LowerKind) values m + right (kind_of s r)
+    (slice_index_or values r Blank) m
+    ≡ rights s.kinds values m + 0 = rights_turn issued s.kinds values r LowerKind m h in
+    omega arith
+given_rights issued s values r Own m h is unlisted =
+    let turn : rights (slice_set s.kinds r BlankKind) values m + right (kind_of s r)
+    (slice_index_or values r Blank) m
+    ≡ rights s.kinds values m + 0 = rights_turn issued s.kinds values r BlankKind m h in
+    omega arith
+given_rights issued s values r _ m h is unlisted = cc
+
+pub turned_registers : (a : Activation) (l : OpenLoop) → (turned a l).registers ≡ a.registers
+turned_registers a l =
+    cond_both (nat_lt 1 l.turns) _ _ (λ (b : Activation). b.registers ≡ a.registers) (λ more. refl)
+    (λ last. refl)
+
+-- the rights after an instruction that leaves the packets with who has them
+written_rights : (set : Set) (states : States) (s : Shared) (a : Activation) (i : Instr)
+    (registers : List Value)
+    → Runs set states s a i → is_giving (work_of i) ≡ false → Written a i registers → (n : ℕ)
+    → rights (handed set a.driver (state_of states a) i).kinds registers n
+    ≡ frame_rights states (Routine a) n
+written_rights set states s a i registers h quiet (keeps_all _ same) n =
+    rights_still set a.driver (state_of states a) i a.registers n same quiet
+written_rights set states s a i registers h quiet (makes_number _ r m is) n =
+    ap (λ (kinds : List Kind). rights kinds (slice_set a.registers r (Num m)) n)
+    (number_kinds (state_of states a) (sort_of set a.driver a.routine) set a.driver i r h.obeys is)
+    ∙ rights_write s.issued (state_of states a).kinds a.registers r NumKind (Num m) n h.stays.kinds
+    (numbered_free (state_of states a) i r (sort_of set a.driver a.routine) set a.driver is h.obeys)
+    refl
+written_rights set states s a i registers h quiet (moves_over r q) n =
+    let small : r < REGISTERS =
+    (all_at OperandFits h.routine.code a.position (Move r q) h.known.operands h.here).0 in
+    let long : length (state_of states a).kinds ≡ REGISTERS = h.stays.sixteen in
+    rights_move s.issued (state_of states a).kinds a.registers r q n h.stays.kinds (omega arith)
+    (not_right _ (unbroken _ _ h.obeys))
+    (kinds_set s.issued (state_of states a).kinds a.registers r (kind_of (state_of states a) q)
+    (register a q)
+    h.stays.kinds (kinds_get s.issued (state_of states a).kinds a.registers q h.stays.kinds))
+written_rights set states s a i registers h quiet (makes_blank r) n =
+    rights_write s.issued (state_of states a).kinds a.registers r BlankKind Blank n h.stays.kinds
+    (not_right _ (unbroken _ _ h.obeys)) refl
+
+-- the rights of a routine's frame where it goes on
+module _ (set : Set) (states : States) (s : Shared) (a : Activation) (i : Instr)
+    (h : Runs set states s a i) where
+  abbrev KeepsRights : Activation → Type 0
+  KeepsRights b = (n : ℕ) → frame_rights states (Routine b) n ≡ frame_rights states (Routine a) n
+
+  pub goes_rights : (b : Activation) (jumped : Bool) → is_giving (work_of i) ≡ false
+      → GoesTo a i b jumped → KeepsRights b
+  goes_rights b jumped quiet (onward registers on written) n =
+      ap (λ (state : Abs). rights state.kinds registers n)
+      (arrives set states s a i h _ false (onward registers on written))
+      ∙ written_rights set states s a i registers h quiet written n
+  goes_rights b jumped quiet (jumping label labelled) n =
+      ap (λ (state : Abs). rights state.kinds a.registers n)
+      (arrives set states s a i h _ true (jumping label labelled))
+      ∙ ap (λ (kinds : List Kind). rights kinds a.registers n)
+      (label_kinds (state_of states a) i quiet)
+
+  pub next_state_rights : has_next (flow_of i) ≡ true → (n : ℕ)
+      → frame_rights states (Routine (next a)) n
+      ≡ rights (handed set a.driver (state_of states a) i).kinds a.registers n
+  next_state_rights on n =
+      ap (λ (state : Abs). rights state.kinds a.registers n) (arrives_next set states s a i h on)
+
+  pub still_rights : keeps_registers i ≡ true → is_giving (work_of i) ≡ false
+      → has_next (flow_of i) ≡ true
+      → KeepsRights (next a)
+  still_rights same quiet on n =
+      next_state_rights on n
+      ∙ rights_still set a.driver (state_of states a) i a.registers n same quiet
+
+  pub lock_rights : LockWord i → KeepsRights (next a)
+  lock_rights word = still_rights word.keeps (rw word.work refl) (falls_next (flow_of i) word.on)

@@ -1,0 +1,99 @@
+-- What a register of kind Armed or Taken names is live, since its cancel word or its cancel routine
+-- holds it; and so is what stands in a queue.
+use Rattle.run_laws.proofs.Holders.Plain.{plain_in, driver_at, plain_le, plain_counts}
+use Rattle.model.specs.declared.world.Value.TheVariants.{Ref}
+use Rattle.run_laws.proofs.Claims.Tops.{named_some}
+use Rattle.run_laws.proofs.Claims.Held.{holder_lives}
+use Rattle.run_laws.proofs.Live.Steps.{ClaimsLive, EntriesLive}
+use Rattle.std.proofs.Common.{◌≡◌, ℕ, ◌+◌, ◌≤◌, Bool, true, false, List, Some, refl, ap, arith, Option, is_some, None}
+use Rattle.std.proofs.lemmas.Bool.{eq-eqb}
+use Rattle.model.specs.declared.abs.Kind.{Kind}
+use Rattle.model.specs.declared.abs.Kind.TheVariants.{Armed, Taken}
+use Rattle.model.specs.declared.set.QueueName.TheVariants.{Declared}
+use Rattle.model.specs.declared.world.Activation.{Activation}
+use Rattle.model.specs.declared.world.Frame.{Frame}
+use Rattle.model.specs.declared.world.Frame.TheVariants.{Routine, Walk, Cancel as CancelFrame}
+use Rattle.model.specs.Kinds.{is_armed, is_cancelling, is_exchanged, is_listed}
+use Rattle.model.specs.LocalRule.{kind_of}
+use Rattle.model.specs.Set.{Set}
+use Rattle.model.specs.Trace.{Entry}
+use Rattle.model.specs.World.{World, register, queue_of}
+use Rattle.run_laws.specs.Holder.{times_waiting, times_in, times_plain, thread_sum, frame_rights}
+use Rattle.run_laws.proofs.Claims.Sums.{Claimed, is_taken, names_on, word_at, is_cancelable, times_of}
+use Rattle.run_laws.proofs.Holders.Sums.{Held, unheld}
+use Rattle.run_laws.proofs.Past.LivePackets.{find}
+use Rattle.run_laws.proofs.Runs.Events.{StepsFrame}
+use Rattle.run_laws.proofs.States.Frames.{IsGood, state_of}
+use Rattle.run_laws.proofs.States.Rules.{States}
+use Rattle.run_laws.proofs.States.Standing.{Standing}
+
+none_some : (o : Option ℕ) → is_some o ≡ false → o ≡ None
+none_some None h = refl
+none_some (Some routine) h = cc
+
+module _ (set : Set) (states : States) (w : World) (past : List Entry) (good : IsGood set states)
+    (stands : Standing set states w past) (held : Held set states w)
+    (claimed : Claimed set states w) where
+  backed_lives : (d q n : ℕ)
+      → 1 ≤ names_on states (is_armed (Declared q)) d n w.threads
+      + names_on states (is_taken (Declared q)) d n w.threads
+      → 1 ≤ unheld (find w.shared.packets n)
+  backed_lives d q n some =
+      let backed : names_on states (is_armed (Declared q)) d n w.threads
+      + names_on states (is_taken (Declared q)) d n w.threads
+      ≤ word_at (find w.shared.packets n) d q
+      + names_on states (is_cancelling (Declared q)) d n w.threads =
+      claimed.balanced.backed d q n in
+      holder_lives set states w held n d q 1 (omega arith)
+
+  module _ (t : ℕ) (h : StepsFrame set w t) (a : Activation) (top : h.frame ≡ Routine a) where
+    exchanged_lives : (k : Kind) (r n : ℕ) → kind_of (state_of states a) r ≡ k
+        → is_exchanged k ≡ true → register a r ≡ Ref n → 1 ≤ unheld (find w.shared.packets n)
+    exchanged_lives (Armed (Declared q)) r n kind is refers =
+        let some : 1 ≤ names_on states (is_armed (Declared q)) a.device n w.threads =
+        named_some set states w past good stands t h a top (is_armed (Declared q)) r n
+        (rw kind (eq-eqb q q refl)) refers in
+        backed_lives a.device q n (omega arith)
+    exchanged_lives (Taken (Declared q)) r n kind is refers =
+        let some : 1 ≤ names_on states (is_taken (Declared q)) a.device n w.threads =
+        named_some set states w past good stands t h a top (is_taken (Declared q)) r n
+        (rw kind (eq-eqb q q refl)) refers in
+        backed_lives a.device q n (omega arith)
+    exchanged_lives _ r n kind is refers = cc
+
+  frame_claims : (t : ℕ) (h : StepsFrame set w t) (f : Frame) → h.frame ≡ f
+      → ClaimsLive states w.shared f
+  frame_claims t h (Routine a) top =
+      λ r n is refers.
+      exchanged_lives t h a top (kind_of (state_of states a) r) r n refl is refers
+  frame_claims t h (Walk n) top = tt
+  frame_claims t h (CancelFrame c) top = tt
+
+  pub claims_live : (t : ℕ) (h : StepsFrame set w t) → ClaimsLive states w.shared h.frame
+  claims_live t h = frame_claims t h h.frame refl
+
+  entries_of : (d q n : ℕ) (entries : List ℕ) (b : Bool) → queue_of w.shared d q ≡ Some entries
+      → is_cancelable set d q ≡ b → times_in entries n ≤ unheld (find w.shared.packets n)
+  entries_of d q n entries true there may =
+      let entered : times_of (queue_of w.shared d q) n
+      ≤ word_at (find w.shared.packets n) d q
+      + names_on states (is_cancelling (Declared q)) d n w.threads
+      + names_on states (is_listed (Declared q)) d n w.threads =
+      claimed.balanced.entered d q n may in
+      let here : times_of (queue_of w.shared d q) n ≡ times_in entries n =
+      ap (λ (o : Option (List ℕ)). times_of o n) there in
+      holder_lives set states w held n d q (times_in entries n) (omega arith)
+  entries_of d q n entries false there may =
+      let le : plain_in set (driver_at set d) q entries n ≤ times_plain set 0 w.shared.queues n =
+      plain_le set n w.shared d q entries there in
+      let counts : plain_in set (driver_at set d) q entries n ≡ times_in entries n =
+      plain_counts set n (driver_at set d) q entries (none_some _ may) in
+      let all : thread_sum (λ f. frame_rights states f n) w.threads + times_waiting set w.shared n
+      ≡ unheld (find w.shared.packets n) = held.rights n in
+      omega arith
+
+  pub entries_live : EntriesLive w.shared
+  entries_live d q n entries there some =
+      let le : times_in entries n ≤ unheld (find w.shared.packets n) =
+      entries_of d q n entries (is_cancelable set d q) there refl in
+      omega arith

@@ -1,0 +1,93 @@
+-- The stack sizes of devices: a device under another one has a smaller one, and a routine goes on
+-- for its device.
+use Rattle.std.proofs.Common.{◌≡◌, ℕ, Bool, suc, ◌+◌, ◌<◌, ◌≤◌, inl, inr, length, Option, None, Some, true, false, refl, ap, sym, ◌∙◌, arith}
+use Rattle.std.specs.Prelude.{◌&&◌, nat_eq, nat_lt, slice_get, option_and_then}
+use Rattle.std.proofs.lemmas.Bool.{cond_both, eq-eqb}
+use Rattle.std.proofs.lemmas.Bool.Decides.{leb_tells}
+use Rattle.model.specs.declared.instr.Instr.{Instr}
+use Rattle.model.specs.declared.set.Device.{Device}
+use Rattle.model.specs.declared.status.Major.{Major}
+use Rattle.model.specs.declared.world.Activation.{Activation}
+use Rattle.model.specs.declared.world.OpenLoop.{OpenLoop}
+use Rattle.model.specs.Effect.{turned, dispatched}
+use Rattle.model.specs.Forwarding.{device_under, is_under, is_too_small}
+use Rattle.model.specs.Set.{Set, lower_of}
+use Rattle.model.specs.Sound.{IsSound, DeviceFits}
+use Rattle.run_laws.proofs.Devices.{device_fits}
+use Rattle.run_laws.proofs.States.Entering.{any_false, not_none}
+use Rattle.run_laws.proofs.States.Frames.{Serves}
+use Rattle.run_laws.proofs.Steps.Comes.{GoesTo, onward, jumping}
+
+-- the stack size of a device
+abbrev pub stack_of : Option Device → ℕ
+stack_of None = 0
+stack_of (Some d) = d.stack
+
+abbrev pub stack_at : Set → ℕ → ℕ
+stack_at set d = stack_of (slice_get set.devices d)
+
+-- a routine goes on for its device
+pub goes_device : (a b : Activation) (i : Instr) (jumped : Bool) → GoesTo a i b jumped
+    → b.device ≡ a.device
+goes_device a b i jumped (onward registers on written) = refl
+goes_device a b i jumped (jumping label to) = refl
+
+pub record Turned (a b : Activation) : Type 0 where
+  pub device : b.device ≡ a.device
+  pub registers : b.registers ≡ a.registers
+
+pub turned_same : (a : Activation) (l : OpenLoop) → Turned a (turned a l)
+turned_same a l =
+    cond_both (nat_lt 1 l.turns) _ _ (λ (b : Activation). Turned a b)
+    (λ more. record { device = refl; registers = refl })
+    (λ last. record { device = refl; registers = refl })
+
+pub dispatched_device : (set : Set) (device : ℕ) (o : Option Device) (major : Option Major) (n : ℕ)
+    → (dispatched set device o major n).device ≡ device
+dispatched_device set device None major n = refl
+dispatched_device set device (Some d) major n = refl
+
+-- a device has a stack location
+pub some_stack : (set : Set) (device : ℕ) (e : Device) → IsSound set
+    → slice_get set.devices device ≡ Some e
+    → 1 ≤ stack_at set device
+some_stack set device e sound there =
+    let fits : DeviceFits (length set.drivers) device e = device_fits set device e sound there in
+    let low : 1 ≤ e.stack = fits.low in
+    let is : stack_at set device ≡ e.stack = ap stack_of there in
+    omega arith
+
+-- the device under a device has a stack size that is smaller by so many locations
+not_less : (a b : ℕ) → nat_lt a b ≡ false → b ≤ a
+not_less a b h =
+    elim (leb_tells (suc a) b) [
+      | inl g ↦ let no : true ≡ false = sym g.0 ∙ h in cc
+      | inr g ↦ let l : b < suc a = g.1 in omega arith
+    ]
+
+pub smaller : (set : Set) (device lower driver locations : ℕ) (e : Device)
+    → Serves set device driver
+    → lower_of set device ≡ Some lower → slice_get set.devices lower ≡ Some e
+    → is_too_small set driver locations ≡ false → stack_at set lower + locations
+    ≤ stack_at set device
+smaller set device lower driver locations e served is there enough =
+    let d : Device = served.0 in
+    let own : (nat_eq d.driver driver && is_under locations d.stack (device_under set d)) ≡ false =
+    any_false (λ x. nat_eq x.driver driver && is_under locations x.stack (device_under set x))
+    set.devices device d
+    enough served.1
+    in
+    let small : is_under locations d.stack (device_under set d) ≡ false =
+    not_none (nat_eq d.driver driver) (is_under locations d.stack (device_under set d))
+    (eq-eqb d.driver driver served.2) own
+    in
+    let lower_is : lower_of set device ≡ d.lower =
+    ap (λ (o : Option Device). option_and_then (λ x. x.lower) o) served.1 in
+    let under : device_under set d ≡ Some e =
+    ap (λ (o : Option ℕ). option_and_then (λ n. slice_get set.devices n) o) (sym lower_is ∙ is)
+    ∙ there in
+    let least : e.stack + locations ≤ d.stack =
+    not_less d.stack (e.stack + locations) (sym (ap (is_under locations d.stack) under) ∙ small) in
+    let one : stack_at set lower ≡ e.stack = ap stack_of there in
+    let two : stack_at set device ≡ d.stack = ap stack_of served.1 in
+    omega arith

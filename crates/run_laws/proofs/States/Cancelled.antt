@@ -1,0 +1,27 @@
+-- The cancel routine that IoCancelIrp calls begins as one that a packet's cancel word names.
+use Rattle.std.proofs.Common.{◌≡◌, ℕ, ◌<◌, Option, Some, subst}
+use Rattle.std.specs.Prelude.{slice_get}
+use Rattle.model.specs.declared.set.Sort.TheVariants.{Cancel}
+use Rattle.model.specs.declared.world.Armer.{Armer}
+use Rattle.model.specs.declared.world.Packet.{Packet}
+use Rattle.model.specs.declared.world.Value.TheVariants.{Ref}
+use Rattle.model.specs.Effect.{routine_of_device}
+use Rattle.model.specs.Set.{Set, cancel_routine_named}
+use Rattle.model.specs.World.{Shared, entered, packet_of}
+use Rattle.run_laws.proofs.States.Entering.{Begins, begins_cancelled}
+use Rattle.run_laws.proofs.States.Fits.{ArmerLeads, Fits, word_leads}
+use Rattle.run_laws.proofs.States.Frames.{IsGood}
+use Rattle.run_laws.proofs.States.Rules.{States}
+
+pub begins_called : (set : Set) (states : States) (s : Shared) → IsGood set states → Fits set s
+    → (n : ℕ) (p : Packet) (armer : Armer) (number : ℕ) → n < s.issued → packet_of s n ≡ Some p
+    → p.armer ≡ Some armer
+    → cancel_routine_named set (routine_of_device (slice_get set.devices armer.device)) armer.queue
+    ≡ Some number
+    → Begins set states s.issued
+    (entered (routine_of_device (slice_get set.devices armer.device)) number armer.device (Ref n))
+    Cancel n
+begins_called set states s good fits n p armer number low there is named =
+    begins_cancelled set states good s.issued n low armer number
+    (subst (λ (word : Option Armer). ArmerLeads set word) is (word_leads set s fits n p there))
+    named

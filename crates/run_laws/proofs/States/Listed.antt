@@ -1,0 +1,442 @@
+-- What the state at a position says of registers with packets of queues with a cancel routine: the
+-- queue has one, and the thread holds its guard while it has a packet that stands in the queue, or was
+-- taken off it.
+use Rattle.model.specs.declared.set.Sort.TheVariants.{Dispatch, StartIo, Dpc, Propagate, Hold, Cancel}
+use Rattle.model.specs.declared.abs.Settled.TheVariants.{Settled as SettledMark, Open}
+use Rattle.model.specs.declared.limits.TheConstants.{REGISTERS, SPIN_LOCKS}
+use Rattle.model.specs.declared.abs.Duty.TheVariants.{NoDuty, Fresh}
+use Rattle.model.specs.declared.abs.Settled.{Settled}
+use Rattle.model.specs.Paths.{Arrives}
+use Rattle.model.specs.declared.set.Driver.{Driver}
+use Rattle.model.specs.declared.abs.Duty.{Duty}
+use Rattle.std.proofs.Common.{◌≡◌, ℕ, zero, suc, ◌<◌, ◌+◌, Bool, true, false, List, [], ◌∷◌, length, Option, None, Some, refl, ap, sym, ◌∙◌, subst, arith, replicate, get_or-set_other, inl, eqb-true, inr, eq-eqb, ◌-◌}
+use Rattle.std.specs.Prelude.{slice_get, slice_set, slice_index_or, option_and_then, if◌then◌else◌, ⊤}
+use Rattle.std.specs.List.{list_any}
+use Rattle.std.proofs.lemmas.Bool.Decides.{eqb_tells}
+use Rattle.std.proofs.lemmas.List.{get_or-set_same}
+use Rattle.model.specs.declared.abs.Abs.{Abs}
+use Rattle.model.specs.declared.abs.Kind.{Kind}
+use Rattle.model.specs.declared.abs.Kind.TheVariants.{Blank, Num, Lower, New, Own, Listed, Armed, Taken, Cancelling, View}
+use Rattle.model.specs.declared.abs.Rule.{Rule}
+use Rattle.model.specs.declared.abs.Rule.TheVariants.{CancelState, Guard}
+use Rattle.model.specs.declared.instr.Instr.{Instr}
+use Rattle.model.specs.declared.instr.Instr.TheVariants.{Const, Move, Clear, Load, LoadPaged, Get, Mark, Acquire, Release, Insert, Remove, Unlink, Arm, Disarm, Start, Take, Begin, Pass, Call, Complete, IfPending}
+use Rattle.model.specs.declared.set.Queue.{Queue}
+use Rattle.model.specs.declared.set.QueueName.{QueueName}
+use Rattle.model.specs.declared.set.QueueName.TheVariants.{Declared}
+use Rattle.model.specs.declared.set.Sort.{Sort}
+use Rattle.model.specs.Kinds.{all_let_go, is_guard, is_listed, is_name, kind_disarmed, kind_inserted, kind_removed, left_behind, let_go, needs_guard}
+use Rattle.model.specs.LocalRule.{given_down, guard_fault, handed, handed_at_label, is_guarded, kind_of, marked, queued_kind, refuses, unless, entry_of_sort, entry_of_cancel, entered_with}
+use Rattle.std.proofs.lemmas.Bool.{cases_Bool, eqb-true}
+use Rattle.model.specs.Set.{Set, cancel_routine_of, cancelled_from, guard_of, is_named, only_one, cancels_for, Member, cancelled_in}
+use Rattle.run_laws.proofs.States.Along.{arrives_keep}
+use Rattle.run_laws.proofs.Lists.{Each, each_map, each_set}
+use Rattle.run_laws.proofs.States.Rules.{first_none, second_none, unbroken}
+use Rattle.run_laws.proofs.Tests.{or_left, or_right}
+
+-- a queue of a driver has a cancel routine
+abbrev pub HasCancel : Set → ℕ → ℕ → Type 0
+HasCancel set driver q = (routine : ℕ) × (cancel_routine_of set driver q ≡ Some routine)
+
+-- a guard is among the locks that are held
+abbrev pub guards_in : List Bool → Option ℕ → Bool
+guards_in locks None = false
+guards_in locks (Some guard) = slice_index_or locks guard false
+
+abbrev pub Guarded : Set → ℕ → List Bool → ℕ → Type 0
+Guarded set driver locks q = guards_in locks (guard_of set driver q) ≡ true
+
+abbrev pub KindFits : Set → ℕ → List Bool → Kind → Type 0
+KindFits set driver locks (Listed (Declared q)) =
+    HasCancel set driver q × Guarded set driver locks q
+KindFits set driver locks (Armed (Declared q)) = HasCancel set driver q × Guarded set driver locks q
+KindFits set driver locks (Taken (Declared q)) = HasCancel set driver q × Guarded set driver locks q
+KindFits set driver locks (Cancelling (Declared q)) = HasCancel set driver q
+KindFits set driver locks Blank = ⊤
+KindFits set driver locks Num = ⊤
+KindFits set driver locks Lower = ⊤
+KindFits set driver locks New = ⊤
+KindFits set driver locks Own = ⊤
+KindFits set driver locks View = ⊤
+
+abbrev pub AllFit : Set → ℕ → Abs → Type 0
+AllFit set driver s = Each (KindFits set driver s.locks) s.kinds
+
+pub guarded_is : (s : Abs) (guard : Option ℕ) → is_guarded s guard ≡ guards_in s.locks guard
+guarded_is s None = refl
+guarded_is s (Some guard) = refl
+
+-- locks that are held
+held_within : (locks : List Bool) (m : ℕ) → slice_index_or locks m false ≡ true → m < length locks
+held_within [] m h = cc
+held_within (b ∷ locks) zero h = omega arith
+held_within (b ∷ locks) (suc m) h = let l : m < length locks = held_within locks m h in omega arith
+
+acquired_guards : (locks : List Bool) (m : ℕ) (guard : Option ℕ) → guards_in locks guard ≡ true
+    → guards_in (slice_set locks m true) guard ≡ true
+acquired_guards locks m None h = cc
+acquired_guards locks m (Some g) h =
+    elim (eqb_tells m g) [
+      | inl same ↦
+          let at : slice_index_or locks m false ≡ true =
+          ap (λ (k : ℕ). slice_index_or locks k false) same.1 ∙ h in
+          subst (λ (k : ℕ). slice_index_or (slice_set locks m true) k false ≡ true) same.1
+          (get_or-set_same locks m true false (held_within locks m at))
+      | inr apart ↦ get_or-set_other locks m g true false (λ e. apart.1 (sym e)) ∙ h
+    ]
+
+other_guard : (locks : List Bool) (m : ℕ) (guard : Option ℕ) → is_guard guard m ≡ false
+    → guards_in locks guard ≡ true → guards_in (slice_set locks m false) guard ≡ true
+other_guard locks m None other h = cc
+other_guard locks m (Some g) other h =
+    elim (eqb_tells g m) [
+      | inl same ↦ let no : true ≡ false = sym same.0 ∙ other in cc
+      | inr apart ↦ get_or-set_other locks m g false false (λ e. apart.1 e) ∙ h
+    ]
+
+named_same : (p q : ℕ) → is_name (Declared p) (Declared q) ≡ true → p ≡ q
+named_same p q h = eqb-true p q h
+
+unless_held : (b : Bool) (rule : Rule) → unless b rule ≡ None → b ≡ true
+unless_held true rule h = refl
+unless_held false rule h = cc
+
+module _ (set : Set) (driver : ℕ) where
+  -- one register
+  pub fits_at : (locks : List Bool) (kinds : List Kind) (r : ℕ)
+      → Each (KindFits set driver locks) kinds
+      → KindFits set driver locks (slice_index_or kinds r Blank)
+  fits_at locks [] r h = tt
+  fits_at locks (k ∷ kinds) zero h = h.0
+  fits_at locks (k ∷ kinds) (suc r) h = fits_at locks kinds r h.1
+
+  acquired_fits : (locks : List Bool) (m : ℕ) (k : Kind) → KindFits set driver locks k
+      → KindFits set driver (slice_set locks m true) k
+  acquired_fits locks m (Listed (Declared q)) h =
+      (h.0, acquired_guards locks m (guard_of set driver q) h.1)
+  acquired_fits locks m (Armed (Declared q)) h =
+      (h.0, acquired_guards locks m (guard_of set driver q) h.1)
+  acquired_fits locks m (Taken (Declared q)) h =
+      (h.0, acquired_guards locks m (guard_of set driver q) h.1)
+  acquired_fits locks m (Cancelling (Declared q)) h = h
+  acquired_fits locks m Blank h = tt
+  acquired_fits locks m Num h = tt
+  acquired_fits locks m Lower h = tt
+  acquired_fits locks m New h = tt
+  acquired_fits locks m Own h = tt
+  acquired_fits locks m View h = tt
+
+  -- a guard is released with no packet left that needs it
+  armed_goes : (locks : List Bool) (m q : ℕ) (b : Bool) → is_guard (guard_of set driver q) m ≡ b
+      → HasCancel set driver q → Guarded set driver locks q
+      → KindFits set driver (slice_set locks m false)
+      (if b then Blank else Armed (Declared q))
+  armed_goes locks m q true is has held = tt
+  armed_goes locks m q false is has held =
+      (has, other_guard locks m (guard_of set driver q) is held)
+
+  freed_fits : (locks : List Bool) (m : ℕ) (k : Kind) → needs_guard set driver m k ≡ false
+      → KindFits set driver locks k
+      → KindFits set driver (slice_set locks m false) (let_go set driver m k)
+  freed_fits locks m (Listed (Declared q)) free h =
+      (h.0, other_guard locks m (guard_of set driver q) free h.1)
+  freed_fits locks m (Armed (Declared q)) free h =
+      armed_goes locks m q (is_guard (guard_of set driver q) m) refl h.0 h.1
+  freed_fits locks m (Taken (Declared q)) free h =
+      (h.0, other_guard locks m (guard_of set driver q) free h.1)
+  freed_fits locks m (Cancelling (Declared q)) free h = h
+  freed_fits locks m Blank free h = tt
+  freed_fits locks m Num free h = tt
+  freed_fits locks m Lower free h = tt
+  freed_fits locks m New free h = tt
+  freed_fits locks m Own free h = tt
+  freed_fits locks m View free h = tt
+
+  all_freed : (locks : List Bool) (m : ℕ) (kinds : List Kind)
+      → list_any (needs_guard set driver m) kinds ≡ false → Each (KindFits set driver locks) kinds
+      → Each (KindFits set driver (slice_set locks m false)) (all_let_go set driver m kinds)
+  all_freed locks m [] free h = tt
+  all_freed locks m (k ∷ kinds) free h = (
+    freed_fits locks m k (or_left (needs_guard set driver m k)
+        (list_any (needs_guard set driver m) kinds) free) h.0,
+    all_freed locks m kinds
+        (or_right (needs_guard set driver m k) (list_any (needs_guard set driver m) kinds) free)
+        h.1,
+  )
+
+  -- an instruction on a queue breaks no rule where the guard is held
+  guard_held : (s : Abs) (q : ℕ) → guard_fault s set driver q ≡ None → Guarded set driver s.locks q
+  guard_held s q rule =
+      sym (guarded_is s (guard_of set driver q))
+      ∙ unless_held (is_guarded s (guard_of set driver q)) Guard rule
+
+  -- what an instruction makes
+  inserted_fits : (locks : List Bool) (q : ℕ) (o : Option ℕ) → cancel_routine_of set driver q ≡ o
+      → Guarded set driver locks q → KindFits set driver locks (kind_inserted o q)
+  inserted_fits locks q None is held = tt
+  inserted_fits locks q (Some routine) is held = ((routine, is), held)
+
+  removed_fits : (locks : List Bool) (q : ℕ) (o : Option ℕ) → cancel_routine_of set driver q ≡ o
+      → Guarded set driver locks q → KindFits set driver locks (kind_removed o q)
+  removed_fits locks q None is held = tt
+  removed_fits locks q (Some routine) is held = ((routine, is), held)
+
+  pub armed_fits : (locks : List Bool) (q : ℕ) (k : Kind)
+      → queued_kind (is_listed (Declared q) k) k ≡ None → KindFits set driver locks k
+      → KindFits set driver locks (Armed (Declared q))
+  armed_fits locks q (Listed (Declared p)) rule h =
+      let same : p ≡ q = named_same p q (unless_held (is_name (Declared p) (Declared q)) CancelState
+      rule) in
+      subst (λ (x : ℕ). HasCancel set driver x × Guarded set driver locks x) same h
+  armed_fits locks q Blank rule h = cc
+  armed_fits locks q Num rule h = cc
+  armed_fits locks q Lower rule h = cc
+  armed_fits locks q New rule h = cc
+  armed_fits locks q Own rule h = cc
+  armed_fits locks q (Armed name) rule h = cc
+  armed_fits locks q (Taken name) rule h = cc
+  armed_fits locks q (Cancelling name) rule h = cc
+  armed_fits locks q View rule h = cc
+
+  disarmed_fits : (locks : List Bool) (k : Kind) → KindFits set driver locks k
+      → KindFits set driver locks (kind_disarmed k)
+  disarmed_fits locks (Armed (Declared q)) h = h
+  disarmed_fits locks (Taken (Declared q)) h = tt
+  disarmed_fits locks (Listed (Declared q)) h = h
+  disarmed_fits locks (Cancelling (Declared q)) h = h
+  disarmed_fits locks Blank h = tt
+  disarmed_fits locks Num h = tt
+  disarmed_fits locks Lower h = tt
+  disarmed_fits locks New h = tt
+  disarmed_fits locks Own h = tt
+  disarmed_fits locks View h = tt
+
+  left_fits : (locks : List Bool) (k : Kind) → KindFits set driver locks (left_behind k)
+  left_fits locks Num = tt
+  left_fits locks Blank = tt
+  left_fits locks Lower = tt
+  left_fits locks New = tt
+  left_fits locks Own = tt
+  left_fits locks (Listed name) = tt
+  left_fits locks (Armed name) = tt
+  left_fits locks (Taken name) = tt
+  left_fits locks (Cancelling name) = tt
+  left_fits locks View = tt
+
+  set_fits : (s : Abs) (r : ℕ) (k : Kind) → KindFits set driver s.locks k → AllFit set driver s
+      → Each (KindFits set driver s.locks) (slice_set s.kinds r k)
+  set_fits s r k new h = each_set (KindFits set driver s.locks) s.kinds r k h new
+
+  marked_fits : (s : Abs) (r : ℕ) (k : Kind) → AllFit set driver s
+      → AllFit set driver (marked s r k)
+  marked_fits s r New h = set_fits s r Own tt h
+  marked_fits s r _ h = h
+
+  given_fits : (s : Abs) (r : ℕ) (k : Kind) → AllFit set driver s
+      → AllFit set driver (given_down s r k)
+  given_fits s r New h = set_fits s r Lower tt h
+  given_fits s r Own h = set_fits s r Blank tt h
+  given_fits s r _ h = h
+
+  handed_fits : (s : Abs) (i : Instr) (sort : Sort) → refuses s i sort set driver ≡ None
+      → AllFit set driver s → AllFit set driver (handed set driver s i)
+  handed_fits s (Const r n) sort keeps h = set_fits s r Num tt h
+  handed_fits s (Move r q) sort keeps h =
+      each_set (KindFits set driver s.locks) (slice_set s.kinds r (kind_of s q)) q
+      (left_behind (kind_of s q)) (set_fits s r (kind_of s q) (fits_at s.locks s.kinds q h) h)
+      (left_fits s.locks (kind_of s q))
+  handed_fits s (Clear r) sort keeps h = set_fits s r Blank tt h
+  handed_fits s (Load r c) sort keeps h = set_fits s r Num tt h
+  handed_fits s (LoadPaged r c) sort keeps h = set_fits s r Num tt h
+  handed_fits s (Get r q field) sort keeps h = set_fits s r Num tt h
+  handed_fits s (Mark r) sort keeps h = marked_fits s r (kind_of s r) h
+  handed_fits s (Acquire lock) sort keeps h =
+      each_map (KindFits set driver s.locks) (KindFits set driver (slice_set s.locks lock true))
+      s.kinds
+      (λ k fits. acquired_fits s.locks lock k fits) h
+  handed_fits s (Release lock) sort keeps h =
+      all_freed s.locks lock s.kinds (unbroken _ _ (second_none _ _ keeps)) h
+  handed_fits s (Insert r q) sort keeps h =
+      set_fits s r (kind_inserted (cancel_routine_of set driver q) q)
+      (inserted_fits s.locks q (cancel_routine_of set driver q) refl
+      (guard_held s q (second_none _ _ keeps))) h
+  handed_fits s (Remove r q label) sort keeps h =
+      set_fits s r (kind_removed (cancel_routine_of set driver q) q)
+      (removed_fits s.locks q (cancel_routine_of set driver q) refl
+      (guard_held s q (first_none _ _ keeps))) h
+  handed_fits s (Unlink r q) sort keeps h = set_fits s r Own tt h
+  handed_fits s (Arm r q) sort keeps h =
+      set_fits s r (Armed (Declared q))
+      (armed_fits s.locks q (kind_of s r) (first_none _ _ keeps) (fits_at s.locks s.kinds r h)) h
+  handed_fits s (Disarm r label) sort keeps h =
+      set_fits s r (kind_disarmed (kind_of s r))
+      (disarmed_fits s.locks (kind_of s r) (fits_at s.locks s.kinds r h)) h
+  handed_fits s (Start r) sort keeps h = set_fits s r Blank tt h
+  handed_fits s (Take r label) sort keeps h = set_fits s r Own tt h
+  handed_fits s (Begin r) sort keeps h = set_fits s r Blank tt h
+  handed_fits s (Pass r) sort keeps h = given_fits s r (kind_of s r) h
+  handed_fits s (Call r f) sort keeps h = given_fits s r (kind_of s r) h
+  handed_fits s (Complete r status) sort keeps h = set_fits s r Blank tt h
+  handed_fits s _ sort keeps h = h
+
+  label_fits : (s : Abs) (i : Instr) → AllFit set driver s → AllFit set driver (handed_at_label s i)
+  label_fits s (Remove r q label) h = set_fits s r Blank tt h
+  label_fits s (Disarm r label) h = set_fits s r Blank tt h
+  label_fits s (Take r label) h = set_fits s r Blank tt h
+  label_fits s (IfPending r label) h = h
+  label_fits s _ h = h
+
+-- in the state of entry
+blank_fit : (set : Set) (driver : ℕ) (locks : List Bool) (count : ℕ)
+    → Each (KindFits set driver locks) (replicate count Blank)
+blank_fit set driver locks zero = tt
+blank_fit set driver locks (suc count) = (tt, blank_fit set driver locks count)
+
+-- a queue that names a routine has it for its cancel routine
+named_some : (o : Option ℕ) (number : ℕ) → is_named o number ≡ true → o ≡ Some number
+named_some None number h = cc
+named_some (Some routine) number h = ap Some (eqb-true routine number h)
+
+named_in_from : (queues : List Queue) (start number q : ℕ) (names : List QueueName)
+    → cancelled_from queues start number ≡ Declared q ∷ names
+    → (k : ℕ) × (q ≡ start + k)
+    × (option_and_then (λ queue. queue.cancel) (slice_get queues k) ≡ Some number)
+named_in_from [] start number q names h = cc
+named_in_from (queue ∷ queues) start number q names h =
+    elim (cases_Bool (is_named queue.cancel number)) [
+      | inl is ↦
+          let list : Declared start ∷ cancelled_from queues (start + 1) number
+          ≡ Declared q ∷ names =
+          rw is at h in
+          let same : start ≡ q = cc in
+          (0, omega arith, named_some queue.cancel number is)
+      | inr isnt ↦
+          let list : cancelled_from queues (start + 1) number ≡ Declared q ∷ names = rw isnt at h in
+          let later : (k : ℕ) × (q ≡ start + 1 + k)
+          × (option_and_then (λ queue. queue.cancel) (slice_get queues k) ≡ Some number) =
+          named_in_from queues (start + 1) number q names list in
+          let place : q ≡ start + 1 + later.0 = later.1 in
+          (suc later.0, omega arith, later.2)
+    ]
+
+-- and a queue that has a routine for its cancel routine names it
+member_from : (queues : List Queue) (start number k : ℕ)
+    → option_and_then (λ queue. queue.cancel) (slice_get queues k) ≡ Some number
+    → (i : ℕ) × (slice_get (cancelled_from queues start number) i ≡ Some (Declared (start + k)))
+member_from [] start number k there = cc
+member_from (queue ∷ queues) start number zero there =
+    let place : start ≡ start + zero = omega arith in
+    let is : queue.cancel ≡ Some number = there in
+    (0, rw (is, eq-eqb number number refl) (ap (λ (x : ℕ). Some (Declared x)) place))
+member_from (queue ∷ queues) start number (suc k) there =
+    let later : (i : ℕ)
+    × (slice_get (cancelled_from queues (start + 1) number) i ≡ Some (Declared (start + 1 + k))) =
+    member_from queues (start + 1) number k there in
+    let place : start + 1 + k ≡ start + suc k = omega arith in
+    let same : Some (Declared (start + 1 + k)) ≡ Some (Declared (start + suc k)) =
+    ap (λ (x : ℕ). Some (Declared x)) place in
+    elim (cases_Bool (is_named queue.cancel number)) [
+      | inl is ↦ (suc later.0, rw is (later.1 ∙ same))
+      | inr isnt ↦ (later.0, rw isnt (later.1 ∙ same))
+    ]
+
+only_is : (names : List QueueName) (name : QueueName) → only_one names ≡ Some name
+    → names ≡ name ∷ []
+only_is [] name h = cc
+only_is (other ∷ []) name h = let same : other ≡ name = cc in rw same refl
+only_is (other ∷ more ∷ names) name h = cc
+
+single : (name x : QueueName) (i : ℕ) → slice_get (name ∷ []) i ≡ Some x → name ≡ x
+single name x zero h = cc
+single name x (suc i) h = cc
+
+-- so the list that a cancel routine is entered for is the one that names it
+pub named_only : (set : Set) (driver number q : ℕ) (name : QueueName)
+    → cancel_routine_of set driver q ≡ Some number → cancels_for set driver number ≡ Some name
+    → name ≡ Declared q
+named_only set driver number q name named only =
+    named_by (slice_get set.drivers driver) refl named only
+  where
+    named_by : (o : Option Driver) → slice_get set.drivers driver ≡ o
+        → option_and_then (λ queue. queue.cancel) (option_and_then (λ d. slice_get d.queues q) o)
+        ≡ Some number
+        → only_one (cancelled_in o number) ≡ Some name → name ≡ Declared q
+    named_by None there named only = cc
+    named_by (Some d) there named only =
+        let list : cancelled_from d.queues 0 number ≡ name ∷ [] =
+        only_is (cancelled_from d.queues 0 number) name only in
+        let same : Some (Declared (0 + q)) ≡ Some (Declared q) =
+        (let place : 0 + q ≡ q = omega arith in ap (λ (x : ℕ). Some (Declared x)) place) in
+        let member : (i : ℕ) ×
+        (slice_get (cancelled_from d.queues 0 number) i ≡ Some (Declared (0 + q))) =
+        member_from d.queues 0 number q named in
+        single name (Declared q) member.0
+        (ap (λ (names : List QueueName). slice_get names member.0) (sym list) ∙ member.1 ∙ same)
+
+-- in the state of entry
+named_fits : (set : Set) (driver number q : ℕ)
+    → cancels_for set driver number ≡ Some (Declared q) → HasCancel set driver q
+named_fits set driver number q only = named_by (slice_get set.drivers driver) refl only
+  where
+    named_by : (o : Option Driver) → slice_get set.drivers driver ≡ o
+        → only_one (cancelled_in o number) ≡ Some (Declared q)
+        → (routine : ℕ) × (option_and_then (λ queue. queue.cancel)
+        (option_and_then (λ d. slice_get d.queues q) o) ≡ Some routine)
+    named_by None there only = cc
+    named_by (Some d) there only =
+        let list : cancelled_from d.queues 0 number ≡ Declared q ∷ [] =
+        only_is (cancelled_from d.queues 0 number) (Declared q) only in
+        let found : (k : ℕ) × (q ≡ 0 + k)
+        × (option_and_then (λ queue. queue.cancel) (slice_get d.queues k) ≡ Some number) =
+        named_in_from d.queues 0 number q [] list in
+        let start : q ≡ 0 + found.0 = found.1 in
+        let place : found.0 ≡ q = omega arith in (
+          number,
+          subst (λ (k : ℕ). option_and_then (λ queue. queue.cancel) (slice_get d.queues k)
+              ≡ Some number) place found.2,
+        )
+
+entered_fits : (set : Set) (driver : ℕ) (k : Kind) (duty : Duty) (carried : Settled) (token : Bool)
+    → KindFits set driver (replicate SPIN_LOCKS false) k
+    → AllFit set driver (entered_with k duty carried token)
+entered_fits set driver k duty carried token fits =
+    (fits, blank_fit set driver (replicate SPIN_LOCKS false) (REGISTERS - 1))
+
+module _ (set : Set) (driver number : ℕ) where
+  cancel_fits : (name : Option QueueName) (s : Abs) → cancels_for set driver number ≡ name
+      → entry_of_cancel name ≡ Some s → AllFit set driver s
+  cancel_fits None s is h = cc
+  cancel_fits (Some (Declared q)) s is h =
+      let same : record (entered_with (Cancelling (Declared q)) NoDuty SettledMark false)
+      { cancel = true }
+      ≡ s = cc in
+      subst (AllFit set driver) same
+      (entered_fits set driver (Cancelling (Declared q)) NoDuty SettledMark false
+      (named_fits set driver number q is))
+
+  sort_fits : (sort : Sort) (s : Abs) → entry_of_sort sort (cancels_for set driver number) ≡ Some s
+      → AllFit set driver s
+  sort_fits Dispatch s h =
+      let same : entered_with New Fresh SettledMark false ≡ s = cc in
+      subst (AllFit set driver) same (entered_fits set driver New Fresh SettledMark false tt)
+  sort_fits StartIo s h =
+      let same : entered_with Own NoDuty SettledMark true ≡ s = cc in
+      subst (AllFit set driver) same (entered_fits set driver Own NoDuty SettledMark true tt)
+  sort_fits Dpc s h =
+      let same : entered_with Blank NoDuty SettledMark false ≡ s = cc in
+      subst (AllFit set driver) same (entered_fits set driver Blank NoDuty SettledMark false tt)
+  sort_fits Propagate s h =
+      let same : entered_with View NoDuty Open false ≡ s = cc in
+      subst (AllFit set driver) same (entered_fits set driver View NoDuty Open false tt)
+  sort_fits Hold s h =
+      let same : entered_with New Fresh SettledMark false ≡ s = cc in
+      subst (AllFit set driver) same (entered_fits set driver New Fresh SettledMark false tt)
+  sort_fits Cancel s h = cancel_fits (cancels_for set driver number) s refl h
+
+-- and in every state that arrives
+pub arrives_fits : (m : Member) (p : ℕ) (s : Abs) → Arrives m p s → AllFit m.set m.driver s
+arrives_fits m p s arrives =
+    arrives_keep (AllFit m.set m.driver) m
+    (λ first enters. sort_fits m.set m.driver m.number m.routine.sort first enters)
+    (λ before i q at rule h. handed_fits m.set m.driver before i m.routine.sort rule h)
+    (λ before i q at rule h. label_fits m.set m.driver before i h) p s arrives
