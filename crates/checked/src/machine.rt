@@ -3,11 +3,15 @@
 ghost use Rattle.std.specs.Prelude.{◌≡◌, ◌≤◌, [], IfOk, IfErr};
 ghost use Rattle.model.specs.declared.limits.TheConstants.{MAX_THREADS};
 ghost use Rattle.model.specs.Machine.{Shows, Applies};
+ghost use Rattle.model.specs.Sound.{IsSound};
+ghost use Rattle.model.specs.Typable.{IsTypable};
+ghost use Rattle.run_laws.specs.Rules.{KeepsTheRules};
 
 use crate::state::State;
 use image::DriverSet;
 use model::event::{Event, Reply};
 use model::memory::OutOfMemory;
+use run_laws::accepted_runs_keep_the_rules;
 use std::alloc::Global;
 use std::marker::Model;
 
@@ -41,6 +45,7 @@ impl Checked {
         requires some { 1 ≤ threads }
         requires few { threads ≤ MAX_THREADS }
         ensures set { IfOk result (λ machine. machine.set ≡ set) }
+        ensures sound { IfOk result (λ machine. IsSound machine.set) }
         ensures shows { IfOk result (λ machine. Shows machine threads []) }
         ensures back { IfErr result (λ refused. refused.0 ≡ set) }
     {
@@ -68,8 +73,10 @@ impl Checked {
         self.state.stopped()
     }
 
-    /// The machine after these events over so many threads, 1 to 32. The set comes back where
-    /// memory is refused.
+    /// The machine after these events over so many threads, 1 to 32. Where the set is typable, as
+    /// an accepted one is, its run keeps the rules: among them that no operand is of a wrong kind,
+    /// that locks and levels are kept, and that each activation is within its certificate. The set
+    /// comes back where memory is refused.
     pub fn run(
         alloc: Global,
         set: DriverSet,
@@ -80,8 +87,11 @@ impl Checked {
         requires few { threads ≤ MAX_THREADS }
         ensures set { IfOk result (λ machine. machine.set ≡ set) }
         ensures shows { IfOk result (λ machine. Shows machine threads events.now) }
+        ensures rules { IfOk result (λ machine. IsTypable set → KeepsTheRules set threads
+            events.now) }
         ensures back { IfErr result (λ refused. refused.0 ≡ set) }
     {
+        accepted_runs_keep_the_rules();
         let mut machine = match Checked::new(alloc, set, threads) {
             Ok(machine) => machine,
             Err(refused) => return Err(refused),
