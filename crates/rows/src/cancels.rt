@@ -34,6 +34,27 @@ const STEALS: &str =
      acquire l0\nremove r1 q e\nunlink r0 q\ninsert r0 q\narm r0 q\ndisarm r1 e\nrelease l0\n\
      complete r1 CANCELLED\nret void\ne: release l0\nret void\nendr\nendd\ndevice v d 1\n";
 
+/// The same with a DPC routine that releases the queue's lock before it disarms the packet.
+const UNGUARDED: &str =
+    "driver d\nqueue q l0 gone\ndispatch READ f\ndpc g\nroutine f dispatch\nmark r0\nacquire l0\n\
+     insert r0 q\narm r0 q\nifcancel r0 was\nrelease l0\nret PENDING\nwas: disarm r0 lost\n\
+     unlink r0 q\nrelease l0\ncomplete r0 CANCELLED\nret PENDING\nlost: release l0\nret PENDING\n\
+     endr\nroutine g dpc\nacquire l0\nremove r0 q none\nrelease l0\ndisarm r0 lost\n\
+     complete r0 SUCCESS\nret void\nnone: release l0\nlost: ret void\nendr\nroutine gone cancel\n\
+     relc\nacquire l0\nunlink r0 q\nrelease l0\ncomplete r0 CANCELLED\nret void\nendr\nendd\n\
+     device v d 1\n";
+
+/// The same with a cancel routine that takes a packet off the queue, which may be its own.
+const REQUEUES: &str =
+    "driver d\nqueue q l0 gone\ndispatch READ f\ndpc g\nroutine f dispatch\nmark r0\nacquire l0\n\
+     insert r0 q\narm r0 q\nifcancel r0 was\nrelease l0\nret PENDING\nwas: disarm r0 lost\n\
+     unlink r0 q\nrelease l0\ncomplete r0 CANCELLED\nret PENDING\nlost: release l0\nret PENDING\n\
+     endr\nroutine g dpc\nacquire l0\nremove r0 q none\ndisarm r0 none\nrelease l0\n\
+     complete r0 SUCCESS\nret void\nnone: release l0\nret void\nendr\nroutine gone cancel\nrelc\n\
+     acquire l0\nremove r1 q e\nunlink r0 q\ninsert r0 q\narm r0 q\ndisarm r1 d\nrelease l0\n\
+     complete r1 CANCELLED\nret void\nd: release l0\nret void\ne: unlink r0 q\nrelease l0\n\
+     complete r0 CANCELLED\nret void\nendr\nendd\ndevice v d 1\n";
+
 /// The same with a dispatch routine that completes the packet that it armed.
 const SETS: &str =
     "driver d\nqueue q l0 gone\ndispatch READ f\ndpc g\nroutine f dispatch\nmark r0\nacquire l0\n\
@@ -265,7 +286,54 @@ static WORKED: [Case; 15] = [
     },
 ];
 
-static CASES: [Case; 19] = [
+static CASES: [Case; 23] = [
+    Case {
+        name: "a packet that was taken off is disarmed without the queue's lock",
+        set: UNGUARDED,
+        trace: None,
+        status: 1,
+        out: "refused V11 Guard driver 0 routine 1 at 2\n",
+        err: "",
+    },
+    Case {
+        name: "a packet that was taken off is disarmed without the queue's lock, unchecked",
+        set: UNGUARDED,
+        trace: Some((
+            "threads 3\nissue 0 0 READ 0\nstep 0 7\ninterrupt 0\ndpc 1 0\nstep 1 3\ncancel 2 0 0\n\
+             step 2 9\nstep 1\n",
+            Verification::Skipped,
+        )),
+        status: 1,
+        out: "0 started 0\n1 stepped\n2 stepped\n3 stepped\n4 stepped\n5 stepped\n6 stepped\n\
+            7 finished\n8 stepped\n9 stepped\n10 stepped\n11 stepped\n12 stepped\n13 started 0\n\
+            14 stepped\n15 stepped\n16 stepped\n17 stepped\n18 stepped\n19 stepped\n20 stepped\n\
+            21 stepped\n22 topped 0 0xC0000120 0\n23 bug 0x0A packet 0\n",
+        err: "",
+    },
+    Case {
+        name: "a cancel routine that takes a packet off and queues its own again",
+        set: REQUEUES,
+        trace: None,
+        status: 1,
+        out: "refused V12 CancelState driver 0 routine 2 at 2\n",
+        err: "",
+    },
+    Case {
+        name: "a cancel routine that takes a packet off and queues its own again, unchecked",
+        set: REQUEUES,
+        trace: Some((
+            "threads 2\nissue 0 0 READ 0\nstep 0 7\ncancel 1 0 0\nstep 1 14\ninterrupt 0\ndpc 0 0\n\
+             step 0 3\n",
+            Verification::Skipped,
+        )),
+        status: 1,
+        out: "0 started 0\n1 stepped\n2 stepped\n3 stepped\n4 stepped\n5 stepped\n6 stepped\n\
+            7 finished\n8 started 0\n9 stepped\n10 stepped\n11 stepped\n12 stepped\n13 stepped\n\
+            14 stepped\n15 stepped\n16 stepped\n17 stepped\n18 stepped\n19 stepped\n20 stepped\n\
+            21 topped 0 0xC0000120 0\n22 finished\n23 stepped\n24 stepped\n25 stepped\n\
+            26 bug 0x0A packet 0\n",
+        err: "",
+    },
     Case {
         name: "a packet that is cancelled before it is queued",
         set: QUEUES,
