@@ -1,0 +1,668 @@
+//! Bytes read as an image.
+
+ghost use Rattle.std.specs.Prelude.{◌≡◌, ◌⊎◌, IfErr, IfOk, MatchResult, Ok};
+ghost use Rattle.image.specs.Reading.{all_at, at_most, below, byte_at, cell_in, count_at};
+ghost use Rattle.image.specs.Reading.{device_at, driver_at, field_in, instruction_at};
+ghost use Rattle.image.specs.Reading.{instruction_in, leaves, letter, letters_at, lock_in};
+ghost use Rattle.image.specs.Reading.{none_or_below, on_cells, on_packets, on_queues, queue_at};
+ghost use Rattle.image.specs.Reading.{register_in, returned, routine_at, set_in, sort_in, stack_in};
+ghost use Rattle.image.specs.Reading.{status_in, turns_in, unused, word_at, Gives, IsFaultOf};
+ghost use Rattle.image.specs.Spelling.{Spells};
+ghost use Rattle.image.specs.declared.fault.ImageFault.TheVariants.{Memory};
+ghost use Rattle.model.specs.Set.{Set};
+ghost use Rattle.model.specs.Sound.{IsSound};
+
+use crate::driver_set::DriverSet;
+use crate::fault::ImageFault;
+use crate::word::{NONE, Word};
+use model::instr::{Cell, Field, Instr, Register, Return, SpinLock, Turns};
+use model::items::Items;
+use model::limits::{
+    MAX_DEVICES, MAX_DRIVERS, MAX_INSTRUCTIONS, MAX_QUEUES, MAX_ROUTINES, MAX_STACK,
+};
+use model::set::{Device, Driver, Queue, Routine, Sort};
+use model::status::Status;
+use std::alloc::Global;
+
+/// How many things an instruction may name: the routines and queues of its driver, and the
+/// positions of its routine.
+#[derive(Clone, Copy)]
+pub struct Counts {
+    pub routines: u8,
+    pub queues: u8,
+    pub positions: u16,
+}
+
+/// The register of a number.
+fn register(number: u8) -> Result<Register, ImageFault>
+    ensures { result ≡ register_in number }
+{
+    Register::of(number).ok_or(ImageFault::OverLimit)
+}
+
+/// The cell of a number.
+fn cell(number: u8) -> Result<Cell, ImageFault>
+    ensures { result ≡ cell_in number }
+{
+    Cell::of(number).ok_or(ImageFault::OverLimit)
+}
+
+/// The spin lock of a number.
+fn lock(number: u8) -> Result<SpinLock, ImageFault>
+    ensures { result ≡ lock_in number }
+{
+    SpinLock::of(number).ok_or(ImageFault::OverLimit)
+}
+
+/// So many turns of a loop.
+fn turns(number: u32) -> Result<Turns, ImageFault>
+    ensures { result ≡ turns_in number }
+{
+    if number > u16::MAX as u32 {
+        return Err(ImageFault::OverLimit);
+    }
+    Turns::of(number as u16).ok_or(ImageFault::OverLimit)
+}
+
+/// The number of one of so many positions.
+fn label(positions: u16, number: u32) -> Result<u16, ImageFault>
+    ensures { result ≡ below positions number }
+{
+    if number < positions as u32 {
+        Ok(number as u16)
+    } else {
+        Err(ImageFault::OverLimit)
+    }
+}
+
+/// The number of one of so many things.
+fn below(count: u8, number: u8) -> Result<u8, ImageFault>
+    ensures { result ≡ below count number }
+{
+    if number < count {
+        Ok(number)
+    } else {
+        Err(ImageFault::OverLimit)
+    }
+}
+
+/// The number of one of so many things, or none.
+fn none_or_below(count: u8, number: u8) -> Result<Option<u8>, ImageFault>
+    ensures { result ≡ none_or_below count number }
+{
+    if number == NONE {
+        return Ok(None);
+    }
+    Ok(Some(below(count, number)?))
+}
+
+/// The sort of a number.
+fn sort(number: u8) -> Result<Sort, ImageFault>
+    ensures { result ≡ sort_in number }
+{
+    match number {
+        0 => Ok(Sort::Dispatch),
+        1 => Ok(Sort::StartIo),
+        2 => Ok(Sort::Dpc),
+        3 => Ok(Sort::Cancel),
+        4 => Ok(Sort::Propagate),
+        5 => Ok(Sort::Hold),
+        _ => Err(ImageFault::BadOpcode),
+    }
+}
+
+/// The status of a number.
+fn status(number: u8) -> Result<Status, ImageFault>
+    ensures { result ≡ status_in number }
+{
+    match number {
+        0 => Ok(Status::Success),
+        1 => Ok(Status::Pending),
+        2 => Ok(Status::Busy),
+        3 => Ok(Status::Unsuccessful),
+        4 => Ok(Status::InvalidParameter),
+        5 => Ok(Status::InvalidDeviceRequest),
+        6 => Ok(Status::Cancelled),
+        _ => Err(ImageFault::OverLimit),
+    }
+}
+
+/// The field of a number.
+fn field(number: u8) -> Result<Field, ImageFault>
+    ensures { result ≡ field_in number }
+{
+    match number {
+        0 => Ok(Field::Major),
+        1 => Ok(Field::Argument),
+        2 => Ok(Field::Info),
+        _ => Err(ImageFault::OverLimit),
+    }
+}
+
+impl Word {
+    /// Whether all that is unused is zero, where the first `used` operands of one byte are used,
+    /// and the last four bytes if it is `wide`.
+    fn leaves(&self, used: u8, wide: bool) -> bool
+        ensures { result ≡ leaves used wide self.now }
+    {
+        (0 < used || self.first == 0)
+            && (1 < used || self.second == 0)
+            && (2 < used || self.third == 0)
+            && (wide || self.last == 0)
+    }
+
+    /// What `ret` returns, by its form.
+    fn returned(&self) -> Result<Instr, ImageFault>
+        ensures { result ≡ returned self.now }
+    {
+        let used = match self.first {
+            0 | 1 => 2,
+            2 | 3 | 4 => 1,
+            _ => return Err(ImageFault::BadOpcode),
+        };
+        if !self.leaves(used, false) {
+            return Err(ImageFault::BadOpcode);
+        }
+        Ok(Instr::Ret(match self.first {
+            0 => Return::WithStatus(status(self.second)?),
+            1 => Return::Lower(register(self.second)?),
+            2 => Return::Continue,
+            3 => Return::Stop,
+            _ => Return::Void,
+        }))
+    }
+}
+
+/// The instruction that a word spells.
+fn instruction(counts: &Counts, word: &Word) -> Result<Instr, ImageFault>
+    ensures { result ≡ instruction_in counts.now word.now }
+{
+    match word.number {
+        1 if word.leaves(1, true) => Ok(Instr::Const(register(word.first)?, word.last)),
+        2 if word.leaves(2, false) => Ok(Instr::Move(
+            register(word.first)?,
+            register(word.second)?,
+        )),
+        3 if word.leaves(1, false) => Ok(Instr::Clear(register(word.first)?)),
+        4 if word.leaves(2, false) => Ok(Instr::Add(register(word.first)?, register(word.second)?)),
+        5 if word.leaves(2, false) => Ok(Instr::Subtract(
+            register(word.first)?,
+            register(word.second)?,
+        )),
+        6 if word.leaves(1, true) => Ok(Instr::JumpIfZero(
+            register(word.first)?,
+            label(counts.positions, word.last)?,
+        )),
+        7 if word.leaves(2, true) => Ok(Instr::JumpIfLess(
+            register(word.first)?,
+            register(word.second)?,
+            label(counts.positions, word.last)?,
+        )),
+        8 if word.leaves(0, true) => Ok(Instr::Jump(label(counts.positions, word.last)?)),
+        9 if word.leaves(0, true) => Ok(Instr::Loop(turns(word.last)?)),
+        1..=9 => Err(ImageFault::BadOpcode),
+        _ => on_cells(counts, word),
+    }
+}
+
+/// What is done with the device's cells and a packet's fields, its locks and queues, or packets.
+fn on_cells(counts: &Counts, word: &Word) -> Result<Instr, ImageFault>
+    ensures { result ≡ on_cells counts.now word.now }
+{
+    match word.number {
+        10 if word.leaves(0, false) => Ok(Instr::End),
+        11 if word.leaves(2, false) => Ok(Instr::Load(register(word.first)?, cell(word.second)?)),
+        12 if word.leaves(2, false) => Ok(Instr::Store(cell(word.first)?, register(word.second)?)),
+        13 if word.leaves(2, false) => Ok(Instr::LoadPaged(
+            register(word.first)?,
+            cell(word.second)?,
+        )),
+        14 if word.leaves(2, false) => Ok(Instr::StorePaged(
+            cell(word.first)?,
+            register(word.second)?,
+        )),
+        15 if word.leaves(3, false) => Ok(Instr::Get(
+            register(word.first)?,
+            register(word.second)?,
+            field(word.third)?,
+        )),
+        16 if word.leaves(2, false) => Ok(Instr::Put(
+            register(word.first)?,
+            register(word.second)?,
+        )),
+        17 if word.leaves(1, false) => Ok(Instr::Mark(register(word.first)?)),
+        10..=17 => Err(ImageFault::BadOpcode),
+        _ => on_queues(counts, word),
+    }
+}
+
+/// What is done with the device's locks and queues, or with packets.
+fn on_queues(counts: &Counts, word: &Word) -> Result<Instr, ImageFault>
+    ensures { result ≡ on_queues counts.now word.now }
+{
+    match word.number {
+        18 if word.leaves(1, false) => Ok(Instr::Acquire(lock(word.first)?)),
+        19 if word.leaves(1, false) => Ok(Instr::Release(lock(word.first)?)),
+        20 if word.leaves(0, false) => Ok(Instr::AcquireCancel),
+        21 if word.leaves(0, false) => Ok(Instr::ReleaseCancel),
+        22 if word.leaves(2, false) => Ok(Instr::Insert(
+            register(word.first)?,
+            below(counts.queues, word.second)?,
+        )),
+        23 if word.leaves(2, true) => Ok(Instr::Remove(
+            register(word.first)?,
+            below(counts.queues, word.second)?,
+            label(counts.positions, word.last)?,
+        )),
+        24 if word.leaves(2, false) => Ok(Instr::Unlink(
+            register(word.first)?,
+            below(counts.queues, word.second)?,
+        )),
+        25 if word.leaves(2, false) => Ok(Instr::Arm(
+            register(word.first)?,
+            below(counts.queues, word.second)?,
+        )),
+        26 if word.leaves(1, true) => Ok(Instr::Disarm(
+            register(word.first)?,
+            label(counts.positions, word.last)?,
+        )),
+        18..=26 => Err(ImageFault::BadOpcode),
+        _ => on_packets(counts, word),
+    }
+}
+
+/// What is done with packets.
+fn on_packets(counts: &Counts, word: &Word) -> Result<Instr, ImageFault>
+    ensures { result ≡ on_packets counts.now word.now }
+{
+    match word.number {
+        27 if word.leaves(1, true) => Ok(Instr::IfCancel(
+            register(word.first)?,
+            label(counts.positions, word.last)?,
+        )),
+        28 if word.leaves(1, false) => Ok(Instr::Start(register(word.first)?)),
+        29 if word.leaves(1, true) => Ok(Instr::Take(
+            register(word.first)?,
+            label(counts.positions, word.last)?,
+        )),
+        30 if word.leaves(1, false) => Ok(Instr::Begin(register(word.first)?)),
+        31 if word.leaves(0, false) => Ok(Instr::Next),
+        32 if word.leaves(1, false) => Ok(Instr::Pass(register(word.first)?)),
+        33 if word.leaves(2, false) => Ok(Instr::Call(
+            register(word.first)?,
+            none_or_below(counts.routines, word.second)?,
+        )),
+        34 if word.leaves(2, false) => Ok(Instr::Complete(
+            register(word.first)?,
+            status(word.second)?,
+        )),
+        35 if word.leaves(1, true) => Ok(Instr::IfPending(
+            register(word.first)?,
+            label(counts.positions, word.last)?,
+        )),
+        36 => word.returned(),
+        _ => Err(ImageFault::BadOpcode),
+    }
+}
+
+/// A byte, and what stands behind it. What is read below is answered likewise.
+fn byte(bytes: &[u8]) -> Result<(u8, &[u8]), ImageFault>
+    ensures { Gives (λ x. (x.0, x.1.now)) result (byte_at (λ n. Ok n) bytes.now) }
+{
+    match bytes {
+        [byte, rest @ ..] => Ok((*byte, rest)),
+        [] => Err(ImageFault::Truncated),
+    }
+}
+
+/// A count of at most so many.
+fn count_of(most: usize, bytes: &[u8]) -> Result<(u8, &[u8]), ImageFault>
+    ensures { Gives (λ x. (x.0, x.1.now)) result (byte_at (at_most most) bytes.now) }
+{
+    let (count, rest) = byte(bytes)?;
+    if count as usize <= most {
+        Ok((count, rest))
+    } else {
+        Err(ImageFault::OverLimit)
+    }
+}
+
+/// The number of one of so many things.
+fn below_of(count: u8, bytes: &[u8]) -> Result<(u8, &[u8]), ImageFault>
+    ensures { Gives (λ x. (x.0, x.1.now)) result (byte_at (below count) bytes.now) }
+{
+    let (number, rest) = byte(bytes)?;
+    Ok((below(count, number)?, rest))
+}
+
+/// The number of one of so many things, or none.
+fn name_of(count: u8, bytes: &[u8]) -> Result<(Option<u8>, &[u8]), ImageFault>
+    ensures { Gives (λ x. (x.0, x.1.now)) result (byte_at (none_or_below count) bytes.now) }
+{
+    let (number, rest) = byte(bytes)?;
+    Ok((none_or_below(count, number)?, rest))
+}
+
+/// A sort of routine.
+fn sort_of(bytes: &[u8]) -> Result<(Sort, &[u8]), ImageFault>
+    ensures { Gives (λ x. (x.0, x.1.now)) result (byte_at sort_in bytes.now) }
+{
+    let (number, rest) = byte(bytes)?;
+    Ok((sort(number)?, rest))
+}
+
+/// A byte that must be zero.
+fn zero_of(bytes: &[u8]) -> Result<&[u8], ImageFault>
+    ensures { Gives (λ rest. (0, rest.now)) result (byte_at unused bytes.now) }
+{
+    match byte(bytes)? {
+        (0, rest) => Ok(rest),
+        _ => Err(ImageFault::BadOpcode),
+    }
+}
+
+/// A letter of the first four bytes.
+fn letter_of(wanted: u8, bytes: &[u8]) -> Result<&[u8], ImageFault>
+    ensures { Gives (λ rest. (wanted, rest.now)) result (byte_at (letter wanted) bytes.now) }
+{
+    let (letter, rest) = byte(bytes)?;
+    if letter == wanted {
+        Ok(rest)
+    } else {
+        Err(ImageFault::Magic)
+    }
+}
+
+/// A stack size.
+fn stack_of(bytes: &[u8]) -> Result<(u8, &[u8]), ImageFault>
+    ensures { Gives (λ x. (x.0, x.1.now)) result (byte_at stack_in bytes.now) }
+{
+    let (size, rest) = byte(bytes)?;
+    if 1 <= size && size as usize <= MAX_STACK {
+        Ok((size, rest))
+    } else {
+        Err(ImageFault::OverLimit)
+    }
+}
+
+/// The count of a routine's instructions.
+fn code_count(bytes: &[u8]) -> Result<(u16, &[u8]), ImageFault>
+    ensures { Gives (λ x. (x.0, x.1.now)) result (count_at bytes.now) }
+{
+    if bytes.len() < 2 {
+        return Err(ImageFault::Truncated);
+    }
+    let (front, rest) = bytes.split_at(2);
+    let count = u16::from_le_bytes([front[0], front[1]]);
+    if count as usize <= MAX_INSTRUCTIONS {
+        Ok((count, rest))
+    } else {
+        Err(ImageFault::OverLimit)
+    }
+}
+
+/// A word.
+fn word_of(bytes: &[u8]) -> Result<(Word, &[u8]), ImageFault>
+    ensures { Gives (λ x. (x.0, x.1.now)) result (word_at bytes.now) }
+{
+    if bytes.len() < 8 {
+        return Err(ImageFault::Truncated);
+    }
+    let (front, rest) = bytes.split_at(8);
+    let word = Word {
+        number: front[0],
+        first: front[1],
+        second: front[2],
+        third: front[3],
+        last: u32::from_le_bytes([front[4], front[5], front[6], front[7]]),
+    };
+    Ok((word, rest))
+}
+
+/// An instruction.
+fn instruction_of<'a>(counts: &Counts, bytes: &'a [u8]) -> Result<(Instr, &'a [u8]), ImageFault>
+    ensures { Gives (λ x. (x.0, x.1.now)) result (instruction_at counts.now bytes.now) }
+{
+    let (word, rest) = word_of(bytes)?;
+    Ok((instruction(counts, &word)?, rest))
+}
+
+/// A queue of a driver with so many routines.
+#[tactic(auto, unfolding(crate::specs::Reading::queue_at))]
+fn queue_of(routines: u8, bytes: &[u8]) -> Result<(Queue, &[u8]), ImageFault>
+    ensures { Gives (λ x. (x.0, x.1.now)) result (queue_at routines bytes.now) }
+{
+    let (guard, rest) = byte(bytes)?;
+    let guard = lock(guard)?;
+    let (cancel, rest) = name_of(routines, rest)?;
+    Ok((Queue { guard, cancel }, rest))
+}
+
+/// The device of a number, of a set with so many drivers.
+#[tactic(auto, unfolding(crate::specs::Reading::device_at))]
+fn device_of(drivers: u8, number: u8, bytes: &[u8]) -> Result<(Device, &[u8]), ImageFault>
+    ensures { Gives (λ x. (x.0, x.1.now)) result (device_at drivers number bytes.now) }
+{
+    let (driver, rest) = below_of(drivers, bytes)?;
+    let (stack, rest) = stack_of(rest)?;
+    let (lower, rest) = name_of(number, rest)?;
+    let rest = zero_of(rest)?;
+    Ok((
+        Device {
+            driver,
+            stack,
+            lower,
+        },
+        rest,
+    ))
+}
+
+/// The first four bytes.
+#[tactic(auto, unfolding(crate::specs::Reading::letters_at))]
+fn letters_of(bytes: &[u8]) -> Result<&[u8], ImageFault>
+    ensures { Gives (λ rest. (0x31, rest.now)) result (letters_at bytes.now) }
+{
+    let rest = letter_of(0x44, bytes)?;
+    let rest = letter_of(0x56, rest)?;
+    let rest = letter_of(0x42, rest)?;
+    letter_of(0x31, rest)
+}
+
+/// The instructions of a routine.
+fn code_of<'a>(
+    alloc: Global,
+    counts: &Counts,
+    bytes: &'a [u8],
+) -> Result<(Items<Instr>, &'a [u8]), ImageFault>
+    ensures { Gives (λ x. (x.0, x.1.now)) result (all_at (λ _. instruction_at counts.now) 0 counts.now.positions bytes.now) }
+{
+    let mut all = Vec::new(alloc);
+    let mut rest = bytes;
+    for _ in 0..counts.positions {
+        let (one, after) = match instruction_of(counts, rest) {
+            Ok(found) => found,
+            Err(fault) => return Err(fault),
+        };
+        all.push(one)?;
+        rest = after;
+    }
+    Ok((Items::of(all), rest))
+}
+
+/// So many queues of a driver with so many routines.
+fn queues_of(
+    alloc: Global,
+    routines: u8,
+    count: u8,
+    bytes: &[u8],
+) -> Result<(Items<Queue>, &[u8]), ImageFault>
+    ensures { Gives (λ x. (x.0, x.1.now)) result (all_at (λ _. queue_at routines) 0 count bytes.now) }
+{
+    let mut all = Vec::new(alloc);
+    let mut rest = bytes;
+    for _ in 0..count {
+        let (one, after) = match queue_of(routines, rest) {
+            Ok(found) => found,
+            Err(fault) => return Err(fault),
+        };
+        all.push(one)?;
+        rest = after;
+    }
+    Ok((Items::of(all), rest))
+}
+
+/// A routine of a driver with so many routines and queues.
+#[tactic(auto, unfolding(crate::specs::Reading::routine_at))]
+fn routine_of(
+    alloc: Global,
+    routines: u8,
+    queues: u8,
+    bytes: &[u8],
+) -> Result<(Routine, &[u8]), ImageFault>
+    ensures { Gives (λ x. (x.0, x.1.now)) result (routine_at routines queues bytes.now) }
+{
+    let (sort, rest) = sort_of(bytes)?;
+    let rest = zero_of(rest)?;
+    let (positions, rest) = code_count(rest)?;
+    let counts = Counts {
+        routines,
+        queues,
+        positions,
+    };
+    let (code, rest) = code_of(alloc, &counts, rest)?;
+    Ok((Routine { sort, code }, rest))
+}
+
+/// The routines of a driver with so many of them, and so many queues.
+fn routines_of(
+    alloc: Global,
+    routines: u8,
+    queues: u8,
+    bytes: &[u8],
+) -> Result<(Items<Routine>, &[u8]), ImageFault>
+    ensures { Gives (λ x. (x.0, x.1.now)) result (all_at (λ _. routine_at routines queues) 0 routines bytes.now) }
+{
+    let mut all = Vec::new(alloc);
+    let mut rest = bytes;
+    for _ in 0..routines {
+        let (one, after) = match routine_of(alloc, routines, queues, rest) {
+            Ok(found) => found,
+            Err(fault) => return Err(fault),
+        };
+        all.push(one)?;
+        rest = after;
+    }
+    Ok((Items::of(all), rest))
+}
+
+/// A driver.
+#[tactic(auto, unfolding(crate::specs::Reading::driver_at))]
+fn driver_of(alloc: Global, bytes: &[u8]) -> Result<(Driver, &[u8]), ImageFault>
+    ensures { Gives (λ x. (x.0, x.1.now)) result (driver_at bytes.now) }
+{
+    let (routine_count, rest) = count_of(MAX_ROUTINES, bytes)?;
+    let (queue_count, rest) = count_of(MAX_QUEUES, rest)?;
+    let (read, rest) = name_of(routine_count, rest)?;
+    let (write, rest) = name_of(routine_count, rest)?;
+    let (control, rest) = name_of(routine_count, rest)?;
+    let (startio, rest) = name_of(routine_count, rest)?;
+    let (dpc, rest) = name_of(routine_count, rest)?;
+    let rest = zero_of(rest)?;
+    let (queues, rest) = queues_of(alloc, routine_count, queue_count, rest)?;
+    let (routines, rest) = routines_of(alloc, routine_count, queue_count, rest)?;
+    let driver = Driver {
+        routines,
+        queues,
+        read,
+        write,
+        control,
+        startio,
+        dpc,
+    };
+    Ok((driver, rest))
+}
+
+/// So many drivers.
+fn drivers_of(alloc: Global, count: u8, bytes: &[u8]) -> Result<(Vec<Driver>, &[u8]), ImageFault>
+    ensures { Gives (λ x. (x.0.items, x.1.now)) result (all_at (λ _. driver_at) 0 count bytes.now) }
+{
+    let mut all = Vec::new(alloc);
+    let mut rest = bytes;
+    for _ in 0..count {
+        let (one, after) = match driver_of(alloc, rest) {
+            Ok(found) => found,
+            Err(fault) => return Err(fault),
+        };
+        all.push(one)?;
+        rest = after;
+    }
+    Ok((all, rest))
+}
+
+/// So many devices of a set with so many drivers.
+fn devices_of(
+    alloc: Global,
+    drivers: u8,
+    count: u8,
+    bytes: &[u8],
+) -> Result<(Vec<Device>, &[u8]), ImageFault>
+    ensures { Gives (λ x. (x.0.items, x.1.now)) result (all_at (device_at drivers) 0 count bytes.now) }
+{
+    let mut all = Vec::new(alloc);
+    let mut rest = bytes;
+    for number in 0..count {
+        let (one, after) = match device_of(drivers, number, rest) {
+            Ok(found) => found,
+            Err(fault) => return Err(fault),
+        };
+        all.push(one)?;
+        rest = after;
+    }
+    Ok((all, rest))
+}
+
+/// The drivers and devices that the fields name, which are all of the bytes.
+#[tactic(auto, unfolding(crate::specs::Reading::set_at))]
+fn fields_of(alloc: Global, bytes: &[u8]) -> Result<(Vec<Driver>, Vec<Device>), ImageFault>
+    ensures { Gives (λ x. record { drivers = x.0.items; devices = x.1.items }) result
+        (set_in bytes.now) }
+{
+    let rest = letters_of(bytes)?;
+    let (driver_count, rest) = count_of(MAX_DRIVERS, rest)?;
+    let (device_count, rest) = count_of(MAX_DEVICES, rest)?;
+    let rest = zero_of(rest)?;
+    let rest = zero_of(rest)?;
+    let (drivers, rest) = drivers_of(alloc, driver_count, rest)?;
+    let (devices, rest) = devices_of(alloc, driver_count, device_count, rest)?;
+    if !rest.is_empty() {
+        return Err(ImageFault::Trailing);
+    }
+    Ok((drivers, devices))
+}
+
+/// The set that the bytes spell, or their first fault.
+fn read(alloc: Global, bytes: &[u8]) -> Result<DriverSet, ImageFault>
+    ensures { MatchResult result (λ set. set_in bytes.now ≡ Ok set)
+        (λ fault. (fault ≡ Memory) ⊎ IsFaultOf bytes.now fault) }
+{
+    let (drivers, devices) = fields_of(alloc, bytes)?;
+    match DriverSet::of(drivers, devices) {
+        Ok(set) => Ok(set),
+        Err(_) => Err(ImageFault::OverLimit),
+    }
+}
+
+/// The driver set whose image the bytes are.
+///
+/// # Errors
+///
+/// The first fault of bytes that are no image. `Memory` comes exactly where a growth was refused,
+/// which may be anywhere.
+pub fn decode(alloc: Global, bytes: &[u8]) -> Result<DriverSet, ImageFault>
+    ensures spelled { IfOk result (λ set. Spells bytes.now set) }
+    ensures read { (set : Set) → IsSound set → Spells bytes.now set
+        → MatchResult result (λ found. found ≡ set) (λ fault. fault ≡ Memory) }
+    ensures first { IfErr result (λ fault. (fault ≡ Memory) ⊎ IsFaultOf bytes.now fault) }
+{
+    read(alloc, bytes)
+}
