@@ -8,3 +8,4 @@ pub mod First
 pub mod Unknown
 pub mod Named
 pub mod Written
+pub mod Listed

@@ -1,4 +1,5 @@
-//! The assembler: reads a driver text and makes the driver set that it names, or names its fault.
+//! The assembler: reads a driver text and makes the driver set that it names, or names its fault;
+//! and writes a set back as a text that names it.
 //!
 //! The lines are read once, in order. The first fault of any kind but an unknown name ends the
 //! reading: the least line, on it the least kind. The least line that uses an unknown name is noted
@@ -6,6 +7,7 @@
 #![tactic(auto)]
 
 mod check;
+mod disassembly;
 mod draft;
 mod fault;
 pub mod laws;
@@ -16,5 +18,6 @@ mod queues;
 mod reading;
 mod routines;
 
+pub use disassembly::disassemble;
 pub use fault::{AsmFault, AsmKind};
 pub use reading::assemble;

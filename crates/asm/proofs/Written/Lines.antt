@@ -67,7 +67,7 @@ none_left o Outside is = append-nil (all_codes o.drivers)
 none_left o InDriver is = cc
 none_left o InRoutine is = cc
 
-codes_read : (o : Outline) (n : ℕ) (p : Place) (raws : List (List ℕ)) (ls : List Line)
+pub codes_read : (o : Outline) (n : ℕ) (p : Place) (raws : List (List ℕ)) (ls : List Line)
     (end : Outline)
     → Reads o n raws ls end → end.place ≡ Outside → o.place ≡ p → IsTidy o
     → all_codes end.drivers ≡ left_codes o p ls

@@ -1,0 +1,10 @@
+pub mod Names
+pub mod Stage
+pub mod Turns
+pub mod Closing
+pub mod Walk
+pub mod Sets
+pub mod Ahead
+pub mod Codes
+pub mod Known
+pub mod Named

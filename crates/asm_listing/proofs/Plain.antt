@@ -1,0 +1,212 @@
+-- The words of a listing's lines are tokens of their lines.
+use Rattle.std.proofs.Common.{◌≡◌, ℕ, ◌<◌, ◌≤◌, ◌^◌, Bool, true, false, ◌||◌, List, [], ◌∷◌, ◌++◌, length, Option, Some, None, IfSome, refl, ap, ◌∙◌, arith}
+use Rattle.std.specs.Prelude.{is_some}
+use Rattle.std.specs.Fmt.{decimal}
+use Rattle.std.specs.List.{list_all}
+use Rattle.std.proofs.lemmas.Bool.Decides.{nat_tests}
+use Rattle.std.proofs.lemmas.Fmt.{decimal_nonempty}
+use Rattle.std.proofs.lemmas.List.Folds.{list_all-append}
+use Rattle.text.specs.Class.{is_name, is_name_start, is_number, is_token, is_word, label_name}
+use Rattle.model.specs.declared.instr.Field.{Field}
+use Rattle.model.specs.declared.instr.Field.TheVariants.{Major as MajorField, Argument, Info}
+use Rattle.model.specs.declared.instr.Instr.{Instr}
+use Rattle.model.specs.declared.instr.Instr.TheVariants.{Const, Move, Clear, Add, Subtract, JumpIfZero, JumpIfLess, Jump, Loop, End, Load, Store, LoadPaged, StorePaged, Get, Put, Mark, Acquire, Release, AcquireCancel, ReleaseCancel, Insert, Remove, Unlink, Arm, Disarm, IfCancel, Start, Take, Begin, Next, Pass, Call, Complete, IfPending, Ret}
+use Rattle.model.specs.declared.instr.Return.{Return}
+use Rattle.model.specs.declared.instr.Return.TheVariants.{WithStatus, Lower, Continue, Stop, Void}
+use Rattle.model.specs.declared.set.Sort.{Sort}
+use Rattle.model.specs.declared.set.Sort.TheVariants.{Dispatch, StartIo, Dpc, Propagate, Hold, Cancel}
+use Rattle.model.specs.declared.status.Major.{Major}
+use Rattle.model.specs.declared.status.Major.TheVariants.{Read, Write, Control}
+use Rattle.model.specs.declared.status.Status.{Status}
+use Rattle.model.specs.declared.status.Status.TheVariants.{Success, Pending, Busy, Unsuccessful, InvalidParameter, InvalidDeviceRequest, Cancelled}
+use Rattle.model.specs.Sound.{FormFits, IsCell, IsRegister, IsSpinLock}
+use Rattle.asm_listing.specs.Words.{cell, field_text, instruction_words, label, label_words, major_text, numbered, optional, paged_cell, queue, register, returned_words, routine, sort_text, spin_lock, status_text}
+use Rattle.asm_listing.proofs.Digits.{decimal_passes, label_back, named, number_token, IsSmall}
+use Rattle.asm_listing.proofs.Meaning.{InstrFits}
+use Rattle.asm_listing.proofs.Tokens.{is_solid, ArePlain, IsPlain}
+
+pub plain_word : (b : ℕ) (bs : List ℕ) → list_all is_solid (b ∷ bs) ≡ true
+    → is_token (b ∷ bs) ≡ true → IsPlain (b ∷ bs)
+plain_word b bs solid token = record { some = λ is. cc; solid = solid; token = token }
+
+digit_is_solid : (b : ℕ) → 48 ≤ b → b ≤ 57 → is_solid b ≡ true
+digit_is_solid b low high = grind (arith, nat_tests)
+
+decimal_solid : (n : ℕ) → IsSmall n → list_all is_solid (decimal n) ≡ true
+decimal_solid n small = decimal_passes is_solid digit_is_solid n small
+
+-- a small letter and a number
+pub numbered_plain : (letter n : ℕ) → is_name_start letter ≡ true → is_solid letter ≡ true
+    → IsSmall n → IsPlain (numbered letter n)
+numbered_plain letter n start solid small =
+    plain_word letter (decimal n) (rw solid (decimal_solid n small))
+    (rw (named letter n start small) refl)
+
+pub decimal_plain : (n : ℕ) → IsSmall n → IsPlain (decimal n)
+decimal_plain n small = record {
+  some = λ is. let some = decimal_nonempty n small in
+      let long : length (decimal n) ≡ 0 = ap (λ (t : List ℕ). length t) is in
+      absurd (omega (arith, some, long));
+  solid = decimal_solid n small;
+  token = number_token n small;
+}
+
+any_last : (a b c : Bool) → (a || b || c || true) ≡ true
+any_last true b c = refl
+any_last false true c = refl
+any_last false false true = refl
+any_last false false false = refl
+
+-- a label before its instruction
+pub label_plain : (position : Option ℕ) → IfSome position IsSmall
+    → ArePlain (label_words position)
+label_plain None small = tt
+label_plain (Some n) small =
+    let t = label n ++ 58 ∷ [] in
+    let name : label_name t ≡ Some (label n) = label_back (label n) (named 97 n refl small) in (
+      plain_word 97 (decimal n ++ 58 ∷ [])
+          (list_all-append is_solid (label n) (58 ∷ []) ∙ rw (decimal_solid n small) refl)
+          (ap (λ o. is_name t || is_word t || is_number t || is_some o) name
+          ∙ any_last (is_name t) (is_word t) (is_number t)),
+      tt,
+    )
+
+pub optional_plain : (letter : ℕ) (n : Option ℕ) → is_name_start letter ≡ true
+    → is_solid letter ≡ true → IfSome n IsSmall → ArePlain (optional (numbered letter) n)
+optional_plain letter None start solid small = tt
+optional_plain letter (Some n) start solid small = (numbered_plain letter n start solid small, tt)
+
+pub major_plain : (m : Major) → IsPlain (major_text m)
+major_plain Read = plain_word _ _ refl refl
+major_plain Write = plain_word _ _ refl refl
+major_plain Control = plain_word _ _ refl refl
+
+field_plain : (f : Field) → IsPlain (field_text f)
+field_plain MajorField = plain_word _ _ refl refl
+field_plain Argument = plain_word _ _ refl refl
+field_plain Info = plain_word _ _ refl refl
+
+pub sort_plain : (s : Sort) → IsPlain (sort_text s)
+sort_plain Dispatch = plain_word _ _ refl refl
+sort_plain StartIo = plain_word _ _ refl refl
+sort_plain Dpc = plain_word _ _ refl refl
+sort_plain Propagate = plain_word _ _ refl refl
+sort_plain Hold = plain_word _ _ refl refl
+sort_plain Cancel = plain_word _ _ refl refl
+
+status_plain : (s : Status) → IsPlain (status_text s)
+status_plain Success = plain_word _ _ refl refl
+status_plain Pending = plain_word _ _ refl refl
+status_plain Busy = plain_word _ _ refl refl
+status_plain Unsuccessful = plain_word _ _ refl refl
+status_plain InvalidParameter = plain_word _ _ refl refl
+status_plain InvalidDeviceRequest = plain_word _ _ refl refl
+status_plain Cancelled = plain_word _ _ refl refl
+
+register_plain : (r : ℕ) → IsRegister r → IsPlain (register r)
+register_plain r fits = numbered_plain 114 r refl refl (omega (arith, fits))
+
+spin_lock_plain : (l : ℕ) → IsSpinLock l → IsPlain (spin_lock l)
+spin_lock_plain l fits = numbered_plain 108 l refl refl (omega (arith, fits))
+
+cell_plain : (n : ℕ) → IsCell n → IsPlain (cell n)
+cell_plain n fits = numbered_plain 99 n refl refl (omega (arith, fits))
+
+paged_cell_plain : (n : ℕ) → IsCell n → IsPlain (paged_cell n)
+paged_cell_plain n fits = numbered_plain 112 n refl refl (omega (arith, fits))
+
+target_plain : (n : ℕ) → IsSmall n → IsPlain (label n)
+target_plain n small = numbered_plain 97 n refl refl small
+
+queue_plain : (n : ℕ) → IsSmall n → IsPlain (queue n)
+queue_plain n small = numbered_plain 113 n refl refl small
+
+constant_plain : (n : ℕ) → n < 2 ^ 32 → IsPlain (decimal n)
+constant_plain n fits = decimal_plain n (omega (arith, fits))
+
+turns_plain : (n : ℕ) → n ≤ 1000 → IsPlain (decimal n)
+turns_plain n fits = decimal_plain n (omega (arith, fits))
+
+called_plain : (n : Option ℕ) → IfSome n IsSmall → ArePlain (optional routine n)
+called_plain n small = optional_plain 102 n refl refl small
+
+returned_plain : (form : Return) → FormFits form → ArePlain (returned_words form)
+returned_plain (WithStatus s) fits = (status_plain s, tt)
+returned_plain (Lower r) fits = (plain_word _ _ refl refl, (register_plain r fits, tt))
+returned_plain Continue fits = (plain_word _ _ refl refl, tt)
+returned_plain Stop fits = (plain_word _ _ refl refl, tt)
+returned_plain Void fits = (plain_word _ _ refl refl, tt)
+
+pub instruction_plain : (i : Instr) → InstrFits i → ArePlain (instruction_words i)
+instruction_plain (Const r n) small =
+    let fits = small.operands in (plain_word _ _ refl refl, (register_plain r fits.0, (constant_plain n fits.1, tt)))
+instruction_plain (Move r s) small =
+    let fits = small.operands in (plain_word _ _ refl refl, (register_plain r fits.0, (register_plain s fits.1, tt)))
+instruction_plain (Clear r) small =
+    let fits = small.operands in (plain_word _ _ refl refl, (register_plain r fits, tt))
+instruction_plain (Add r s) small =
+    let fits = small.operands in (plain_word _ _ refl refl, (register_plain r fits.0, (register_plain s fits.1, tt)))
+instruction_plain (Subtract r s) small =
+    let fits = small.operands in (plain_word _ _ refl refl, (register_plain r fits.0, (register_plain s fits.1, tt)))
+instruction_plain (JumpIfZero r to) small =
+    let fits = small.operands in (plain_word _ _ refl refl, (register_plain r fits, (target_plain to small.label, tt)))
+instruction_plain (JumpIfLess r s to) small =
+    let fits = small.operands in (plain_word _ _ refl refl, (register_plain r fits.0, (register_plain s fits.1, (target_plain to small.label, tt))))
+instruction_plain (Jump to) small =
+    (plain_word _ _ refl refl, (target_plain to small.label, tt))
+instruction_plain (Loop turns) small =
+    let fits = small.operands in (plain_word _ _ refl refl, (turns_plain turns fits.1, tt))
+instruction_plain End small =
+    (plain_word _ _ refl refl, tt)
+instruction_plain (Load r n) small =
+    let fits = small.operands in (plain_word _ _ refl refl, (register_plain r fits.0, (cell_plain n fits.1, tt)))
+instruction_plain (Store n r) small =
+    let fits = small.operands in (plain_word _ _ refl refl, (cell_plain n fits.0, (register_plain r fits.1, tt)))
+instruction_plain (LoadPaged r n) small =
+    let fits = small.operands in (plain_word _ _ refl refl, (register_plain r fits.0, (paged_cell_plain n fits.1, tt)))
+instruction_plain (StorePaged n r) small =
+    let fits = small.operands in (plain_word _ _ refl refl, (paged_cell_plain n fits.0, (register_plain r fits.1, tt)))
+instruction_plain (Get r s f) small =
+    let fits = small.operands in (plain_word _ _ refl refl, (register_plain r fits.0, (register_plain s fits.1, (field_plain f, tt))))
+instruction_plain (Put s r) small =
+    let fits = small.operands in (plain_word _ _ refl refl, (register_plain s fits.0, (register_plain r fits.1, tt)))
+instruction_plain (Mark r) small =
+    let fits = small.operands in (plain_word _ _ refl refl, (register_plain r fits, tt))
+instruction_plain (Acquire l) small =
+    let fits = small.operands in (plain_word _ _ refl refl, (spin_lock_plain l fits, tt))
+instruction_plain (Release l) small =
+    let fits = small.operands in (plain_word _ _ refl refl, (spin_lock_plain l fits, tt))
+instruction_plain AcquireCancel small =
+    (plain_word _ _ refl refl, tt)
+instruction_plain ReleaseCancel small =
+    (plain_word _ _ refl refl, tt)
+instruction_plain (Insert r q) small =
+    let fits = small.operands in (plain_word _ _ refl refl, (register_plain r fits, (queue_plain q small.queue, tt)))
+instruction_plain (Remove r q to) small =
+    let fits = small.operands in (plain_word _ _ refl refl, (register_plain r fits, (queue_plain q small.queue, (target_plain to small.label, tt))))
+instruction_plain (Unlink r q) small =
+    let fits = small.operands in (plain_word _ _ refl refl, (register_plain r fits, (queue_plain q small.queue, tt)))
+instruction_plain (Arm r q) small =
+    let fits = small.operands in (plain_word _ _ refl refl, (register_plain r fits, (queue_plain q small.queue, tt)))
+instruction_plain (Disarm r to) small =
+    let fits = small.operands in (plain_word _ _ refl refl, (register_plain r fits, (target_plain to small.label, tt)))
+instruction_plain (IfCancel r to) small =
+    let fits = small.operands in (plain_word _ _ refl refl, (register_plain r fits, (target_plain to small.label, tt)))
+instruction_plain (Start r) small =
+    let fits = small.operands in (plain_word _ _ refl refl, (register_plain r fits, tt))
+instruction_plain (Take r to) small =
+    let fits = small.operands in (plain_word _ _ refl refl, (register_plain r fits, (target_plain to small.label, tt)))
+instruction_plain (Begin r) small =
+    let fits = small.operands in (plain_word _ _ refl refl, (register_plain r fits, tt))
+instruction_plain Next small =
+    (plain_word _ _ refl refl, tt)
+instruction_plain (Pass r) small =
+    let fits = small.operands in (plain_word _ _ refl refl, (register_plain r fits, tt))
+instruction_plain (Call r f) small =
+    let fits = small.operands in (plain_word _ _ refl refl, (register_plain r fits, called_plain f small.routine))
+instruction_plain (Complete r s) small =
+    let fits = small.operands in (plain_word _ _ refl refl, (register_plain r fits, (status_plain s, tt)))
+instruction_plain (IfPending r to) small =
+    let fits = small.operands in (plain_word _ _ refl refl, (register_plain r fits, (target_plain to small.label, tt)))
+instruction_plain (Ret form) small =
+    let fits = small.operands in (plain_word _ _ refl refl, returned_plain form fits)

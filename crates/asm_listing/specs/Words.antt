@@ -1,0 +1,173 @@
+-- The words of the lines of a listing.
+use Rattle.std.specs.Prelude.{ℕ, List, [], ◌∷◌, ◌++◌, Option, Some, None, codes}
+use Rattle.std.specs.Fmt.{decimal}
+use Rattle.model.specs.declared.instr.Field.{Field}
+use Rattle.model.specs.declared.instr.Field.TheVariants.{Major as MajorField, Argument, Info}
+use Rattle.model.specs.declared.instr.Instr.{Instr}
+use Rattle.model.specs.declared.instr.Instr.TheVariants.{Const, Move, Clear, Add, Subtract, JumpIfZero, JumpIfLess, Jump, Loop, End, Load, Store, LoadPaged, StorePaged, Get, Put, Mark, Acquire, Release, AcquireCancel, ReleaseCancel, Insert, Remove, Unlink, Arm, Disarm, IfCancel, Start, Take, Begin, Next, Pass, Call, Complete, IfPending, Ret}
+use Rattle.model.specs.declared.instr.Return.{Return}
+use Rattle.model.specs.declared.instr.Return.TheVariants.{WithStatus, Lower, Continue, Stop, Void}
+use Rattle.model.specs.declared.set.Sort.{Sort}
+use Rattle.model.specs.declared.set.Sort.TheVariants.{Dispatch, StartIo, Dpc, Propagate, Hold, Cancel}
+use Rattle.model.specs.declared.status.Major.{Major}
+use Rattle.model.specs.declared.status.Major.TheVariants.{Read, Write, Control}
+use Rattle.model.specs.declared.status.Status.{Status}
+use Rattle.model.specs.declared.status.Status.TheVariants.{Success, Pending, Busy, Unsuccessful, InvalidParameter, InvalidDeviceRequest, Cancelled}
+use Rattle.asm_listing.specs.declared.entry.Entry.{Entry}
+use Rattle.asm_listing.specs.declared.entry.Entry.TheVariants as line
+
+-- the word of a major function
+abbrev pub major_text : Major → List ℕ
+major_text Read = codes "READ"
+major_text Write = codes "WRITE"
+major_text Control = codes "CONTROL"
+
+-- the word of a field of a packet
+abbrev pub field_text : Field → List ℕ
+field_text MajorField = codes "MAJOR"
+field_text Argument = codes "ARG"
+field_text Info = codes "INFO"
+
+-- the word of a sort of routine
+abbrev pub sort_text : Sort → List ℕ
+sort_text Dispatch = codes "dispatch"
+sort_text StartIo = codes "startio"
+sort_text Dpc = codes "dpc"
+sort_text Propagate = codes "propagate"
+sort_text Hold = codes "hold"
+sort_text Cancel = codes "cancel"
+
+-- the word of a status
+abbrev pub status_text : Status → List ℕ
+status_text Success = codes "SUCCESS"
+status_text Pending = codes "PENDING"
+status_text Busy = codes "BUSY"
+status_text Unsuccessful = codes "UNSUCCESSFUL"
+status_text InvalidParameter = codes "INVALID_PARAMETER"
+status_text InvalidDeviceRequest = codes "INVALID_DEVICE_REQUEST"
+status_text Cancelled = codes "CANCELLED"
+
+-- a letter and a number: an operand, or a name
+abbrev pub numbered : ℕ → ℕ → List ℕ
+numbered letter number = letter ∷ decimal number
+
+-- the operands
+abbrev pub register : ℕ → List ℕ
+register r = numbered 114 r
+
+abbrev pub spin_lock : ℕ → List ℕ
+spin_lock lock = numbered 108 lock
+
+abbrev pub cell : ℕ → List ℕ
+cell c = numbered 99 c
+
+abbrev pub paged_cell : ℕ → List ℕ
+paged_cell c = numbered 112 c
+
+-- the names
+abbrev pub driver : ℕ → List ℕ
+driver number = numbered 100 number
+
+abbrev pub routine : ℕ → List ℕ
+routine number = numbered 102 number
+
+abbrev pub queue : ℕ → List ℕ
+queue number = numbered 113 number
+
+abbrev pub device : ℕ → List ℕ
+device number = numbered 118 number
+
+abbrev pub label : ℕ → List ℕ
+label position = numbered 97 position
+
+-- the word of a number, if there is one
+abbrev pub optional : (ℕ → List ℕ) → Option ℕ → List (List ℕ)
+optional word None = []
+optional word (Some number) = word number ∷ []
+
+-- what `ret` returns
+abbrev pub returned_words : Return → List (List ℕ)
+returned_words (WithStatus status) = status_text status ∷ []
+returned_words (Lower r) = codes "lower" ∷ register r ∷ []
+returned_words Continue = codes "continue" ∷ []
+returned_words Stop = codes "stop" ∷ []
+returned_words Void = codes "void" ∷ []
+
+-- the words of an instruction
+abbrev pub instruction_words : Instr → List (List ℕ)
+instruction_words (Const r n) = codes "const" ∷ register r ∷ decimal n ∷ []
+instruction_words (Move r s) = codes "mov" ∷ register r ∷ register s ∷ []
+instruction_words (Clear r) = codes "clear" ∷ register r ∷ []
+instruction_words (Add r s) = codes "add" ∷ register r ∷ register s ∷ []
+instruction_words (Subtract r s) = codes "sub" ∷ register r ∷ register s ∷ []
+instruction_words (JumpIfZero r to) = codes "jz" ∷ register r ∷ label to ∷ []
+instruction_words (JumpIfLess r s to) = codes "jlt" ∷ register r ∷ register s ∷ label to ∷ []
+instruction_words (Jump to) = codes "jmp" ∷ label to ∷ []
+instruction_words (Loop turns) = codes "loop" ∷ decimal turns ∷ []
+instruction_words End = codes "end" ∷ []
+instruction_words (Load r c) = codes "load" ∷ register r ∷ cell c ∷ []
+instruction_words (Store c r) = codes "store" ∷ cell c ∷ register r ∷ []
+instruction_words (LoadPaged r c) = codes "loadp" ∷ register r ∷ paged_cell c ∷ []
+instruction_words (StorePaged c r) = codes "storep" ∷ paged_cell c ∷ register r ∷ []
+instruction_words (Get r s field) = codes "get" ∷ register r ∷ register s ∷ field_text field ∷ []
+instruction_words (Put s r) = codes "put" ∷ register s ∷ register r ∷ []
+instruction_words (Mark r) = codes "mark" ∷ register r ∷ []
+instruction_words (Acquire lock) = codes "acquire" ∷ spin_lock lock ∷ []
+instruction_words (Release lock) = codes "release" ∷ spin_lock lock ∷ []
+instruction_words AcquireCancel = codes "acqc" ∷ []
+instruction_words ReleaseCancel = codes "relc" ∷ []
+instruction_words (Insert r q) = codes "insert" ∷ register r ∷ queue q ∷ []
+instruction_words (Remove r q to) = codes "remove" ∷ register r ∷ queue q ∷ label to ∷ []
+instruction_words (Unlink r q) = codes "unlink" ∷ register r ∷ queue q ∷ []
+instruction_words (Arm r q) = codes "arm" ∷ register r ∷ queue q ∷ []
+instruction_words (Disarm r to) = codes "disarm" ∷ register r ∷ label to ∷ []
+instruction_words (IfCancel r to) = codes "ifcancel" ∷ register r ∷ label to ∷ []
+instruction_words (Start r) = codes "start" ∷ register r ∷ []
+instruction_words (Take r to) = codes "take" ∷ register r ∷ label to ∷ []
+instruction_words (Begin r) = codes "begin" ∷ register r ∷ []
+instruction_words Next = codes "next" ∷ []
+instruction_words (Pass r) = codes "pass" ∷ register r ∷ []
+instruction_words (Call r f) = codes "call" ∷ register r ∷ optional routine f
+instruction_words (Complete r status) = codes "complete" ∷ register r ∷ status_text status ∷ []
+instruction_words (IfPending r to) = codes "ifpending" ∷ register r ∷ label to ∷ []
+instruction_words (Ret form) = codes "ret" ∷ returned_words form
+
+-- a label before its instruction, if there is one
+abbrev pub label_words : Option ℕ → List (List ℕ)
+label_words None = []
+label_words (Some position) = (label position ++ 58 ∷ []) ∷ []
+
+-- the words of a line
+abbrev pub words_of : Entry → List (List ℕ)
+words_of (line.Driver number) = codes "driver" ∷ driver number ∷ []
+words_of (line.Queue number q) =
+    codes "queue" ∷ queue number ∷ spin_lock q.guard ∷ optional routine q.cancel
+words_of (line.Handler major number) =
+    codes "dispatch" ∷ major_text major ∷ routine number ∷ []
+words_of (line.StartIo number) = codes "startio" ∷ routine number ∷ []
+words_of (line.Dpc number) = codes "dpc" ∷ routine number ∷ []
+words_of (line.Routine number sort) =
+    codes "routine" ∷ routine number ∷ sort_text sort ∷ []
+words_of (line.Step position i) = label_words position ++ instruction_words i
+words_of line.EndRoutine = codes "endr" ∷ []
+words_of line.EndDriver = codes "endd" ∷ []
+words_of (line.Device number d) =
+    codes "device" ∷ device number ∷ driver d.driver ∷ decimal d.stack ∷ optional device d.lower
+
+-- words behind the first, each after a space
+abbrev pub rest_joined : List (List ℕ) → List ℕ
+rest_joined [] = []
+rest_joined (word ∷ words) = 32 ∷ word ++ rest_joined words
+
+-- words with one space between them
+abbrev pub joined : List (List ℕ) → List ℕ
+joined [] = []
+joined (word ∷ words) = word ++ rest_joined words
+
+-- an instruction and the end of its line
+abbrev pub instruction_text : Instr → List ℕ
+instruction_text i = joined (instruction_words i) ++ 10 ∷ []
+
+-- a line, with its LF
+abbrev pub line_text : Entry → List ℕ
+line_text entry = joined (words_of entry) ++ 10 ∷ []
