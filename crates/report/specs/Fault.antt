@@ -5,6 +5,8 @@ use Rattle.asm.specs.Laws.{kind_number}
 use Rattle.asm.specs.declared.fault.AsmFault.{AsmFault}
 use Rattle.asm.specs.declared.fault.AsmKind.{AsmKind}
 use Rattle.asm.specs.declared.fault.AsmKind.TheVariants as asm_kind
+use Rattle.image.specs.declared.fault.ImageFault.{ImageFault}
+use Rattle.image.specs.declared.fault.ImageFault.TheVariants as image_fault
 use Rattle.interleave.specs.declared.schedule.ScheduleFault.{ScheduleFault}
 use Rattle.interleave.specs.declared.schedule.ScheduleKind.{ScheduleKind}
 use Rattle.interleave.specs.declared.schedule.ScheduleKind.TheVariants as schedule_kind
@@ -35,6 +37,29 @@ schedule_kind_name schedule_kind.UnknownWord = codes "UnknownWord"
 schedule_kind_name schedule_kind.OutOfRange = codes "OutOfRange"
 schedule_kind_name schedule_kind.TooLong = codes "TooLong"
 schedule_kind_name schedule_kind.Memory = codes "Memory"
+
+-- the number and the name of a fault of an image
+abbrev pub image_fault_number : ImageFault → ℕ
+image_fault_number image_fault.Magic = 1
+image_fault_number image_fault.Truncated = 2
+image_fault_number image_fault.Trailing = 3
+image_fault_number image_fault.BadOpcode = 4
+image_fault_number image_fault.OverLimit = 5
+image_fault_number image_fault.Memory = 6
+
+abbrev pub image_fault_name : ImageFault → List ℕ
+image_fault_name image_fault.Magic = codes "Magic"
+image_fault_name image_fault.Truncated = codes "Truncated"
+image_fault_name image_fault.Trailing = codes "Trailing"
+image_fault_name image_fault.BadOpcode = codes "BadOpcode"
+image_fault_name image_fault.OverLimit = codes "OverLimit"
+image_fault_name image_fault.Memory = codes "Memory"
+
+-- the line of a fault of an image, which has no lines
+abbrev pub image_fault_line : ImageFault → List ℕ
+image_fault_line fault =
+    line_of
+    (codes "image" ∷ codes "fault" ∷ decimal (image_fault_number fault) ∷ image_fault_name fault ∷ [])
 
 -- what follows the name of the input: number and name of the kind of fault, and its line
 abbrev pub fault_line : ℕ → List ℕ → ℕ → List ℕ

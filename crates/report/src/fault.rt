@@ -2,11 +2,12 @@
 
 ghost use Rattle.std.specs.Prelude.{◌≡◌, ◌+◌, ◌≤◌, ◌++◌, length};
 ghost use Rattle.asm.specs.Laws.{kind_number};
-ghost use Rattle.report.specs.Fault.{fault_line, schedule_fault_line, schedule_kind_name, schedule_kind_number, text_fault_line, text_kind_name};
+ghost use Rattle.report.specs.Fault.{fault_line, image_fault_line, image_fault_name, image_fault_number, schedule_fault_line, schedule_kind_name, schedule_kind_number, text_fault_line, text_kind_name};
 ghost use Rattle.report.specs.Lines.{HasRoom};
 
 use crate::lines::{Lines, ROOM};
 use asm::{AsmFault, AsmKind};
+use image::ImageFault;
 use interleave::schedule::{ScheduleFault, ScheduleKind};
 
 /// A read failed, or an input can't be opened.
@@ -32,6 +33,18 @@ impl Lines {
         let AsmFault { line, kind } = fault;
         self.text(b"text");
         self.fault(text_kind_number(kind), text_kind_name(kind), line);
+    }
+
+    /// Adds the line of a fault of an image: its number and name.
+    pub fn image_fault(&mut self, fault: ImageFault)
+        requires { HasRoom self.old }
+        ensures { self.new ≡ self.old ++ image_fault_line fault }
+    {
+        self.text(b"image fault ");
+        self.number(image_fault_number(fault) as u64);
+        self.text(b" ");
+        self.text(image_fault_name(fault).as_bytes());
+        self.text(b"\n");
     }
 
     /// Adds the line of a fault of the text of a schedule, likewise.
@@ -81,6 +94,28 @@ fn text_kind_name(kind: AsmKind) -> &'static str
         AsmKind::Unclosed => "Unclosed",
         AsmKind::OverLimit => "OverLimit",
         AsmKind::Memory => "Memory",
+    }
+}
+
+/// The number of a fault of an image.
+fn image_fault_number(fault: ImageFault) -> u8
+    ensures { result ≡ image_fault_number fault }
+{
+    fault as u8
+}
+
+/// The name of a fault of an image.
+fn image_fault_name(fault: ImageFault) -> &'static str
+    ensures name { result.now ≡ image_fault_name fault }
+    ensures short { length result.now ≤ LONGEST_NAME }
+{
+    match fault {
+        ImageFault::Magic => "Magic",
+        ImageFault::Truncated => "Truncated",
+        ImageFault::Trailing => "Trailing",
+        ImageFault::BadOpcode => "BadOpcode",
+        ImageFault::OverLimit => "OverLimit",
+        ImageFault::Memory => "Memory",
     }
 }
 
