@@ -11,14 +11,14 @@ use Rattle.model.specs.declared.abs.Rule.TheVariants as Rule
 use Rattle.model.specs.Set.{Set}
 use Rattle.model.specs.Typable.{IsFirstFault, at_start}
 use Rattle.report.specs.Verdict.{refusal_line}
-use Rattle.report.specs.Fault.{schedule_fault_line, text_fault_line}
+use Rattle.report.specs.Fault.{image_fault_line, schedule_fault_line, text_fault_line}
 use Rattle.drvhost_parts.specs.declared.fault.End.{End}
 use Rattle.drvhost_parts.specs.declared.fault.End.TheVariants.{Stopped}
 use Rattle.drvhost_parts.specs.declared.fault.Fault.{Fault}
-use Rattle.drvhost_parts.specs.declared.fault.Fault.TheVariants.{Read, Write, Memory, Text, Schedule as OfSchedule}
+use Rattle.drvhost_parts.specs.declared.fault.Fault.TheVariants.{Read, Write, Memory, Text, Image, Schedule as OfSchedule}
 use Rattle.drvhost_parts.specs.declared.job.Verification.{Verification}
 use Rattle.drvhost_parts.specs.declared.job.Verification.TheVariants.{Required, Skipped}
-use Rattle.drvhost_parts.specs.Answer.{Answer, IsJudged, IsRefused, IsTraced, IsVerdict, ended, faulty, ran}
+use Rattle.drvhost_parts.specs.Answer.{Answer, FileSays, IsJudged, IsRefused, IsTraced, IsVerdict, ended, faulty, ran}
 use Rattle.drvhost_parts.specs.Device.{Holds, TakesBeginning}
 use Rattle.drvhost_parts.specs.Ends.{Ends, IsCheckOf, IsRunOf, IsTraceOf, IsTraceOfSet, Rightly, ReadFailed, WriteFailed, OutOfMemory}
 use Rattle.drvhost_parts.specs.Fault.{Goes, ReadsSchedule, ReadsSet, reads_failed, status_of, told_of, writes_failed}
@@ -33,6 +33,7 @@ goes_rightly R Q b n g l (Err Read) on h = h
 goes_rightly R Q b n g l (Err Write) on h = (h.0, on h.0 h.1, h.2)
 goes_rightly R Q b n g l (Err Memory) on h = h
 goes_rightly R Q b n g l (Err (Text fault)) on h = (on _ h.0, h.1)
+goes_rightly R Q b n g l (Err (Image fault)) on h = (on _ h.0, h.1)
 goes_rightly R Q b n g l (Err (OfSchedule fault)) on h = (on _ h.0, h.1)
 
 -- after a fault it doesn't matter what gathers
@@ -42,6 +43,7 @@ goes_left R b n l k Read h = h
 goes_left R b n l k Write h = h
 goes_left R b n l k Memory h = h
 goes_left R b n l k (Text fault) h = h
+goes_left R b n l k (Image fault) h = h
 goes_left R b n l k (OfSchedule fault) h = h
 
 -- where the lines that gathered are written, or a beginning of them
@@ -59,16 +61,13 @@ goes_broken R b m n l end h p =
 -- an answer for the set that a text names
 pub judged_on : (held : Option (List ℕ)) (set : Set) → ReadsSet held (Ok set) → (answer : Answer)
     → IsVerdict set answer → IsCheckOf held answer
-judged_on held set (text, holds, names) answer right =
-    let P : Result Set AsmFault → Type 0 = λ r. IsJudged r answer in
-    (text, holds, subst P (sym names) right)
+judged_on held set (bytes, holds, says) answer right = (bytes, holds, (Ok set, says, right))
 
 traced_as : (v : Verification) (held scheduled : Option (List ℕ)) (set : Set) (schedule : List ℕ)
     (answer : Answer) → ReadsSet held (Ok set) → Holds scheduled schedule
     → IsTraced v (Ok set) (schedule_in schedule) answer → IsTraceOf v held scheduled answer
-traced_as v held scheduled set schedule answer (text, holds, names) there right =
-    let P : Result Set AsmFault → Type 0 = λ r. IsTraced v r (schedule_in schedule) answer in
-    (text, schedule, holds, there, subst P (sym names) right)
+traced_as v held scheduled set schedule answer (bytes, holds, says) there right =
+    (bytes, schedule, holds, there, (Ok set, says, right))
 
 pub traced_on : (v : Verification) (held scheduled : Option (List ℕ)) (set : Set)
     → ReadsSet held (Ok set) → (answer : Answer) → IsTraceOfSet v set scheduled answer
@@ -87,15 +86,29 @@ pub check_unread : (held b : Option (List ℕ)) (g l : List ℕ) (fault : Fault)
 check_unread held b g l Read h = keeps_same b
 check_unread held b g l Write h = absurd h
 check_unread held b g l Memory h = keeps_same b
-check_unread held b g l (Text fault) (text, holds, first) =
-    let P : Result Set AsmFault → Type 0 = λ r. IsJudged r (faulty (text_fault_line fault)) in
-    ((text, holds, subst P (sym first) refl), keeps_same b)
+check_unread held b g l (Text fault) (bytes, holds, says) =
+    ((bytes, holds, (Err (text_fault_line fault), says, refl)), keeps_same b)
+check_unread held b g l (Image fault) (bytes, holds, says) =
+    ((bytes, holds, (Err (image_fault_line fault), says, refl)), keeps_same b)
 check_unread held b g l (OfSchedule fault) h = absurd h
 
-traced_faulty : (v : Verification) (fault : AsmFault) (schedule : Result Schedule ScheduleFault)
-    → IsTraced v (Err fault) schedule (faulty (text_fault_line fault))
-traced_faulty Required fault schedule = refl
-traced_faulty Skipped fault schedule = refl
+traced_faulty : (v : Verification) (line : List ℕ) (schedule : Result Schedule ScheduleFault)
+    → IsTraced v (Err line) schedule (faulty line)
+traced_faulty Required line schedule = refl
+traced_faulty Skipped line schedule = refl
+
+-- an input is faulty, whatever the schedule
+unread_line : (v : Verification) (held scheduled b : Option (List ℕ)) (line bytes : List ℕ)
+    → Holds held bytes → FileSays bytes (Err line)
+    → IsTraceOf v held scheduled (faulty line)
+unread_line v held scheduled b line bytes holds says =
+    let some = held_text scheduled in (
+      bytes,
+      some.0,
+      holds,
+      some.1,
+      (Err line, says, traced_faulty v line (schedule_in some.0)),
+    )
 
 pub trace_unread : (v : Verification) (held scheduled b : Option (List ℕ)) (g l : List ℕ)
     (fault : Fault) → ReadsSet held (Err fault)
@@ -103,19 +116,10 @@ pub trace_unread : (v : Verification) (held scheduled b : Option (List ℕ)) (g 
 trace_unread v held scheduled b g l Read h = keeps_same b
 trace_unread v held scheduled b g l Write h = absurd h
 trace_unread v held scheduled b g l Memory h = keeps_same b
-trace_unread v held scheduled b g l (Text fault) (text, holds, first) =
-    let some = held_text scheduled in
-    let P : Result Set AsmFault → Type 0 =
-    λ r. IsTraced v r (schedule_in some.0) (faulty (text_fault_line fault)) in (
-      (
-        text,
-        some.0,
-        holds,
-        some.1,
-        subst P (sym first) (traced_faulty v fault (schedule_in some.0)),
-      ),
-      keeps_same b,
-    )
+trace_unread v held scheduled b g l (Text fault) (bytes, holds, says) =
+    (unread_line v held scheduled b (text_fault_line fault) bytes holds says, keeps_same b)
+trace_unread v held scheduled b g l (Image fault) (bytes, holds, says) =
+    (unread_line v held scheduled b (image_fault_line fault) bytes holds says, keeps_same b)
 trace_unread v held scheduled b g l (OfSchedule fault) h = absurd h
 
 -- the schedule can't be read
@@ -125,6 +129,7 @@ run_unread set scheduled b g l Read h = keeps_same b
 run_unread set scheduled b g l Write h = absurd h
 run_unread set scheduled b g l Memory h = keeps_same b
 run_unread set scheduled b g l (Text fault) h = absurd h
+run_unread set scheduled b g l (Image fault) h = absurd h
 run_unread set scheduled b g l (OfSchedule fault) (text, holds, first) =
     let P : Result Schedule ScheduleFault → Type 0 =
     λ r. faulty (schedule_fault_line fault) ≡ ran set r in
@@ -170,4 +175,5 @@ ends_of R b n (Err Read) h = ReadFailed refl refl refl refl h
 ends_of R b n (Err Write) h = WriteFailed h.0 h.1 refl refl refl refl h.2
 ends_of R b n (Err Memory) h = OutOfMemory refl refl refl refl h
 ends_of R b n (Err (Text fault)) h = Rightly _ h.0 refl refl refl refl (appends_none b n h.1)
+ends_of R b n (Err (Image fault)) h = Rightly _ h.0 refl refl refl refl (appends_none b n h.1)
 ends_of R b n (Err (OfSchedule fault)) h = Rightly _ h.0 refl refl refl refl (appends_none b n h.1)

@@ -4,3 +4,4 @@ pub mod Jobs
 pub mod Following
 pub mod Judging
 pub mod One
+pub mod Files

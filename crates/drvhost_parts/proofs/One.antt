@@ -1,6 +1,7 @@
 -- Two answers for the same bytes are equal.
-use Rattle.std.proofs.Common.{◌≡◌, ◌∙◌, Result, Ok, Err, inl, inr, ap, sym}
+use Rattle.std.proofs.Common.{◌≡◌, ◌∙◌, ℕ, Bool, true, false, List, Result, Ok, Err, inl, inr, ap, sym, subst}
 use Rattle.asm.specs.declared.fault.AsmFault.{AsmFault}
+use Rattle.image.specs.Laws.{BytesSpellOne, FaultIsOne, ImagesAreFaultless}
 use Rattle.interleave.specs.declared.schedule.Schedule.{Schedule}
 use Rattle.interleave.specs.declared.schedule.ScheduleFault.{ScheduleFault}
 use Rattle.model.specs.Set.{Set}
@@ -9,7 +10,10 @@ use Rattle.verifier.specs.FirstFault.{OneIsFirst, TypableHasNone}
 use Rattle.drvhost_parts.specs.declared.fault.End.TheVariants.{Stopped}
 use Rattle.drvhost_parts.specs.declared.job.Verification.{Verification}
 use Rattle.drvhost_parts.specs.declared.job.Verification.TheVariants.{Required, Skipped}
-use Rattle.drvhost_parts.specs.Answer.{Answer, IsJudged, IsRefused, IsTraced, ended}
+use Rattle.asm.specs.Reading.{set_in}
+use Rattle.interleave.specs.Listing.{schedule_in}
+use Rattle.report.specs.Fault.{image_fault_line, text_fault_line}
+use Rattle.drvhost_parts.specs.Answer.{Answer, ImageSays, IsCheck, IsJudged, IsRefused, IsTrace, IsTraced, SaysAs, TextSays, ended, is_image}
 
 refused_once : OneIsFirst → (set : Set) (one other : Answer) → IsRefused set one
     → IsRefused set other → one ≡ other
@@ -18,17 +22,17 @@ refused_once alone set one other a b =
     ∙ sym b.is
 
 -- what `check` answers for a set or a fault
-pub judged_once : OneIsFirst → TypableHasNone → (set : Result Set AsmFault) (one other : Answer)
+judged_once : OneIsFirst → TypableHasNone → (set : Result Set (List ℕ)) (one other : Answer)
     → IsJudged set one → IsJudged set other → one ≡ other
 judged_once alone none (Ok set) one other (inl a) (inl b) = a.1 ∙ sym b.1
 judged_once alone none (Ok set) one other (inl a) (inr b) = absurd (none set b.refusal b.first a.0)
 judged_once alone none (Ok set) one other (inr a) (inl b) = absurd (none set a.refusal a.first b.0)
 judged_once alone none (Ok set) one other (inr a) (inr b) = refused_once alone set one other a b
-judged_once alone none (Err fault) one other a b = a ∙ sym b
+judged_once alone none (Err line) one other a b = a ∙ sym b
 
 -- what `trace` answers for it
-pub traced_once : OneIsFirst → TypableHasNone
-    → (v : Verification) (set : Result Set AsmFault) (schedule : Result Schedule ScheduleFault)
+traced_once : OneIsFirst → TypableHasNone
+    → (v : Verification) (set : Result Set (List ℕ)) (schedule : Result Schedule ScheduleFault)
     (one other : Answer)
     → IsTraced v set schedule one → IsTraced v set schedule other → one ≡ other
 traced_once alone none Required (Ok set) schedule one other (inl a) (inl b) = a.1 ∙ sym b.1
@@ -38,6 +42,52 @@ traced_once alone none Required (Ok set) schedule one other (inr a) (inl b) =
     absurd (none set a.refusal a.first b.0)
 traced_once alone none Required (Ok set) schedule one other (inr a) (inr b) =
     refused_once alone set one other a b
-traced_once alone none Required (Err fault) schedule one other a b = a ∙ sym b
+traced_once alone none Required (Err line) schedule one other a b = a ∙ sym b
 traced_once alone none Skipped (Ok set) schedule one other a b = a ∙ sym b
-traced_once alone none Skipped (Err fault) schedule one other a b = a ∙ sym b
+traced_once alone none Skipped (Err line) schedule one other a b = a ∙ sym b
+
+-- a file says one thing
+error_of : {A : Type 0} (r : Result A AsmFault) (one other : AsmFault) → r ≡ Err one → r ≡ Err other
+    → one ≡ other
+error_of r one other a b = let both : Err one ≡ Err other = sym a ∙ b in cc
+
+named_of : (r : Result Set AsmFault) (one other : Set) → r ≡ Ok one → r ≡ Ok other → one ≡ other
+named_of r one other a b = let both : Ok one ≡ Ok other = sym a ∙ b in cc
+
+text_once : (text : List ℕ) (one other : Result Set (List ℕ)) → TextSays text one
+    → TextSays text other → one ≡ other
+text_once text (Ok set) (Ok other) a b = ap Ok (named_of (set_in text) set other a b)
+text_once text (Ok set) (Err line) a b = let no : Ok set ≡ Err b.0 = sym a ∙ b.1 in cc
+text_once text (Err line) (Ok set) a b = let no : Ok set ≡ Err a.0 = sym b ∙ a.1 in cc
+text_once text (Err line) (Err other) a b =
+    ap Err
+    (a.2 ∙ ap text_fault_line (error_of (set_in text) a.0 b.0 a.1 b.1) ∙ sym b.2)
+
+module _ (spell : BytesSpellOne) (faultless : ImagesAreFaultless) (single : FaultIsOne) where
+  image_once : (bytes : List ℕ) (one other : Result Set (List ℕ)) → ImageSays bytes one
+      → ImageSays bytes other → one ≡ other
+  image_once bytes (Ok set) (Ok other) a b = ap Ok (spell bytes set other a.0 b.0 a.1 b.1)
+  image_once bytes (Ok set) (Err line) a b = absurd (faultless bytes set b.0 a.0 a.1 b.1)
+  image_once bytes (Err line) (Ok set) a b = absurd (faultless bytes set a.0 b.0 b.1 a.1)
+  image_once bytes (Err line) (Err other) a b =
+      ap Err (a.2 ∙ ap image_fault_line (single bytes a.0 b.0 a.1 b.1) ∙ sym b.2)
+
+  says_once : (image : Bool) (bytes : List ℕ) (one other : Result Set (List ℕ))
+      → SaysAs image bytes one → SaysAs image bytes other → one ≡ other
+  says_once true bytes one other a b = image_once bytes one other a b
+  says_once false bytes one other a b = text_once bytes one other a b
+
+  -- so there is one answer
+  pub check_once : OneIsFirst → TypableHasNone → (set : List ℕ) (one other : Answer)
+      → IsCheck set one → IsCheck set other → one ≡ other
+  check_once alone none set one other a b =
+      judged_once alone none b.0 one other
+      (subst (λ (said : Result Set (List ℕ)). IsJudged said one)
+      (says_once (is_image set) set a.0 b.0 a.1 b.1) a.2) b.2
+
+  pub trace_once : OneIsFirst → TypableHasNone → (v : Verification) (set schedule : List ℕ)
+      (one other : Answer) → IsTrace v set schedule one → IsTrace v set schedule other → one ≡ other
+  trace_once alone none v set schedule one other a b =
+      traced_once alone none v b.0 (schedule_in schedule) one other
+      (subst (λ (said : Result Set (List ℕ)). IsTraced v said (schedule_in schedule) one)
+      (says_once (is_image set) set a.0 b.0 a.1 b.1) a.2) b.2

@@ -1,8 +1,11 @@
 -- What `check` and `trace` answer for the bytes of their files.
-use Rattle.std.specs.Prelude.{ℕ, ◌≡◌, ◌+◌, ◌⊎◌, ◌++◌, Bool, true, false, if◌then◌else◌, List, [], ◌∷◌, Result, Ok, Err}
-use Rattle.std.specs.List.{list_any}
+use Rattle.std.specs.Prelude.{ℕ, nat_eq, ◌≡◌, ◌+◌, ◌⊎◌, ◌++◌, Bool, true, false, if◌then◌else◌, List, [], ◌∷◌, Result, Ok, Err}
+use Rattle.std.specs.List.{list_any, starts_with}
 use Rattle.asm.specs.declared.fault.AsmFault.{AsmFault}
 use Rattle.asm.specs.Reading.{set_in}
+use Rattle.image.specs.declared.fault.ImageFault.{ImageFault}
+use Rattle.image.specs.Reading.{IsFaultOf}
+use Rattle.image.specs.Spelling.{Spells}
 use Rattle.interleave.specs.declared.schedule.Schedule.{Schedule}
 use Rattle.interleave.specs.declared.schedule.ScheduleFault.{ScheduleFault}
 use Rattle.interleave.specs.Listing.{schedule_in}
@@ -15,8 +18,9 @@ use Rattle.model.specs.declared.set.Routine.{Routine}
 use Rattle.model.specs.Certificate.{certificate_of}
 use Rattle.model.specs.Run.{Run, begun, step}
 use Rattle.model.specs.Set.{Set}
+use Rattle.model.specs.Sound.{IsSound}
 use Rattle.model.specs.Typable.{IsTypable, IsFirstFault}
-use Rattle.report.specs.Fault.{schedule_fault_line, text_fault_line}
+use Rattle.report.specs.Fault.{image_fault_line, schedule_fault_line, text_fault_line}
 use Rattle.report.specs.Reply.{reply_line}
 use Rattle.report.specs.Verdict.{accepted_line, certificate_line, refusal_line}
 use Rattle.drvhost_parts.specs.declared.fault.End.{End}
@@ -104,25 +108,50 @@ abbrev pub ran : Set → Result Schedule ScheduleFault → Answer
 ran set (Ok schedule) = trace_of (replies set (begun set schedule.threads) schedule.events)
 ran set (Err fault) = faulty (schedule_fault_line fault)
 
--- what `check` answers for the set that a text names, or for the text's first fault
-abbrev pub IsJudged : Result Set AsmFault → Answer → Type 0
+-- a file that begins with the letters of an image is one, any other a text
+abbrev pub is_image : List ℕ → Bool
+is_image bytes = starts_with nat_eq bytes (0x44 ∷ 0x56 ∷ 0x42 ∷ [])
+
+-- the set that a text names, or the line that tells its first fault
+abbrev pub TextSays : List ℕ → Result Set (List ℕ) → Type 0
+TextSays text (Ok set) = set_in text ≡ Ok set
+TextSays text (Err line) =
+    (fault : AsmFault) × (set_in text ≡ Err fault) × (line ≡ text_fault_line fault)
+
+-- the set that an image spells, or the line that tells its first fault
+abbrev pub ImageSays : List ℕ → Result Set (List ℕ) → Type 0
+ImageSays bytes (Ok set) = IsSound set × Spells bytes set
+ImageSays bytes (Err line) =
+    (fault : ImageFault) × IsFaultOf bytes fault × (line ≡ image_fault_line fault)
+
+-- the same of the bytes of a file, an image's or a text's
+abbrev pub SaysAs : Bool → List ℕ → Result Set (List ℕ) → Type 0
+SaysAs true bytes said = ImageSays bytes said
+SaysAs false bytes said = TextSays bytes said
+
+abbrev pub FileSays : List ℕ → Result Set (List ℕ) → Type 0
+FileSays bytes said = SaysAs (is_image bytes) bytes said
+
+-- what `check` answers for the set of a file, or for the line of its first fault
+abbrev pub IsJudged : Result Set (List ℕ) → Answer → Type 0
 IsJudged (Ok set) answer = IsVerdict set answer
-IsJudged (Err fault) answer = answer ≡ faulty (text_fault_line fault)
+IsJudged (Err line) answer = answer ≡ faulty line
 
 -- what `trace` answers for it: a set that has to be accepted, and isn't, is not run
-abbrev pub IsTraced : Verification → Result Set AsmFault → Result Schedule ScheduleFault → Answer
+abbrev pub IsTraced : Verification → Result Set (List ℕ) → Result Schedule ScheduleFault → Answer
     → Type 0
 IsTraced Required (Ok set) schedule answer =
     (IsTypable set × (answer ≡ ran set schedule)) ⊎ IsRefused set answer
 IsTraced Skipped (Ok set) schedule answer = answer ≡ ran set schedule
-IsTraced Required (Err fault) schedule answer = answer ≡ faulty (text_fault_line fault)
-IsTraced Skipped (Err fault) schedule answer = answer ≡ faulty (text_fault_line fault)
+IsTraced Required (Err line) schedule answer = answer ≡ faulty line
+IsTraced Skipped (Err line) schedule answer = answer ≡ faulty line
 
 -- what `check` answers for the bytes of its file
 abbrev pub IsCheck : List ℕ → Answer → Type 0
-IsCheck set answer = IsJudged (set_in set) answer
+IsCheck set answer = (said : Result Set (List ℕ)) × FileSays set said × IsJudged said answer
 
 -- what `trace` answers for the bytes of its files
 abbrev pub IsTrace : Verification → List ℕ → List ℕ → Answer → Type 0
 IsTrace verification set schedule answer =
-    IsTraced verification (set_in set) (schedule_in schedule) answer
+    (said : Result Set (List ℕ)) × FileSays set said
+    × IsTraced verification said (schedule_in schedule) answer

@@ -4,18 +4,19 @@ use Rattle.std.specs.Io.KnownBytes.{Keeps}
 use Rattle.asm.specs.declared.fault.AsmFault.{AsmFault}
 use Rattle.asm.specs.declared.fault.AsmKind.{AsmKind}
 use Rattle.asm.specs.declared.fault.AsmKind.TheVariants as asm_kind
-use Rattle.asm.specs.Reading.{set_in}
+use Rattle.image.specs.declared.fault.ImageFault.{ImageFault}
+use Rattle.image.specs.declared.fault.ImageFault.TheVariants as image_kind
 use Rattle.interleave.specs.declared.schedule.Schedule.{Schedule}
 use Rattle.interleave.specs.declared.schedule.ScheduleFault.{ScheduleFault}
 use Rattle.interleave.specs.declared.schedule.ScheduleKind.{ScheduleKind}
 use Rattle.interleave.specs.declared.schedule.ScheduleKind.TheVariants as schedule_kind
 use Rattle.interleave.specs.Listing.{schedule_in}
 use Rattle.model.specs.Set.{Set}
-use Rattle.report.specs.Fault.{schedule_fault_line, text_fault_line}
+use Rattle.report.specs.Fault.{image_fault_line, schedule_fault_line, text_fault_line}
 use Rattle.drvhost_parts.specs.declared.fault.End.{End}
 use Rattle.drvhost_parts.specs.declared.fault.Fault.{Fault}
-use Rattle.drvhost_parts.specs.declared.fault.Fault.TheVariants.{Read, Write, Memory, Text, Schedule as OfSchedule}
-use Rattle.drvhost_parts.specs.Answer.{Answer, end_status, ended, faulty}
+use Rattle.drvhost_parts.specs.declared.fault.Fault.TheVariants.{Read, Write, Memory, Text, Image, Schedule as OfSchedule}
+use Rattle.drvhost_parts.specs.Answer.{Answer, FileSays, ImageSays, TextSays, end_status, ended, faulty}
 use Rattle.drvhost_parts.specs.Device.{Adds, Holds, TakesBeginning}
 
 -- how many reads failed
@@ -24,6 +25,7 @@ failed_reads Read = 1
 failed_reads Write = 0
 failed_reads Memory = 0
 failed_reads (Text fault) = 0
+failed_reads (Image fault) = 0
 failed_reads (OfSchedule fault) = 0
 
 -- how many writes failed
@@ -32,6 +34,7 @@ failed_writes Write = 1
 failed_writes Read = 0
 failed_writes Memory = 0
 failed_writes (Text fault) = 0
+failed_writes (Image fault) = 0
 failed_writes (OfSchedule fault) = 0
 
 -- the same of a call that may end in a fault
@@ -49,6 +52,7 @@ fault_status Memory = 3
 fault_status Read = 2
 fault_status Write = 2
 fault_status (Text fault) = 2
+fault_status (Image fault) = 2
 fault_status (OfSchedule fault) = 2
 
 -- the exit status for a job
@@ -62,6 +66,7 @@ fault_told Read = codes "read failed\n"
 fault_told Write = codes "write failed\n"
 fault_told Memory = codes "out of memory\n"
 fault_told (Text fault) = text_fault_line fault
+fault_told (Image fault) = image_fault_line fault
 fault_told (OfSchedule fault) = schedule_fault_line fault
 
 -- what is told of a job
@@ -83,6 +88,14 @@ text_fault_of asm_kind.OverLimit fault = Text fault
 abbrev pub text_fault : AsmFault → Fault
 text_fault fault = text_fault_of fault.kind fault
 
+abbrev pub image_fault : ImageFault → Fault
+image_fault image_kind.Memory = Memory
+image_fault image_kind.Magic = Image image_kind.Magic
+image_fault image_kind.Truncated = Image image_kind.Truncated
+image_fault image_kind.Trailing = Image image_kind.Trailing
+image_fault image_kind.BadOpcode = Image image_kind.BadOpcode
+image_fault image_kind.OverLimit = Image image_kind.OverLimit
+
 abbrev pub schedule_fault_of : ScheduleKind → ScheduleFault → Fault
 schedule_fault_of schedule_kind.Memory fault = Memory
 schedule_fault_of schedule_kind.Lex fault = OfSchedule fault
@@ -93,10 +106,32 @@ schedule_fault_of schedule_kind.TooLong fault = OfSchedule fault
 abbrev pub schedule_fault : ScheduleFault → Fault
 schedule_fault fault = schedule_fault_of fault.kind fault
 
--- a set was read: it is the one that the text of a source names, or the text's first fault is told
+-- the set that an image spells was found, or its first fault; and likewise of a text
+abbrev pub SaysImage : List ℕ → Result Set Fault → Type 0
+SaysImage bytes (Ok set) = ImageSays bytes (Ok set)
+SaysImage bytes (Err (Image fault)) = ImageSays bytes (Err (image_fault_line fault))
+SaysImage bytes (Err Memory) = ⊤
+SaysImage bytes (Err Read) = ⊥
+SaysImage bytes (Err Write) = ⊥
+SaysImage bytes (Err (Text fault)) = ⊥
+SaysImage bytes (Err (OfSchedule fault)) = ⊥
+
+abbrev pub SaysText : List ℕ → Result Set Fault → Type 0
+SaysText bytes (Ok set) = TextSays bytes (Ok set)
+SaysText bytes (Err (Text fault)) = TextSays bytes (Err (text_fault_line fault))
+SaysText bytes (Err Memory) = ⊤
+SaysText bytes (Err Read) = ⊥
+SaysText bytes (Err Write) = ⊥
+SaysText bytes (Err (Image fault)) = ⊥
+SaysText bytes (Err (OfSchedule fault)) = ⊥
+
+-- a set was read: it is the one that the bytes of a source name, or their first fault is told
 abbrev pub ReadsSet : Option (List ℕ) → Result Set Fault → Type 0
-ReadsSet held (Ok set) = (text : List ℕ) × Holds held text × (set_in text ≡ Ok set)
-ReadsSet held (Err (Text fault)) = (text : List ℕ) × Holds held text × (set_in text ≡ Err fault)
+ReadsSet held (Ok set) = (bytes : List ℕ) × Holds held bytes × FileSays bytes (Ok set)
+ReadsSet held (Err (Text fault)) =
+    (bytes : List ℕ) × Holds held bytes × FileSays bytes (Err (text_fault_line fault))
+ReadsSet held (Err (Image fault)) =
+    (bytes : List ℕ) × Holds held bytes × FileSays bytes (Err (image_fault_line fault))
 ReadsSet held (Err Read) = ⊤
 ReadsSet held (Err Memory) = ⊤
 ReadsSet held (Err Write) = ⊥
@@ -112,6 +147,7 @@ ReadsSchedule held (Err Read) = ⊤
 ReadsSchedule held (Err Memory) = ⊤
 ReadsSchedule held (Err Write) = ⊥
 ReadsSchedule held (Err (Text fault)) = ⊥
+ReadsSchedule held (Err (Image fault)) = ⊥
 
 -- a job has come to its end or to a fault, where these answers are right, with lines that gathered
 -- before and gather now: the output of a right answer was added; a write failed, and a beginning of
@@ -125,6 +161,8 @@ Goes Right before after gathered left (Err Write) =
     (answer : Answer) × Right answer × TakesBeginning before after (gathered ++ answer.output)
 Goes Right before after gathered left (Err (Text fault)) =
     Right (faulty (text_fault_line fault)) × Keeps before after
+Goes Right before after gathered left (Err (Image fault)) =
+    Right (faulty (image_fault_line fault)) × Keeps before after
 Goes Right before after gathered left (Err (OfSchedule fault)) =
     Right (faulty (schedule_fault_line fault)) × Keeps before after
 Goes Right before after gathered left (Err Read) = Keeps before after

@@ -7,11 +7,12 @@ ghost use Rattle.report.specs.Verdict.{refusal_line};
 ghost use Rattle.drvhost_parts.specs.Answer.{IsVerdict, acceptance, routine_lines};
 ghost use Rattle.drvhost_parts.specs.Device.{Adds, CanCount, Says, TakesBeginning};
 ghost use Rattle.drvhost_parts.specs.Ends.{Answers, IsCheckOf};
-ghost use Rattle.drvhost_parts.specs.Fault.{Goes, ReadsSet, reads_failed, writes_failed};
+ghost use Rattle.drvhost_parts.specs.Fault.{Goes, reads_failed, writes_failed};
 
 use crate::device::{Sink, Source};
-use crate::fault::{End, Fault, finish, no_memory, of_text};
-use crate::transfer::{make_room, read_whole, write_lines};
+use crate::fault::{End, Fault, finish, no_memory};
+use crate::reading::read_set;
+use crate::transfer::{make_room, write_lines};
 use image::DriverSet;
 use model::abs::{Refusal, Rule};
 use model::set::Driver;
@@ -20,8 +21,8 @@ use std::alloc::{AllocError, Global};
 use verifier::{Accepted, verify};
 
 /// Writes whether a driver set is accepted, with the certificates of its routines, or why it is
-/// refused. The answer is the exit status: 0 accepted, 1 refused, 2 where its text is faulty or a
-/// read or a write failed, 3 where memory ran out. Faults are told on the error writer.
+/// refused. The answer is the exit status: 0 accepted, 1 refused, 2 where its text or its image is
+/// faulty or a read or a write failed, 3 where memory ran out. Faults are told on the error writer.
 pub fn check<S: Source, O: Sink, E: Sink>(
     alloc: Global,
     set: &mut S,
@@ -46,7 +47,7 @@ pub fn check<S: Source, O: Sink, E: Sink>(
     }
 }
 
-/// Judges the set that the text of a source names, and writes the verdict.
+/// Judges the set that the bytes of a source name, and writes the verdict.
 fn check_set<S: Source, O: Sink>(
     alloc: Global,
     set: &mut S,
@@ -65,19 +66,6 @@ fn check_set<S: Source, O: Sink>(
     let end = judge(alloc, set, lines, out)?;
     write_lines(lines, out)?;
     Ok(end)
-}
-
-/// The set that the text of a source names.
-pub(crate) fn read_set<S: Source>(alloc: Global, source: &mut S) -> Result<DriverSet, Fault>
-    requires { CanCount (S.failures source.old) }
-    ensures set { ReadsSet (S.remaining source.old) result }
-    ensures reads { S.failures source.new ≡ S.failures source.old + reads_failed result }
-{
-    let text = read_whole(alloc, source)?;
-    match asm::assemble(alloc, text.as_slice()) {
-        Ok(set) => Ok(set),
-        Err(fault) => Err(of_text(fault)),
-    }
 }
 
 /// Judges a set: adds the lines of an accepted one, or the line of a refusal.

@@ -3,11 +3,12 @@
 ghost use Rattle.std.specs.Prelude.{◌≡◌};
 ghost use Rattle.drvhost_parts.specs.Answer.{end_status};
 ghost use Rattle.drvhost_parts.specs.Device.{CanCount, Says};
-ghost use Rattle.drvhost_parts.specs.Fault.{fault_status, fault_told, schedule_fault, status_of, text_fault, told_of};
+ghost use Rattle.drvhost_parts.specs.Fault.{fault_status, fault_told, image_fault, schedule_fault, status_of, text_fault, told_of};
 
 use crate::device::Sink;
 use crate::transfer::write_whole;
 use asm::{AsmFault, AsmKind};
+use image::ImageFault;
 use interleave::schedule::{ScheduleFault, ScheduleKind};
 use model::memory::OutOfMemory;
 use report::fault::{OUT_OF_MEMORY, READ_FAILED, WRITE_FAILED};
@@ -46,6 +47,8 @@ pub enum Fault {
     Memory,
     /// The text of the set is faulty.
     Text(AsmFault),
+    /// The image of the set is faulty.
+    Image(ImageFault),
     /// The schedule is faulty.
     Schedule(ScheduleFault),
 }
@@ -57,7 +60,7 @@ impl Fault {
     {
         match self {
             Fault::Memory => 3,
-            Fault::Read | Fault::Write | Fault::Text(_) | Fault::Schedule(_) => 2,
+            Fault::Read | Fault::Write | Fault::Text(_) | Fault::Image(_) | Fault::Schedule(_) => 2,
         }
     }
 }
@@ -89,6 +92,16 @@ pub(crate) fn of_text(fault: AsmFault) -> Fault
     match fault.kind {
         AsmKind::Memory => Fault::Memory,
         _ => Fault::Text(fault),
+    }
+}
+
+/// The fault of an image of a set.
+pub(crate) fn of_image(fault: ImageFault) -> Fault
+    ensures { result ≡ image_fault fault }
+{
+    match fault {
+        ImageFault::Memory => Fault::Memory,
+        _ => Fault::Image(fault),
     }
 }
 
@@ -132,6 +145,11 @@ fn tell<E: Sink>(fault: Fault, lines: &mut Lines, err: &mut E)
         Fault::Text(fault) => {
             lines.clear();
             lines.text_fault(fault);
+            say(err, lines.bytes());
+        }
+        Fault::Image(fault) => {
+            lines.clear();
+            lines.image_fault(fault);
             say(err, lines.bytes());
         }
         Fault::Schedule(fault) => {

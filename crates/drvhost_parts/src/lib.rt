@@ -8,5 +8,6 @@ pub mod fault;
 mod follow;
 pub mod job;
 pub mod laws;
+mod reading;
 pub mod trace;
 mod transfer;

@@ -6,11 +6,12 @@ ghost use Rattle.drvhost_parts.specs.Device.{CanCount, Says};
 ghost use Rattle.drvhost_parts.specs.Ends.{Answers, IsRunOf, IsTraceOf, IsTraceOfSet, IsVerifiedRunOf};
 ghost use Rattle.drvhost_parts.specs.Fault.{Goes, ReadsSchedule, reads_failed, writes_failed};
 
-use crate::check::{read_set, refuse};
+use crate::check::refuse;
 use crate::device::{Sink, Source};
 use crate::fault::{End, Fault, finish, no_memory, of_schedule};
 use crate::follow::follow;
 use crate::job::Verification;
+use crate::reading::read_set;
 use crate::transfer::{read_whole, write_lines};
 use checked::Checked;
 use image::DriverSet;

@@ -5,6 +5,12 @@ returns-in-Text g c =
     rw c.in-Text.is
     (rw (c.bytes.ensures, c.text_fault.ensures, c.clear.ensures) at c.say-in-Text.ensures)
 
+pub returns-in-Image : goal.returns-in-Image
+returns-in-Image g c =
+    rw c.in-Image.is
+    (rw (c.bytes-in-Image.ensures, c.image_fault.ensures, c.clear-in-Image.ensures) at
+    c.say-in-Image.ensures)
+
 pub returns-in-Schedule : goal.returns-in-Schedule
 returns-in-Schedule g c =
     rw c.in-Schedule.is
