@@ -29,7 +29,11 @@ mod faulty_queues;
 #[cfg(test)]
 mod holds;
 #[cfg(test)]
+mod images;
+#[cfg(test)]
 mod limits;
+#[cfg(test)]
+mod listings;
 #[cfg(test)]
 mod queues;
 #[cfg(test)]

@@ -1,0 +1,284 @@
+//! Images: the bytes of known sets, their beginnings, and all their changes by one byte. The digests
+//! are those of what an independent program answers.
+
+use asm::assemble;
+use image::{ImageFault, decode, encode};
+use md5::{Digest, Md5};
+use std::alloc::Global;
+use std::test::Fail;
+
+/// A driver whose one routine completes a read at once, and its device.
+const ONE_READ: [u8; 40] = [
+    0x44, 0x56, 0x42, 0x31, 0x01, 0x01, 0x00, 0x00, 0x01, 0x00, 0x00, 0xff, 0xff, 0xff, 0xff, 0x00,
+    0x00, 0x00, 0x02, 0x00, 0x22, 0x00, 0x00, 0x00, 0x00, 0x00, 0x00, 0x00, 0x24, 0x00, 0x00, 0x00,
+    0x00, 0x00, 0x00, 0x00, 0x00, 0x01, 0xff, 0x00,
+];
+
+/// The set without drivers and devices.
+const EMPTY: [u8; 8] = [0x44, 0x56, 0x42, 0x31, 0x00, 0x00, 0x00, 0x00];
+
+/// A driver that queues what it is sent, with a cancel routine.
+const QUEUED: &str =
+    "driver d\nqueue q l0 gone\ndispatch READ f\ndpc g\nroutine f dispatch\nmark r0\n\
+     acquire l0\ninsert r0 q\narm r0 q\nifcancel r0 was\nrelease l0\nret PENDING\n\
+     was: disarm r0 lost\nunlink r0 q\nrelease l0\ncomplete r0 CANCELLED\nret PENDING\n\
+     lost: release l0\nret PENDING\nendr\nroutine g dpc\nacquire l0\nremove r0 q none\n\
+     disarm r0 none\nrelease l0\ncomplete r0 SUCCESS\nret void\nnone: release l0\nret void\nendr\n\
+     routine gone cancel\nrelc\nacquire l0\nunlink r0 q\nrelease l0\ncomplete r0 CANCELLED\n\
+     ret void\nendr\nendd\ndevice v d 1\n";
+
+/// The digest of its image.
+const QUEUED_IMAGE: [u8; 16] = [
+    0xc8, 0xe5, 0xa1, 0xd2, 0x01, 0x0a, 0xe4, 0xad, 0x0f, 0x91, 0x20, 0x69, 0xed, 0x52, 0x01, 0xca,
+];
+
+/// The digest of the numbers of the faults of all changes of one byte, 0 for none: of the byte at
+/// each place, by each value.
+const ONE_READ_FAULTS: [u8; 16] = [
+    0x95, 0x57, 0x74, 0x71, 0x01, 0xed, 0xe6, 0x68, 0x02, 0x1c, 0xf5, 0xc0, 0x0b, 0x58, 0x4a, 0x43,
+];
+
+/// The same of the image of `QUEUED`.
+const QUEUED_FAULTS: [u8; 16] = [
+    0x3d, 0xd2, 0x4e, 0x80, 0x7d, 0xb6, 0x73, 0x0e, 0xbb, 0x43, 0x32, 0x3d, 0x63, 0xf7, 0xdc, 0x94,
+];
+
+/// A byte of `ONE_READ` changed, and the fault.
+struct Change {
+    place: usize,
+    value: u8,
+    fault: ImageFault,
+}
+
+static CHANGES: [Change; 18] = [
+    Change {
+        place: 0,
+        value: 0x45,
+        fault: ImageFault::Magic,
+    },
+    Change {
+        place: 3,
+        value: 0x32,
+        fault: ImageFault::Magic,
+    },
+    Change {
+        place: 4,
+        value: 9,
+        fault: ImageFault::OverLimit,
+    },
+    Change {
+        place: 5,
+        value: 17,
+        fault: ImageFault::OverLimit,
+    },
+    Change {
+        place: 6,
+        value: 1,
+        fault: ImageFault::BadOpcode,
+    },
+    Change {
+        place: 7,
+        value: 1,
+        fault: ImageFault::BadOpcode,
+    },
+    Change {
+        place: 9,
+        value: 5,
+        fault: ImageFault::OverLimit,
+    },
+    Change {
+        place: 10,
+        value: 1,
+        fault: ImageFault::OverLimit,
+    },
+    Change {
+        place: 15,
+        value: 1,
+        fault: ImageFault::BadOpcode,
+    },
+    Change {
+        place: 16,
+        value: 6,
+        fault: ImageFault::BadOpcode,
+    },
+    Change {
+        place: 16,
+        value: 1,
+        fault: ImageFault::OverLimit,
+    },
+    Change {
+        place: 19,
+        value: 0x04,
+        fault: ImageFault::OverLimit,
+    },
+    Change {
+        place: 20,
+        value: 37,
+        fault: ImageFault::BadOpcode,
+    },
+    Change {
+        place: 21,
+        value: 0x10,
+        fault: ImageFault::OverLimit,
+    },
+    Change {
+        place: 23,
+        value: 1,
+        fault: ImageFault::BadOpcode,
+    },
+    Change {
+        place: 36,
+        value: 1,
+        fault: ImageFault::OverLimit,
+    },
+    Change {
+        place: 38,
+        value: 0,
+        fault: ImageFault::OverLimit,
+    },
+    Change {
+        place: 39,
+        value: 1,
+        fault: ImageFault::BadOpcode,
+    },
+];
+
+/// Whether the bytes spell a set that they are the image of, and so is its copy's.
+fn is_image(alloc: Global, bytes: &[u8]) -> bool {
+    let Ok(set) = decode(alloc, bytes) else {
+        return false;
+    };
+    let Ok(copy) = set.copy(alloc) else {
+        return false;
+    };
+    match (encode(alloc, &set), encode(alloc, &copy)) {
+        (Ok(first), Ok(second)) => first.as_slice() == bytes && second.as_slice() == bytes,
+        _ => false,
+    }
+}
+
+/// The number of the fault of bytes, 0 where they are an image.
+fn fault_number(alloc: Global, bytes: &[u8]) -> u8 {
+    match decode(alloc, bytes) {
+        Ok(_) => 0,
+        Err(fault) => fault as u8,
+    }
+}
+
+#[test]
+fn known_images(rt: HostRuntime) -> Result<(), Fail> {
+    let alloc = rt.alloc();
+    assert!(rt; is_image(alloc, ONE_READ.as_slice()));
+    assert!(rt; is_image(alloc, EMPTY.as_slice()));
+    let mut longer = Vec::from_slice(alloc, ONE_READ.as_slice())?;
+    longer.push(0)?;
+    assert!(rt; matches!(decode(alloc, longer.as_slice()), Err(ImageFault::Trailing)));
+    Ok(())
+}
+
+#[test]
+fn beginnings(rt: HostRuntime) {
+    let alloc = rt.alloc();
+    for length in 0..40 {
+        let beginning = &ONE_READ[..length];
+        assert!(rt;
+            matches!(decode(alloc, beginning), Err(ImageFault::Truncated)),
+            "{length}"
+        );
+    }
+}
+
+#[test]
+fn changed_bytes(rt: HostRuntime) {
+    let alloc = rt.alloc();
+    for change in CHANGES.iter() {
+        let mut bytes = ONE_READ;
+        if let Some(byte) = bytes.get_mut(change.place) {
+            *byte = change.value;
+        }
+        assert_eq!(rt; decode(alloc, bytes.as_slice()).err(), Some(change.fault));
+    }
+}
+
+/// A role of another sort is told only where nothing else is wrong.
+#[test]
+fn roles_come_last(rt: HostRuntime) -> Result<(), Fail> {
+    let alloc = rt.alloc();
+    let mut bytes = Vec::from_slice(alloc, ONE_READ.as_slice())?;
+    if let Some(sort) = bytes.get_mut(16) {
+        *sort = 1;
+    }
+    assert!(rt; matches!(decode(alloc, bytes.as_slice()), Err(ImageFault::OverLimit)));
+    bytes.push(0)?;
+    assert!(rt; matches!(decode(alloc, bytes.as_slice()), Err(ImageFault::Trailing)));
+    Ok(())
+}
+
+#[test]
+fn every_change_of_one_byte(rt: HostRuntime) -> Result<(), Fail> {
+    let alloc = rt.alloc();
+    let mut faults = Vec::new(alloc);
+    for place in 0..40 {
+        for value in 0..=255 {
+            let mut bytes = ONE_READ;
+            bytes[place] = value;
+            let number = fault_number(alloc, bytes.as_slice());
+            assert!(rt;
+                number > 0 || is_image(alloc, bytes.as_slice()),
+                "{place} {value}"
+            );
+            faults.push(number)?;
+        }
+    }
+    assert!(rt; Md5::digest(faults.as_slice()).as_slice() == ONE_READ_FAULTS.as_slice());
+    Ok(())
+}
+
+/// The image of `QUEUED`.
+fn queued_image(alloc: Global) -> Result<Vec<u8>, Fail> {
+    let set = assemble(alloc, QUEUED.as_bytes())
+        .ok()
+        .ok_or("the text is a set")?;
+    let image = encode(alloc, &set).ok().ok_or("out of memory")?;
+    Ok(image)
+}
+
+#[test]
+fn an_image_of_a_text(rt: HostRuntime) -> Result<(), Fail> {
+    let alloc = rt.alloc();
+    let image = queued_image(alloc)?;
+    assert_eq!(rt; image.len(), 258);
+    assert!(rt; Md5::digest(image.as_slice()).as_slice() == QUEUED_IMAGE.as_slice());
+    assert!(rt; is_image(alloc, image.as_slice()));
+    for length in 0..258 {
+        let beginning = image.get(..length).ok_or("the image is longer")?;
+        assert!(rt;
+            matches!(decode(alloc, beginning), Err(ImageFault::Truncated)),
+            "{length}"
+        );
+    }
+    Ok(())
+}
+
+#[test]
+fn every_change_of_a_larger_image(rt: HostRuntime) -> Result<(), Fail> {
+    let alloc = rt.alloc();
+    let image = queued_image(alloc)?;
+    let mut faults = Vec::new(alloc);
+    for place in 0..image.len() {
+        for value in 0..=255 {
+            let mut bytes = Vec::from_slice(alloc, image.as_slice())?;
+            if let Some(byte) = bytes.get_mut(place) {
+                *byte = value;
+            }
+            let number = fault_number(alloc, bytes.as_slice());
+            assert!(rt;
+                number > 0 || is_image(alloc, bytes.as_slice()),
+                "{place} {value}"
+            );
+            faults.push(number)?;
+        }
+    }
+    assert!(rt; Md5::digest(faults.as_slice()).as_slice() == QUEUED_FAULTS.as_slice());
+    Ok(())
+}
