@@ -26,6 +26,18 @@ pub struct Use<'a> {
     pub name: Piece<'a>,
 }
 
+impl<'a> Use<'a> {
+    /// The use of this name in this line.
+    pub fn of(line: u64, name: &Piece<'a>) -> Use<'a>
+        ensures { result ≡ record { line = line; name = name.now } }
+    {
+        Use {
+            line,
+            name: name.again(),
+        }
+    }
+}
+
 /// An instruction of the open routine. Where it jumps, `label` is the use of its label's name;
 /// where it is a `call` that sets a routine, `call` is the place of the use of that routine's name
 /// among those of the open driver's calls; where it touches a queue, `queue` is the place of the

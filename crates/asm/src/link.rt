@@ -20,7 +20,7 @@ pub fn linked(
     ensures { IfOk result
         (λ code. code.items ≡ map (resolved labels.now.keys positions.now) steps.now) }
 {
-    let mut code = Vec::new(alloc);
+    let mut code = Vec::with_capacity(alloc, steps.len())?;
     for step in steps {
         code.push(resolved(labels, positions, step))?;
     }

@@ -46,11 +46,11 @@ pub fn number_used(names: &IndexSet<Piece<'_>>, used: &Option<Use<'_>>) -> Optio
 }
 
 /// The use of a name in a line, if there is one.
-pub fn used_at<'a>(line: u64, name: Option<Piece<'a>>) -> Option<Use<'a>>
-    ensures { result ≡ used_at line name.entry }
+pub fn used_at<'a>(line: u64, name: &Option<Piece<'a>>) -> Option<Use<'a>>
+    ensures { result ≡ used_at line name.now }
 {
     match name {
-        Some(name) => Some(Use { line, name }),
+        Some(name) => Some(Use::of(line, name)),
         None => None,
     }
 }
@@ -95,18 +95,18 @@ pub fn add<'a>(names: &mut IndexSet<Piece<'a>>, name: Piece<'a>) -> Result<(), A
 pub fn add_use<'a>(
     uses: &mut Vec<Use<'a>>,
     line: u64,
-    name: Option<Piece<'a>>,
+    name: &Option<Piece<'a>>,
 ) -> Result<Option<usize>, AllocError>
     ensures uses { OnOk result
-        (uses.new.items ≡ uses.old.items ++ option_to_list (used_at line name.entry)) }
+        (uses.new.items ≡ uses.old.items ++ option_to_list (used_at line name.now)) }
     ensures place { IfOk result
-        (λ place. place ≡ use_place (length uses.old.items) name.entry) }
+        (λ place. place ≡ use_place (length uses.old.items) name.now) }
 {
     let Some(name) = name else {
         return Ok(None);
     };
     let place = uses.len();
-    uses.push(Use { line, name })?;
+    uses.push(Use::of(line, name))?;
     Ok(Some(place))
 }
 

@@ -21,34 +21,35 @@ impl<'a> Draft<'a> {
     /// # Errors
     ///
     /// When memory runs out.
-    pub fn note(&mut self, alloc: Global, number: u64, line: Line<'a>) -> Result<(), AllocError>
-        requires fitting { IsFitting self.old line }
+    pub fn note(
+        &mut self,
+        alloc: Global,
+        number: u64,
+        line: &Line<'a>,
+    ) -> Result<(), AllocError>
+        requires fitting { IsFitting self.old line.now }
         requires orderly { IsOrderly self.old }
-        ensures { OnOk result (self.new ≡ noted self.old number line.entry.label line.entry.body) }
+        ensures { OnOk result (self.new ≡ noted self.old number line.now.label line.now.body) }
     {
-        let Line { label, body } = line;
-        match body {
+        match &line.body {
             Body::Blank => Ok(()),
-            Body::OpenDriver(name) => self.open_driver(name),
+            Body::OpenDriver(name) => self.open_driver(name.again()),
             Body::CloseDriver => self.close_driver(alloc),
             Body::AddQueue(name, guard, cancel) => match guard {
-                Some(guard) => self.add_queue(name, guard, used_at(number, cancel)),
+                Some(guard) => self.add_queue(name.again(), *guard, used_at(number, cancel)),
                 None => Ok(()),
             },
-            Body::Handle(major, name) => self.handle(major, Use { line: number, name }),
-            Body::HandleStartIo(name) => self.handle_startio(Use { line: number, name }),
-            Body::HandleDpc(name) => self.handle_dpc(Use { line: number, name }),
-            Body::OpenRoutine(name, sort) => self.open_routine(name, sort),
+            Body::Handle(major, name) => self.handle(*major, Use::of(number, name)),
+            Body::HandleStartIo(name) => self.handle_startio(Use::of(number, name)),
+            Body::HandleDpc(name) => self.handle_dpc(Use::of(number, name)),
+            Body::OpenRoutine(name, sort) => self.open_routine(name.again(), *sort),
             Body::CloseRoutine => self.close_routine(alloc),
             Body::AddDevice(name, driver, stack, lower) => {
-                let used = Use {
-                    line: number,
-                    name: driver,
-                };
-                self.add_device(name, used, stack, used_at(number, lower))
+                let (driver, lower) = (Use::of(number, driver), used_at(number, lower));
+                self.add_device(name.again(), driver, *stack, lower)
             }
             Body::Step(instr, used) => match instr {
-                Some(instr) => self.step(number, label, instr, used),
+                Some(instr) => self.step(number, &line.label, *instr, used),
                 None => Ok(()),
             },
         }
@@ -203,32 +204,27 @@ impl<'a> Draft<'a> {
     fn step(
         &mut self,
         number: u64,
-        label: Option<Piece<'a>>,
+        label: &Option<Piece<'a>>,
         instr: Instr,
-        used: UsedNames<'a>,
+        used: &UsedNames<'a>,
     ) -> Result<(), AllocError>
-        requires fresh { is_known_label self.old.labels label ≡ false }
+        requires fresh { is_known_label self.old.labels label.now ≡ false }
         requires room { length self.old.steps < MAX_INSTRUCTIONS }
-        ensures { OnOk result (self.new ≡ stepped self.old number label.entry instr used.entry) }
+        ensures { OnOk result (self.new ≡ stepped self.old number label.now instr used.now) }
     {
         self.add_label(label)?;
         self.add_step(number, instr, used)
     }
 
     /// An instruction, and the names that it uses.
-    fn add_step(&mut self, number: u64, instr: Instr, used: UsedNames<'a>) -> Result<(), AllocError>
-        ensures { OnOk result (self.new ≡ step_added self.old number instr used.entry) }
+    fn add_step(&mut self, number: u64, instr: Instr, used: &UsedNames<'a>) -> Result<(), AllocError>
+        ensures { OnOk result (self.new ≡ step_added self.old number instr used.now) }
     {
-        let UsedNames {
-            label,
-            routine,
-            queue,
-        } = used;
-        let call = add_use(&mut self.calls, number, routine)?;
-        let queue = add_use(&mut self.queue_uses, number, queue)?;
+        let call = add_use(&mut self.calls, number, &used.routine)?;
+        let queue = add_use(&mut self.queue_uses, number, &used.queue)?;
         self.steps.push(Step {
             instr,
-            label: used_at(number, label),
+            label: used_at(number, &used.label),
             call,
             queue,
         })?;
@@ -236,14 +232,14 @@ impl<'a> Draft<'a> {
     }
 
     /// A label, if there is one, which is new: it stands for the position of the next instruction.
-    fn add_label(&mut self, label: Option<Piece<'a>>) -> Result<(), AllocError>
-        requires fresh { is_known_label self.old.labels label ≡ false }
+    fn add_label(&mut self, label: &Option<Piece<'a>>) -> Result<(), AllocError>
+        requires fresh { is_known_label self.old.labels label.now ≡ false }
         requires room { length self.old.steps < MAX_INSTRUCTIONS }
-        ensures { OnOk result (self.new ≡ label_added self.old label.entry) }
+        ensures { OnOk result (self.new ≡ label_added self.old label.now) }
     {
         match label {
             Some(label) => {
-                add(&mut self.labels, label)?;
+                add(&mut self.labels, label.again())?;
                 self.positions.push(self.steps.len() as u16)?;
                 Ok(())
             }

@@ -1,6 +1,6 @@
 //! The text read line by line, and the set that it names.
 
-ghost use Rattle.std.specs.Prelude.{◌≡◌, ◌⊎◌, ℕ, IfOk, MatchResult, OnOk, Ok, Err};
+ghost use Rattle.std.specs.Prelude.{◌≡◌, ◌⊎◌, ◌<◌, ◌^◌, ℕ, length, IfOk, MatchResult, OnOk, Ok, Err};
 ghost use Rattle.asm.specs.Outline.{nothing_read, IsOrderly};
 ghost use Rattle.asm.specs.declared.draft.Place.{Place};
 ghost use Rattle.asm.specs.Reading.{kind_of, memory, read_on, reading, resolved, set_in, IsFaultOf, IsNamed};
@@ -10,8 +10,7 @@ use crate::fault::{AsmFault, AsmKind};
 use asm_line::{LineFault, read_line};
 use image::DriverSet;
 use std::alloc::{AllocError, Global};
-use text::cut::lines;
-use text::piece::Piece;
+use text::cut::Lines;
 
 /// The driver set that a text names.
 ///
@@ -36,9 +35,8 @@ pub fn assemble(alloc: Global, text: &[u8]) -> Result<DriverSet, AsmFault>
 fn set_in(alloc: Global, text: &[u8]) -> Result<Result<DriverSet, AsmFault>, AllocError>
     ensures { IfOk result (λ answer. answer ≡ set_in text.now) }
 {
-    let raws = lines(alloc, text)?;
     let mut draft = Draft::new(alloc);
-    if let Err(fault) = draft.read_all(alloc, &raws)? {
+    if let Err(fault) = draft.read_all(alloc, Lines::of(text))? {
         return Ok(Err(fault));
     }
     Ok(draft.resolved())
@@ -46,30 +44,31 @@ fn set_in(alloc: Global, text: &[u8]) -> Result<Result<DriverSet, AsmFault>, All
 
 impl<'a> Draft<'a> {
     /// Reads lines to the end of the text, the first of which is line 1.
-    #[tactic(auto, using(crate::proofs::Turns::all_read))]
     fn read_all(
         &mut self,
         alloc: Global,
-        raws: &[Piece<'a>],
+        mut left: Lines<'a>,
     ) -> Result<Result<(), AsmFault>, AllocError>
-        requires { IsOrderly self.old }
+        requires orderly { IsOrderly self.old }
+        requires few { length left < 2 ^ 63 }
         ensures read { IfOk result
-            (λ answer. MatchResult answer (λ _. reading self.old 1 raws.now ≡ Ok self.new)
-            (λ fault. reading self.old 1 raws.now ≡ Err fault)) }
+            (λ answer. MatchResult answer (λ _. reading self.old 1 left.entry ≡ Ok self.new)
+            (λ fault. reading self.old 1 left.entry ≡ Err fault)) }
         ensures closed { IfOk result (λ answer. OnOk answer (self.new.place ≡ Place.Outside)) }
         ensures orderly { IfOk result (λ answer. OnOk answer (IsOrderly self.new)) }
     {
+        let mut line: u64 = 1;
         #[tactic(auto, using(crate::proofs::Turns::line_read, crate::proofs::Turns::line_refused))]
-        for (i, raw) in raws.iter().enumerate() {
-            let line = i as u64 + 1;
-            if let Err(kind) = self.read_on(alloc, line, raw.bytes())? {
+        while let Some(raw) = left.next() {
+            if let Err(kind) = self.read_on(alloc, line, raw)? {
                 return Ok(Err(AsmFault { line, kind }));
             }
+            line += 1;
         }
         match self.place {
             Place::Outside => Ok(Ok(())),
             _ => Ok(Err(AsmFault {
-                line: raws.len() as u64 + 1,
+                line,
                 kind: AsmKind::Unclosed,
             })),
         }
@@ -95,7 +94,7 @@ impl<'a> Draft<'a> {
         if let Some(kind) = self.misfit(&line) {
             return Ok(Err(kind));
         }
-        self.note(alloc, number, line)?;
+        self.note(alloc, number, &line)?;
         Ok(Ok(()))
     }
 

@@ -243,7 +243,7 @@ impl<'a> Draft<'a> {
         requires queues { length self.now.queue_names ≤ MAX_QUEUES }
         ensures { IfOk result (λ code. code.items ≡ map (called self.now) steps.now) }
     {
-        let mut code = Vec::new(alloc);
+        let mut code = Vec::with_capacity(alloc, steps.len())?;
         for step in steps {
             code.push(self.called(step))?;
         }

@@ -8,7 +8,7 @@ ghost use Rattle.text.specs.Cut.{lines_of};
 use crate::read::{event_line, opening_line};
 use crate::schedule::{Events, MAX_EVENTS, Schedule, ScheduleFault, ScheduleKind};
 use std::alloc::{AllocError, Global};
-use text::cut::lines;
+use text::cut::lines_of;
 use text::piece::Piece;
 
 /// The schedule that a text lists.
@@ -44,7 +44,7 @@ pub fn parse_schedule(alloc: Global, text: &[u8]) -> Result<Schedule, ScheduleFa
 fn schedule_in(alloc: Global, text: &[u8]) -> Result<Result<Schedule, ScheduleFault>, AllocError>
     ensures { IfOk result (λ r. r ≡ schedule_in text.now) }
 {
-    let lines = lines(alloc, text)?;
+    let lines = lines_of(alloc, text)?;
     match find_opening(lines.as_slice()) {
         Ok(opening) => {
             let rest = &lines[opening.lines..];

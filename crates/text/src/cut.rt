@@ -1,41 +1,78 @@
 //! A text cut into lines.
 
-ghost use Rattle.std.specs.Prelude.{◌≡◌, ◌++◌, [], IfOk, OnOk};
-ghost use Rattle.text.specs.Cut.{closed, is_clean, is_written, lines_of};
+ghost use Rattle.std.specs.Prelude.{◌≡◌, ◌≤◌, ◌∷◌, [], List, ℕ, IfOk, MatchOption, length};
+ghost use Rattle.text.specs.Cut.{is_clean, is_written, lines_of};
 
 use crate::piece::Piece;
 use std::alloc::{AllocError, Global};
+use std::marker::Model;
 
-/// The lines of a text, in order, without their LF. Bytes after the last LF are a line; nothing
-/// after it is none, so an empty text has no line.
+/// The lines of a text that are not read yet, in order, without their LF. Bytes after the last LF
+/// are a line; nothing after it is none, so an empty text has no line.
+#[derive(Drop)]
+pub struct Lines<'a> {
+    rest: &'a [u8],
+}
+
+impl<'a> Model for Lines<'a> {
+    ghost Value = { List (List ℕ) };
+
+    ghost view = { λ lines. lines_of lines.rest.now };
+}
+
+impl<'a> Lines<'a> {
+    /// All lines of a text.
+    pub fn of(text: &'a [u8]) -> Lines<'a>
+        ensures lines { result ≡ lines_of text.now }
+        ensures few { length result ≤ length text.now }
+    {
+        Lines { rest: text }
+    }
+
+    /// Takes the next line, if there is one.
+    pub fn next(&mut self) -> Option<&'a [u8]>
+        ensures { MatchOption result ((self.old ≡ []) × (self.new ≡ []))
+            (λ line. self.old ≡ line.now ∷ self.new) }
+    {
+        let (line, rest) = first_line(self.rest)?;
+        self.rest = rest;
+        Some(line)
+    }
+}
+
+/// The first line of a text, and what stands after its LF.
+#[tactic(auto, using(crate::proofs::Cuts::line_cut, crate::proofs::Cuts::line_end))]
+fn first_line(text: &[u8]) -> Option<(&[u8], &[u8])>
+    ensures { MatchOption result (lines_of text.now ≡ [])
+        (λ split. lines_of text.now ≡ split.0.now ∷ lines_of split.1.now) }
+{
+    #[tactic(auto, using(crate::proofs::Cuts::line_on))]
+    for (i, byte) in text.iter().enumerate() {
+        if *byte == b'\n' {
+            return Some((&text[..i], &text[i + 1..]));
+        }
+    }
+    if text.is_empty() {
+        None
+    } else {
+        Some((text, &[]))
+    }
+}
+
+/// The lines of a text, all at once.
 ///
 /// # Errors
 ///
 /// When memory runs out.
-#[tactic(auto, using(crate::proofs::Cuts::lines_end))]
-pub fn lines<'a>(alloc: Global, text: &'a [u8]) -> Result<Vec<Piece<'a>>, AllocError>
+pub fn lines_of<'a>(alloc: Global, text: &'a [u8]) -> Result<Vec<Piece<'a>>, AllocError>
     ensures { IfOk result (λ lines. lines.items ≡ lines_of text.now) }
 {
     let mut found = Vec::new(alloc);
-    let mut start = 0;
-    for (i, byte) in text.iter().enumerate() {
-        if *byte == b'\n' {
-            found.push(Piece::of(&text[start..i]))?;
-            start = i + 1;
-        }
+    let mut left = Lines::of(text);
+    while let Some(line) = left.next() {
+        found.push(Piece::of(line))?;
     }
-    close(&mut found, &text[start..])?;
     Ok(found)
-}
-
-/// Adds what is held to the pieces found, unless it is empty.
-fn close<'a>(found: &mut Vec<Piece<'a>>, held: &'a [u8]) -> Result<(), AllocError>
-    ensures { OnOk result (found.new.items ≡ found.old.items ++ closed held.now) }
-{
-    if !held.is_empty() {
-        found.push(Piece::of(held))?;
-    }
-    Ok(())
 }
 
 /// Whether a byte may stand in a line: tab, CR, or space to tilde.

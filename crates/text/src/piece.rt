@@ -35,6 +35,13 @@ impl<'a> Piece<'a> {
     {
         self.piece_bytes
     }
+
+    /// The same bytes as another piece.
+    pub fn again(&self) -> Piece<'a>
+        ensures { result ≡ self.now }
+    {
+        Piece::of(self.bytes())
+    }
 }
 
 impl PartialEq for Piece<'_> {

@@ -1,11 +1,15 @@
-use Rattle.std.proofs.Common.{◌≡◌, ◌+◌, drop}
+use Rattle.std.proofs.Common.{◌≡◌, ◌<◌, ◌+◌, ◌^◌, length}
 use Rattle.asm.specs.Outline.{IsOrderly}
 use Rattle.asm.specs.Reading.{reading}
 use Rattle.asm.proofs.draft.Draft.read_all.Given as goal
 
--- the rest is read as the whole is
-abbrev pub invariant-loop-i : goal.invariant-loop-i
-invariant-loop-i l = record {
-  same : reading l.self (l.i + 1) (drop l.i l.raws) ≡ reading l.fn.self 1 l.raws;
+-- the rest is read as the whole is, and its lines can be counted
+abbrev pub invariant-loop-raw : goal.invariant-loop-raw
+invariant-loop-raw l = record {
+  same : reading l.self l.line l.left ≡ reading l.fn.self 1 l.fn.left;
   orderly : IsOrderly l.self;
+  counted : l.line + length l.left < 2 ^ 64;
 }
+
+abbrev pub decreases-loop-raw : goal.decreases-loop-raw
+decreases-loop-raw l = length l.left
