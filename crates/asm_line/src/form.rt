@@ -1,8 +1,10 @@
 //! One line read by its form.
 
-ghost use Rattle.std.specs.Prelude.{◌≡◌, IfOk, IfSome};
-ghost use Rattle.asm_line.specs.Cursor.{beginning};
-ghost use Rattle.asm_line.specs.Line.{body, body_of, ended, if_ended, if_in_range, labelled, line_of, queue, read_line, step, BodyFits};
+ghost use Rattle.std.specs.Prelude.{◌≡◌, ◌∷◌, IfOk, IfSome, None, option_and_then, option_map};
+ghost use Rattle.std.specs.Option.{ok_or};
+ghost use Rattle.asm_line.specs.Cursor.{Reads};
+ghost use Rattle.asm_line.specs.Line.{body, body_of, labelled, line_of, queue, read_line, step, BodyFits};
+ghost use Rattle.asm_line.specs.declared.line.LineFault.{LineFault};
 
 use crate::cursor::Cursor;
 use crate::instruction::instruction;
@@ -25,124 +27,123 @@ pub fn read_line<'a>(raw: &'a [u8]) -> Result<Line<'a>, LineFault>
     if !is_clean(raw) || !tokens.are_of_form() {
         return Err(LineFault::Lex);
     }
-    line_of(tokens).ok_or(LineFault::UnknownWord)
+    line_of(tokens)
 }
 
 /// The line that the tokens are, of which the first may be a label; without a token it is blank.
-fn line_of<'a>(mut tokens: Tokens<'a>) -> Option<Line<'a>>
-    ensures line { result ≡ line_of tokens.entry }
-    ensures fits { IfSome result (λ line. BodyFits line.body) }
+fn line_of<'a>(mut tokens: Tokens<'a>) -> Result<Line<'a>, LineFault>
+    ensures line { result ≡ ok_or (line_of tokens.entry) LineFault.UnknownWord }
+    ensures fits { IfOk result (λ line. BodyFits line.body) }
 {
     let Some(first) = tokens.next() else {
-        return Some(Line {
+        return Ok(Line {
             label: None,
             body: Body::Blank,
         });
     };
-    if let Some(label) = label_name(first) {
-        let word = tokens.next()?;
-        return labelled(Piece::of(label), body_of(word, Cursor::of(tokens))?);
-    }
+    let line = match label_name(first) {
+        Some(label) => labelled(label, tokens),
+        None => unlabelled(first, tokens),
+    };
+    line.ok_or(LineFault::UnknownWord)
+}
+
+/// A line without a label, whose first word this is.
+fn unlabelled<'a>(word: &[u8], tokens: Tokens<'a>) -> Option<Line<'a>>
+    ensures line { result
+        ≡ option_map (λ b. record { label = None; body = b }) (body_of (word.now ∷ tokens.entry)) }
+    ensures fits { IfSome result (λ line. BodyFits line.body) }
+{
     Some(Line {
         label: None,
-        body: body_of(first, Cursor::of(tokens))?,
+        body: body_of(word, tokens)?,
     })
 }
 
-/// An instruction with its label.
-fn labelled<'a>(label: Piece<'a>, body: Body<'a>) -> Option<Line<'a>>
-    requires { BodyFits body }
-    ensures line { result ≡ labelled label.entry body.entry }
+/// A line with this label, which only an instruction may have.
+fn labelled<'a>(label: &'a [u8], mut tokens: Tokens<'a>) -> Option<Line<'a>>
+    ensures line { result ≡ option_and_then (labelled label.now) (body_of tokens.entry) }
     ensures fits { IfSome result (λ line. BodyFits line.body) }
 {
+    let word = tokens.next()?;
+    let body = body_of(word, tokens)?;
     match body {
-        Body::Step(instr, used) => Some(Line {
-            label: Some(label),
-            body: Body::Step(instr, used),
+        Body::Step(_, _) => Some(Line {
+            label: Some(Piece::of(label)),
+            body,
         }),
         _ => None,
     }
 }
 
 /// What the first word of a line and all tokens behind it say.
-fn body_of<'a>(word: &[u8], mut at: Cursor<'a>) -> Option<Body<'a>>
-    ensures body { result ≡ ended (body word.now at.entry) }
+fn body_of<'a>(word: &[u8], tokens: Tokens<'a>) -> Option<Body<'a>>
+    ensures body { result ≡ body_of (word.now ∷ tokens.entry) }
     ensures fits { IfSome result BodyFits }
 {
-    if is(word, b"driver") {
-        let name = at.name()?;
-        return end(at, Body::OpenDriver(name));
-    }
-    if is(word, b"endd") {
-        return end(at, Body::CloseDriver);
-    }
-    if is(word, b"queue") {
-        return queue(at);
-    }
-    if is(word, b"dispatch") {
-        let (major, routine) = (at.major()?, at.name()?);
-        return end(at, Body::Handle(major, routine));
-    }
-    if is(word, b"startio") {
-        let routine = at.name()?;
-        return end(at, Body::HandleStartIo(routine));
-    }
-    if is(word, b"dpc") {
-        let routine = at.name()?;
-        return end(at, Body::HandleDpc(routine));
-    }
-    if is(word, b"routine") {
-        let (name, sort) = (at.name()?, at.sort()?);
-        return end(at, Body::OpenRoutine(name, sort));
-    }
-    if is(word, b"endr") {
-        return end(at, Body::CloseRoutine);
-    }
-    if is(word, b"device") {
-        let (name, driver) = (at.name()?, at.name()?);
-        let (stack, lower) = (at.number()?, at.optional_name()?);
-        return end(at, Body::AddDevice(name, driver, stack, lower));
-    }
-    step(word, at)
-}
-
-/// `queue NAME LOCK` and `queue NAME LOCK ROUTINE`.
-fn queue<'a>(mut at: Cursor<'a>) -> Option<Body<'a>>
-    ensures body { result ≡ ended (queue at.entry) }
-    ensures fits { IfSome result BodyFits }
-{
-    let (name, lock) = (at.name()?, at.spin_lock()?);
-    let guard = if at.in_range { Some(lock) } else { None };
-    let cancel = at.optional_name()?;
-    end(at, Body::AddQueue(name, guard, cancel))
-}
-
-/// An instruction, and the names that it uses.
-fn step<'a>(word: &[u8], mut at: Cursor<'a>) -> Option<Body<'a>>
-    ensures body { result ≡ ended (step word.now at.entry) }
-    ensures fits { IfSome result BodyFits }
-{
-    let instr = instruction(word, &mut at)?;
-    let Cursor {
-        mut tokens,
-        in_range,
-        used,
-    } = at;
-    if tokens.next().is_some() {
-        return None;
-    }
-    Some(Body::Step(if in_range { Some(instr) } else { None }, used))
-}
-
-/// What was read, if no token is left.
-fn end<'a>(mut at: Cursor<'a>, body: Body<'a>) -> Option<Body<'a>>
-    requires { BodyFits body }
-    ensures body { result ≡ if_ended at.entry.tokens body.entry }
-    ensures fits { IfSome result BodyFits }
-{
+    let mut at = Cursor::of(tokens);
+    let body = body(word, &mut at)?;
     if at.tokens.next().is_some() {
         None
     } else {
         Some(body)
     }
+}
+
+/// What the first word of a line and the tokens behind it say, as far as they are read.
+fn body<'a>(word: &[u8], at: &mut Cursor<'a>) -> Option<Body<'a>>
+    ensures read { Reads result at.new (body word.now at.old) }
+    ensures fits { IfSome result BodyFits }
+{
+    if is(word, b"driver") {
+        return Some(Body::OpenDriver(at.name()?));
+    }
+    if is(word, b"endd") {
+        return Some(Body::CloseDriver);
+    }
+    if is(word, b"queue") {
+        return queue(at);
+    }
+    if is(word, b"dispatch") {
+        return Some(Body::Handle(at.major()?, at.name()?));
+    }
+    if is(word, b"startio") {
+        return Some(Body::HandleStartIo(at.name()?));
+    }
+    if is(word, b"dpc") {
+        return Some(Body::HandleDpc(at.name()?));
+    }
+    if is(word, b"routine") {
+        return Some(Body::OpenRoutine(at.name()?, at.sort()?));
+    }
+    if is(word, b"endr") {
+        return Some(Body::CloseRoutine);
+    }
+    if is(word, b"device") {
+        let (name, driver) = (at.name()?, at.name()?);
+        let (stack, lower) = (at.number()?, at.optional_name()?);
+        return Some(Body::AddDevice(name, driver, stack, lower));
+    }
+    step(word, at)
+}
+
+/// `queue NAME LOCK` and `queue NAME LOCK ROUTINE`.
+fn queue<'a>(at: &mut Cursor<'a>) -> Option<Body<'a>>
+    ensures read { Reads result at.new (queue at.old) }
+    ensures fits { IfSome result BodyFits }
+{
+    let (name, lock) = (at.name()?, at.spin_lock()?);
+    let guard = if at.in_range { Some(lock) } else { None };
+    let cancel = at.optional_name()?;
+    Some(Body::AddQueue(name, guard, cancel))
+}
+
+/// An instruction, and the names that it uses.
+fn step<'a>(word: &[u8], at: &mut Cursor<'a>) -> Option<Body<'a>>
+    ensures read { Reads result at.new (step word.now at.old) }
+    ensures fits { IfSome result BodyFits }
+{
+    let instr = instruction(word, at)?;
+    let instr = if at.in_range { Some(instr) } else { None };
+    Some(Body::Step(instr, at.used.again()))
 }

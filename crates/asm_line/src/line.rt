@@ -1,5 +1,7 @@
 //! A line of a driver text, by its form.
 
+ghost use Rattle.std.specs.Prelude.{◌≡◌};
+
 use model::instr::{Instr, SpinLock};
 use model::set::Sort;
 use model::status::Major;
@@ -15,6 +17,29 @@ pub struct UsedNames<'a> {
     pub routine: Option<Piece<'a>>,
     /// Of the queue that it touches.
     pub queue: Option<Piece<'a>>,
+}
+
+impl<'a> UsedNames<'a> {
+    /// The same names once more.
+    pub fn again(&self) -> UsedNames<'a>
+        ensures { result ≡ self.now }
+    {
+        UsedNames {
+            label: again(&self.label),
+            routine: again(&self.routine),
+            queue: again(&self.queue),
+        }
+    }
+}
+
+/// The same name once more, if there is one.
+fn again<'a>(name: &Option<Piece<'a>>) -> Option<Piece<'a>>
+    ensures { result ≡ name.now }
+{
+    match name {
+        Some(name) => Some(name.again()),
+        None => None,
+    }
 }
 
 /// What a line says.
