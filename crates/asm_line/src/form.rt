@@ -1,7 +1,10 @@
 //! One line read by its form.
 
 ghost use Rattle.std.specs.Prelude.{◌≡◌, ◌∷◌, IfOk, IfSome, None, option_and_then, option_map};
+ghost use Rattle.std.specs.List.{list_all};
 ghost use Rattle.std.specs.Option.{ok_or};
+ghost use Rattle.text.specs.Class.{is_token};
+ghost use Rattle.text.specs.Cut.{tokens_of};
 ghost use Rattle.asm_line.specs.Cursor.{Reads};
 ghost use Rattle.asm_line.specs.Line.{body, body_of, labelled, line_of, queue, read_line, step, BodyFits};
 ghost use Rattle.asm_line.specs.declared.line.LineFault.{LineFault};
@@ -9,7 +12,7 @@ ghost use Rattle.asm_line.specs.declared.line.LineFault.{LineFault};
 use crate::cursor::Cursor;
 use crate::instruction::instruction;
 use crate::line::{Body, Line, LineFault};
-use text::class::{is, label_name};
+use text::class::{MAX_NAME, is, label_name};
 use text::cut::is_clean;
 use text::piece::Piece;
 use text::token::Tokens;
@@ -23,11 +26,24 @@ pub fn read_line<'a>(raw: &'a [u8]) -> Result<Line<'a>, LineFault>
     ensures line { result ≡ read_line raw.now }
     ensures fits { IfOk result (λ line. BodyFits line.body) }
 {
-    let tokens = Tokens::of(raw);
-    if !is_clean(raw) || !tokens.are_of_form() {
-        return Err(LineFault::Lex);
+    let line = line_of(Tokens::of(raw));
+    if is_clean(raw) && is_of_form(raw, &line) {
+        line
+    } else {
+        Err(LineFault::Lex)
     }
-    line_of(tokens)
+}
+
+/// Whether each token is of a form, where this was read of them. The tokens of a line are, but for
+/// one that is too long for a name; so they needn't be looked at again.
+fn is_of_form(raw: &[u8], line: &Result<Line<'_>, LineFault>) -> bool
+    requires { line.now ≡ ok_or (line_of (tokens_of raw.now)) LineFault.UnknownWord }
+    ensures { result ≡ list_all is_token (tokens_of raw.now) }
+{
+    match line {
+        Ok(_) if raw.len() <= MAX_NAME => true,
+        _ => Tokens::of(raw).are_of_form(),
+    }
 }
 
 /// The line that the tokens are, of which the first may be a label; without a token it is blank.
