@@ -1,8 +1,11 @@
 -- One step of cutting, at an index of the text.
-use Rattle.std.proofs.Common.{◌≡◌, ◌≢◌, ℕ, ◌+◌, ◌-◌, ◌<◌, ◌≤◌, Bool, true, false, nat_eq, if◌then◌else◌, List, [], ◌∷◌, ◌++◌, length, get_or, take, drop, refl, sym, arith, length-append, length-drop, get_or-drop}
+use Rattle.std.proofs.Common.{◌≡◌, ◌≢◌, ℕ, ◌+◌, ◌-◌, ◌<◌, ◌≤◌, Bool, true, false, nat_eq, if◌then◌else◌, suc, List, [], ◌∷◌, ◌++◌, length, get_or, take, drop, refl, sym, arith, length-append, length-drop, length-take, get_or-drop}
 use Rattle.std.proofs.lemmas.List.{drop_more, drop_all, take_all, take_more}
 use Rattle.std.proofs.lemmas.Bool.{ne_eqb}
-use Rattle.text.specs.Cut.{closed, lines_from, lines_of, parts_from, is_blank}
+use Rattle.std.specs.Prelude.{Some, None, nat_lt}
+use Rattle.std.specs.List.{position_or_len}
+use Rattle.std.proofs.lemmas.Bool.Decides.{nat_tests}
+use Rattle.text.specs.Cut.{closed, code_of, comment_at, lines_from, lines_of, parts_from, tokens_of, is_blank}
 
 -- the bytes from s up to i
 abbrev pub held_at : List ℕ → ℕ → ℕ → List ℕ
@@ -63,20 +66,98 @@ few_from held (b ∷ bs) =
 pub lines_few : (bytes : List ℕ) → length (lines_of bytes) ≤ length bytes
 lines_few bytes = let few = few_from [] bytes in omega (arith, few)
 
--- a turn of the loop over a line that finds no piece yet: at a blank and at another byte
-pub part_none : (bytes : List ℕ) (i : ℕ) (parts : List (List ℕ)) → i < length bytes
+-- what stands before a comment, byte by byte
+code_at : (b : ℕ) (bs : List ℕ) → b ≡ 59 → code_of (b ∷ bs) ≡ []
+code_at b bs is =
+    let none : position_or_len (λ b. nat_eq b 59) (b ∷ bs) ≡ 0 = rw is refl in
+    let some : nat_lt 0 (length (b ∷ bs)) ≡ true = grind (arith, nat_tests) in
+    let at : comment_at (b ∷ bs) ≡ Some 0 = rw (none, some) refl in
+    rw at refl
+
+code_by : (b : ℕ) (bs : List ℕ) (t : Bool) → nat_eq b 59 ≡ false
+    → nat_lt (position_or_len (λ b. nat_eq b 59) bs) (length bs) ≡ t
+    → code_of (b ∷ bs) ≡ b ∷ code_of bs
+code_by b bs true other is =
+    let n = position_or_len (λ b. nat_eq b 59) bs in
+    let next : position_or_len (λ b. nat_eq b 59) (b ∷ bs) ≡ suc n = rw other (omega arith) in
+    let inside : nat_lt (suc n) (length (b ∷ bs)) ≡ true = grind (arith, nat_tests) in
+    let at : comment_at (b ∷ bs) ≡ Some (suc n) = rw (next, inside) refl in
+    let later : comment_at bs ≡ Some n = rw is refl in
+    rw (at, later) refl
+code_by b bs false other is =
+    let n = position_or_len (λ b. nat_eq b 59) bs in
+    let next : position_or_len (λ b. nat_eq b 59) (b ∷ bs) ≡ suc n = rw other (omega arith) in
+    let outside : nat_lt (suc n) (length (b ∷ bs)) ≡ false = grind (arith, nat_tests) in
+    let at : comment_at (b ∷ bs) ≡ None = rw (next, outside) refl in
+    let later : comment_at bs ≡ None = rw is refl in
+    rw (at, later) refl
+
+code_on : (b : ℕ) (bs : List ℕ) → b ≢ 59 → code_of (b ∷ bs) ≡ b ∷ code_of bs
+code_on b bs other =
+    code_by b bs (nat_lt (position_or_len (λ b. nat_eq b 59) bs) (length bs)) (ne_eqb b 59 other)
+    refl
+
+blank_is_code : (b : ℕ) → is_blank b ≡ true → b ≢ 59
+blank_is_code b blank same = let never = rw same at blank in cc
+
+-- the bytes from i on
+abbrev pub rest_at : List ℕ → ℕ → List ℕ
+rest_at bytes i = take (length bytes - i) (drop i bytes)
+
+all_rest : (bytes : List ℕ) (i : ℕ) → rest_at bytes i ≡ drop i bytes
+all_rest bytes i =
+    take_all (length bytes - i) (drop i bytes) (omega (arith, length-drop i bytes))
+
+held_length : (bytes : List ℕ) (s i : ℕ) → s < i → i < length bytes → 0 < length (held_at bytes s i)
+held_length bytes s i begun inside =
+    omega (arith, length-take (i - s) (drop s bytes), length-drop s bytes)
+
+closed_some : (held : List ℕ) → 0 < length held → closed held ≡ held ∷ []
+closed_some [] h = let never : ⊥ = omega (arith, h) in absurd never
+closed_some (b ∷ bs) h = refl
+
+-- a turn of the loop over a line that finds no token yet: at a blank, at a comment, at another byte
+pub token_cut : (bytes : List ℕ) (s i : ℕ) (tokens : List (List ℕ)) → s < i → i < length bytes
     → is_blank (get_or bytes i 0) ≡ true
-    → parts_from (held_at bytes i i) (drop i bytes) ≡ parts
-    → parts_from (held_at bytes (i + 1) (i + 1)) (drop (i + 1) bytes) ≡ parts
-part_none bytes i parts inside blank before =
+    → parts_from (held_at bytes s i) (code_of (drop i bytes)) ≡ tokens
+    → tokens ≡ held_at bytes s i ∷ tokens_of (rest_at bytes (i + 1))
+token_cut bytes s i tokens begun inside blank before =
+    let b = get_or bytes i 0 in
+    let code = code_on b (drop (i + 1) bytes) (blank_is_code b blank) in
+    let now = rw (drop_more bytes i 0 inside, code, blank) at before in
+    let some = closed_some (held_at bytes s i) (held_length bytes s i begun inside) in
+    rw (all_rest bytes (i + 1)) (sym (rw some at now))
+
+pub token_none : (bytes : List ℕ) (i : ℕ) (tokens : List (List ℕ)) → i < length bytes
+    → is_blank (get_or bytes i 0) ≡ true
+    → parts_from (held_at bytes i i) (code_of (drop i bytes)) ≡ tokens
+    → parts_from (held_at bytes (i + 1) (i + 1)) (code_of (drop (i + 1) bytes)) ≡ tokens
+token_none bytes i tokens inside blank before =
     let held = rw (held_none bytes i) at before in
-    let now = rw (drop_more bytes i 0 inside, blank) at held in
+    let b = get_or bytes i 0 in
+    let code = code_on b (drop (i + 1) bytes) (blank_is_code b blank) in
+    let now = rw (drop_more bytes i 0 inside, code, blank) at held in
     rw (held_none bytes (i + 1)) now
 
-pub part_on : (bytes : List ℕ) (s i : ℕ) (parts : List (List ℕ)) → s ≤ i → i < length bytes
-    → is_blank (get_or bytes i 0) ≡ false
-    → parts_from (held_at bytes s i) (drop i bytes) ≡ parts
-    → parts_from (held_at bytes s (i + 1)) (drop (i + 1) bytes) ≡ parts
-part_on bytes s i parts below inside other before =
-    let now = rw (drop_more bytes i 0 inside, other) at before in
+pub token_comment : (bytes : List ℕ) (s i : ℕ) (tokens : List (List ℕ)) → i < length bytes
+    → get_or bytes i 0 ≡ 59
+    → parts_from (held_at bytes s i) (code_of (drop i bytes)) ≡ tokens
+    → closed (held_at bytes s i) ≡ tokens
+token_comment bytes s i tokens inside comment before =
+    let code = code_at (get_or bytes i 0) (drop (i + 1) bytes) comment in
+    let now = rw (drop_more bytes i 0 inside, code) at before in now
+
+pub token_on : (bytes : List ℕ) (s i : ℕ) (tokens : List (List ℕ)) → s ≤ i → i < length bytes
+    → is_blank (get_or bytes i 0) ≡ false → get_or bytes i 0 ≢ 59
+    → parts_from (held_at bytes s i) (code_of (drop i bytes)) ≡ tokens
+    → parts_from (held_at bytes s (i + 1)) (code_of (drop (i + 1) bytes)) ≡ tokens
+token_on bytes s i tokens below inside blank other before =
+    let code = code_on (get_or bytes i 0) (drop (i + 1) bytes) other in
+    let now = rw (drop_more bytes i 0 inside, code, blank) at before in
     rw (held_on bytes s i below inside) now
+
+pub token_end : (bytes : List ℕ) (s i : ℕ) (tokens : List (List ℕ)) → s ≤ i → length bytes ≤ i
+    → parts_from (held_at bytes s i) (code_of (drop i bytes)) ≡ tokens
+    → closed (drop s bytes) ≡ tokens
+token_end bytes s i tokens below ended before =
+    let now = rw (held_rest bytes s i below ended, drop_all i bytes ended) at before in now

@@ -79,7 +79,7 @@ pub fn lines_of<'a>(alloc: Global, text: &'a [u8]) -> Result<Vec<Piece<'a>>, All
 fn is_written(byte: u8) -> bool
     ensures { result ≡ is_written byte }
 {
-    matches!(byte, b'\t' | b'\r' | b' '..=b'~')
+    matches!(byte, b' '..=b'~') | (byte == b'\t') | (byte == b'\r')
 }
 
 /// Whether each byte of a line may stand in a line, those of a comment too.

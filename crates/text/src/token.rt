@@ -3,7 +3,7 @@
 ghost use Rattle.std.specs.Prelude.{◌≡◌, ◌∷◌, [], List, ℕ, MatchOption};
 ghost use Rattle.std.specs.List.{list_all};
 ghost use Rattle.text.specs.Class.{is_token};
-ghost use Rattle.text.specs.Cut.{code_of, comment_at, is_blank, parts_from, tokens_of};
+ghost use Rattle.text.specs.Cut.{closed, is_blank, tokens_of};
 
 use crate::class::is_token;
 use std::marker::Model;
@@ -17,7 +17,7 @@ pub struct Tokens<'a> {
 impl<'a> Model for Tokens<'a> {
     ghost Value = { List (List ℕ) };
 
-    ghost view = { λ tokens. parts_from [] tokens.rest.now };
+    ghost view = { λ tokens. tokens_of tokens.rest.now };
 }
 
 impl<'a> Tokens<'a> {
@@ -25,9 +25,7 @@ impl<'a> Tokens<'a> {
     pub fn of(line: &'a [u8]) -> Tokens<'a>
         ensures { result ≡ tokens_of line.now }
     {
-        Tokens {
-            rest: before_comment(line),
-        }
+        Tokens { rest: line }
     }
 
     /// Takes the next token, if there is one.
@@ -35,7 +33,7 @@ impl<'a> Tokens<'a> {
         ensures { MatchOption result ((self.old ≡ []) × (self.new ≡ []))
             (λ token. self.old ≡ token.now ∷ self.new) }
     {
-        let (token, rest) = first_part(self.rest)?;
+        let (token, rest) = first_token(self.rest)?;
         self.rest = rest;
         Some(token)
     }
@@ -54,42 +52,36 @@ impl<'a> Tokens<'a> {
     }
 }
 
-/// The part of a line before the first `;`, or all of it.
-fn before_comment(line: &[u8]) -> &[u8]
-    ensures { result.now ≡ code_of line.now }
-{
-    match comment_at(line) {
-        Some(end) => &line[..end],
-        None => line,
-    }
-}
-
-/// Where the comment of a line begins, if it has one.
-fn comment_at(line: &[u8]) -> Option<usize>
-    ensures { result ≡ comment_at line.now }
-{
-    line.iter().position(|byte| *byte == b';')
-}
-
-/// The first piece between blanks that has a byte, and what stands after the blank behind it.
-#[tactic(auto)]
-fn first_part(code: &[u8]) -> Option<(&[u8], &[u8])>
-    ensures { MatchOption result (parts_from [] code.now ≡ [])
-        (λ split. parts_from [] code.now ≡ split.0.now ∷ parts_from [] split.1.now) }
+/// The first token of a line, and what stands after the blank behind it; nothing does after a
+/// comment's `;`.
+#[tactic(auto, using(crate::proofs::Cuts::token_end))]
+fn first_token(line: &[u8]) -> Option<(&[u8], &[u8])>
+    ensures { MatchOption result (tokens_of line.now ≡ [])
+        (λ split. tokens_of line.now ≡ split.0.now ∷ tokens_of split.1.now) }
 {
     let mut start = 0;
-    for (i, byte) in code.iter().enumerate() {
+    for (i, byte) in line.iter().enumerate() {
         if is_blank(*byte) {
             if start < i {
-                return Some((&code[start..i], &code[i + 1..]));
+                return Some((&line[start..i], &line[i + 1..]));
             }
             start = i + 1;
+        } else if *byte == b';' {
+            return last_token(&line[start..i]);
         }
     }
-    if start < code.len() {
-        Some((&code[start..], &[]))
-    } else {
+    last_token(&line[start..])
+}
+
+/// The last token of a line, if it has a byte; nothing stands behind it.
+fn last_token(token: &[u8]) -> Option<(&[u8], &[u8])>
+    ensures { MatchOption result (closed token.now ≡ [])
+        (λ split. closed token.now ≡ split.0.now ∷ tokens_of split.1.now) }
+{
+    if token.is_empty() {
         None
+    } else {
+        Some((token, &[]))
     }
 }
 
