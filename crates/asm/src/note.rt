@@ -217,7 +217,12 @@ impl<'a> Draft<'a> {
     }
 
     /// An instruction, and the names that it uses.
-    fn add_step(&mut self, number: u64, instr: Instr, used: &UsedNames<'a>) -> Result<(), AllocError>
+    fn add_step(
+        &mut self,
+        number: u64,
+        instr: Instr,
+        used: &UsedNames<'a>,
+    ) -> Result<(), AllocError>
         ensures { OnOk result (self.new ≡ step_added self.old number instr used.now) }
     {
         let call = add_use(&mut self.calls, number, &used.routine)?;

@@ -295,23 +295,23 @@ ranged_usual stand_in (Some n) c = λ h. h
 
 register_usual : (c : Cursor) → Tells c.tokens (register c)
 register_usual c =
-    then_usual c.tokens (numbered 114 c) (λ n rest. ranged 0 (register_of n) rest) (numbered_usual 114 refl c)
-    (λ n rest. ranged_usual 0 (register_of n) rest)
+    then_usual c.tokens (numbered 114 c) (λ n rest. ranged 0 (register_of n) rest)
+    (numbered_usual 114 refl c) (λ n rest. ranged_usual 0 (register_of n) rest)
 
 spin_lock_usual : (c : Cursor) → Tells c.tokens (spin_lock c)
 spin_lock_usual c =
-    then_usual c.tokens (numbered 108 c) (λ n rest. ranged 0 (lock_of n) rest) (numbered_usual 108 refl c)
-    (λ n rest. ranged_usual 0 (lock_of n) rest)
+    then_usual c.tokens (numbered 108 c) (λ n rest. ranged 0 (lock_of n) rest)
+    (numbered_usual 108 refl c) (λ n rest. ranged_usual 0 (lock_of n) rest)
 
 cell_usual : (c : Cursor) → Tells c.tokens (cell c)
 cell_usual c =
-    then_usual c.tokens (numbered 99 c) (λ n rest. ranged 0 (cell_of n) rest) (numbered_usual 99 refl c)
-    (λ n rest. ranged_usual 0 (cell_of n) rest)
+    then_usual c.tokens (numbered 99 c) (λ n rest. ranged 0 (cell_of n) rest)
+    (numbered_usual 99 refl c) (λ n rest. ranged_usual 0 (cell_of n) rest)
 
 paged_cell_usual : (c : Cursor) → Tells c.tokens (paged_cell c)
 paged_cell_usual c =
-    then_usual c.tokens (numbered 112 c) (λ n rest. ranged 0 (cell_of n) rest) (numbered_usual 112 refl c)
-    (λ n rest. ranged_usual 0 (cell_of n) rest)
+    then_usual c.tokens (numbered 112 c) (λ n rest. ranged 0 (cell_of n) rest)
+    (numbered_usual 112 refl c) (λ n rest. ranged_usual 0 (cell_of n) rest)
 
 constant_usual : (c : Cursor) → Tells c.tokens (constant c)
 constant_usual c =
@@ -357,34 +357,50 @@ returned_usual c = returned_from c.tokens c
 
 on_packets_usual : (t : List ℕ) (c : Cursor) → Tells (t ∷ c.tokens) (on_packets t c)
 on_packets_usual t c =
-    pick t (codes "get") c.tokens _ _ refl (three_usual Get register register field register_usual register_usual field_usual c)
-    (pick t (codes "put") c.tokens _ _ refl (two_usual Put register register register_usual register_usual c)
+    pick t (codes "get") c.tokens _ _ refl
+    (three_usual Get register register field register_usual register_usual field_usual c)
+    (pick t (codes "put") c.tokens _ _ refl
+    (two_usual Put register register register_usual register_usual c)
     (pick t (codes "mark") c.tokens _ _ refl (one_usual Mark register register_usual c)
-    (pick t (codes "disarm") c.tokens _ _ refl (two_usual Disarm register label register_usual label_usual c)
-    (pick t (codes "ifcancel") c.tokens _ _ refl (two_usual IfCancel register label register_usual label_usual c)
+    (pick t (codes "disarm") c.tokens _ _ refl
+    (two_usual Disarm register label register_usual label_usual c)
+    (pick t (codes "ifcancel") c.tokens _ _ refl
+    (two_usual IfCancel register label register_usual label_usual c)
     (pick t (codes "pass") c.tokens _ _ refl (one_usual Pass register register_usual c)
-    (pick t (codes "call") c.tokens _ _ refl (two_usual Call register called register_usual called_usual c)
-    (pick t (codes "complete") c.tokens _ _ refl (two_usual Complete register status register_usual status_usual c)
-    (pick t (codes "ifpending") c.tokens _ _ refl (two_usual IfPending register label register_usual label_usual c)
+    (pick t (codes "call") c.tokens _ _ refl
+    (two_usual Call register called register_usual called_usual c)
+    (pick t (codes "complete") c.tokens _ _ refl
+    (two_usual Complete register status register_usual status_usual c)
+    (pick t (codes "ifpending") c.tokens _ _ refl
+    (two_usual IfPending register label register_usual label_usual c)
     (pick t (codes "ret") c.tokens _ _ refl (one_usual Ret returned returned_usual c) tt)))))))))
 
 on_queues_usual : (t : List ℕ) (c : Cursor) → Tells (t ∷ c.tokens) (on_queues t c)
 on_queues_usual t c =
-    pick t (codes "insert") c.tokens _ _ refl (two_usual Insert register queue register_usual queue_usual c)
-    (pick t (codes "remove") c.tokens _ _ refl (three_usual Remove register queue label register_usual queue_usual label_usual c)
-    (pick t (codes "unlink") c.tokens _ _ refl (two_usual Unlink register queue register_usual queue_usual c)
-    (pick t (codes "arm") c.tokens _ _ refl (two_usual Arm register queue register_usual queue_usual c)
+    pick t (codes "insert") c.tokens _ _ refl
+    (two_usual Insert register queue register_usual queue_usual c)
+    (pick t (codes "remove") c.tokens _ _ refl
+    (three_usual Remove register queue label register_usual queue_usual label_usual c)
+    (pick t (codes "unlink") c.tokens _ _ refl
+    (two_usual Unlink register queue register_usual queue_usual c)
+    (pick t (codes "arm") c.tokens _ _ refl
+    (two_usual Arm register queue register_usual queue_usual c)
     (pick t (codes "start") c.tokens _ _ refl (one_usual Start register register_usual c)
-    (pick t (codes "take") c.tokens _ _ refl (two_usual Take register label register_usual label_usual c)
+    (pick t (codes "take") c.tokens _ _ refl
+    (two_usual Take register label register_usual label_usual c)
     (pick t (codes "begin") c.tokens _ _ refl (one_usual Begin register register_usual c)
     (pick t (codes "next") c.tokens _ _ refl (λ h. h) (on_packets_usual t c))))))))
 
 on_devices_usual : (t : List ℕ) (c : Cursor) → Tells (t ∷ c.tokens) (on_devices t c)
 on_devices_usual t c =
-    pick t (codes "load") c.tokens _ _ refl (two_usual Load register cell register_usual cell_usual c)
-    (pick t (codes "store") c.tokens _ _ refl (two_usual Store cell register cell_usual register_usual c)
-    (pick t (codes "loadp") c.tokens _ _ refl (two_usual LoadPaged register paged_cell register_usual paged_cell_usual c)
-    (pick t (codes "storep") c.tokens _ _ refl (two_usual StorePaged paged_cell register paged_cell_usual register_usual c)
+    pick t (codes "load") c.tokens _ _ refl
+    (two_usual Load register cell register_usual cell_usual c)
+    (pick t (codes "store") c.tokens _ _ refl
+    (two_usual Store cell register cell_usual register_usual c)
+    (pick t (codes "loadp") c.tokens _ _ refl
+    (two_usual LoadPaged register paged_cell register_usual paged_cell_usual c)
+    (pick t (codes "storep") c.tokens _ _ refl
+    (two_usual StorePaged paged_cell register paged_cell_usual register_usual c)
     (pick t (codes "acquire") c.tokens _ _ refl (one_usual Acquire spin_lock spin_lock_usual c)
     (pick t (codes "release") c.tokens _ _ refl (one_usual Release spin_lock spin_lock_usual c)
     (pick t (codes "acqc") c.tokens _ _ refl (λ h. h)
@@ -392,13 +408,19 @@ on_devices_usual t c =
 
 instruction_usual : (t : List ℕ) (c : Cursor) → Tells (t ∷ c.tokens) (instruction t c)
 instruction_usual t c =
-    pick t (codes "const") c.tokens _ _ refl (two_usual Const register constant register_usual constant_usual c)
-    (pick t (codes "mov") c.tokens _ _ refl (two_usual Move register register register_usual register_usual c)
+    pick t (codes "const") c.tokens _ _ refl
+    (two_usual Const register constant register_usual constant_usual c)
+    (pick t (codes "mov") c.tokens _ _ refl
+    (two_usual Move register register register_usual register_usual c)
     (pick t (codes "clear") c.tokens _ _ refl (one_usual Clear register register_usual c)
-    (pick t (codes "add") c.tokens _ _ refl (two_usual Add register register register_usual register_usual c)
-    (pick t (codes "sub") c.tokens _ _ refl (two_usual Subtract register register register_usual register_usual c)
-    (pick t (codes "jz") c.tokens _ _ refl (two_usual JumpIfZero register label register_usual label_usual c)
-    (pick t (codes "jlt") c.tokens _ _ refl (three_usual JumpIfLess register register label register_usual register_usual label_usual c)
+    (pick t (codes "add") c.tokens _ _ refl
+    (two_usual Add register register register_usual register_usual c)
+    (pick t (codes "sub") c.tokens _ _ refl
+    (two_usual Subtract register register register_usual register_usual c)
+    (pick t (codes "jz") c.tokens _ _ refl
+    (two_usual JumpIfZero register label register_usual label_usual c)
+    (pick t (codes "jlt") c.tokens _ _ refl
+    (three_usual JumpIfLess register register label register_usual register_usual label_usual c)
     (pick t (codes "jmp") c.tokens _ _ refl (one_usual Jump label label_usual c)
     (pick t (codes "loop") c.tokens _ _ refl (one_usual Loop turns turns_usual c)
     (pick t (codes "end") c.tokens _ _ refl (λ h. h) (on_devices_usual t c))))))))))
@@ -434,10 +456,12 @@ body_usual t c =
     pick t (codes "driver") c.tokens _ _ refl (one_usual OpenDriver name name_usual c)
     (pick t (codes "endd") c.tokens _ _ refl (λ h. h)
     (pick t (codes "queue") c.tokens _ _ refl (queue_line_usual c)
-    (pick t (codes "dispatch") c.tokens _ _ refl (two_usual Handle major name major_usual name_usual c)
+    (pick t (codes "dispatch") c.tokens _ _ refl
+    (two_usual Handle major name major_usual name_usual c)
     (pick t (codes "startio") c.tokens _ _ refl (one_usual HandleStartIo name name_usual c)
     (pick t (codes "dpc") c.tokens _ _ refl (one_usual HandleDpc name name_usual c)
-    (pick t (codes "routine") c.tokens _ _ refl (two_usual OpenRoutine name sort name_usual sort_usual c)
+    (pick t (codes "routine") c.tokens _ _ refl
+    (two_usual OpenRoutine name sort name_usual sort_usual c)
     (pick t (codes "endr") c.tokens _ _ refl (λ h. h)
     (pick t (codes "device") c.tokens _ _ refl (device_usual c) (step_usual t c)))))))))
 
