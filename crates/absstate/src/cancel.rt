@@ -18,7 +18,7 @@ ghost use Rattle.model.specs.Set.{cancel_routine_of, guard_named};
 use crate::fault::{broken_if, free_fault, least, unless};
 use crate::queues::guard_fault;
 use crate::state::{is_held, kind, set_kind, set_lock};
-use image::DriverSet;
+use driver_set::DriverSet;
 use model::abs::{Abs, Kind, Rule};
 use model::instr::{Register, SpinLock};
 use model::set::QueueName;

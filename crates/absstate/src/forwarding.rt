@@ -10,7 +10,7 @@ ghost use Rattle.model.specs.LocalRule.{a_new_one, one_handed_or_owned};
 
 use crate::fault::{Wanted, broken_if, demanded, holds_lock, is_new, least};
 use crate::state::kind;
-use image::DriverSet;
+use driver_set::DriverSet;
 use model::abs::{Abs, Kind, Rule};
 use model::instr::Register;
 use model::set::{Device, Sort};

@@ -19,7 +19,7 @@ use crate::returns::return_fault;
 use crate::state::{
     begin, complete, give_down, is_held, kind, mark, move_kind, set_kind, set_lock, take,
 };
-use image::DriverSet;
+use driver_set::DriverSet;
 use model::abs::{Abs, Kind, Outs, Rule, Settled};
 use model::instr::{Instr, Register};
 use model::set::{QueueName, Sort};

@@ -7,7 +7,7 @@ ghost use Rattle.model.specs.LocalRule.{free_kind, guard_fault, has_startio, is_
 
 use crate::fault::{Wanted, broken_if, demanded, free_fault, least, unless};
 use crate::state::{is_held, kind};
-use image::DriverSet;
+use driver_set::DriverSet;
 use model::abs::{Abs, Rule};
 use model::instr::Register;
 use model::set::Sort;

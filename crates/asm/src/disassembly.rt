@@ -4,7 +4,7 @@ ghost use Rattle.std.specs.Prelude.{IfOk, string_bytes};
 ghost use Rattle.asm.specs.Reading.{IsNamed};
 
 use asm_listing::listing;
-use image::DriverSet;
+use driver_set::DriverSet;
 use model::memory::OutOfMemory;
 use std::alloc::Global;
 

@@ -8,7 +8,7 @@ ghost use Rattle.asm.specs.Reading.{kind_of, memory, read_on, reading, resolved,
 use crate::draft::{Draft, Place};
 use crate::fault::{AsmFault, AsmKind};
 use asm_line::{LineFault, read_line};
-use image::DriverSet;
+use driver_set::DriverSet;
 use std::alloc::{AllocError, Global};
 use text::cut::Lines;
 

@@ -6,7 +6,7 @@ ghost use Rattle.asm_listing.specs.Listing.{device_lines, driver_lines, listed, 
 
 use crate::driver::write_driver;
 use crate::entry::Entry;
-use image::DriverSet;
+use driver_set::DriverSet;
 use model::set::{Device, Driver};
 use std::alloc::{AllocError, Global};
 

@@ -10,7 +10,7 @@ ghost use Rattle.model.specs.Effect.{serving_for as serving_for_of, dispatched a
 
 use crate::frame::Over;
 use arrayvec::ArrayVec;
-use image::{DriverSet, Instr};
+use driver_set::{DriverSet, Instr};
 use model::limits::{DEFAULT_ROUTINE, REGISTERS};
 use model::status::{Major, Status};
 use model::world::{Activation, Armer, Completion, Value};

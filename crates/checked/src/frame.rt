@@ -8,7 +8,7 @@ ghost use Rattle.checked.specs.Step.{frame_now};
 use crate::activation::{answer, entered};
 use crate::routine;
 use crate::shared::Shared;
-use image::DriverSet;
+use driver_set::DriverSet;
 use model::event::{Bug, BugCheck, Place, Reply, Subject};
 use model::limits::MAX_FRAMES;
 use model::status::Status;

@@ -7,7 +7,7 @@ ghost use Rattle.model.specs.Effect.{number_effect, jump_effect, loop_effect, en
 ghost use Rattle.model.specs.World.{next, at_label, with_register, innermost, number_in as number_in_of, status_in as status_in_of};
 
 use crate::frame::{Ran, wrong_at};
-use image::{Register, Turns};
+use driver_set::{Register, Turns};
 use model::event::Reply;
 use model::limits::MAX_LOOPS;
 use model::status::Status;

@@ -8,7 +8,7 @@ ghost use Rattle.model.specs.Typable.{IsTypable};
 ghost use Rattle.run_laws.specs.Rules.{KeepsTheRules};
 
 use crate::state::State;
-use image::DriverSet;
+use driver_set::DriverSet;
 use model::event::{Event, Reply};
 use model::memory::OutOfMemory;
 use run_laws::accepted_runs_keep_the_rules;

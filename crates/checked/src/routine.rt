@@ -12,7 +12,7 @@ use crate::frame::{Frame, Ran, Runner, wrong_at};
 use crate::local;
 use crate::shared::Shared;
 use crate::shared::locks::spin_lock;
-use image::{DriverSet, Instr, Return, Sort};
+use driver_set::{DriverSet, Instr, Return, Sort};
 use model::event::{Lock, Reply};
 use model::world::{Activation, Value};
 

@@ -6,7 +6,7 @@ ghost use Rattle.model.specs.Queues.{StartState, idle, without_first_to_start};
 
 use crate::frame::Runner;
 use devqueue::{DeviceQueue, Guarded};
-use image::Device;
+use driver_set::Device;
 use iomgr::PacketTable;
 use irql_locks::LockTable;
 use model::limits::{CELLS, MAX_QUEUES};

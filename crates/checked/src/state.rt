@@ -7,7 +7,7 @@ ghost use Rattle.model.specs.Sound.{IsSound};
 ghost use Rattle.model.specs.World.{opening};
 
 use crate::world::World;
-use image::DriverSet;
+use driver_set::DriverSet;
 use irql_locks::owning_tells;
 use model::event::{Event, Reply};
 use model::memory::OutOfMemory;

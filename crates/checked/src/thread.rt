@@ -8,7 +8,7 @@ ghost use Rattle.model.specs.Events.{is_idle, with_stack, finished_or};
 use crate::frame::{Frame, Ran, Runner};
 use crate::shared::Shared;
 use arrayvec::ArrayVec;
-use image::DriverSet;
+use driver_set::DriverSet;
 use model::event::Reply;
 use model::limits::MAX_FRAMES;
 use model::status::Status;

@@ -10,7 +10,7 @@ use crate::activation::{driver_of, entered};
 use crate::frame::{Frame, cancelling};
 use crate::shared::Shared;
 use crate::thread::Thread;
-use image::{Device, DriverSet};
+use driver_set::{Device, DriverSet};
 use model::event::{Event, Reply};
 use model::status::Major;
 use model::world::{CancelStep, Irql, Value};

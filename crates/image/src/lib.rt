@@ -1,19 +1,16 @@
-//! Driver sets, as every layer above holds them, and their images.
+//! Driver sets spelled by bytes, their images, and read back.
 #![tactic(auto)]
 
-mod copying;
-pub mod driver_set;
 pub mod fault;
 pub mod laws;
 mod reading;
-mod sound;
 mod word;
 mod writing;
 
-pub use driver_set::DriverSet;
+pub use driver_set::{
+    Cell, Device, Driver, DriverSet, Field, Instr, Items, Queue, QueueName, Register, Return,
+    Routine, Sort, SpinLock, Turns,
+};
 pub use fault::ImageFault;
-pub use model::instr::{Cell, Field, Instr, Register, Return, SpinLock, Turns};
-pub use model::items::Items;
-pub use model::set::{Device, Driver, Queue, QueueName, Routine, Sort};
 pub use reading::decode;
 pub use writing::encode;

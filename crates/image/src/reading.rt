@@ -12,9 +12,9 @@ ghost use Rattle.image.specs.declared.fault.ImageFault.TheVariants.{Memory};
 ghost use Rattle.model.specs.Set.{Set};
 ghost use Rattle.model.specs.Sound.{IsSound};
 
-use crate::driver_set::DriverSet;
 use crate::fault::ImageFault;
 use crate::word::{NONE, Word};
+use driver_set::DriverSet;
 use model::instr::{Cell, Field, Instr, Register, Return, SpinLock, Turns};
 use model::items::Items;
 use model::limits::{

@@ -7,8 +7,8 @@ ghost use Rattle.image.specs.Spelling.{queue_bytes, routine_bytes, spelling, Spe
 ghost use Rattle.model.specs.declared.limits.TheConstants.{MAX_INSTRUCTIONS};
 ghost use Rattle.model.specs.Sound.{DriverFits};
 
-use crate::driver_set::DriverSet;
 use crate::word::{lock, or_none, sort_number, word_of};
+use driver_set::DriverSet;
 use model::instr::Instr;
 use model::memory::OutOfMemory;
 use model::set::{Device, Driver, Queue, Routine};

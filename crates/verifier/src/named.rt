@@ -4,7 +4,7 @@ ghost use Rattle.std.specs.Prelude.{◌≡◌, ◌≤◌, length};
 ghost use Rattle.model.specs.declared.limits.TheConstants.{MAX_QUEUES};
 ghost use Rattle.model.specs.Set.{cancels_for, cancelled_from, only_one, is_named};
 
-use image::DriverSet;
+use driver_set::DriverSet;
 use model::set::{Queue, QueueName};
 
 /// The one list whose cancel routine a routine of a driver is, if it is that of exactly one.

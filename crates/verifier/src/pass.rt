@@ -9,7 +9,7 @@ use crate::loops::{Place, survey};
 use crate::malformed::is_malformed;
 use crate::seen::{Arrivals, Seen, arrive, is_only, keep};
 use absstate::{Abs, Rule, broken_rule};
-use image::DriverSet;
+use driver_set::DriverSet;
 use model::instr::Instr;
 use model::limits::MAX_CERTIFICATE;
 use model::set::Routine;

@@ -14,7 +14,7 @@ use crate::malformed::is_malformed;
 use crate::named::cancels_for;
 use crate::pass::Pass;
 use absstate::{Abs, Rule, entry_state};
-use image::DriverSet;
+use driver_set::DriverSet;
 use model::abs::Refusal;
 use model::instr::Instr;
 use model::set::Routine;

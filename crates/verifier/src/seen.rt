@@ -5,7 +5,7 @@ ghost use Rattle.model.specs.LocalRule.{handed, handed_at_label};
 ghost use Rattle.model.specs.Set.{flow_of};
 
 use absstate::{Abs, advance, are_same, state_at_label};
-use image::DriverSet;
+use driver_set::DriverSet;
 use model::instr::Instr;
 
 /// The states that have been seen to arrive at a position.

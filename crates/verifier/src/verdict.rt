@@ -9,7 +9,7 @@ ghost use Rattle.verifier.specs.Certificates.{driver_certificates, AreCertificat
 ghost use Rattle.verifier.specs.Verdict.{IsRefusalOf, IsRefusalOfDriver};
 
 use crate::routine::{at_start, check_routine};
-use image::{DriverSet, Items};
+use driver_set::{DriverSet, Items};
 use model::abs::{Refusal, Rule};
 use model::limits::DEFAULT_ROUTINE;
 use model::set::Driver;

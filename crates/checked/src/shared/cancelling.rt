@@ -10,7 +10,7 @@ use super::Shared;
 use super::locks::lock_bug;
 use crate::activation::cancelled_by;
 use crate::frame::{Ran, Runner, cancelling, packet_bug, wrong_at};
-use image::{DriverSet, QueueName, Register};
+use driver_set::{DriverSet, QueueName, Register};
 use model::event::{BugCheck, Lock, Reply};
 use model::world::{Activation, Armer, CancelStep, Canceller};
 

@@ -7,7 +7,7 @@ ghost use Rattle.model.specs.Effect.{cell_of};
 use super::Shared;
 use crate::frame::{Ran, Runner, wrong_at};
 use crate::local::number_in;
-use image::{Cell, Register};
+use driver_set::{Cell, Register};
 use model::event::{Bug, BugCheck, OfDevice, Reply, Subject};
 use model::world::{Activation, Value};
 

@@ -9,7 +9,7 @@ ghost use Rattle.model.specs.declared.world.Frame.TheVariants.{Walk as WalkFrame
 use super::Shared;
 use crate::activation::{self, driver_of};
 use crate::frame::{Frame, Managing, Over, Ran, is_last, packet_bug, wrong_at};
-use image::{DriverSet, Register, Sort};
+use driver_set::{DriverSet, Register, Sort};
 use iomgr::WalkStep;
 use model::event::{BugCheck, Reply};
 use model::status::Status;

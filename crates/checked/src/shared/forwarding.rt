@@ -7,7 +7,7 @@ ghost use Rattle.model.specs.Effect.{set_by};
 use super::Shared;
 use crate::activation::dispatched;
 use crate::frame::{Frame, Ran, is_last, packet_bug, wrong_at};
-use image::{DriverSet, Register};
+use driver_set::{DriverSet, Register};
 use model::event::{BugCheck, Reply};
 use model::world::{Activation, Completion};
 

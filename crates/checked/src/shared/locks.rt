@@ -6,7 +6,7 @@ ghost use Rattle.model.specs.Effect.{spin_lock as spin_lock_of};
 
 use super::Shared;
 use crate::frame::{Ran, Runner, wrong_at};
-use image::SpinLock;
+use driver_set::SpinLock;
 use model::event::{Bug, BugCheck, Lock, OfDevice, Reply, Subject};
 use model::world::Activation;
 

@@ -6,7 +6,7 @@ ghost use Rattle.model.specs.declared.limits.TheConstants.{MAX_INSTRUCTIONS};
 use super::Shared;
 use crate::frame::{Ran, packet_bug, wrong_at};
 use devqueue::Guarded;
-use image::Register;
+use driver_set::Register;
 use model::event::{BugCheck, Reply};
 use model::world::{Activation, Value};
 

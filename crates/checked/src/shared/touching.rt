@@ -6,7 +6,7 @@ ghost use Rattle.model.specs.declared.limits.TheConstants.{MAX_INSTRUCTIONS};
 use super::Shared;
 use crate::frame::{Ran, packet_bug, wrong_at};
 use crate::local::number_in;
-use image::{Field, Register};
+use driver_set::{Field, Register};
 use model::event::{BugCheck, Reply};
 use model::world::{Activation, Value};
 

@@ -1,6 +1,6 @@
 use Rattle.std.proofs.Common.{drop}
 use Rattle.model.specs.Sound.{DevicesFit}
-use Rattle.image.proofs.sound.devices_fit.Given as goal
+use Rattle.driver_set.proofs.sound.devices_fit.Given as goal
 
 abbrev pub invariant-loop-number : goal.invariant-loop-number
 invariant-loop-number l =

@@ -2,7 +2,7 @@
 
 ghost use Rattle.std.specs.Prelude.{◌≡◌, IfOk};
 
-use crate::driver_set::DriverSet;
+use crate::set::DriverSet;
 use model::items::Items;
 use model::memory::OutOfMemory;
 use model::set::{Device, Driver, Routine};
