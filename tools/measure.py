@@ -1,23 +1,27 @@
 #!/usr/bin/env python3
-"""measure.py [--runs N] PROGRAM OTHER ..: times programs that answer the same commands, on inputs at the
-limits, each writing to /dev/null, in turn. Prints the least of N times of each (5 if left out), in
-milliseconds, and its ratio to that of the first. All must answer the same bytes."""
+"""measure.py [--runs N] [--encoder ENCODER] PROGRAM OTHER ..: times programs that answer the same commands, on
+inputs at the limits, each writing to /dev/null, in turn. Prints the least of N times of each (5 if left out), in
+milliseconds, and its ratio to that of the first. All must answer the same bytes. The images are those that
+'ENCODER encode TEXT IMAGE' makes of texts; without an encoder the rows of images are left out."""
 import argparse, os, subprocess, sys, tempfile, time
 
 def routine(name, instructions):
     body = ['const r%d %d' % (1 + i % 15, i) for i in range(instructions - 2)]
     return ['routine %s dispatch' % name] + body + ['complete r0 SUCCESS', 'ret SUCCESS', 'endr']
 
-def largest_set():
-    """8 drivers of 32 routines of 1,024 instructions, 16 devices."""
+def large_set(drivers, shape):
+    """So many drivers of 32 routines of 1,024 instructions, 16 devices."""
     lines = []
-    for d in range(8):
+    for d in range(drivers):
         lines += ['driver d%d' % d, 'dispatch READ f0']
         for r in range(32):
-            lines += routine('f%d' % r, 1024)
+            lines += shape('f%d' % r, 1024)
         lines.append('endd')
-    lines += ['device v%d d%d 16' % (i, i % 8) for i in range(16)]
+    lines += ['device v%d d%d 16' % (i, i % drivers) for i in range(16)]
     return lines
+
+def largest_set():
+    return large_set(8, routine)
 
 def branching(name, instructions):
     """A routine of loops, nested twice, tests and jumps over them, cells and locks."""
@@ -32,14 +36,7 @@ def branching(name, instructions):
     return ['routine %s dispatch' % name] + body + ['complete r0 SUCCESS', 'ret SUCCESS', 'endr']
 
 def largest_branching_set():
-    lines = []
-    for d in range(8):
-        lines += ['driver d%d' % d, 'dispatch READ f0']
-        for r in range(32):
-            lines += branching('f%d' % r, 1024)
-        lines.append('endd')
-    lines += ['device v%d d%d 16' % (i, i % 8) for i in range(16)]
-    return lines
+    return large_set(8, branching)
 
 def one_routine(body):
     return ['driver d', 'dispatch READ f', 'routine f dispatch'] + body + ['endr', 'endd', 'device v d 1']
@@ -90,6 +87,8 @@ def cases():
     for i in range(970):
         requests += ['issue %d 0 READ %d' % (i % 32, i), 'step %d 1025' % (i % 32)]
     yield 'check of the largest set', 'check', largest_set(), None
+    yield 'check of a half of it', 'check', large_set(4, routine), None
+    yield 'check of a quarter of it', 'check', large_set(2, routine), None
     yield 'check of the largest set, with loops and jumps', 'check', largest_branching_set(), None
     yield 'check of a text of 4 MB, most of it comments', 'check', ['; ' + 'x' * 78] * 50000 + largest_set()[:1], None
     yield 'trace of 1,000,000 steps of an idle thread', 'trace', one_routine(['complete r0 SUCCESS', 'ret SUCCESS']), ['threads 1', 'step 0 1000000']
@@ -111,6 +110,13 @@ def cases():
         yield 'trace of 55,000 requests, half cancelled, %s live' % f'{live:,}', 'trace', text, \
             half_cancelled(55000, live, request, completion, cancel)
 
+def image_cases():
+    """Of each image its name, and the text of its set."""
+    yield 'check of the image of the largest set', largest_set()
+    yield 'check of the image of a half of it', large_set(4, routine)
+    yield 'check of the image of a quarter of it', large_set(2, routine)
+    yield 'check of the image, with loops and jumps', largest_branching_set()
+
 def spent(program, words):
     begin = time.perf_counter()
     subprocess.run([program] + words, stdin=subprocess.DEVNULL, stdout=subprocess.DEVNULL, stderr=subprocess.DEVNULL)
@@ -126,18 +132,29 @@ def written(folder, name, lines):
         file.write('\n'.join(lines) + '\n')
     return path
 
+def rows(folder, encoder):
+    """The name of each row, and the words of its command."""
+    for name, command, text, schedule in cases():
+        words = [command, written(folder, 'set', text)]
+        if schedule is not None:
+            words.append(written(folder, 'schedule', schedule))
+        yield name, words
+    if encoder is not None:
+        for name, text in image_cases():
+            image = os.path.join(folder, 'image')
+            subprocess.run([os.path.abspath(encoder), 'encode', written(folder, 'set', text), image], check=True)
+            yield name, ['check', image]
+
 def main():
     parser = argparse.ArgumentParser(description=__doc__)
     parser.add_argument('--runs', type=int, default=5)
+    parser.add_argument('--encoder')
     parser.add_argument('programs', nargs='+')
     given = parser.parse_args()
     programs = [os.path.abspath(program) for program in given.programs]
     differ = False
     with tempfile.TemporaryDirectory() as folder:
-        for name, command, text, schedule in cases():
-            words = [command, written(folder, 'set', text)]
-            if schedule is not None:
-                words.append(written(folder, 'schedule', schedule))
+        for name, words in rows(folder, given.encoder):
             answers = [answer(program, words) for program in programs]
             times = [1000 * min(each) for each in zip(*([spent(program, words) for program in programs] for _ in range(given.runs)))]
             others = ''.join('%9.1f (%5.2f)' % (one, one / times[0]) for one in times[1:])
