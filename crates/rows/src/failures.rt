@@ -1,101 +1,268 @@
-//! Devices that fail, and devices that move one byte a call.
+//! Verdicts and runs of texts and of images, over devices that move few bytes a call, or fail at
+//! each call in turn.
 
 ghost use Rattle.std.specs.Prelude.{◌≡◌};
 
 use crate::devices::{Narrow, Slow};
+use crate::images::{EMPTY, ONE_READ};
 use drvhost_parts::check::check;
 use drvhost_parts::device::{Reader, Sink, Source};
 use drvhost_parts::job::Verification;
 use drvhost_parts::trace::trace;
 use std::alloc::Global;
 
-const SET: &str =
-    "driver d\ndispatch READ f\nroutine f dispatch\ncomplete r0 SUCCESS\nret SUCCESS\nendr\nendd\n\
-     device v d 1\n";
+/// The set of `ONE_READ`.
+pub(crate) const TEXT: &[u8] =
+    b"driver d\ndispatch READ f\nroutine f dispatch\ncomplete r0 SUCCESS\nret SUCCESS\nendr\nendd\n\
+      device v d 1\n";
 
-const SCHEDULE: &str = "threads 1\nissue 0 0 READ 7\nstep 0 4\n";
+const VERDICT: &[u8] = b"accepted\ndriver 0 routine 0 dispatch certificate 2\n";
 
-const LINES: &str = "0 started 0\n1 stepped\n2 topped 0 0x00000000 0\n3 finished\n4 idle\n";
+pub(crate) const SCHEDULE: &[u8] = b"threads 1\nissue 0 0 READ 7\nstep 0 4\n";
 
-/// A trace with devices that are given by the calls before the one that fails.
-fn traced(
+pub(crate) const LINES: &[u8] =
+    b"0 started 0\n1 stepped\n2 topped 0 0x00000000 0\n3 finished\n4 idle\n";
+
+/// A set, and what comes of it where no device fails.
+struct Case {
+    set: &'static [u8],
+    /// None for a verdict.
+    trace: Option<(&'static [u8], Verification)>,
+    status: u8,
+    lines: &'static [u8],
+    /// What the error writer is given.
+    told: &'static [u8],
+}
+
+/// How the devices of a run behave.
+#[derive(Clone, Copy)]
+struct Devices {
+    /// Bytes a call, at most.
+    step: usize,
+    /// The calls of each before the one that fails.
+    set: Option<usize>,
+    schedule: Option<usize>,
+    out: Option<usize>,
+    err: Option<usize>,
+}
+
+/// Devices that move one byte a call and never fail.
+const WHOLE: Devices = Devices {
+    step: 1,
+    set: None,
+    schedule: None,
+    out: None,
+    err: None,
+};
+
+static CASES: [Case; 10] = [
+    Case {
+        set: TEXT,
+        trace: None,
+        status: 0,
+        lines: VERDICT,
+        told: b"",
+    },
+    Case {
+        set: &ONE_READ,
+        trace: None,
+        status: 0,
+        lines: VERDICT,
+        told: b"",
+    },
+    Case {
+        set: &EMPTY,
+        trace: None,
+        status: 1,
+        lines: b"refused V1 Malformed driver 0 routine 0 at 0\n",
+        told: b"",
+    },
+    Case {
+        set: b"driver d\n",
+        trace: None,
+        status: 2,
+        lines: b"",
+        told: b"text fault 6 Unclosed line 2\n",
+    },
+    Case {
+        set: b"DVB",
+        trace: None,
+        status: 2,
+        lines: b"",
+        told: b"image fault 2 Truncated\n",
+    },
+    Case {
+        set: TEXT,
+        trace: Some((SCHEDULE, Verification::Required)),
+        status: 0,
+        lines: LINES,
+        told: b"",
+    },
+    Case {
+        set: &ONE_READ,
+        trace: Some((SCHEDULE, Verification::Required)),
+        status: 0,
+        lines: LINES,
+        told: b"",
+    },
+    Case {
+        set: &ONE_READ,
+        trace: Some((SCHEDULE, Verification::Skipped)),
+        status: 0,
+        lines: LINES,
+        told: b"",
+    },
+    Case {
+        set: &EMPTY,
+        trace: Some((b"threads 32\nissue 31 0 WRITE 7\n", Verification::Skipped)),
+        status: 0,
+        lines: b"0 refused\n",
+        told: b"",
+    },
+    Case {
+        set: &ONE_READ,
+        trace: Some((b"threads 33\n", Verification::Required)),
+        status: 2,
+        lines: b"",
+        told: b"schedule fault 3 OutOfRange line 1\n",
+    },
+];
+
+/// The exit status of a case with such devices.
+fn answer(
     alloc: Global,
+    case: &Case,
+    devices: &Devices,
     set: &mut Slow<'_>,
-    schedule: &mut Slow<'_>,
     out: &mut Narrow,
     err: &mut Narrow,
 ) -> u8
     requires set { ⟦<Slow<'static> as Source>⟧.failures set.old ≡ 0 }
-    requires schedule { ⟦<Slow<'static> as Source>⟧.failures schedule.old ≡ 0 }
     requires out { ⟦<Narrow as Sink>⟧.failures out.old ≡ 0 }
     requires err { ⟦<Narrow as Sink>⟧.failures err.old ≡ 0 }
 {
-    trace(alloc, set, schedule, Verification::Required, out, err)
+    match case.trace {
+        None => check(alloc, set, out, err),
+        Some((schedule, verification)) => {
+            let mut schedule = Slow::new(schedule, devices.step, devices.schedule);
+            trace(alloc, set, &mut schedule, verification, out, err)
+        }
+    }
+}
+
+/// Whether a case with such devices ends and writes so, and tells so.
+fn is_answered(
+    alloc: Global,
+    case: &Case,
+    devices: &Devices,
+    status: u8,
+    lines: &[u8],
+    told: &[u8],
+) -> bool {
+    let mut set = Slow::new(case.set, devices.step, devices.set);
+    let mut out = Narrow::new(alloc, devices.step, devices.out);
+    let mut err = Narrow::new(alloc, devices.step, devices.err);
+    answer(alloc, case, devices, &mut set, &mut out, &mut err) == status
+        && set.failures() == devices.set.is_some() as u64
+        && out.failures() == devices.out.is_some() as u64
+        && err.failures() == devices.err.is_some() as u64
+        && out.written.as_slice() == lines
+        && err.written.as_slice() == told
 }
 
 #[test]
-fn one_byte_a_call(rt: HostRuntime) {
-    let alloc = rt.alloc();
-    let mut out = Narrow::new(alloc, 1, None);
-    let mut err = Narrow::new(alloc, 1, None);
-    let mut set = Slow::new(SET.as_bytes(), 1, None);
-    let mut schedule = Slow::new(SCHEDULE.as_bytes(), 1, None);
-    assert_eq!(rt;
-        traced(alloc, &mut set, &mut schedule, &mut out, &mut err),
-        0
-    );
-    assert!(rt; out.written.as_slice() == LINES.as_bytes());
-    assert!(rt; err.written.is_empty());
+fn few_bytes_a_call(rt: HostRuntime) {
+    for case in CASES.iter() {
+        for step in [1, 7, 100] {
+            let devices = Devices { step, ..WHOLE };
+            assert!(rt;
+                is_answered(
+                    rt.alloc(),
+                    case,
+                    &devices,
+                    case.status,
+                    case.lines,
+                    case.told
+                )
+            );
+        }
+    }
 }
 
+/// A read that fails at any call, also the one that finds the end, is told, and nothing is written.
 #[test]
-fn failed_reads(rt: HostRuntime) {
-    let alloc = rt.alloc();
-    for good in [0, 1, 40, 200] {
-        let limit = Some(good);
-        for is_set in [true, false] {
-            let mut out = Narrow::new(alloc, 7, None);
-            let mut err = Narrow::new(alloc, 7, None);
-            let mut set = Slow::new(SET.as_bytes(), 1, if is_set { limit } else { None });
-            let mut schedule = Slow::new(SCHEDULE.as_bytes(), 1, if is_set { None } else { limit });
-            let status = traced(alloc, &mut set, &mut schedule, &mut out, &mut err);
-            let failed = good < if is_set { SET.len() } else { SCHEDULE.len() };
-            assert_eq!(rt; status, if failed { 2 } else { 0 });
-            assert_eq!(rt; set.failures() == 1, failed && is_set);
-            assert_eq!(rt; schedule.failures() == 1, failed && !is_set);
-            let (lines, told) = if failed {
-                ("", "read failed\n")
-            } else {
-                (LINES, "")
+fn each_read_of_a_set_fails_in_turn(rt: HostRuntime) {
+    for case in CASES.iter() {
+        for calls in 0..=case.set.len() {
+            let devices = Devices {
+                set: Some(calls),
+                ..WHOLE
             };
-            assert!(rt; out.written.as_slice() == lines.as_bytes());
-            assert!(rt; err.written.as_slice() == told.as_bytes());
+            assert!(rt;
+                is_answered(rt.alloc(), case, &devices, 2, b"", b"read failed\n"),
+                "{calls}"
+            );
         }
     }
 }
 
 #[test]
-fn failed_writes(rt: HostRuntime) {
-    let alloc = rt.alloc();
-    for good in [0, 1, 10, 1000] {
-        let mut out = Narrow::new(alloc, 1, Some(good));
-        let mut err = Narrow::new(alloc, 7, None);
-        let mut set = Slow::new(SET.as_bytes(), 100, None);
-        let mut schedule = Slow::new(SCHEDULE.as_bytes(), 100, None);
-        let status = traced(alloc, &mut set, &mut schedule, &mut out, &mut err);
-        let failed = good < LINES.len();
-        assert_eq!(rt; status, if failed { 2 } else { 0 });
-        assert_eq!(rt; out.failures() == 1, failed);
-        let told = if failed { "write failed\n" } else { "" };
-        assert!(rt; err.written.as_slice() == told.as_bytes());
-        assert_eq!(rt; out.written.len(), good.min(LINES.len()));
-        assert!(rt; LINES.as_bytes().starts_with(out.written.as_slice()));
+fn each_read_of_a_schedule_fails_in_turn(rt: HostRuntime) {
+    for case in CASES.iter() {
+        if let Some((schedule, _)) = case.trace {
+            for calls in 0..=schedule.len() {
+                let devices = Devices {
+                    schedule: Some(calls),
+                    ..WHOLE
+                };
+                assert!(rt;
+                    is_answered(rt.alloc(), case, &devices, 2, b"", b"read failed\n"),
+                    "{calls}"
+                );
+            }
+        }
     }
 }
 
-/// The status stays where the error writer fails, and where a file can't be opened.
+/// A write that fails at any call is told, and a beginning of the lines is there.
+#[test]
+fn each_write_fails_in_turn(rt: HostRuntime) {
+    for case in CASES.iter() {
+        for calls in 0..case.lines.len() {
+            let devices = Devices {
+                out: Some(calls),
+                ..WHOLE
+            };
+            let written = &case.lines[..calls];
+            assert!(rt;
+                is_answered(rt.alloc(), case, &devices, 2, written, b"write failed\n"),
+                "{calls}"
+            );
+        }
+    }
+}
+
+/// The status stays where the error writer fails.
 #[test]
 fn no_one_to_tell(rt: HostRuntime) {
+    for case in CASES.iter() {
+        for calls in 0..case.told.len() {
+            let devices = Devices {
+                err: Some(calls),
+                ..WHOLE
+            };
+            let told = &case.told[..calls];
+            assert!(rt;
+                is_answered(rt.alloc(), case, &devices, case.status, case.lines, told),
+                "{calls}"
+            );
+        }
+    }
+}
+
+/// A file that can't be opened.
+#[test]
+fn no_file(rt: HostRuntime) {
     let alloc = rt.alloc();
     for good in [None, Some(0), Some(1)] {
         let mut out = Narrow::new(alloc, 1, None);
@@ -104,10 +271,7 @@ fn no_one_to_tell(rt: HostRuntime) {
         assert_eq!(rt; check(alloc, &mut set, &mut out, &mut err), 2);
         assert_eq!(rt; set.failures(), 1);
         assert!(rt; out.written.is_empty());
-        assert!(rt;
-            b"read failed\n"
-                .as_slice()
-                .starts_with(err.written.as_slice())
-        );
+        let told = good.unwrap_or(usize::MAX).min(b"read failed\n".len());
+        assert!(rt; err.written.as_slice() == &b"read failed\n"[..told]);
     }
 }

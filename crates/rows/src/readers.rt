@@ -4,20 +4,13 @@
 ghost use Rattle.std.specs.Prelude.{◌≡◌};
 
 use crate::devices::is_failing;
+use crate::failures::{LINES, SCHEDULE, TEXT};
 use drvhost_parts::device::{Reader, Sink, Source, Writer};
 use drvhost_parts::job::Verification;
 use drvhost_parts::trace::trace;
 use std::alloc::Global;
 use std::io;
 use std::io::{ErrorKind, Read, Write};
-
-const SET: &[u8] =
-    b"driver d\ndispatch READ f\nroutine f dispatch\ncomplete r0 SUCCESS\nret SUCCESS\nendr\nendd\n\
-      device v d 1\n";
-
-const SCHEDULE: &[u8] = b"threads 1\nissue 0 0 READ 7\nstep 0 4\n";
-
-const LINES: &[u8] = b"0 started 0\n1 stepped\n2 topped 0 0x00000000 0\n3 finished\n4 idle\n";
 
 /// A reader of bytes in memory.
 #[derive(Drop)]
@@ -95,8 +88,8 @@ fn reader(bytes: &'static [u8], good: Option<usize>) -> Reader<ByteReader<'stati
 #[test]
 fn each_read_fails_in_turn(rt: HostRuntime) {
     let alloc = rt.alloc();
-    for good in 0..SET.len() + 2 {
-        let mut set = reader(SET, Some(good));
+    for good in 0..TEXT.len() + 2 {
+        let mut set = reader(TEXT, Some(good));
         let mut schedule = reader(SCHEDULE, None);
         let mut out = writer(alloc, None, false);
         let mut err = writer(alloc, None, false);
@@ -108,7 +101,7 @@ fn each_read_fails_in_turn(rt: HostRuntime) {
             &mut out,
             &mut err,
         );
-        let is_read = good > SET.len();
+        let is_read = good > TEXT.len();
         assert_eq!(rt; status, if is_read { 0 } else { 2 });
         assert_eq!(rt; set.failures(), if is_read { 0 } else { 1 });
         assert_eq!(rt; schedule.failures(), 0);
@@ -129,7 +122,7 @@ fn each_write_fails_in_turn(rt: HostRuntime) {
     let alloc = rt.alloc();
     for good in 0..LINES.len() + 2 {
         for takes_nothing in [false, true] {
-            let mut set = reader(SET, None);
+            let mut set = reader(TEXT, None);
             let mut schedule = reader(SCHEDULE, None);
             let mut out = writer(alloc, Some(good), takes_nothing);
             let mut err = writer(alloc, None, false);
