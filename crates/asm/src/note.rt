@@ -21,12 +21,7 @@ impl<'a> Draft<'a> {
     /// # Errors
     ///
     /// When memory runs out.
-    pub fn note(
-        &mut self,
-        alloc: Global,
-        number: u64,
-        line: &Line<'a>,
-    ) -> Result<(), AllocError>
+    pub fn note(&mut self, alloc: Global, number: u64, line: &Line<'a>) -> Result<(), AllocError>
         requires fitting { IsFitting self.old line.now }
         requires orderly { IsOrderly self.old }
         ensures { OnOk result (self.new ≡ noted self.old number line.now.label line.now.body) }
