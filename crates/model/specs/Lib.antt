@@ -18,3 +18,4 @@ pub mod Paths
 pub mod Typable
 pub mod Certificate
 pub mod Machine
+pub mod Shown

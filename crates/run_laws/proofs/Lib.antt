@@ -16,3 +16,4 @@ pub mod Certificates
 pub mod Depth
 pub mod Live
 pub mod Accepted
+pub mod Alike

@@ -13,3 +13,4 @@ pub mod PendingReturns
 pub mod PastTells
 pub mod Lifetime
 pub mod NothingSkipped
+pub mod AlikeRuns

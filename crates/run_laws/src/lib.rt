@@ -3,6 +3,7 @@
 //! nothing.
 #![tactic(auto)]
 
+ghost use Rattle.run_laws.specs.AlikeRuns.{AlikeRunsGoOnAlike};
 ghost use Rattle.run_laws.specs.CarriedMark.{CarriedUp};
 ghost use Rattle.run_laws.specs.DoubledToken.{TokenDoubled};
 ghost use Rattle.run_laws.specs.HeldPacket.{HeldAndCompleted};
@@ -88,6 +89,15 @@ pub fn accepted_runs_keep_the_rules()
 /// when completion left it.
 pub fn pending_returns_agree()
     ensures { AcceptedRunsAgreeOnPending }
+{}
+
+/// Two runs of an accepted set that a machine may not tell apart go on alike: after an event it may
+/// not tell them apart either, and both answer the same. So nothing goes by whether the I/O manager
+/// has a packet, by what a register holds from which no instruction may take anything, or in which
+/// a lower driver's status will be told, or by which packet a frame of the I/O manager had that has
+/// topped out.
+pub fn alike_runs_go_on_alike()
+    ensures { AlikeRunsGoOnAlike }
 {}
 
 /// A worked run in which a mark is carried up, as a check of the definitions: both locations are

@@ -1,0 +1,14 @@
+pub mod Registers
+pub mod Frames
+pub mod Stacks
+pub mod Outcomes
+pub mod Words
+pub mod Routines
+pub mod Steps
+pub mod Lives
+pub mod Worlds
+pub mod Events
+pub mod Packets
+pub mod Shows
+pub mod Whole
+pub mod Laws

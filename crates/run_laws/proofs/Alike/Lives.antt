@@ -1,0 +1,112 @@
+-- A packet that was issued before an event and is live after it was live before it; and what a step
+-- touches is live.
+use Rattle.std.proofs.Common.{◌≡◌, inl, inr, ℕ, ◌<◌, Bool, true, false, List, [], ◌∷◌, Option, None, Some, is_some, refl, sym, ◌∙◌}
+use Rattle.std.specs.Prelude.{◌||◌, nat_eq, slice_get}
+use Rattle.std.proofs.lemmas.Bool.{cases_Bool}
+use Rattle.model.specs.declared.event.BugCheck.TheVariants.{IrqlNotLessOrEqual}
+use Rattle.model.specs.declared.event.Subject.TheVariants.{Packet as PacketSubject}
+use Rattle.model.specs.declared.world.Packet.{Packet}
+use Rattle.model.specs.Action.{Action, Executes, Touches, TopsOut}
+use Rattle.model.specs.Effect.{top_of}
+use Rattle.model.specs.Events.{Change, settled}
+use Rattle.model.specs.Fault.{bug_if, topped, tops}
+use Rattle.model.specs.Run.{root_of}
+use Rattle.model.specs.Set.{Set}
+use Rattle.model.specs.Trace.{Entry, Actor, Managing, entry, recorded}
+use Rattle.model.specs.World.{Shared, World, packet_of}
+use Rattle.run_laws.proofs.Accepted.Keeps.{Keeps, goes_on_by}
+use Rattle.run_laws.proofs.Alike.Frames.{IsLive}
+use Rattle.run_laws.proofs.Alike.Routines.{TouchesLive, first_touch}
+use Rattle.run_laws.proofs.Holders.Runs.{top_holding}
+use Rattle.run_laws.proofs.Live.Claimed.{claims_live, entries_live}
+use Rattle.run_laws.proofs.Live.Kept.{touches_none}
+use Rattle.run_laws.proofs.Past.Packets.{Tells, found, gone_topped, untopped}
+use Rattle.run_laws.proofs.Runs.Events.{StepsFrame, Happens, steps}
+use Rattle.run_laws.proofs.States.Frames.{IsGood}
+use Rattle.run_laws.proofs.States.Rules.{States}
+use Rattle.run_laws.proofs.States.Standing.{Standing, standing_kept}
+use Rattle.run_laws.proofs.Steps.Faults.{fault_among, is_touch, none_first, none_later}
+
+-- what has topped out stays so
+tops_later : (action : Action) (n : ℕ) (before : Bool) → before ≡ true → tops action n before ≡ true
+tops_later (TopsOut m) n before is = rw is (or_true (nat_eq m n))
+  where
+    or_true : (b : Bool) → (b || true) ≡ true
+    or_true true = refl
+    or_true false = refl
+tops_later _ n before is = is
+
+topped_later : (past : List Entry) (actor : Actor) (actions : List Action) (n : ℕ)
+    → topped past n ≡ true → topped (recorded past actor actions) n ≡ true
+topped_later past actor [] n is = is
+topped_later past actor (action ∷ actions) n is =
+    topped_later (entry past actor action ∷ past) actor actions n
+    (tops_later action n (topped past n) is)
+
+-- a live packet hasn't topped out, and one that was issued and hasn't is live
+live_untopped : (s : Shared) (past : List Entry) (n : ℕ) (o : Option Packet) → Tells s past
+    → packet_of s n ≡ o → is_some o ≡ true → topped past n ≡ false
+live_untopped s past n None tells there live = cc
+live_untopped s past n (Some p) tells there live =
+    untopped s past n p tells (found s n (Some p) there)
+
+untopped_live : (s : Shared) (past : List Entry) (n : ℕ) (o : Option Packet) → Tells s past
+    → n < s.issued → topped past n ≡ false → packet_of s n ≡ o → is_some o ≡ true
+untopped_live s past n None tells low is there =
+    let no : true ≡ false = sym (gone_topped s past n tells low there) ∙ is in cc
+untopped_live s past n (Some p) tells low is there = refl
+
+still_untopped : (past : List Entry) (actor : Actor) (actions : List Action) (n : ℕ)
+    → topped (recorded past actor actions) n ≡ false → topped past n ≡ false
+still_untopped past actor actions n is =
+    elim (cases_Bool (topped past n)) [
+      | inl gone ↦
+          let no : true ≡ false = sym (topped_later past actor actions n gone) ∙ is in cc
+      | inr none ↦ none
+    ]
+
+-- a bug check of a touch
+touched : (past : List Entry) (actor : Actor) (actions : List Action) (n : ℕ)
+    → fault_among is_touch past actor actions ≡ None → first_touch actions ≡ Some n
+    → topped past n ≡ true → ⊥
+touched past actor (Touches m ∷ actions) n quiet is gone =
+    let same : m ≡ n = cc in
+    let none : bug_if (topped past m) IrqlNotLessOrEqual (PacketSubject m) ≡ None =
+    none_first _ _ quiet in
+    let no : bug_if true IrqlNotLessOrEqual (PacketSubject n) ≡ None = rw (same, gone) at none in
+    cc
+touched past actor (Executes ∷ Touches m ∷ actions) n quiet is gone =
+    let same : m ≡ n = cc in
+    let none : bug_if (topped past m) IrqlNotLessOrEqual (PacketSubject m) ≡ None =
+    none_first _ _ (none_later None _ quiet) in
+    let no : bug_if true IrqlNotLessOrEqual (PacketSubject n) ≡ None = rw (same, gone) at none in
+    cc
+touched past actor _ n quiet is gone = cc
+
+module _ (set : Set) (states : States) (threads : ℕ) (w : World) (past : List Entry)
+    (good : IsGood set states) (keeps : Keeps set states threads w past) (t : ℕ) where
+  abbrev pub by_thread : Actor
+  by_thread = record { thread = t; root = root_of (slice_get w.threads t); tag = Managing }
+
+  pub lives_before : (c : Change) → Happens set w t c → (n : ℕ) → n < w.shared.issued
+      → IsLive c.world.shared n → IsLive w.shared n
+  lives_before c happens n low live =
+      let after : Standing set states c.world (recorded past by_thread c.actions) =
+      standing_kept set states w past good keeps.stands by_thread c
+      (goes_on_by set states threads w past good keeps by_thread c refl happens) in
+      untopped_live w.shared past n (packet_of w.shared n) keeps.stands.tells low
+      (still_untopped past by_thread c.actions n
+      (live_untopped c.world.shared (recorded past by_thread c.actions) n
+      (packet_of c.world.shared n) after.tells refl live)) refl
+
+  pub touches_live : (h : StepsFrame set w t)
+      → TouchesLive set w.shared t (top_of h.below) h.frame
+  touches_live h n o comes first low gone =
+      let like : StepsFrame set w t = record h { outcome = o; comes = comes } in
+      touched past by_thread o.actions n
+      (touches_none set states w past good keeps.stands keeps.sees by_thread
+      (settled set w t h.thread h.below o) keeps.held
+      (top_holding set states w past keeps.stands keeps.held t)
+      (claims_live set states w past good keeps.stands keeps.held keeps.claims t)
+      (entries_live set states w past good keeps.stands keeps.held keeps.claims) (steps like))
+      first (gone_topped w.shared past n keeps.stands.tells low gone)

@@ -1,0 +1,177 @@
+-- What shows a world of a run of an accepted set, and shows another one, can't tell them apart; and
+-- the other way round.
+use Rattle.std.proofs.Common.{◌≡◌, ◌≢◌, inl, inr, ℕ, zero, suc, ◌+◌, ◌<◌, Bool, true, false, List, [], ◌∷◌, length, Option, None, Some, refl, sym, ◌∙◌, ap, map, Ok}
+use Rattle.std.specs.Prelude.{slice_get, slice_index_or, slice_set}
+use Rattle.std.proofs.lemmas.List.{get_or-set_other}
+use Rattle.std.proofs.lemmas.Option.{slice_get_within}
+use Rattle.model.specs.declared.abs.Abs.{Abs}
+use Rattle.model.specs.declared.abs.Kind.{Kind}
+use Rattle.model.specs.declared.abs.Kind.TheVariants.{Blank as BlankKind, Num as NumKind, Lower, New, Own, Listed, Armed, Taken, Cancelling, View}
+use Rattle.model.specs.declared.abs.Outs.{Outs}
+use Rattle.model.specs.declared.abs.Rule.{Rule}
+use Rattle.model.specs.declared.instr.Instr.{Instr}
+use Rattle.model.specs.declared.status.Status.{Status}
+use Rattle.model.specs.declared.status.Status.TheVariants.{Success}
+use Rattle.model.specs.declared.world.Activation.{Activation}
+use Rattle.model.specs.declared.world.Frame.{Frame}
+use Rattle.model.specs.declared.world.Value.{Value}
+use Rattle.model.specs.declared.world.Value.TheVariants.{Blank, Num, Ref, Status as StatusValue}
+use Rattle.model.specs.Effect.{answered_in}
+use Rattle.model.specs.Kinds.{is_blank}
+use Rattle.model.specs.LocalRule.{kind_of, outs, refuses, rule_or}
+use Rattle.model.specs.Paths.{Along, HandsOn, LeadsFrom}
+use Rattle.model.specs.Set.{Set, Member, label_of}
+use Rattle.model.specs.Shown.{MayBeTaken, Reads, blank_register, told_register, whole_register}
+use Rattle.model.specs.World.{register}
+use Rattle.run_laws.proofs.Alike.Frames.{waiting_for}
+use Rattle.run_laws.proofs.Alike.Registers.{SameRegisters}
+use Rattle.run_laws.proofs.States.Follows.{Follows}
+use Rattle.run_laws.proofs.States.Frames.{IsGood, Ready, state_of}
+use Rattle.run_laws.proofs.States.Kinds.{Suits, kinds_get}
+use Rattle.run_laws.proofs.States.Rules.{States}
+
+-- no other state arrives at a position than that of the table
+hands_out : (o : Option Rule) (one : Outs) (label : Option ℕ) (q p : ℕ) (s : Abs)
+    → HandsOn (rule_or o one) label q p s → HandsOn (Ok one) label q p s
+hands_out None one label q p s h = h
+hands_out (Some rule) one label q p s h = absurd h
+
+module _ (m : Member) (state : ℕ → Abs) (follows : Follows m state) where
+  leads_alone : (q p : ℕ) (before s : Abs) (i : Option Instr) → slice_get m.routine.code q ≡ i
+      → before ≡ state q → LeadsFrom m i q before p s → s ≡ state p
+  leads_alone q p before s None there is h = absurd h
+  leads_alone q p before s (Some i) there is h =
+      let within : q < length m.routine.code = slice_get_within m.routine.code q i there in
+      elim (hands_out (refuses before i m.routine.sort m.set m.driver)
+      (outs m.set m.driver before i) (label_of i) q p s h) [
+        | inl next ↦
+            let here : (q + 1 < length m.routine.code) × (state (q + 1) ≡ s) =
+            follows.next q s within (rw (there, ← is) next.1) in
+            rw next.0 (sym here.1)
+        | inr jump ↦
+            let here : (p < length m.routine.code) × (state p ≡ s) =
+            follows.jump q p s within (rw there jump.0) (rw (there, ← is) jump.1) in
+            sym here.1
+      ]
+
+  pub arrives_alone : (path : List ℕ) (p : ℕ) (s : Abs) → Along m (p ∷ path) s → s ≡ state p
+  arrives_alone [] p s h =
+      let both : Some s ≡ Some (state 0) = sym h.1 ∙ follows.start in
+      let same : s ≡ state 0 = cc in
+      rw h.0 same
+  arrives_alone (q ∷ path) p s h =
+      leads_alone q p h.0 s (slice_get m.routine.code q) refl (arrives_alone path q h.0 h.1) h.2.1
+
+-- a register that is shown whole, and read
+abbrev pub is_value : Value → Bool
+is_value Blank = false
+is_value _ = true
+
+pub whole_get : (us : List Value) (r : ℕ)
+    → slice_index_or (map whole_register us) r blank_register
+    ≡ whole_register (slice_index_or us r Blank)
+whole_get [] r = refl
+whole_get (u ∷ us) zero = refl
+whole_get (u ∷ us) (suc r) = whole_get us r
+
+pub reads_same : (u v : Value) → is_value v ≡ true → Reads (whole_register u) v → u ≡ v
+reads_same u Blank is h = cc
+reads_same (Num m) (Num n) is h = let same : m ≡ n = cc in ap (λ (x : ℕ). Num x) same
+reads_same (Ref m) (Ref n) is h = let same : m ≡ n = cc in ap (λ (x : ℕ). Ref x) same
+reads_same (StatusValue one) (StatusValue other) is h =
+    let same : one ≡ other = cc in ap (λ (x : Status). StatusValue x) same
+reads_same _ (Num n) is h = cc
+reads_same _ (Ref n) is h = cc
+reads_same _ (StatusValue other) is h = cc
+
+pub reads_self : (v : Value) → Reads (whole_register v) v
+reads_self Blank = tt
+reads_self (Num n) = refl
+reads_self (Ref n) = refl
+reads_self (StatusValue status) = refl
+
+suits_value : (issued : ℕ) (k : Kind) (v : Value) → is_blank k ≡ false → Suits issued k v
+    → is_value v ≡ true
+suits_value issued BlankKind v is h = cc
+suits_value issued NumKind v is h = ap is_value h.1
+suits_value issued Lower v is h = ap is_value h.1
+suits_value issued New v is h = ap is_value h.1
+suits_value issued Own v is h = ap is_value h.1
+suits_value issued (Listed name) v is h = ap is_value h.1
+suits_value issued (Armed name) v is h = ap is_value h.1
+suits_value issued (Taken name) v is h = ap is_value h.1
+suits_value issued (Cancelling name) v is h = ap is_value h.1
+suits_value issued View v is h = ap is_value h.1
+
+-- registers that are read alike
+pub same_all : (kinds : List Kind) (us vs : List Value) → length us ≡ length vs
+    → ((r : ℕ) → is_blank (slice_index_or kinds r BlankKind) ≡ false
+    → slice_index_or us r Blank ≡ slice_index_or vs r Blank)
+    → SameRegisters kinds us vs
+same_all [] us vs long h = tt
+same_all (k ∷ kinds) [] [] long h = tt
+same_all (k ∷ kinds) (u ∷ us) (v ∷ vs) long h =
+    (h 0, same_all kinds us vs (let less : length us ≡ length vs = cc in less) (λ r. h (suc r)))
+same_all (k ∷ kinds) [] (v ∷ vs) long h = cc
+same_all (k ∷ kinds) (u ∷ us) [] long h = cc
+
+-- one register waits
+pub set_some : (kinds : List Kind) (q r : ℕ)
+    → is_blank (slice_index_or (slice_set kinds q BlankKind) r BlankKind) ≡ false
+    → (q ≢ r) × (is_blank (slice_index_or kinds r BlankKind) ≡ false)
+set_some [] q r h = cc
+set_some (k ∷ kinds) zero zero h = cc
+set_some (k ∷ kinds) zero (suc r) h = ((λ e. cc), h)
+set_some (k ∷ kinds) (suc q) zero h = ((λ e. cc), h)
+set_some (k ∷ kinds) (suc q) (suc r) h =
+    let inner : (q ≢ r) × (is_blank (slice_index_or kinds r BlankKind) ≡ false) =
+    set_some kinds q r h in
+    ((λ e. inner.0 (let same : q ≡ r = cc in same)), inner.1)
+
+-- a routine's frame
+module _ (set : Set) (states : States) (good : IsGood set states) (issued : ℕ) where
+  -- what may be taken from has a value
+  pub value_there : (a : Activation) (q : Option ℕ)
+      → Ready set states issued (answered_in a Success q)
+      → (r : ℕ) → is_blank (slice_index_or (waiting_for q (state_of states a).kinds) r BlankKind)
+      ≡ false
+      → is_value (register a r) ≡ true
+  value_there a None ready r some =
+      suits_value issued (kind_of (state_of states a) r) (register a r) some
+      (kinds_get issued (state_of states a).kinds a.registers r ready.1.kinds)
+  value_there a (Some q) ready r some =
+      let both : (q ≢ r) × (is_blank (kind_of (state_of states a) r) ≡ false) =
+      set_some (state_of states a).kinds q r some in
+      suits_value issued (kind_of (state_of states a) r) (register a r) both.1
+      (rw (get_or-set_other a.registers q r (StatusValue Success) Blank (λ e. both.0 (sym e))) at
+      (kinds_get issued (state_of states a).kinds (slice_set a.registers q (StatusValue Success)) r
+      ready.1.kinds))
+
+  pub may_be_taken : (above : Option Frame) (a : Activation) (q : Option ℕ)
+      → told_register set above a ≡ q → Ready set states issued (answered_in a Success q)
+      → (r : ℕ) → is_blank (slice_index_or (waiting_for q (state_of states a).kinds) r BlankKind)
+      ≡ false
+      → MayBeTaken set above a r
+  may_be_taken above a None told ready r some =
+      record {
+        routine = ready.0;
+        state = state_of states a;
+        is_of = ready.1.is_of;
+        arrives = (good.led.known a.driver a.routine ready.0 ready.1.is_of).follows.arrives
+            a.position ready.1.within;
+        kind = some;
+        untold = λ is. (let no : None ≡ Some r = sym told ∙ is in cc);
+      }
+  may_be_taken above a (Some q) told ready r some =
+      let both : (q ≢ r) × (is_blank (kind_of (state_of states a) r) ≡ false) =
+      set_some (state_of states a).kinds q r some in
+      record {
+        routine = ready.0;
+        state = state_of states a;
+        is_of = ready.1.is_of;
+        arrives = (good.led.known a.driver a.routine ready.0 ready.1.is_of).follows.arrives
+            a.position ready.1.within;
+        kind = both.1;
+        untold = λ is. both.0 (let one : Some q ≡ Some r = sym told ∙ is in
+            let same : q ≡ r = cc in same);
+      }
