@@ -10,6 +10,7 @@ use drvhost_parts::trace::trace;
 use std::alloc::AllocError;
 use std::env;
 use std::fs::File;
+use std::io::ErrorKind;
 use std::process::ExitCode;
 
 fn main(rt: HostRuntime) -> ExitCode {
@@ -24,6 +25,7 @@ fn main(rt: HostRuntime) -> ExitCode {
 fn arguments(rt: &HostRuntime) -> Result<Vec<String>, AllocError> {
     match env::args(rt) {
         Ok(words) => words.skip(1).collect(rt.alloc()),
+        Err(error) if error.kind() == ErrorKind::OutOfMemory => Err(AllocError),
         Err(_) => Ok(Vec::new(rt.alloc())),
     }
 }
