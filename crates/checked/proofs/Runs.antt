@@ -4,7 +4,7 @@ use Rattle.model.specs.declared.event.Event.{Event}
 use Rattle.model.specs.declared.event.Reply.{Reply}
 use Rattle.model.specs.declared.event.Reply.TheVariants.{Refused}
 use Rattle.model.specs.Events.{effect}
-use Rattle.model.specs.Machine.{Applies}
+use Rattle.model.specs.Machine.{AppliesWhole}
 use Rattle.model.specs.Run.{Run, Answered, answered_on, begun, refused, thread_of, step, run_from, run}
 use Rattle.model.specs.Set.{Set}
 use Rattle.model.specs.Sound.{IsSound}
@@ -59,7 +59,7 @@ module _ (set : Set) (state : State) (r : Run) (e : Event) (stands : state.stopp
 
 applies_now : PastTellsOfTheWorld → OwningTells → (set : Set) (state : State) → IsSound set
     → (e : Event) →
-    Applies (machine_of set state) e (machine_of set (state_now set state e).state)
+    AppliesWhole (machine_of set state) e (machine_of set (state_now set state e).state)
     (state_now set state e).reply
 applies_now law owning set state sound e =
     record {
@@ -86,7 +86,7 @@ taken_as state reply = record { state = state; reply = reply }
 pub applies : PastTellsOfTheWorld → OwningTells → (set : Set) (state after : State) → IsSound set
     → (e : Event) (reply : Reply) →
     taken_as after reply ≡ state_now set state e
-    → Applies (machine_of set state) e (machine_of set after) reply
+    → AppliesWhole (machine_of set state) e (machine_of set after) reply
 applies law owning set state after sound e reply h =
     rw (ap (λ (x : Taken). x.state) h, ap (λ (x : Taken). x.reply) h)
     (applies_now law owning set state sound e)

@@ -12,6 +12,7 @@ use driver_set::DriverSet;
 use model::event::{Bug, BugCheck, Place, Reply, Subject};
 use model::limits::MAX_FRAMES;
 use model::status::Status;
+use model::view::FrameView;
 use model::world::{Activation, CancelStep, Canceller, Irql, Value};
 use std::marker::Model;
 
@@ -93,6 +94,7 @@ impl Default for Frame {
 impl Frame {
     ghost use Rattle.model.specs.declared.world.Frame.TheVariants.{Routine as RoutineFrame};
     ghost use Rattle.checked.specs.Frames.{told_frame, walked_packet};
+    ghost use Rattle.model.specs.View.{frame_view};
 
     /// The frame of a routine.
     pub fn routine(activation: Activation) -> Frame
@@ -119,6 +121,22 @@ impl Frame {
                 device,
                 packet,
             } => Frame::routine(entered(driver, routine, device, Value::Ref(packet))),
+        }
+    }
+
+    /// What there is to tell of it.
+    pub fn view(&self) -> FrameView
+        ensures { result ≡ frame_view self.now }
+    {
+        match self.manager {
+            Some(Managing::Completes(n)) => FrameView::Walk(n),
+            Some(Managing::Cancels(canceller)) => FrameView::Cancel(canceller),
+            None => FrameView::Routine {
+                driver: self.activation.driver,
+                routine: self.activation.routine,
+                device: self.activation.device,
+                position: self.activation.position,
+            },
         }
     }
 

@@ -9,8 +9,8 @@ pub mod machine;
 mod routine;
 mod shared;
 mod state;
+mod system;
 mod thread;
-mod world;
 
 pub use machine::Checked;
 pub use state::State;

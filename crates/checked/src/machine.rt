@@ -2,15 +2,17 @@
 
 ghost use Rattle.std.specs.Prelude.{◌≡◌, ◌≤◌, [], IfOk, IfErr};
 ghost use Rattle.model.specs.declared.limits.TheConstants.{MAX_THREADS};
-ghost use Rattle.model.specs.Machine.{Shows, Applies};
+ghost use Rattle.model.specs.Machine.{ShowsWhole, AppliesWhole};
 ghost use Rattle.model.specs.Sound.{IsSound};
 ghost use Rattle.model.specs.Typable.{IsTypable};
+ghost use Rattle.model.specs.View.{due_at, packet_at, thread_at};
 ghost use Rattle.run_laws.specs.Rules.{KeepsTheRules};
 
 use crate::state::State;
 use driver_set::DriverSet;
 use model::event::{Event, Reply};
 use model::memory::OutOfMemory;
+use model::view::{PacketView, ThreadView};
 use run_laws::accepted_runs_keep_the_rules;
 use std::alloc::Global;
 use std::marker::Model;
@@ -46,7 +48,7 @@ impl Checked {
         requires few { threads ≤ MAX_THREADS }
         ensures set { IfOk result (λ machine. machine.set ≡ set) }
         ensures sound { IfOk result (λ machine. IsSound machine.set) }
-        ensures shows { IfOk result (λ machine. Shows machine threads []) }
+        ensures shows { IfOk result (λ machine. ShowsWhole machine threads []) }
         ensures back { IfErr result (λ refused. refused.0 ≡ set) }
     {
         match State::new(alloc, &set, threads) {
@@ -61,7 +63,7 @@ impl Checked {
     /// Applies an event, and answers as the run does that this machine shows. After a bug check or
     /// a wrong operand it has stopped, and refuses every event.
     pub fn apply(&mut self, event: &Event) -> Reply
-        ensures { Applies self.old event.now self.new result }
+        ensures { AppliesWhole self.old event.now self.new result }
     {
         self.state.apply(&self.driver_set, event)
     }
@@ -71,6 +73,28 @@ impl Checked {
         ensures { result ≡ self.now.stopped }
     {
         self.state.stopped()
+    }
+
+    /// What there is to tell of a thread, if there is one of this number.
+    pub fn thread(&self, number: u8) -> Option<ThreadView>
+        ensures { result ≡ thread_at self.now.world number }
+    {
+        self.state.thread(number)
+    }
+
+    /// What there is to tell of the packet of a number.
+    pub fn packet(&self, number: u64) -> PacketView
+        ensures { result ≡ packet_at self.now.world number }
+    {
+        self.state.packet(number)
+    }
+
+    /// What is due of a device: whether its start list has a packet, so that its StartIo routine
+    /// has to begin, and whether its DPC is queued. Neither where there is no such device.
+    pub fn due(&self, device: u8) -> (bool, bool)
+        ensures { result ≡ due_at self.now.world device }
+    {
+        self.state.due(device)
     }
 
     /// The machine after these events over so many threads, 1 to 32. Where the set is typable, as
@@ -86,7 +110,7 @@ impl Checked {
         requires some { 1 ≤ threads }
         requires few { threads ≤ MAX_THREADS }
         ensures set { IfOk result (λ machine. machine.set ≡ set) }
-        ensures shows { IfOk result (λ machine. Shows machine threads events.now) }
+        ensures shows { IfOk result (λ machine. ShowsWhole machine threads events.now) }
         ensures rules { IfOk result (λ machine. IsTypable set → KeepsTheRules set threads
             events.now) }
         ensures back { IfErr result (λ refused. refused.0 ≡ set) }

@@ -11,6 +11,7 @@ use iomgr::PacketTable;
 use irql_locks::LockTable;
 use model::limits::{CELLS, MAX_QUEUES};
 use model::status::Major;
+use model::view::{LiveView, PacketView};
 use model::world::{Cells, Irql, Value};
 use std::alloc::{AllocError, Global};
 use std::marker::Model;
@@ -83,6 +84,7 @@ impl Shared {
     ghost use Rattle.model.specs.Events.{can_issue, with_new_packet};
     ghost use Rattle.model.specs.World.{unused, packet_in, start_of, with_start, is_queued, with_dpc};
     ghost use Rattle.checked.specs.Step.{is_gone, is_raised};
+    ghost use Rattle.model.specs.View.{packet_view, due_view};
 
     /// What is there before the first event, for so many devices. An error where memory is refused;
     /// all that is ever needed is taken here.
@@ -183,5 +185,32 @@ impl Shared {
         ensures { result ≡ is_gone self.now n }
     {
         self.is_issued(n) && self.packet_table.find(n).is_none()
+    }
+
+    /// What there is to tell of the packet of a number.
+    pub fn packet(&self, n: u64) -> PacketView
+        ensures { result ≡ packet_view self.now n }
+    {
+        match self.packet_table.find(n) {
+            Some(packet) => PacketView::Live(LiveView {
+                depth: packet.depth(),
+                cancel: packet.is_cancelled(),
+                marks: packet.marks(),
+                armer: packet.armer(),
+            }),
+            None if self.is_issued(n) => PacketView::Topped,
+            None => PacketView::Never,
+        }
+    }
+
+    /// Whether the start list of a device has a packet, and whether its DPC is queued.
+    pub fn due(&self, device: u8) -> (bool, bool)
+        ensures { result ≡ due_view self.now device }
+    {
+        let starts = match self.start_of(device) {
+            Some(start) => start.first_to_start().is_some(),
+            None => false,
+        };
+        (starts, self.is_queued(device))
     }
 }

@@ -2,15 +2,17 @@
 
 ghost use Rattle.std.specs.Prelude.{◌≡◌, ◌≤◌, false, length, IfOk};
 ghost use Rattle.checked.specs.Step.{machine_of, state_now};
-ghost use Rattle.model.specs.Machine.{Applies};
+ghost use Rattle.model.specs.Machine.{AppliesWhole};
 ghost use Rattle.model.specs.Sound.{IsSound};
+ghost use Rattle.model.specs.View.{due_at, packet_at, thread_at};
 ghost use Rattle.model.specs.World.{opening};
 
-use crate::world::World;
+use crate::system::System;
 use driver_set::DriverSet;
 use irql_locks::owning_tells;
 use model::event::{Event, Reply};
 use model::memory::OutOfMemory;
+use model::view::{PacketView, ThreadView};
 use run_laws::the_past_tells_of_the_world;
 use std::alloc::Global;
 use std::marker::Model;
@@ -19,7 +21,7 @@ use std::marker::Model;
 /// set.
 #[derive(Drop)]
 pub struct State {
-    current: World,
+    current: System,
     halted: bool,
 }
 
@@ -38,7 +40,7 @@ impl State {
             IfOk result (λ state. state ≡ record { world = first; stopped = false }) }
         ensures sound { IsSound set.now }
     {
-        match World::new(alloc, set.devices().len(), threads) {
+        match System::new(alloc, set.devices().len(), threads) {
             Ok(current) => Ok(State {
                 current,
                 halted: false,
@@ -52,7 +54,7 @@ impl State {
     pub fn apply(&mut self, set: &DriverSet, event: &Event) -> Reply
         requires { IsSound set.now }
         ensures { let before = machine_of set.now self.old in
-            Applies before event.now (machine_of set.now self.new) result }
+            AppliesWhole before event.now (machine_of set.now self.new) result }
     {
         the_past_tells_of_the_world();
         owning_tells();
@@ -77,5 +79,27 @@ impl State {
         ensures { result ≡ self.now.stopped }
     {
         self.halted
+    }
+
+    /// What there is to tell of a thread, if there is one of this number.
+    pub fn thread(&self, number: u8) -> Option<ThreadView>
+        ensures { result ≡ thread_at self.now.world number }
+    {
+        self.current.thread(number)
+    }
+
+    /// What there is to tell of the packet of a number.
+    pub fn packet(&self, number: u64) -> PacketView
+        ensures { result ≡ packet_at self.now.world number }
+    {
+        self.current.packet(number)
+    }
+
+    /// What is due of a device: whether its start list has a packet, so that its StartIo routine
+    /// has to begin, and whether its DPC is queued. Neither where there is no such device.
+    pub fn due(&self, device: u8) -> (bool, bool)
+        ensures { result ≡ due_at self.now.world device }
+    {
+        self.current.due(device)
     }
 }

@@ -12,6 +12,7 @@ use driver_set::DriverSet;
 use model::event::Reply;
 use model::limits::MAX_FRAMES;
 use model::status::Status;
+use model::view::ThreadView;
 use model::world::Irql;
 use std::marker::Model;
 
@@ -42,6 +43,7 @@ fn tell(set: &DriverSet, frames: &mut ArrayVec<Frame, MAX_FRAMES>, status: Statu
 }
 
 impl Thread {
+    ghost use Rattle.model.specs.View.{thread_view};
     ghost use Rattle.model.specs.World.{idle_thread};
 
     /// A thread without frames.
@@ -59,6 +61,21 @@ impl Thread {
         ensures { result ≡ is_idle self.now }
     {
         self.frames.is_empty()
+    }
+
+    /// What there is to tell of it.
+    pub fn view(&self) -> ThreadView
+        ensures { result ≡ thread_view self.now }
+    {
+        let top = match self.frames.last() {
+            Some(frame) => Some(frame.view()),
+            None => None,
+        };
+        ThreadView {
+            root: self.root,
+            frames: self.frames.len(),
+            top,
+        }
     }
 
     /// A frame is put on an idle thread, at a level.

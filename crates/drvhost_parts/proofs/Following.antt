@@ -4,7 +4,7 @@ use Rattle.std.proofs.lemmas.List.{append-nil}
 use Rattle.std.specs.List.{list_any}
 use Rattle.model.specs.declared.event.Event.{Event}
 use Rattle.model.specs.declared.event.Reply.{Reply}
-use Rattle.model.specs.Machine.{Machine, Shows, Applies}
+use Rattle.model.specs.Machine.{AppliesBy}
 use Rattle.model.specs.Run.{Run, begun, run, run_from, step}
 use Rattle.model.specs.Set.{Set}
 use Rattle.report.specs.Reply.{reply_line}
@@ -21,170 +21,172 @@ run_more : (set : Set) (r : Run) (events : List Event) (e : Event)
 run_more set r [] e = refl
 run_more set r (x ∷ events) e = run_more set (step set r x).run events e
 
--- these are the replies to the events that are still to come
-pub record Remains (m : Machine) (set : Set) (threads : ℕ) (rest : List Event) (later : List Reply)
-    : Type 0 where
-  pub past : List Event
-  pub same : m.set ≡ set
-  pub shows : Shows m threads past
-  pub are : later ≡ replies set (run set threads past) rest
-
 -- the reply to the next event, and those after it
 abbrev after_reply : Set → Run → List Event → Reply → List Reply
 after_reply set r rest reply = if is_last reply then [] else replies set r rest
 
-pub record Steps (n : Machine) (set : Set) (threads : ℕ) (rest : List Event) (later : List Reply)
-    (reply : Reply) : Type 0 where
-  pub r : Run
-  pub last : later ≡ reply ∷ after_reply set r rest reply
-  pub past : List Event
-  pub same : n.set ≡ set
-  pub shows : Shows n threads past
-  pub reached : r ≡ run set threads past
-
-steps : (m n : Machine) (set : Set) (threads : ℕ) (e : Event) (rest : List Event)
-    (later : List Reply) (reply : Reply)
-    → Remains m set threads (e ∷ rest) later → Applies m e n reply
-    → Steps n set threads rest later reply
-steps m n set threads e rest later reply h applies =
-    let answered = step set (run set threads h.past) e in
-    let P : Set → Type 0 = λ s. reply ≡ (step s (run s threads h.past) e).reply in
-    let replied : reply ≡ answered.reply = subst P h.same (applies.replies threads h.past h.shows)
-    in
-    record {
-      r = answered.run;
-      last = h.are ∙ ap (λ x. x ∷ after_reply set answered.run rest x) (sym replied);
-      past = h.past ++ e ∷ [];
-      same = applies.set ∙ h.same;
-      shows = applies.shows threads h.past h.shows;
-      reached = sym (run_more set (begun set threads) h.past e);
-    }
-
-goes_after : (n : Machine) (set : Set) (threads : ℕ) (rest : List Event) (later : List Reply)
-    (reply : Reply) → Steps n set threads rest later reply → is_last reply ≡ false
-    → (after : List Reply) × (later ≡ reply ∷ after) × Remains n set threads rest after
-goes_after n set threads rest later reply s goes_on = (
-  replies set s.r rest,
-  s.last ∙ ap (λ (b : Bool). reply ∷ (if b then [] else replies set s.r rest)) goes_on,
-  record {
-    past = s.past;
-    same = s.same;
-    shows = s.shows;
-    are =
-        ap (λ (r : Run). replies set r rest) s.reached;
-  },
-)
-
--- a run that is followed: the lines that were added so far, and the replies that are still to come
-pub record Followed (set : Set) (threads : ℕ) (all : List Reply) (m : Machine) (number : ℕ)
-    (rest : List Event) (b n : Option (List ℕ)) (left : List ℕ) : Type 0 where
-  pub text : List ℕ
-  pub later : List Reply
-  pub remains : Remains m set threads rest later
-  pub lines : reply_lines 0 all ≡ text ++ reply_lines number later
-  pub last : list_any is_last all ≡ list_any is_last later
-  pub adds : Adds b n [] left text
-
-pub followed_first : (m : Machine) (threads : ℕ) (events : List Event) (b : Option (List ℕ))
-    → Shows m threads [] → Followed m.set threads (replies m.set (begun m.set threads) events) m 0
-    events b b []
-followed_first m threads events b shows =
-    record {
-      text = [];
-      later = replies m.set (begun m.set threads) events;
-      remains = record { past = []; same = refl; shows = shows; are = refl };
-      lines = refl;
-      last = refl;
-      adds = adds_none b [];
-    }
-
--- some of the lines are written
-pub followed_room : (set : Set) (threads : ℕ) (all : List Reply) (m : Machine) (number : ℕ)
-    (rest : List Event) (b c n : Option (List ℕ)) (l k : List ℕ)
-    → Followed set threads all m number rest b c l → Adds c n l k []
-    → Followed set threads all m number rest b n k
-followed_room set threads all m number rest b c n l k f a =
-    let P : List ℕ → Type 0 = Adds b n [] k in
-    record {
-      text = f.text;
-      later = f.later;
-      remains = f.remains;
-      lines = f.lines;
-      last = f.last;
-      adds = subst P (append-nil f.text) (adds_more b c n [] l k f.text [] f.adds a);
-    }
-
--- one event more, with its line
-pub followed_next : (set : Set) (threads : ℕ) (all : List Reply) (m o : Machine) (number : ℕ)
-    (upcoming rest : List Event) (e : Event) (b n : Option (List ℕ)) (l : List ℕ) (reply : Reply)
-    → Followed set threads all m number upcoming b n l → upcoming ≡ e ∷ rest → Applies m e o reply
-    → is_last reply ≡ false
-    → Followed set threads all o (number + 1) rest b n (l ++ reply_line number reply)
-followed_next set threads all m o number upcoming rest e b n l reply f next applies goes_on =
-    let P : List Event → Type 0 = λ events. Remains m set threads events f.later in
-    let s = goes_after o set threads rest f.later reply
-    (steps m o set threads e rest f.later reply (subst P next f.remains) applies) goes_on in
-    let line = reply_line number reply in
-    record {
-      text = f.text ++ line;
-      later = s.0;
-      remains = s.2;
-      lines = f.lines ∙ ap (λ later. f.text ++ reply_lines number later) s.1
-          ∙ sym (append_assoc f.text line (reply_lines (number + 1) s.0));
-      last = f.last ∙ ap (λ later. list_any is_last later) s.1
-          ∙ ap (λ (x : Bool). x || list_any is_last s.0) goes_on;
-      adds = adds_line b n [] l f.text line f.adds;
-    }
-
 abbrev pub IsTraceOfAll : List Reply → Answer → Type 0
 IsTraceOfAll all answer = answer ≡ trace_of all
 
--- the last event
-pub followed_last : (set : Set) (threads : ℕ) (all : List Reply) (m o : Machine) (number : ℕ)
-    (upcoming rest : List Event) (e : Event) (b n : Option (List ℕ)) (l : List ℕ) (reply : Reply)
-    → Followed set threads all m number upcoming b n l → upcoming ≡ e ∷ rest → Applies m e o reply
-    → is_last reply ≡ true
-    → Goes (IsTraceOfAll all) b n [] (l ++ reply_line number reply) (Ok Stopped)
-followed_last set threads all m o number upcoming rest e b n l reply f next applies ends =
-    let P : List Event → Type 0 = λ events. Remains m set threads events f.later in
-    let s = steps m o set threads e rest f.later reply (subst P next f.remains) applies in
-    let line = reply_line number reply in
-    let later : f.later ≡ reply ∷ [] =
-    s.last ∙ ap (λ (x : Bool). reply ∷ (if x then [] else replies set s.r rest)) ends in
-    let text : reply_lines 0 all ≡ f.text ++ line =
-    f.lines ∙ ap (λ x. f.text ++ reply_lines number x) later
-    ∙ ap (λ x. f.text ++ x) (append-nil line) in
-    let last : list_any is_last all ≡ true = f.last ∙ ap (λ x. list_any is_last x) later
-    ∙ ap (λ (x : Bool). x || false) ends in (
-      f.text ++ line,
-      sym (ap (λ (x : Bool). ended (if x then Stopped else Complete) (reply_lines 0 all)) last
-          ∙ ap (λ x. ended Stopped x) text),
-      adds_line b n [] l f.text line f.adds,
-    )
+-- a machine of any sort, with its set, that shows runs in its way
+module _ {M : Type 0} (set_of : M → Set) (ShowsRun : M → ℕ → List Event → Type 0) where
+  -- these are the replies to the events that are still to come
+  pub record Remains (m : M) (set : Set) (threads : ℕ) (rest : List Event) (later : List Reply)
+      : Type 0 where
+    pub past : List Event
+    pub same : set_of m ≡ set
+    pub shows : ShowsRun m threads past
+    pub are : later ≡ replies set (run set threads past) rest
 
--- no event is left
-pub followed_all : (set : Set) (threads : ℕ) (all : List Reply) (m : Machine) (number : ℕ)
-    (b n : Option (List ℕ)) (l : List ℕ)
-    → Followed set threads all m number [] b n l → Goes (IsTraceOfAll all) b n [] l (Ok Complete)
-followed_all set threads all m number b n l f =
-    let text : reply_lines 0 all ≡ f.text =
-    f.lines ∙ ap (λ x. f.text ++ reply_lines number x) f.remains.are ∙ append-nil f.text in
-    let last : list_any is_last all ≡ false = f.last ∙ ap (λ x. list_any is_last x) f.remains.are
-    in (
-      f.text,
-      sym (ap (λ (x : Bool). ended (if x then Stopped else Complete) (reply_lines 0 all)) last
-          ∙ ap (λ x. ended Complete x) text),
-      f.adds,
-    )
+  pub record Steps (n : M) (set : Set) (threads : ℕ) (rest : List Event) (later : List Reply)
+      (reply : Reply) : Type 0 where
+    pub r : Run
+    pub last : later ≡ reply ∷ after_reply set r rest reply
+    pub past : List Event
+    pub same : set_of n ≡ set
+    pub shows : ShowsRun n threads past
+    pub reached : r ≡ run set threads past
 
--- a write fails
-pub followed_broken : (set : Set) (threads : ℕ) (all : List Reply) (m : Machine) (number : ℕ)
-    (rest : List Event) (b c n : Option (List ℕ)) (l : List ℕ)
-    → Followed set threads all m number rest b c l → TakesBeginning c n l
-    → Goes (IsTraceOfAll all) b n [] [] (Err Write)
-followed_broken set threads all m number rest b c n l f p =
-    let P : List ℕ → Type 0 = TakesBeginning b n in (
-      trace_of all,
-      refl,
-      subst P (sym f.lines) (adds_breaks b c n [] l f.text (reply_lines number f.later) f.adds p),
-    )
+  steps : (m n : M) (set : Set) (threads : ℕ) (e : Event) (rest : List Event)
+      (later : List Reply) (reply : Reply)
+      → Remains m set threads (e ∷ rest) later → AppliesBy set_of ShowsRun m e n reply
+      → Steps n set threads rest later reply
+  steps m n set threads e rest later reply h applies =
+      let answered = step set (run set threads h.past) e in
+      let P : Set → Type 0 = λ s. reply ≡ (step s (run s threads h.past) e).reply in
+      let replied : reply ≡ answered.reply = subst P h.same (applies.replies threads h.past h.shows)
+      in
+      record {
+        r = answered.run;
+        last = h.are ∙ ap (λ x. x ∷ after_reply set answered.run rest x) (sym replied);
+        past = h.past ++ e ∷ [];
+        same = applies.set ∙ h.same;
+        shows = applies.shows threads h.past h.shows;
+        reached = sym (run_more set (begun set threads) h.past e);
+      }
+
+  goes_after : (n : M) (set : Set) (threads : ℕ) (rest : List Event) (later : List Reply)
+      (reply : Reply) → Steps n set threads rest later reply → is_last reply ≡ false
+      → (after : List Reply) × (later ≡ reply ∷ after) × Remains n set threads rest after
+  goes_after n set threads rest later reply s goes_on = (
+    replies set s.r rest,
+    s.last ∙ ap (λ (b : Bool). reply ∷ (if b then [] else replies set s.r rest)) goes_on,
+    record {
+      past = s.past;
+      same = s.same;
+      shows = s.shows;
+      are =
+          ap (λ (r : Run). replies set r rest) s.reached;
+    },
+  )
+
+  -- a run that is followed: the lines that were added so far, and the replies that are still to come
+  pub record Followed (set : Set) (threads : ℕ) (all : List Reply) (m : M) (number : ℕ)
+      (rest : List Event) (b n : Option (List ℕ)) (left : List ℕ) : Type 0 where
+    pub text : List ℕ
+    pub later : List Reply
+    pub remains : Remains m set threads rest later
+    pub lines : reply_lines 0 all ≡ text ++ reply_lines number later
+    pub last : list_any is_last all ≡ list_any is_last later
+    pub adds : Adds b n [] left text
+
+  pub followed_first : (m : M) (threads : ℕ) (events : List Event) (b : Option (List ℕ))
+      → ShowsRun m threads [] → Followed (set_of m) threads (replies (set_of m) (begun (set_of m) threads) events) m 0
+      events b b []
+  followed_first m threads events b shows =
+      record {
+        text = [];
+        later = replies (set_of m) (begun (set_of m) threads) events;
+        remains = record { past = []; same = refl; shows = shows; are = refl };
+        lines = refl;
+        last = refl;
+        adds = adds_none b [];
+      }
+
+  -- some of the lines are written
+  pub followed_room : (set : Set) (threads : ℕ) (all : List Reply) (m : M) (number : ℕ)
+      (rest : List Event) (b c n : Option (List ℕ)) (l k : List ℕ)
+      → Followed set threads all m number rest b c l → Adds c n l k []
+      → Followed set threads all m number rest b n k
+  followed_room set threads all m number rest b c n l k f a =
+      let P : List ℕ → Type 0 = Adds b n [] k in
+      record {
+        text = f.text;
+        later = f.later;
+        remains = f.remains;
+        lines = f.lines;
+        last = f.last;
+        adds = subst P (append-nil f.text) (adds_more b c n [] l k f.text [] f.adds a);
+      }
+
+  -- one event more, with its line
+  pub followed_next : (set : Set) (threads : ℕ) (all : List Reply) (m o : M) (number : ℕ)
+      (upcoming rest : List Event) (e : Event) (b n : Option (List ℕ)) (l : List ℕ) (reply : Reply)
+      → Followed set threads all m number upcoming b n l → upcoming ≡ e ∷ rest → AppliesBy set_of ShowsRun m e o reply
+      → is_last reply ≡ false
+      → Followed set threads all o (number + 1) rest b n (l ++ reply_line number reply)
+  followed_next set threads all m o number upcoming rest e b n l reply f next applies goes_on =
+      let P : List Event → Type 0 = λ events. Remains m set threads events f.later in
+      let s = goes_after o set threads rest f.later reply
+      (steps m o set threads e rest f.later reply (subst P next f.remains) applies) goes_on in
+      let line = reply_line number reply in
+      record {
+        text = f.text ++ line;
+        later = s.0;
+        remains = s.2;
+        lines = f.lines ∙ ap (λ later. f.text ++ reply_lines number later) s.1
+            ∙ sym (append_assoc f.text line (reply_lines (number + 1) s.0));
+        last = f.last ∙ ap (λ later. list_any is_last later) s.1
+            ∙ ap (λ (x : Bool). x || list_any is_last s.0) goes_on;
+        adds = adds_line b n [] l f.text line f.adds;
+      }
+
+  -- the last event
+  pub followed_last : (set : Set) (threads : ℕ) (all : List Reply) (m o : M) (number : ℕ)
+      (upcoming rest : List Event) (e : Event) (b n : Option (List ℕ)) (l : List ℕ) (reply : Reply)
+      → Followed set threads all m number upcoming b n l → upcoming ≡ e ∷ rest → AppliesBy set_of ShowsRun m e o reply
+      → is_last reply ≡ true
+      → Goes (IsTraceOfAll all) b n [] (l ++ reply_line number reply) (Ok Stopped)
+  followed_last set threads all m o number upcoming rest e b n l reply f next applies ends =
+      let P : List Event → Type 0 = λ events. Remains m set threads events f.later in
+      let s = steps m o set threads e rest f.later reply (subst P next f.remains) applies in
+      let line = reply_line number reply in
+      let later : f.later ≡ reply ∷ [] =
+      s.last ∙ ap (λ (x : Bool). reply ∷ (if x then [] else replies set s.r rest)) ends in
+      let text : reply_lines 0 all ≡ f.text ++ line =
+      f.lines ∙ ap (λ x. f.text ++ reply_lines number x) later
+      ∙ ap (λ x. f.text ++ x) (append-nil line) in
+      let last : list_any is_last all ≡ true = f.last ∙ ap (λ x. list_any is_last x) later
+      ∙ ap (λ (x : Bool). x || false) ends in (
+        f.text ++ line,
+        sym (ap (λ (x : Bool). ended (if x then Stopped else Complete) (reply_lines 0 all)) last
+            ∙ ap (λ x. ended Stopped x) text),
+        adds_line b n [] l f.text line f.adds,
+      )
+
+  -- no event is left
+  pub followed_all : (set : Set) (threads : ℕ) (all : List Reply) (m : M) (number : ℕ)
+      (b n : Option (List ℕ)) (l : List ℕ)
+      → Followed set threads all m number [] b n l → Goes (IsTraceOfAll all) b n [] l (Ok Complete)
+  followed_all set threads all m number b n l f =
+      let text : reply_lines 0 all ≡ f.text =
+      f.lines ∙ ap (λ x. f.text ++ reply_lines number x) f.remains.are ∙ append-nil f.text in
+      let last : list_any is_last all ≡ false = f.last ∙ ap (λ x. list_any is_last x) f.remains.are
+      in (
+        f.text,
+        sym (ap (λ (x : Bool). ended (if x then Stopped else Complete) (reply_lines 0 all)) last
+            ∙ ap (λ x. ended Complete x) text),
+        f.adds,
+      )
+
+  -- a write fails
+  pub followed_broken : (set : Set) (threads : ℕ) (all : List Reply) (m : M) (number : ℕ)
+      (rest : List Event) (b c n : Option (List ℕ)) (l : List ℕ)
+      → Followed set threads all m number rest b c l → TakesBeginning c n l
+      → Goes (IsTraceOfAll all) b n [] [] (Err Write)
+  followed_broken set threads all m number rest b c n l f p =
+      let P : List ℕ → Type 0 = TakesBeginning b n in (
+        trace_of all,
+        refl,
+        subst P (sym f.lines) (adds_breaks b c n [] l f.text (reply_lines number f.later) f.adds p),
+      )

@@ -16,8 +16,8 @@ use crate::transfer::{read_whole, write_lines};
 use checked::Checked;
 use image::DriverSet;
 use interleave::parse::parse_schedule;
-use interleave::run::AcceptedRun;
 use interleave::schedule::Schedule;
+use machine::World;
 use report::lines::Lines;
 use std::alloc::{AllocError, Global};
 use verifier::{Accepted, verify};
@@ -142,8 +142,8 @@ fn trace_accepted<P: Source, O: Sink>(
     ensures writes { O.failures out.new ≡ O.failures out.old + writes_failed result }
 {
     let schedule = read_schedule(alloc, schedule)?;
-    match AcceptedRun::new(alloc, accepted, schedule.threads) {
-        Ok(mut run) => follow(&mut run, &schedule, lines, out),
+    match World::new(alloc, accepted, schedule.threads) {
+        Ok(mut world) => follow(&mut world, &schedule, lines, out),
         Err((_accepted, _refused)) => Err(Fault::Memory),
     }
 }

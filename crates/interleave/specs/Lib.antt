@@ -2,4 +2,3 @@ pub mod Events
 pub mod Line
 pub mod Listing
 pub mod Meaning
-pub mod Runs

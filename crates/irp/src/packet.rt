@@ -66,6 +66,7 @@ fn stack_of(size: u8, first: Location) -> ArrayVec<Location, MAX_STACK>
 }
 
 impl Packet {
+    ghost use Rattle.model.specs.View.{marks_of};
     ghost use Rattle.model.specs.World.{new_packet, sent_down, shared_with, moved_up, carried_up, mark_current, left_location, completed, cancelled, with_armer, with_info, field_of, current_location, completion_of, asked_of, is_marked};
 
     /// A new packet for a device of this stack size, 1 to 16: the first location asks the device,
@@ -194,6 +195,18 @@ impl Packet {
             Some(location) => location.is_marked(),
             None => false,
         }
+    }
+
+    /// SL_PENDING_RETURNED of each location, and not set where it has no location.
+    pub fn marks(&self) -> [bool; MAX_STACK]
+        ensures { result ≡ marks_of self.now.locations.items }
+    {
+        let mut marks = [false; MAX_STACK];
+        #[tactic(auto, using(crate::proofs::Marks::marks_on))]
+        for (place, location) in self.stack.iter().enumerate() {
+            marks[place] = location.is_marked();
+        }
+        marks
     }
 
     /// What a driver reads of it: the major function and the argument are the current location's.

@@ -17,5 +17,6 @@ pub mod LocalRule
 pub mod Paths
 pub mod Typable
 pub mod Certificate
-pub mod Machine
 pub mod Shown
+pub mod Machine
+pub mod View

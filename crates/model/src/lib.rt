@@ -14,4 +14,5 @@ pub mod set;
 pub mod spin_lock;
 pub mod status;
 pub mod turns;
+pub mod view;
 pub mod world;

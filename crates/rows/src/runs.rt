@@ -4,8 +4,11 @@
 use asm::assemble;
 use checked::Checked;
 use interleave::run::run;
+use machine::World;
 use model::event::{BugCheck, Event, Reply, Subject};
 use model::status::{Major, Status};
+use model::view::{FrameView, LiveView, PacketView, ThreadView};
+use model::world::Irql;
 use verifier::verify;
 
 const COMPLETES: &[u8] =
@@ -47,6 +50,62 @@ fn accepted_runs_go_on(rt: HostRuntime) {
     );
     assert!(rt; matches!(run.apply(&STEP), Reply::Finished));
     assert!(rt; matches!(run.apply(&STEP), Reply::Idle));
+}
+
+/// A world tells what runs on a thread, and how a packet stands, from before its issue to its
+/// top-out.
+#[test]
+fn worlds_tell_of_threads_and_packets(rt: HostRuntime) {
+    let alloc = rt.alloc();
+    let set = assemble(alloc, COMPLETES).ok().expect(&rt, "a set");
+    let accepted = verify(alloc, set).ok().expect(&rt, "an accepted set");
+    let mut world = World::new(alloc, accepted, 1).ok().expect(&rt, "memory");
+    assert!(rt; matches!(world.packet(0), PacketView::Never));
+    let issued = world.apply(&READ);
+    assert!(rt; matches!(issued, Reply::Started(0)));
+    assert!(rt;
+        matches!(
+            world.thread(0),
+            Some(ThreadView {
+                root: Irql::Passive,
+                frames: 1,
+                top: Some(FrameView::Routine {
+                    driver: 0,
+                    routine: 0,
+                    device: 0,
+                    position: 0
+                })
+            })
+        )
+    );
+    let live = world.packet(0);
+    assert!(rt;
+        matches!(
+            live,
+            PacketView::Live(LiveView {
+                depth: 1,
+                cancel: false,
+                armer: None,
+                ..
+            })
+        )
+    );
+    let completed = world.apply(&STEP);
+    assert!(rt; matches!(completed, Reply::Stepped));
+    assert!(rt;
+        matches!(
+            world.thread(0),
+            Some(ThreadView {
+                frames: 2,
+                top: Some(FrameView::Walk(0)),
+                ..
+            })
+        )
+    );
+    let _topped = world.apply(&STEP);
+    assert!(rt; matches!(world.packet(0), PacketView::Topped));
+    assert!(rt; matches!(world.due(0), (false, false)));
+    assert!(rt; world.thread(1).is_none());
 }
 
 /// A machine is there at its events' end too; it stops at a bug check, and refuses what follows.

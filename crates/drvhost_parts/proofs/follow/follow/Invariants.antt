@@ -6,14 +6,14 @@ use Rattle.drvhost_parts.proofs.follow.follow.Given as goal
 
 abbrev pub invariant-loop-event : goal.invariant-loop-event
 invariant-loop-event g l =
-    let set = (g.M.Machine.shown l.initial.machine).set in
+    let set = g.M.Machine.set_of l.initial.machine in
     record {
       numbered : l.number + length l.upcoming ≡ length l.schedule.events;
       fine : g.O.Sink.failures l.out ≡ g.O.Sink.failures l.initial.out;
       followed :
-          Followed set l.schedule.threads
+          Followed g.M.Machine.set_of g.M.Machine.shows set l.schedule.threads
           (replies set (begun set l.schedule.threads) l.schedule.events)
-          (g.M.Machine.shown l.machine) l.number l.upcoming
+          l.machine l.number l.upcoming
           (g.O.Sink.contents l.initial.out) (g.O.Sink.contents l.out) l.lines;
     }
 

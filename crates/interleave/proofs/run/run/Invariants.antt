@@ -5,6 +5,6 @@ use Rattle.interleave.proofs.run.run.Given as goal
 abbrev pub invariant-loop-event : goal.invariant-loop-event
 invariant-loop-event l =
     record {
-      set : l.run.set ≡ l.fn.accepted;
-      shows : Shows l.run l.threads (take l.event-index l.events);
+      set : l.world.set ≡ l.fn.accepted;
+      shows : Shows l.world l.threads (take l.event-index l.events);
     }

@@ -1,9 +1,10 @@
-//! The world of a run, and what an event does to it.
+//! The I/O system of a run, and what an event does to it.
 
 ghost use Rattle.std.specs.Prelude.{◌≡◌, ◌≤◌, IfOk, IfSome, slice_get};
 ghost use Rattle.model.specs.declared.limits.TheConstants.{MAX_STACK};
 ghost use Rattle.checked.specs.Step.{ended, event_now, step_now};
 ghost use Rattle.model.specs.Events.{cancel_on, irql_of};
+ghost use Rattle.model.specs.View.{due_at, packet_at, thread_at};
 ghost use Rattle.model.specs.World.{opening};
 
 use crate::activation::{driver_of, entered};
@@ -13,18 +14,19 @@ use crate::thread::Thread;
 use driver_set::{Device, DriverSet};
 use model::event::{Event, Reply};
 use model::status::Major;
+use model::view::{PacketView, ThreadView};
 use model::world::{CancelStep, Irql, Value};
 use std::alloc::{AllocError, Global};
 use std::marker::Model;
 
-/// The threads with their frames, and what they share.
+/// The threads with their frames, and what they share. Contracts see a world.
 #[derive(Drop)]
-pub struct World {
+pub struct System {
     thread_list: Vec<Thread>,
     shared: Shared,
 }
 
-impl Model for World {
+impl Model for System {
     ghost use Rattle.model.specs.World.{World};
 
     ghost Value = { World };
@@ -52,10 +54,10 @@ fn irql_of(level: u8) -> Option<Irql>
     }
 }
 
-impl World {
+impl System {
     /// So many devices and idle threads, before the first event. All memory that a run ever needs
     /// is taken here: an error where some of it is refused.
-    pub fn new(alloc: Global, devices: usize, threads: u8) -> Result<World, AllocError>
+    pub fn new(alloc: Global, devices: usize, threads: u8) -> Result<System, AllocError>
         ensures { IfOk result (λ w. w ≡ opening devices threads) }
     {
         let mut thread_list = Vec::with_capacity(alloc, threads as usize)?;
@@ -63,7 +65,7 @@ impl World {
             thread_list.push(Thread::idle())?;
         }
         let shared = Shared::new(alloc, devices)?;
-        Ok(World {
+        Ok(System {
             thread_list,
             shared,
         })
@@ -91,6 +93,30 @@ impl World {
             Event::StartIo { thread, device } => self.begin_startio(set, thread, device),
             Event::Step { thread } => self.step(set, thread),
         }
+    }
+
+    /// What there is to tell of a thread, if there is one of this number.
+    pub fn thread(&self, number: u8) -> Option<ThreadView>
+        ensures { result ≡ thread_at self.now number }
+    {
+        match self.thread_list.get(number as usize) {
+            Some(thread) => Some(thread.view()),
+            None => None,
+        }
+    }
+
+    /// What there is to tell of the packet of a number.
+    pub fn packet(&self, number: u64) -> PacketView
+        ensures { result ≡ packet_at self.now number }
+    {
+        self.shared.packet(number)
+    }
+
+    /// Whether the start list of a device has a packet, and whether its DPC is queued.
+    pub fn due(&self, device: u8) -> (bool, bool)
+        ensures { result ≡ due_at self.now device }
+    {
+        self.shared.due(device)
     }
 
     /// A new packet is sent to a device by an idle thread.

@@ -1,30 +1,38 @@
--- Runs of accepted sets: what they show keeps the rules.
+-- Runs of accepted sets, as machines show them: they keep the rules, and go on.
 use Rattle.std.specs.Prelude.{ℕ, ◌≡◌, ◌≢◌, ◌<◌, ◌++◌, List, [], ◌∷◌}
 use Rattle.model.specs.declared.event.Event.{Event}
 use Rattle.model.specs.declared.event.Event.TheVariants.{Step}
 use Rattle.model.specs.declared.event.Reply.{Reply}
 use Rattle.model.specs.declared.event.Reply.TheVariants.{Refused}
-use Rattle.model.specs.Machine.{Machine, Shows}
+use Rattle.model.specs.Machine.{Machine, Shows, ShowsWhole}
+use Rattle.model.specs.Run.{run}
+use Rattle.model.specs.Shown.{Shown}
+use Rattle.model.specs.World.{World}
 use Rattle.run_laws.specs.NeverStops.{LetsGoOn}
 use Rattle.run_laws.specs.Rules.{KeepsTheRules}
 
--- a machine shows some run
+-- a machine that keeps its world whole shows some run
 pub record IsRun (m : Machine) : Type 0 where
   pub threads : ℕ
   pub events : List Event
-  pub shows : Shows m threads events
+  pub shows : ShowsWhole m threads events
 
 -- whatever run it showed, that run with the event added keeps the rules
-abbrev pub RulesKept : Machine → Event → Type 0
+abbrev pub RulesKept : Shown → Event → Type 0
 RulesKept m e = (threads : ℕ) (events : List Event) → Shows m threads events
     → KeepsTheRules m.set threads (events ++ e ∷ [])
 
 -- the reply was neither a bug check nor that something went wrong
-abbrev pub GoesOn : Machine → Reply → Type 0
+abbrev pub GoesOn : Shown → Reply → Type 0
 GoesOn m reply = (threads : ℕ) (events : List Event) → Shows m threads events → LetsGoOn reply
 
 -- and where the event was a step of a thread that the run has, it was not refused
-abbrev pub StepsThreads : Machine → Event → Reply → Type 0
+abbrev pub StepsThreads : Shown → Event → Reply → Type 0
 StepsThreads m e reply =
     (threads : ℕ) (events : List Event) (t : ℕ) → Shows m threads events
     → t < threads → e ≡ Step t → reply ≢ Refused
+
+-- whatever run it shows, an answer tells something of that run's world
+abbrev pub TellsOf : {A : Type 0} → Shown → (World → A) → A → Type 0
+TellsOf m tell answer = (threads : ℕ) (events : List Event) → Shows m threads events
+    → answer ≡ tell (run m.set threads events).world

@@ -1,0 +1,4 @@
+pub mod Whole
+pub mod Walking
+pub mod Telling
+pub mod Applying

@@ -1,0 +1,102 @@
+//! The world of an accepted driver set.
+
+ghost use Rattle.std.specs.Prelude.{◌≡◌, ◌≤◌, List, [], IfOk, IfErr};
+ghost use Rattle.machine.specs.Runs.{GoesOn, RulesKept, StepsThreads, TellsOf};
+ghost use Rattle.model.specs.declared.event.Event.{Event};
+ghost use Rattle.model.specs.declared.limits.TheConstants.{MAX_THREADS};
+ghost use Rattle.model.specs.Machine.{Applies, Shows};
+ghost use Rattle.model.specs.View.{due_at, packet_at, thread_at};
+ghost use Rattle.run_laws.specs.Rules.{KeepsTheRules};
+
+use checked::State;
+use model::event::{Event, Reply};
+use model::memory::OutOfMemory;
+use model::view::{PacketView, ThreadView};
+use run_laws::{accepted_runs_keep_the_rules, alike_runs_go_on_alike};
+use std::alloc::Global;
+use std::marker::Model;
+use verifier::Accepted;
+
+/// The world of a run of an accepted driver set: its threads, packets and devices. Contracts see
+/// what it shows of them.
+#[derive(Drop)]
+pub struct World {
+    accepted: Accepted,
+    state: State,
+}
+
+impl Model for World {
+    ghost use Rattle.checked.specs.Step.{machine_of};
+    ghost use Rattle.machine.specs.Runs.{IsRun};
+    ghost use Rattle.model.specs.Shown.{Shown, whole};
+    ghost use Rattle.model.specs.Sound.{IsSound};
+    ghost use Rattle.model.specs.Typable.{IsTypable};
+
+    ghost Value = { Shown };
+
+    ghost view = { λ w. whole w.accepted w.state.world };
+
+    ghost invariant = { λ w. IsTypable w.accepted
+        × (IsSound w.accepted × IsRun (machine_of w.accepted w.state)) };
+}
+
+impl World {
+    /// The world before the first event, with so many threads, 1 to 32. All memory that it ever
+    /// needs is taken here: the set comes back where some of it is refused.
+    pub fn new(
+        alloc: Global,
+        accepted: Accepted,
+        threads: u8,
+    ) -> Result<World, (Accepted, OutOfMemory)>
+        requires some { 1 ≤ threads }
+        requires few { threads ≤ MAX_THREADS }
+        ensures set { IfOk result (λ world. world.set ≡ accepted) }
+        ensures shows { IfOk result (λ world. Shows world threads []) }
+        ensures rules { IfOk result (λ world. (events : List Event)
+            → KeepsTheRules accepted threads events) }
+        ensures back { IfErr result (λ refused. refused.0 ≡ accepted) }
+    {
+        accepted_runs_keep_the_rules();
+        match State::new(alloc, accepted.set(), threads) {
+            Ok(state) => Ok(World { accepted, state }),
+            Err(refused) => Err((accepted, refused)),
+        }
+    }
+
+    /// Applies an event: a world that showed a run shows that run with the event added, and answers
+    /// as it does. The run keeps the rules: no bug check, no wrong operand, no activation past its
+    /// certificate; and a step of a thread that it has is not refused.
+    pub fn apply(&mut self, event: &Event) -> Reply
+        ensures applies { Applies self.old event.now self.new result }
+        ensures rules { RulesKept self.old event.now }
+        ensures goes_on { GoesOn self.old result }
+        ensures steps { StepsThreads self.old event.now result }
+    {
+        accepted_runs_keep_the_rules();
+        alike_runs_go_on_alike();
+        self.state.apply(self.accepted.set(), event)
+    }
+
+    /// What there is to tell of a thread, if there is one of this number.
+    pub fn thread(&self, number: u8) -> Option<ThreadView>
+        ensures { TellsOf self.now (λ w. thread_at w number) result }
+    {
+        accepted_runs_keep_the_rules();
+        self.state.thread(number)
+    }
+
+    /// What there is to tell of the packet of a number.
+    pub fn packet(&self, number: u64) -> PacketView
+        ensures { TellsOf self.now (λ w. packet_at w number) result }
+    {
+        self.state.packet(number)
+    }
+
+    /// What is due of a device: whether its start list has a packet, so that its StartIo routine
+    /// has to begin, and whether its DPC is queued. Neither where there is no such device.
+    pub fn due(&self, device: u8) -> (bool, bool)
+        ensures { TellsOf self.now (λ w. due_at w device) result }
+    {
+        self.state.due(device)
+    }
+}
