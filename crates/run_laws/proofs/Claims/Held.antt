@@ -303,19 +303,6 @@ module _ (set : Set) (states : States) (w : World) (kept : Held set states w) (n
       + times_waiting set w.shared n ≤ 1 = one_holder d q in
       omega arith)
 
-  -- nor one that isn't live, or is completing
-  pub gone_alone : Balanced set (numbers states w) → unheld (find w.shared.packets n) ≡ 0
-      → takes_in states n w.threads + times_listed w.shared n ≡ 0
-  gone_alone b gone =
-      none_alone b (λ d q.
-      let all : thread_sum (λ f. frame_rights states f n) w.threads + times_waiting set w.shared n
-      ≡ unheld (find w.shared.packets n) = kept.rights n in
-      let cover : names_on states (is_listed (Declared q)) d n w.threads
-      + names_on states (is_cancelling (Declared q)) d n w.threads
-      + owns_in states n w.threads ≤ thread_sum (λ f. frame_rights states f n) w.threads =
-      rights_cover states d q n w.threads in
-      omega arith)
-
   -- one whose word names a queue, which its cancel routine was called for or which is listed, is
   -- live
   pub holder_lives : (d q : ℕ) (count : ℕ)

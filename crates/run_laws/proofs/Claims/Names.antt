@@ -156,12 +156,6 @@ TurnsNames states a b j k m =
     → names states f b n + named_as f j (Ref m) n ≡ names states f a n + named_as f k (Ref m) n
 
 module _ (f : Kind → Bool) (queues : OfQueues f) where
-  packets : OfPackets f
-  packets = queue_packets f queues
-
-  free_for : (k : Kind) → is_packet k ≡ false → f k ≡ false
-  free_for k h = packets k h
-
   -- a mark, and what is given down: from a kind that isn't of a queue to another
   pub unqueued_turn : (issued : ℕ) (kinds : List Kind) (values : List Value) (r : ℕ) (k : Kind)
       (n : ℕ)

@@ -52,7 +52,7 @@ use Rattle.model.specs.Run.{begun}
 use Rattle.run_laws.proofs.Claims.Shapes.{shape_claims}
 use Rattle.run_laws.proofs.Holders.Runs.{idle_sum, top_holding}
 use Rattle.run_laws.proofs.Holders.Started.{none_started}
-use Rattle.run_laws.proofs.Runs.Kept.{GoesOnBy, with_queued}
+use Rattle.run_laws.proofs.Runs.Kept.{GoesOnBy}
 use Rattle.run_laws.proofs.Runs.Threads.{each_frames, idle_frames}
 
 module _ (set : Set) (states : States) (w : World) (past : List Entry) (good : IsGood set states)
@@ -140,19 +140,6 @@ module _ (set : Set) (states : States) (w : World) (past : List Entry) (good : I
             refl
         | inr other ↦ rw other.0 refl
       ])
-
-  -- where a DPC is queued or isn't
-  pub claimed_queued : (d : ℕ) (queued : Bool) → Claimed set states (with_queued w d queued)
-  claimed_queued d queued =
-      record {
-        balanced = record {
-          backed = c.balanced.backed;
-          entered = c.balanced.entered;
-          standing = c.balanced.standing;
-          once = c.balanced.once;
-        };
-        apart = c.apart;
-      }
 
   module _ (agree : LocksAgree states w past) (owned : Owned w.shared.locks past)
       (kept : Held set states w) (actor : Actor) where

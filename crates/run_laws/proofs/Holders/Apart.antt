@@ -11,7 +11,7 @@ use Rattle.model.specs.Trace.{Entry}
 use Rattle.model.specs.World.{Shared, World}
 use Rattle.run_laws.specs.Holder.{times_waiting, frame_rights, frame_walks, stack_sum, thread_sum}
 use Rattle.run_laws.proofs.Holders.Runs.{top_holding}
-use Rattle.run_laws.proofs.Holders.Sums.{top_le, unheld, held, Held, stack_append, stack_le, two_le}
+use Rattle.run_laws.proofs.Holders.Sums.{unheld, held, Held, stack_append, stack_le, two_le}
 use Rattle.run_laws.proofs.Past.LivePackets.{find, find_above}
 use Rattle.run_laws.proofs.Runs.Events.{StepsFrame}
 use Rattle.run_laws.proofs.States.Rules.{States}
@@ -86,14 +86,6 @@ module _ (set : Set) (states : States) (w : World) (past : List Entry)
         let split : rights_in n h.thread.frames.items ≡ rights_in n h.below + rights_in n
         (h.frame ∷ []) = parts in
         apart_of (rights_in n h.below) some (omega arith)
-
-    pub apart_waiting : 1 ≤ times_waiting set w.shared n → IsApart states w.shared h.frame n
-    apart_waiting some =
-        let le : frame_rights states h.frame n
-        ≤ thread_sum (λ f. frame_rights states f n) w.threads =
-        top_le (λ f. frame_rights states f n) w.threads t h.thread h.below h.frame h.found h.frames
-        in
-        apart_of (times_waiting set w.shared n) some (omega arith)
 
     pub apart_other : (k : ℕ) → t ≢ k → 1 ≤ rights_in n (frames_on w k)
         → IsApart states w.shared h.frame n

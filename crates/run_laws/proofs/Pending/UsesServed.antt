@@ -3,7 +3,6 @@
 use Rattle.std.proofs.Common.{◌≡◌, Bool, List, None, Option, Some, [], ap, arith, drop, false, inl, inr, refl, subst, sym, true, ℕ, ◌+◌, ◌<◌, ◌∙◌, ◌∷◌, ◌≤◌, ◌⊎◌}
 use Rattle.std.specs.Prelude.{if◌then◌else◌, nat_eq, slice_get, ◌||◌}
 use Rattle.std.proofs.lemmas.Bool.{eq-eqb}
-use Rattle.std.proofs.lemmas.Bool.Decides.{eqb_tells}
 use Rattle.model.specs.declared.abs.Duty.{Duty}
 use Rattle.model.specs.declared.abs.Duty.TheVariants.{Finished, Fresh, GivenDown, NoDuty, Pending}
 use Rattle.model.specs.declared.set.Sort.{Sort}
@@ -118,13 +117,6 @@ called_uses past actor n = rw (eq-eqb n n refl) refl
 first_of_used : (used : List ℕ) (u : ℕ) → slice_get used 0 ≡ Some u → used ≡ u ∷ drop 1 used
 first_of_used [] u h = cc
 first_of_used (x ∷ upper) u h = let same : x ≡ u = cc in rw same refl
-
-entered_rights : (n m : ℕ) → 1 ≤ (if nat_eq n m then 1 else 0) → m ≡ n
-entered_rights n m some =
-    elim (eqb_tells n m) [
-      | inl e ↦ sym e.1
-      | inr e ↦ let none : 1 ≤ 0 = rw e.0 at some in absurd (omega arith)
-    ]
 
 module _ (set : Set) (states : States) where
   -- the tag of a routine that begins, which serves the current use of what it was handed

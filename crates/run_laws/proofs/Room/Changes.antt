@@ -34,10 +34,6 @@ ways_kept set s after keeps ways n q there =
     let old : (p : Packet) × (find s.packets n ≡ Some p) × Stays p q = keeps n q there in
     old.2.way set (ways n old.0 old.1)
 
-pub same_waiting : (s : Shared) → SameWaiting s s
-same_waiting s =
-    record { queues = refl; starts = refl; words = λ n q armer there is. (q, there, is) }
-
 -- one packet is written back
 module _ (s : Shared) (n : ℕ) (p q : Packet) (there : packet_of s n ≡ Some p)
     (same : q.number ≡ p.number) where

@@ -2,7 +2,6 @@
 -- instruction that breaks no rule finds its operands there, and leaves registers of the kinds that
 -- the local rule says.
 use Rattle.std.proofs.Common.{◌≡◌, ◌⊎◌, ℕ, zero, suc, ◌<◌, ◌≤◌, inl, inr, Bool, true, false, List, [], ◌∷◌, length, Option, None, Some, refl, arith, sym, subst, ap, ◌∙◌}
-use Rattle.std.specs.List.{list_any}
 use Rattle.std.specs.Prelude.{◌||◌, ⊤, slice_set, slice_index_or, nat_lt}
 use Rattle.std.proofs.lemmas.Bool.{cond_both, lt-ltb}
 use Rattle.std.proofs.lemmas.List.{length-set, set-get_or}
@@ -22,11 +21,10 @@ use Rattle.model.specs.Kinds.{is_packet, is_right, is_lower, left_behind, all_le
 use Rattle.model.specs.Set.{Set, cancel_routine_of, guard_named}
 use Rattle.model.specs.World.{Shared, number_in, packet_in, status_in}
 use Rattle.run_laws.proofs.Lists.{copied}
-use Rattle.run_laws.proofs.States.NoViews.{HasNone, is_queued}
+use Rattle.run_laws.proofs.States.NoViews.{is_queued}
 use Rattle.run_laws.proofs.States.Rules.{first_none, second_none}
 use Rattle.run_laws.proofs.Steps.Comes.{Written, keeps_all, makes_number, moves_over, makes_blank}
 use Rattle.run_laws.proofs.Steps.Words.{work_of, is_forwarding, goes_next, packet_operand, number_operand, second_operand, keeps_registers, numbered_by, is_giving}
-use Rattle.run_laws.proofs.Tests.{or_left, or_right}
 
 abbrev pub IsPacket : ℕ → Value → Type 0
 IsPacket issued v = (n : ℕ) × (v ≡ Ref n) × (n < issued)
@@ -237,19 +235,6 @@ module _ (set : Set) (driver lock : ℕ) where
   go_long [] = refl
   go_long (k ∷ kinds) = ap suc (go_long kinds)
 
-  go_same : (k : Kind) → is_queued k ≡ false → let_go set driver lock k ≡ k
-  go_same (Armed name) none = cc
-  go_same _ none = refl
-
-  go_all_same : (kinds : List Kind) → list_any is_queued kinds ≡ false
-      → all_let_go set driver lock kinds ≡ kinds
-  go_all_same [] none = refl
-  go_all_same (k ∷ kinds) none =
-      rw (
-        go_same k (or_left (is_queued k) (list_any is_queued kinds) none),
-        go_all_same kinds (or_right (is_queued k) (list_any is_queued kinds) none),
-      ) refl
-
 module _ (s : Abs) (sort : Sort) (set : Set) (driver : ℕ) where
   abbrev Obeys : Instr → Type 0
   Obeys i = refuses s i sort set driver ≡ None
@@ -418,31 +403,6 @@ module _ (s : Abs) (sort : Sort) (set : Set) (driver : ℕ) where
   given_kinds issued values r Own status is plain h =
       kinds_set issued s.kinds values r BlankKind (StatusValue status) h tt
   given_kinds issued values r _ status is plain h = cc
-
--- what leaves the registers alone, and the packets with who has them, leaves the kinds as they are
-pub still_kinds : (set : Set) (driver : ℕ) (s : Abs) (i : Instr) → HasNone is_queued s
-    → keeps_registers i ≡ true → is_giving (work_of i) ≡ false
-    → (handed set driver s i).kinds ≡ s.kinds
-still_kinds set driver s (Const r n) none same quiet = cc
-still_kinds set driver s (Move r q) none same quiet = cc
-still_kinds set driver s (Clear r) none same quiet = cc
-still_kinds set driver s (Load r c) none same quiet = cc
-still_kinds set driver s (LoadPaged r c) none same quiet = cc
-still_kinds set driver s (Get r q field) none same quiet = cc
-still_kinds set driver s (Mark r) none same quiet = cc
-still_kinds set driver s (Insert r q) none same quiet = cc
-still_kinds set driver s (Remove r q label) none same quiet = cc
-still_kinds set driver s (Unlink r q) none same quiet = cc
-still_kinds set driver s (Arm r q) none same quiet = cc
-still_kinds set driver s (Disarm r label) none same quiet = cc
-still_kinds set driver s (Release lock) none same quiet = go_all_same set driver lock s.kinds none
-still_kinds set driver s (Start r) none same quiet = cc
-still_kinds set driver s (Take r label) none same quiet = cc
-still_kinds set driver s (Begin r) none same quiet = cc
-still_kinds set driver s (Pass r) none same quiet = cc
-still_kinds set driver s (Call r f) none same quiet = cc
-still_kinds set driver s (Complete r status) none same quiet = cc
-still_kinds set driver s _ none same quiet = refl
 
 -- no step changes how many kinds and spin locks there are
 marked_long : (s : Abs) (r : ℕ) (k : Kind) → length (marked s r k).kinds ≡ length s.kinds

@@ -11,7 +11,7 @@ use Rattle.model.specs.declared.abs.Abs.{Abs}
 use Rattle.model.specs.declared.abs.Duty.TheVariants.{NoDuty, Fresh}
 use Rattle.model.specs.declared.abs.Kind.{Kind}
 use Rattle.model.specs.declared.abs.Kind.TheVariants.{Blank, Num, Lower, New, Own, Listed, Armed, Taken, Cancelling, View}
-use Rattle.model.specs.declared.abs.Settled.TheVariants.{Open, Settled as SettledMark}
+use Rattle.model.specs.declared.abs.Settled.TheVariants.{Settled as SettledMark}
 use Rattle.model.specs.declared.instr.Instr.{Instr}
 use Rattle.model.specs.declared.instr.Instr.TheVariants.{Const, Move, Clear, Load, LoadPaged, Get, Mark, Pass, Call, Complete, IfPending, Release, Insert, Remove, Unlink, Arm, Disarm, Start, Take, Begin}
 use Rattle.model.specs.declared.set.QueueName.{QueueName}
@@ -307,9 +307,3 @@ deferred_no_new m p s Cancel is deferred arrives =
     refl
     (sym (ap (λ (x : Sort). entry_of_sort x (cancels_for m.set m.driver m.number)) is) ∙ enters))
     arrives
-
-pub propagate_no_new : (m : Member) (p : ℕ) (s : Abs) → m.routine.sort ≡ Propagate → Arrives m p s
-    → HasNone is_new s
-propagate_no_new m p s is arrives =
-    arrives_none is_new handed_news m p s Propagate (entered_with View NoDuty Open false) is refl
-    refl arrives

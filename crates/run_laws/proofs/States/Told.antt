@@ -1,18 +1,14 @@
 -- What a step tells the frame below the one that ran: the last of those below is told, and the
 -- frame under the next.
-use Rattle.std.proofs.Common.{◌≡◌, ℕ, ◌-◌, List, [], ◌∷◌, ◌++◌, length, take, Option, None, Some, get_or, false, refl, sym, ◌∙◌, ap, arith}
+use Rattle.std.proofs.Common.{◌≡◌, ◌-◌, List, [], ◌∷◌, ◌++◌, length, take, Option, None, Some, get_or, refl, sym, ◌∙◌, ap, arith}
 use Rattle.std.specs.Prelude.{slice_get}
 use Rattle.std.proofs.lemmas.Option.{slice_get-get_or}
 use Rattle.model.specs.declared.status.Status.{Status}
 use Rattle.model.specs.declared.world.Frame.{Frame}
 use Rattle.model.specs.declared.world.Frame.TheVariants.{Routine, Walk, Cancel as CancelFrame}
-use Rattle.model.specs.Effect.{Outcome, answered, top_of, told_top, told_to}
-use Rattle.model.specs.Events.{standing}
+use Rattle.model.specs.Effect.{answered, top_of, told_top, told_to}
 use Rattle.model.specs.Set.{Set}
-use Rattle.model.specs.World.{Shared}
 use Rattle.run_laws.proofs.Lists.{last_split}
-use Rattle.run_laws.proofs.Steps.Below.{standing_is, takes_below}
-use Rattle.run_laws.proofs.Steps.Comes.{Comes}
 
 -- a frame is told a status, if any
 abbrev pub told_frame : Set → Option Status → Frame → Frame
@@ -74,16 +70,6 @@ pub told_is : (set : Set) (below : List Frame) (told : Option Status)
     → told_to set below told ≡ told_last set told below
 told_is set below None = sym (last_same set below)
 told_is set below (Some status) = last_top set below status (top_of below) refl
-
--- what stands after a step: the frames below, the last one told, and those in place of the one that
--- ran
-pub standing_last : (set : Set) (s : Shared) (t : ℕ) (under : Option Frame) (f : Frame)
-    (o : Outcome) (below : List Frame) (comes : Comes set s t under f o)
-    → takes_below set s t under f o comes ≡ false
-    → standing set below o ≡ told_last set o.told below ++ o.frames
-standing_last set s t under f o below comes kept =
-    standing_is set s t under f o below comes kept
-    ∙ ap (λ (frames : List Frame). frames ++ o.frames) (told_is set below o.told)
 
 -- the frame under the next one
 abbrev pub last_under : Option Frame → List Frame → Option Frame

@@ -5,7 +5,7 @@ use Rattle.std.specs.Prelude.{⊤}
 use Rattle.model.specs.declared.abs.Abs.{Abs}
 use Rattle.model.specs.declared.instr.Instr.TheVariants.{End}
 use Rattle.model.specs.declared.set.Sort.{Sort}
-use Rattle.model.specs.declared.set.Sort.TheVariants.{Propagate, Dispatch, Hold}
+use Rattle.model.specs.declared.set.Sort.TheVariants.{Dispatch, Hold}
 use Rattle.model.specs.declared.world.Activation.{Activation}
 use Rattle.model.specs.declared.world.Frame.{Frame}
 use Rattle.model.specs.declared.world.Frame.TheVariants.{Routine, Walk, Cancel as CancelFrame}
@@ -26,7 +26,7 @@ use Rattle.run_laws.proofs.States.Entering.{IsOfSort, sort_there, begins_back, b
 use Rattle.run_laws.proofs.States.Frames.{Stays, state_of}
 use Rattle.run_laws.proofs.States.Known.{IsKnown}
 use Rattle.run_laws.proofs.States.LoopEnds.{moved_end}
-use Rattle.run_laws.proofs.States.NoViews.{propagate_no_new, deferred_no_new, HasNone, deferred_no_view, dispatch_no_view, no_view_at, hold_no_view}
+use Rattle.run_laws.proofs.States.NoViews.{deferred_no_new, HasNone, deferred_no_view, dispatch_no_view, no_view_at, hold_no_view}
 use Rattle.run_laws.proofs.States.OnTop.{OnTop, runs}
 use Rattle.run_laws.proofs.States.Rules.{States}
 use Rattle.run_laws.proofs.Steps.Comes.{Reads}
@@ -89,11 +89,6 @@ module _ (set : Set) (states : States) (s : Shared) (past : List Entry) (under :
       let sort : Sort = sort_of set a.driver a.routine in
       deferred_no_new (member set a.driver a.routine h.top.stands.0) a.position (state_of states a)
       sort (sort_is sort refl) is (known.follows.arrives a.position stays.within)
-
-  pub propagate_news : IsOfSort set a Propagate → HasNone is_new (state_of states a)
-  propagate_news is =
-      propagate_no_new (member set a.driver a.routine h.top.stands.0) a.position (state_of states a)
-      (sort_is Propagate is) (known.follows.arrives a.position stays.within)
 
   -- a completion routine that is lent a packet has nothing to carry up, and none on its way up
   pub lent_settled : IsOfSort set a Hold → (state_of states a).settled ≡ SettledMark
