@@ -1,28 +1,42 @@
--- What a step does to the numbers of claims, by what it does with one packet and one queue of a
--- device:
--- each kind of step keeps the balance.
-use Rattle.std.proofs.Common.{◌≡◌, ℕ, ◌+◌, ◌≤◌, ◌⊎◌, inl, inr, true, false, refl, sym, ◌∙◌, arith, subst}
+-- What a step does to the numbers of claims: one register's packet becomes of another kind, and with
+-- it the packet's word may change, and whether it stands in a queue of the device. Each kind of step
+-- keeps the balance.
+use Rattle.std.proofs.Common.{◌≡◌, ℕ, ◌+◌, ◌≤◌, ◌⊎◌, inl, inr, Bool, true, false, refl, sym, ◌∙◌, arith, subst}
 use Rattle.std.specs.Prelude.{nat_eq, if◌then◌else◌}
 use Rattle.std.proofs.lemmas.Bool.Decides.{eqb_tells}
+use Rattle.model.specs.declared.abs.Kind.{Kind}
+use Rattle.model.specs.declared.abs.Kind.TheVariants.{Blank as BlankKind, Own, Listed, Armed, Taken, Cancelling}
+use Rattle.model.specs.declared.set.QueueName.{QueueName}
+use Rattle.model.specs.declared.set.QueueName.TheVariants.{Declared}
+use Rattle.model.specs.declared.world.Value.TheVariants.{Ref}
+use Rattle.model.specs.Kinds.{is_armed, is_cancelling, is_listed}
 use Rattle.model.specs.Set.{Set}
-use Rattle.run_laws.proofs.Claims.Sums.{Balanced, Numbers, is_cancelable}
+use Rattle.run_laws.specs.Holder.{named_as}
+use Rattle.run_laws.proofs.Claims.Sums.{Balanced, Numbers, is_cancelable, is_taken, was_taken}
 
 -- 1 for one device, queue and packet, 0 for others
 abbrev pub hit : ℕ → ℕ → ℕ → ℕ → ℕ → ℕ → ℕ
-hit d q n e p m = if nat_eq d e then (if nat_eq q p then (if nat_eq n m then 1 else 0) else 0) else
-    0
+hit d q n e p m =
+    if nat_eq q p then (if nat_eq d e then (if nat_eq n m then 1 else 0) else 0) else 0
+
+pub hit_elsewhere : (d q n e p m : ℕ) → nat_eq d e ≡ false → hit d q n e p m ≡ 0
+hit_elsewhere d q n e p m far =
+    rw far (elim (eqb_tells q p) [
+      | inr other ↦ rw other.0 refl
+      | inl its ↦ rw its.0 refl
+    ])
 
 module _ (P : ℕ → ℕ → ℕ → Type 0) (d q n : ℕ) (h : P d q n) where
-  pub hit_tells : (e p m : ℕ) → (hit d q n e p m ≡ 0) ⊎ ((hit d q n e p m ≡ 1) × P e p m)
+  hit_tells : (e p m : ℕ) → (hit d q n e p m ≡ 0) ⊎ ((hit d q n e p m ≡ 1) × P e p m)
   hit_tells e p m =
-      elim (eqb_tells d e) [
+      elim (eqb_tells q p) [
         | inr far ↦ inl (rw far.0 refl)
-        | inl there ↦ elim (eqb_tells q p) [
-          | inr far ↦ inl (rw (there.0, far.0) refl)
-          | inl its ↦ elim (eqb_tells n m) [
-            | inr far ↦ inl (rw (there.0, its.0, far.0) refl)
+        | inl its ↦ elim (eqb_tells d e) [
+          | inr far ↦ inl (rw (its.0, far.0) refl)
+          | inl there ↦ elim (eqb_tells n m) [
+            | inr far ↦ inl (rw (its.0, there.0, far.0) refl)
             | inl same ↦ inr (
-              rw (there.0, its.0, same.0) refl,
+              rw (its.0, there.0, same.0) refl,
               subst (λ (x : ℕ). P e p x) same.1
                   (subst (λ (x : ℕ). P e x n) its.1 (subst (λ (x : ℕ). P x q n) there.1 h)),
             )
@@ -30,15 +44,69 @@ module _ (P : ℕ → ℕ → ℕ → Type 0) (d q n : ℕ) (h : P d q n) where
         ]
       ]
 
+-- a packet in a register of a kind, of a frame for a device
+abbrev pub at_kind : (Kind → Bool) → (ℕ → Bool) → ℕ → Kind → ℕ → ℕ → ℕ
+at_kind f on d k m n = if f k then (if on d then (if nat_eq m n then 1 else 0) else 0) else 0
+
+pub at_swapped : (b on : Bool) (one : ℕ) → (if on then (if b then one else 0) else 0)
+    ≡ (if b then (if on then one else 0) else 0)
+at_swapped true on one = refl
+at_swapped false true one = refl
+at_swapped false false one = refl
+
+-- as many registers of a kind as before, but for the packet of one, which became of another kind
+abbrev pub OneTurns : (QueueName → Kind → Bool) → (one other : ℕ → ℕ → ℕ → ℕ) → Kind → Kind → ℕ → ℕ
+    → Type 0
+OneTurns f one other j k e m =
+    (d q n : ℕ) → other d q n + at_kind (f (Declared q)) (λ c. nat_eq c d) e j m n
+    ≡ one d q n + at_kind (f (Declared q)) (λ c. nat_eq c d) e k m n
+
+pub record KindTurns (x y : Numbers) (j k : Kind) (e m : ℕ) : Type 0 where
+  pub armed : OneTurns is_armed x.armed y.armed j k e m
+  pub taken : OneTurns is_taken x.taken y.taken j k e m
+  pub listed : OneTurns is_listed x.listed y.listed j k e m
+  pub cancelling : OneTurns is_cancelling x.cancelling y.cancelling j k e m
+  pub takes : (n : ℕ)
+      → y.takes n + named_as was_taken j (Ref m) n ≡ x.takes n + named_as was_taken k (Ref m) n
+
+-- a number stays, or has one more or one fewer at one place
+abbrev pub Same : (ℕ → ℕ → ℕ → ℕ) → (ℕ → ℕ → ℕ → ℕ) → Type 0
+Same one other = (d q n : ℕ) → other d q n ≡ one d q n
+
+abbrev pub More : ℕ → ℕ → ℕ → (ℕ → ℕ → ℕ → ℕ) → (ℕ → ℕ → ℕ → ℕ) → Type 0
+More e p m one other = (d q n : ℕ) → other d q n ≡ one d q n + hit e p m d q n
+
+abbrev pub Fewer : ℕ → ℕ → ℕ → (ℕ → ℕ → ℕ → ℕ) → (ℕ → ℕ → ℕ → ℕ) → Type 0
+Fewer e p m one other = (d q n : ℕ) → other d q n + hit e p m d q n ≡ one d q n
+
+-- what went and what came
+abbrev Moves : (one other out into : ℕ → ℕ → ℕ → ℕ) → Type 0
+Moves one other out into =
+    (d q n : ℕ) → other d q n + out d q n ≡ one d q n + into d q n
+
+abbrev none : ℕ → ℕ → ℕ → ℕ
+none d q n = 0
+
+by_same : (one other : ℕ → ℕ → ℕ → ℕ) → Same one other → Moves one other none none
+by_same one other h d q n = let same : other d q n ≡ one d q n = h d q n in omega arith
+
+by_more : (e p m : ℕ) (one other : ℕ → ℕ → ℕ → ℕ) → More e p m one other
+    → Moves one other none (hit e p m)
+by_more e p m one other h d q n =
+    let more : other d q n ≡ one d q n + hit e p m d q n = h d q n in omega arith
+
+by_fewer : (e p m : ℕ) (one other : ℕ → ℕ → ℕ → ℕ) → Fewer e p m one other
+    → Moves one other (hit e p m) none
+by_fewer e p m one other h d q n =
+    let fewer : other d q n + hit e p m d q n ≡ one d q n = h d q n in omega arith
+
 module _ (set : Set) (x y : Numbers) (b : Balanced set x)
     (once : (n : ℕ) → y.takes n + y.lists n ≤ 1) where
   -- claims are given up, or nothing changes
   pub balanced_less : ((d q n : ℕ) → y.armed d q n ≤ x.armed d q n)
       → ((d q n : ℕ) → y.taken d q n ≤ x.taken d q n)
-      → ((d q n : ℕ) → y.listed d q n ≡ x.listed d q n)
-      → ((d q n : ℕ) → y.cancelling d q n ≡ x.cancelling d q n)
-      → ((d q n : ℕ) → y.word d q n ≡ x.word d q n)
-      → ((d q n : ℕ) → y.entries d q n ≡ x.entries d q n) → Balanced set y
+      → Same x.listed y.listed → Same x.cancelling y.cancelling → Same x.word y.word
+      → Same x.entries y.entries → Balanced set y
   balanced_less armed taken listed cancelling word entries =
       record {
         backed = λ d q n.
@@ -66,82 +134,145 @@ module _ (set : Set) (x y : Numbers) (b : Balanced set x)
         once = once;
       }
 
-  -- for one packet and one queue of a device
-  module _ (e p m : ℕ) where
-    abbrev h : ℕ → ℕ → ℕ → ℕ
-    h d q n = hit e p m d q n
+  module _ (j k : Kind) (e m : ℕ) (turns : KindTurns x y j k e m)
+      (word_out word_in out into : ℕ → ℕ → ℕ → ℕ) (word : Moves x.word y.word word_out word_in)
+      (entries : Moves x.entries y.entries out into) where
+    module _ (d q n : ℕ) where
+      abbrev of : (QueueName → Kind → Bool) → Kind → ℕ
+      of f i = at_kind (f (Declared q)) (λ c. nat_eq c d) e i m n
 
-    abbrev Same : (ℕ → ℕ → ℕ → ℕ) → (ℕ → ℕ → ℕ → ℕ) → Type 0
-    Same one other = (d q n : ℕ) → other d q n ≡ one d q n
+      -- the changes alone keep a side of the balance
+      by_backed : of is_armed k + of is_taken k + word_out d q n + of is_cancelling j
+          ≤ of is_armed j + of is_taken j + word_in d q n + of is_cancelling k
+          → y.armed d q n + y.taken d q n ≤ y.word d q n + y.cancelling d q n
+      by_backed fair =
+          let a : y.armed d q n + of is_armed j ≡ x.armed d q n + of is_armed k = turns.armed d q n in
+          let t : y.taken d q n + of is_taken j ≡ x.taken d q n + of is_taken k = turns.taken d q n in
+          let c : y.cancelling d q n + of is_cancelling j ≡ x.cancelling d q n + of is_cancelling k =
+          turns.cancelling d q n in
+          let w : y.word d q n + word_out d q n ≡ x.word d q n + word_in d q n = word d q n in
+          let before : x.armed d q n + x.taken d q n ≤ x.word d q n + x.cancelling d q n =
+          b.backed d q n in
+          omega arith
 
-    abbrev More : (ℕ → ℕ → ℕ → ℕ) → (ℕ → ℕ → ℕ → ℕ) → Type 0
-    More one other = (d q n : ℕ) → other d q n ≡ one d q n + h d q n
+      by_entered : is_cancelable set d q ≡ true
+          → into d q n + word_out d q n + of is_cancelling j + of is_listed j
+          ≤ out d q n + word_in d q n + of is_cancelling k + of is_listed k
+          → y.entries d q n ≤ y.word d q n + y.cancelling d q n + y.listed d q n
+      by_entered is fair =
+          let l : y.listed d q n + of is_listed j ≡ x.listed d q n + of is_listed k =
+          turns.listed d q n in
+          let c : y.cancelling d q n + of is_cancelling j ≡ x.cancelling d q n + of is_cancelling k =
+          turns.cancelling d q n in
+          let w : y.word d q n + word_out d q n ≡ x.word d q n + word_in d q n = word d q n in
+          let s : y.entries d q n + out d q n ≡ x.entries d q n + into d q n = entries d q n in
+          let before : x.entries d q n ≤ x.word d q n + x.cancelling d q n + x.listed d q n =
+          b.entered d q n is in
+          omega arith
 
-    abbrev Fewer : (ℕ → ℕ → ℕ → ℕ) → (ℕ → ℕ → ℕ → ℕ) → Type 0
-    Fewer one other = (d q n : ℕ) → other d q n + h d q n ≡ one d q n
+      by_standing : of is_listed k + of is_armed k + out d q n
+          ≤ of is_listed j + of is_armed j + into d q n
+          → y.listed d q n + y.armed d q n ≤ y.entries d q n
+      by_standing fair =
+          let l : y.listed d q n + of is_listed j ≡ x.listed d q n + of is_listed k =
+          turns.listed d q n in
+          let a : y.armed d q n + of is_armed j ≡ x.armed d q n + of is_armed k = turns.armed d q n in
+          let s : y.entries d q n + out d q n ≡ x.entries d q n + into d q n = entries d q n in
+          let before : x.listed d q n + x.armed d q n ≤ x.entries d q n = b.standing d q n in
+          omega arith
 
-    -- a packet is put into a queue with a cancel routine, or into one without
-    pub balanced_inserts : Same x.armed y.armed → Same x.taken y.taken → More x.listed y.listed
-        → Same x.cancelling y.cancelling → Same x.word y.word → More x.entries y.entries
+    -- and so all of it
+    by_turn : ((d q n : ℕ) → of d q n is_armed k + of d q n is_taken k + word_out d q n
+        + of d q n is_cancelling j
+        ≤ of d q n is_armed j + of d q n is_taken j + word_in d q n + of d q n is_cancelling k)
+        → ((d q n : ℕ) → into d q n + word_out d q n + of d q n is_cancelling j
+        + of d q n is_listed j
+        ≤ out d q n + word_in d q n + of d q n is_cancelling k + of d q n is_listed k)
+        → ((d q n : ℕ) → of d q n is_listed k + of d q n is_armed k + out d q n
+        ≤ of d q n is_listed j + of d q n is_armed j + into d q n)
         → Balanced set y
-    balanced_inserts armed taken listed cancelling word entries =
+    by_turn backed entered standing =
         record {
-          backed = λ d q n.
-              let a : y.armed d q n ≡ x.armed d q n = armed d q n in
-              let t : y.taken d q n ≡ x.taken d q n = taken d q n in
-              let c : y.cancelling d q n ≡ x.cancelling d q n = cancelling d q n in
-              let w : y.word d q n ≡ x.word d q n = word d q n in
-              let before : x.armed d q n + x.taken d q n ≤ x.word d q n + x.cancelling d q n =
-              b.backed d q n in
-              omega arith;
-          entered = λ d q n is.
-              let l : y.listed d q n ≡ x.listed d q n + h d q n = listed d q n in
-              let c : y.cancelling d q n ≡ x.cancelling d q n = cancelling d q n in
-              let w : y.word d q n ≡ x.word d q n = word d q n in
-              let s : y.entries d q n ≡ x.entries d q n + h d q n = entries d q n in
-              let before : x.entries d q n ≤ x.word d q n + x.cancelling d q n + x.listed d q n =
-              b.entered d q n is in
-              omega arith;
-          standing = λ d q n.
-              let l : y.listed d q n ≡ x.listed d q n + h d q n = listed d q n in
-              let a : y.armed d q n ≡ x.armed d q n = armed d q n in
-              let s : y.entries d q n ≡ x.entries d q n + h d q n = entries d q n in
-              let before : x.listed d q n + x.armed d q n ≤ x.entries d q n = b.standing d q n in
-              omega arith;
+          backed = λ d q n. by_backed d q n (backed d q n);
+          entered = λ d q n is. by_entered d q n is (entered d q n);
+          standing = λ d q n. by_standing d q n (standing d q n);
           once = once;
         }
 
-    pub balanced_joins : is_cancelable set e p ≡ false
-        → Same x.armed y.armed → Same x.taken y.taken → Same x.listed y.listed
-        → Same x.cancelling y.cancelling → Same x.word y.word → More x.entries y.entries
-        → Balanced set y
-    balanced_joins plain armed taken listed cancelling word entries =
+  -- a claim is given up
+  pub balanced_gives : (j : Kind) (e m : ℕ)
+      → ((q : ℕ) → (is_listed (Declared q) j ≡ false) × (is_cancelling (Declared q) j ≡ false))
+      → KindTurns x y j BlankKind e m → Same x.word y.word → Same x.entries y.entries
+      → Balanced set y
+  balanced_gives j e m plain turns word entries =
+      let no_right : (d q n : ℕ) → at_kind (is_listed (Declared q)) (λ c. nat_eq c d) e j m n
+      + at_kind (is_cancelling (Declared q)) (λ c. nat_eq c d) e j m n ≡ 0 =
+      λ d q n. rw ((plain q).0, (plain q).1) refl in
+      by_turn j BlankKind e m turns none none none none (by_same x.word y.word word)
+      (by_same x.entries y.entries entries)
+      (λ d q n. let no : at_kind (is_listed (Declared q)) (λ c. nat_eq c d) e j m n
+      + at_kind (is_cancelling (Declared q)) (λ c. nat_eq c d) e j m n ≡ 0 = no_right d q n in
+      omega arith)
+      (λ d q n. let no : at_kind (is_listed (Declared q)) (λ c. nat_eq c d) e j m n
+      + at_kind (is_cancelling (Declared q)) (λ c. nat_eq c d) e j m n ≡ 0 = no_right d q n in
+      omega arith)
+      (λ d q n. omega arith)
+
+  -- for one packet and one queue of a device
+  module _ (e p m : ℕ) where
+    abbrev at : ℕ → ℕ → ℕ → ℕ
+    at = hit e p m
+
+    -- where nobody names an entry at that place, and nobody comes to, one may go there
+    one_gone : (j k : Kind) → KindTurns x y j k e m → x.armed e p m ≡ 0 → x.listed e p m ≡ 0
+        → ((d q n : ℕ) → at_kind (is_listed (Declared q)) (λ c. nat_eq c d) e k m n
+        + at_kind (is_armed (Declared q)) (λ c. nat_eq c d) e k m n ≡ 0)
+        → ((d q n : ℕ) → at d q n ≡ 0 → y.listed d q n + y.armed d q n ≤ y.entries d q n)
+        → (d q n : ℕ) → y.listed d q n + y.armed d q n ≤ y.entries d q n
+    one_gone j k turns no_armed no_listed nobody elsewhere d q n =
+        elim (hit_tells (λ d q n. (x.armed d q n ≡ 0) × (x.listed d q n ≡ 0)) e p m
+        (no_armed, no_listed) d q n) [
+          | inl far ↦ elsewhere d q n far
+          | inr here ↦
+              let no_a : x.armed d q n ≡ 0 = here.1.0 in
+              let no_l : x.listed d q n ≡ 0 = here.1.1 in
+              let nobody_comes : at_kind (is_listed (Declared q)) (λ c. nat_eq c d) e k m n
+              + at_kind (is_armed (Declared q)) (λ c. nat_eq c d) e k m n ≡ 0 = nobody d q n in
+              let a : y.armed d q n + at_kind (is_armed (Declared q)) (λ c. nat_eq c d) e j m n
+              ≡ x.armed d q n + at_kind (is_armed (Declared q)) (λ c. nat_eq c d) e k m n =
+              turns.armed d q n in
+              let l : y.listed d q n + at_kind (is_listed (Declared q)) (λ c. nat_eq c d) e j m n
+              ≡ x.listed d q n + at_kind (is_listed (Declared q)) (λ c. nat_eq c d) e k m n =
+              turns.listed d q n in
+              omega arith
+        ]
+
+    -- a packet is put into a queue with a cancel routine, or into one without
+    pub balanced_inserts : KindTurns x y Own (Listed (Declared p)) e m → Same x.word y.word
+        → More e p m x.entries y.entries → Balanced set y
+    balanced_inserts turns word entries =
+        by_turn Own (Listed (Declared p)) e m turns none none none at
+        (by_same x.word y.word word) (by_more e p m x.entries y.entries entries)
+        (λ d q n. omega arith) (λ d q n. omega arith) (λ d q n. omega arith)
+
+    pub balanced_joins : is_cancelable set e p ≡ false → KindTurns x y Own BlankKind e m
+        → Same x.word y.word → More e p m x.entries y.entries → Balanced set y
+    balanced_joins plain turns word entries =
+        let words : Moves x.word y.word none none = by_same x.word y.word word in
+        let more : Moves x.entries y.entries none at = by_more e p m x.entries y.entries entries in
         record {
           backed = λ d q n.
-              let a : y.armed d q n ≡ x.armed d q n = armed d q n in
-              let t : y.taken d q n ≡ x.taken d q n = taken d q n in
-              let c : y.cancelling d q n ≡ x.cancelling d q n = cancelling d q n in
-              let w : y.word d q n ≡ x.word d q n = word d q n in
-              let before : x.armed d q n + x.taken d q n ≤ x.word d q n + x.cancelling d q n =
-              b.backed d q n in
-              omega arith;
+              by_backed Own BlankKind e m turns none none none at words more d q n (omega arith);
           entered = λ d q n is.
-              let l : y.listed d q n ≡ x.listed d q n = listed d q n in
-              let c : y.cancelling d q n ≡ x.cancelling d q n = cancelling d q n in
-              let w : y.word d q n ≡ x.word d q n = word d q n in
-              let s : y.entries d q n ≡ x.entries d q n + h d q n = entries d q n in
-              let before : x.entries d q n ≤ x.word d q n + x.cancelling d q n + x.listed d q n =
-              b.entered d q n is in
               elim (hit_tells (λ d q n. is_cancelable set d q ≡ false) e p m plain d q n) [
-                | inl far ↦ let none : h d q n ≡ 0 = far in omega arith
+                | inl far ↦
+                    let nothing : at d q n ≡ 0 = far in
+                    by_entered Own BlankKind e m turns none none none at words more d q n is
+                    (omega arith)
                 | inr here ↦ let no : true ≡ false = sym is ∙ here.1 in cc
               ];
           standing = λ d q n.
-              let l : y.listed d q n ≡ x.listed d q n = listed d q n in
-              let a : y.armed d q n ≡ x.armed d q n = armed d q n in
-              let s : y.entries d q n ≡ x.entries d q n + h d q n = entries d q n in
-              let before : x.listed d q n + x.armed d q n ≤ x.entries d q n = b.standing d q n in
-              omega arith;
+              by_standing Own BlankKind e m turns none none none at words more d q n (omega arith);
           once = once;
         }
 
@@ -149,303 +280,163 @@ module _ (set : Set) (x y : Numbers) (b : Balanced set x)
     -- that names an entry, and nobody else has
     pub balanced_removes : is_cancelable set e p ≡ true
         → x.armed e p m ≡ 0 → x.taken e p m ≡ 0 → x.listed e p m ≡ 0
-        → Same x.armed y.armed → More x.taken y.taken → Same x.listed y.listed
-        → Same x.cancelling y.cancelling → Same x.word y.word → Fewer x.entries y.entries
-        → Balanced set y
-    balanced_removes may no_armed no_taken no_listed armed taken listed cancelling word entries =
+        → KindTurns x y BlankKind (Taken (Declared p)) e m → Same x.word y.word
+        → Fewer e p m x.entries y.entries → Balanced set y
+    balanced_removes may no_armed no_taken no_listed turns word entries =
+        let words : Moves x.word y.word none none = by_same x.word y.word word in
+        let less : Moves x.entries y.entries at none = by_fewer e p m x.entries y.entries entries in
         record {
           backed = λ d q n.
-              let a : y.armed d q n ≡ x.armed d q n = armed d q n in
-              let t : y.taken d q n ≡ x.taken d q n + h d q n = taken d q n in
-              let c : y.cancelling d q n ≡ x.cancelling d q n = cancelling d q n in
-              let w : y.word d q n ≡ x.word d q n = word d q n in
-              let s : y.entries d q n + h d q n ≡ x.entries d q n = entries d q n in
-              let before : x.armed d q n + x.taken d q n ≤ x.word d q n + x.cancelling d q n =
-              b.backed d q n in
               elim (hit_tells
               (λ d q n. (is_cancelable set d q ≡ true) × (x.armed d q n ≡ 0) × (x.taken d q n ≡ 0)
               × (x.listed d q n ≡ 0)) e p m (may, no_armed, no_taken, no_listed) d q n) [
-                | inl far ↦ let none : h d q n ≡ 0 = far in omega arith
+                | inl far ↦
+                    let nothing : at d q n ≡ 0 = far in
+                    by_backed BlankKind (Taken (Declared p)) e m turns none none at none words less
+                    d q n (omega arith)
                 | inr here ↦
-                    let one : h d q n ≡ 1 = here.0 in
-                    let none_armed : x.armed d q n ≡ 0 = here.1.1 in
-                    let none_taken : x.taken d q n ≡ 0 = here.1.2 in
-                    let none_listed : x.listed d q n ≡ 0 = here.1.3 in
+                    let one : at d q n ≡ 1 = here.0 in
+                    let no_a : x.armed d q n ≡ 0 = here.1.1 in
+                    let no_t : x.taken d q n ≡ 0 = here.1.2 in
+                    let no_l : x.listed d q n ≡ 0 = here.1.3 in
+                    let a : y.armed d q n + 0 ≡ x.armed d q n + 0 = turns.armed d q n in
+                    let t : y.taken d q n + 0 ≡ x.taken d q n + at d q n = turns.taken d q n in
+                    let c : y.cancelling d q n + 0 ≡ x.cancelling d q n + 0 =
+                    turns.cancelling d q n in
+                    let w : y.word d q n ≡ x.word d q n = word d q n in
+                    let s : y.entries d q n + at d q n ≡ x.entries d q n = entries d q n in
                     let has : x.entries d q n ≤ x.word d q n + x.cancelling d q n + x.listed d q n =
                     b.entered d q n here.1.0 in
                     omega arith
               ];
           entered = λ d q n is.
-              let l : y.listed d q n ≡ x.listed d q n = listed d q n in
-              let c : y.cancelling d q n ≡ x.cancelling d q n = cancelling d q n in
-              let w : y.word d q n ≡ x.word d q n = word d q n in
-              let s : y.entries d q n + h d q n ≡ x.entries d q n = entries d q n in
-              let before : x.entries d q n ≤ x.word d q n + x.cancelling d q n + x.listed d q n =
-              b.entered d q n is in
-              omega arith;
-          standing = λ d q n.
-              let l : y.listed d q n ≡ x.listed d q n = listed d q n in
-              let a : y.armed d q n ≡ x.armed d q n = armed d q n in
-              let s : y.entries d q n + h d q n ≡ x.entries d q n = entries d q n in
-              let before : x.listed d q n + x.armed d q n ≤ x.entries d q n = b.standing d q n in
-              elim (hit_tells (λ d q n. (x.armed d q n ≡ 0) × (x.listed d q n ≡ 0)) e p m
-              (no_armed, no_listed) d q n) [
-                | inl far ↦ let none : h d q n ≡ 0 = far in omega arith
-                | inr here ↦
-                    let none_armed : x.armed d q n ≡ 0 = here.1.0 in
-                    let none_listed : x.listed d q n ≡ 0 = here.1.1 in
-                    omega arith
-              ];
+              by_entered BlankKind (Taken (Declared p)) e m turns none none at none words less d q n
+              is (omega arith);
+          standing = one_gone BlankKind (Taken (Declared p)) turns no_armed no_listed
+              (λ d q n. refl)
+              (λ d q n far.
+              let nothing : at d q n ≡ 0 = far in
+              by_standing BlankKind (Taken (Declared p)) e m turns none none at none words less d q
+              n (omega arith));
           once = once;
         }
 
     -- off one without a cancel routine it is the routine's own
     pub balanced_leaves : x.armed e p m ≡ 0 → x.listed e p m ≡ 0
-        → Same x.armed y.armed → Same x.taken y.taken → Same x.listed y.listed
-        → Same x.cancelling y.cancelling → Same x.word y.word → Fewer x.entries y.entries
+        → KindTurns x y BlankKind Own e m → Same x.word y.word → Fewer e p m x.entries y.entries
         → Balanced set y
-    balanced_leaves no_armed no_listed armed taken listed cancelling word entries =
+    balanced_leaves no_armed no_listed turns word entries =
+        let words : Moves x.word y.word none none = by_same x.word y.word word in
+        let less : Moves x.entries y.entries at none = by_fewer e p m x.entries y.entries entries in
         record {
           backed = λ d q n.
-              let a : y.armed d q n ≡ x.armed d q n = armed d q n in
-              let t : y.taken d q n ≡ x.taken d q n = taken d q n in
-              let c : y.cancelling d q n ≡ x.cancelling d q n = cancelling d q n in
-              let w : y.word d q n ≡ x.word d q n = word d q n in
-              let before : x.armed d q n + x.taken d q n ≤ x.word d q n + x.cancelling d q n =
-              b.backed d q n in
-              omega arith;
+              by_backed BlankKind Own e m turns none none at none words less d q n (omega arith);
           entered = λ d q n is.
-              let l : y.listed d q n ≡ x.listed d q n = listed d q n in
-              let c : y.cancelling d q n ≡ x.cancelling d q n = cancelling d q n in
-              let w : y.word d q n ≡ x.word d q n = word d q n in
-              let s : y.entries d q n + h d q n ≡ x.entries d q n = entries d q n in
-              let before : x.entries d q n ≤ x.word d q n + x.cancelling d q n + x.listed d q n =
-              b.entered d q n is in
-              omega arith;
-          standing = λ d q n.
-              let l : y.listed d q n ≡ x.listed d q n = listed d q n in
-              let a : y.armed d q n ≡ x.armed d q n = armed d q n in
-              let s : y.entries d q n + h d q n ≡ x.entries d q n = entries d q n in
-              let before : x.listed d q n + x.armed d q n ≤ x.entries d q n = b.standing d q n in
-              elim (hit_tells (λ d q n. (x.armed d q n ≡ 0) × (x.listed d q n ≡ 0)) e p m
-              (no_armed, no_listed) d q n) [
-                | inl far ↦ let none : h d q n ≡ 0 = far in omega arith
-                | inr here ↦
-                    let none_armed : x.armed d q n ≡ 0 = here.1.0 in
-                    let none_listed : x.listed d q n ≡ 0 = here.1.1 in
-                    omega arith
-              ];
+              by_entered BlankKind Own e m turns none none at none words less d q n is
+              (omega arith);
+          standing = one_gone BlankKind Own turns no_armed no_listed (λ d q n. refl)
+              (λ d q n far.
+              let nothing : at d q n ≡ 0 = far in
+              by_standing BlankKind Own e m turns none none at none words less d q n (omega arith));
           once = once;
         }
 
     -- a packet is unlinked that no cancel routine was set for; or by its cancel routine, where it
     -- stands in the queue no more, and nobody has a claim
-    pub balanced_unlinks : Same x.armed y.armed → Same x.taken y.taken → Fewer x.listed y.listed
-        → Same x.cancelling y.cancelling → Same x.word y.word → Fewer x.entries y.entries
-        → Balanced set y
-    balanced_unlinks armed taken listed cancelling word entries =
-        record {
-          backed = λ d q n.
-              let a : y.armed d q n ≡ x.armed d q n = armed d q n in
-              let t : y.taken d q n ≡ x.taken d q n = taken d q n in
-              let c : y.cancelling d q n ≡ x.cancelling d q n = cancelling d q n in
-              let w : y.word d q n ≡ x.word d q n = word d q n in
-              let before : x.armed d q n + x.taken d q n ≤ x.word d q n + x.cancelling d q n =
-              b.backed d q n in
-              omega arith;
-          entered = λ d q n is.
-              let l : y.listed d q n + h d q n ≡ x.listed d q n = listed d q n in
-              let c : y.cancelling d q n ≡ x.cancelling d q n = cancelling d q n in
-              let w : y.word d q n ≡ x.word d q n = word d q n in
-              let s : y.entries d q n + h d q n ≡ x.entries d q n = entries d q n in
-              let before : x.entries d q n ≤ x.word d q n + x.cancelling d q n + x.listed d q n =
-              b.entered d q n is in
-              omega arith;
-          standing = λ d q n.
-              let l : y.listed d q n + h d q n ≡ x.listed d q n = listed d q n in
-              let a : y.armed d q n ≡ x.armed d q n = armed d q n in
-              let s : y.entries d q n + h d q n ≡ x.entries d q n = entries d q n in
-              let before : x.listed d q n + x.armed d q n ≤ x.entries d q n = b.standing d q n in
-              omega arith;
-          once = once;
-        }
+    pub balanced_unlinks : KindTurns x y (Listed (Declared p)) Own e m → Same x.word y.word
+        → Fewer e p m x.entries y.entries → Balanced set y
+    balanced_unlinks turns word entries =
+        by_turn (Listed (Declared p)) Own e m turns none none at none
+        (by_same x.word y.word word) (by_fewer e p m x.entries y.entries entries)
+        (λ d q n. omega arith) (λ d q n. omega arith) (λ d q n. omega arith)
 
     pub balanced_cancels : x.armed e p m ≡ 0 → x.taken e p m ≡ 0 → x.listed e p m ≡ 0
         → y.entries e p m ≡ 0
         → ((d q n : ℕ) → hit e p m d q n ≡ 0 → y.entries d q n ≡ x.entries d q n)
-        → Same x.armed y.armed → Same x.taken y.taken → Same x.listed y.listed
-        → Fewer x.cancelling y.cancelling → Same x.word y.word → Balanced set y
-    balanced_cancels no_armed no_taken no_listed no_entry others armed taken listed cancelling
-        word =
+        → KindTurns x y (Cancelling (Declared p)) Own e m → Same x.word y.word → Balanced set y
+    balanced_cancels no_armed no_taken no_listed no_entry others turns word =
+        let words : Moves x.word y.word none none = by_same x.word y.word word in
+        let changed : Moves x.entries y.entries x.entries y.entries = λ d q n. omega arith in
         record {
           backed = λ d q n.
-              let a : y.armed d q n ≡ x.armed d q n = armed d q n in
-              let t : y.taken d q n ≡ x.taken d q n = taken d q n in
-              let c : y.cancelling d q n + h d q n ≡ x.cancelling d q n = cancelling d q n in
-              let w : y.word d q n ≡ x.word d q n = word d q n in
-              let before : x.armed d q n + x.taken d q n ≤ x.word d q n + x.cancelling d q n =
-              b.backed d q n in
               elim (hit_tells (λ d q n. (x.armed d q n ≡ 0) × (x.taken d q n ≡ 0)) e p m
               (no_armed, no_taken) d q n) [
-                | inl far ↦ let none : h d q n ≡ 0 = far in omega arith
+                | inl far ↦
+                    let nothing : at d q n ≡ 0 = far in
+                    by_backed (Cancelling (Declared p)) Own e m turns none none x.entries y.entries
+                    words changed d q n (omega arith)
                 | inr here ↦
-                    let none_armed : x.armed d q n ≡ 0 = here.1.0 in
-                    let none_taken : x.taken d q n ≡ 0 = here.1.1 in
+                    let no_a : x.armed d q n ≡ 0 = here.1.0 in
+                    let no_t : x.taken d q n ≡ 0 = here.1.1 in
+                    let a : y.armed d q n + 0 ≡ x.armed d q n + 0 = turns.armed d q n in
+                    let t : y.taken d q n + 0 ≡ x.taken d q n + 0 = turns.taken d q n in
                     omega arith
               ];
           entered = λ d q n is.
-              let l : y.listed d q n ≡ x.listed d q n = listed d q n in
-              let c : y.cancelling d q n + h d q n ≡ x.cancelling d q n = cancelling d q n in
-              let w : y.word d q n ≡ x.word d q n = word d q n in
-              let before : x.entries d q n ≤ x.word d q n + x.cancelling d q n + x.listed d q n =
-              b.entered d q n is in
               elim (hit_tells (λ d q n. y.entries d q n ≡ 0) e p m no_entry d q n) [
                 | inl far ↦
-                    let none : h d q n ≡ 0 = far in
+                    let nothing : at d q n ≡ 0 = far in
                     let s : y.entries d q n ≡ x.entries d q n = others d q n far in
-                    omega arith
-                | inr here ↦ let none : y.entries d q n ≡ 0 = here.1 in omega arith
+                    by_entered (Cancelling (Declared p)) Own e m turns none none x.entries y.entries
+                    words changed d q n is (omega arith)
+                | inr here ↦ let nothing : y.entries d q n ≡ 0 = here.1 in omega arith
               ];
-          standing = λ d q n.
-              let l : y.listed d q n ≡ x.listed d q n = listed d q n in
-              let a : y.armed d q n ≡ x.armed d q n = armed d q n in
-              let before : x.listed d q n + x.armed d q n ≤ x.entries d q n = b.standing d q n in
-              elim (hit_tells (λ d q n. (x.armed d q n ≡ 0) × (x.listed d q n ≡ 0)) e p m
-              (no_armed, no_listed) d q n) [
-                | inl far ↦
-                    let s : y.entries d q n ≡ x.entries d q n = others d q n far in
-                    omega arith
-                | inr here ↦
-                    let none_armed : x.armed d q n ≡ 0 = here.1.0 in
-                    let none_listed : x.listed d q n ≡ 0 = here.1.1 in
-                    omega arith
-              ];
+          standing = one_gone (Cancelling (Declared p)) Own turns no_armed no_listed
+              (λ d q n. refl)
+              (λ d q n far.
+              let s : y.entries d q n ≡ x.entries d q n = others d q n far in
+              by_standing (Cancelling (Declared p)) Own e m turns none none x.entries y.entries
+              words changed d q n (omega arith));
           once = once;
         }
 
     -- a cancel routine is set; or the word is emptied, where the packet stands in the queue, or was
     -- taken off it
-    pub balanced_arms : More x.armed y.armed → Same x.taken y.taken → Fewer x.listed y.listed
-        → Same x.cancelling y.cancelling → More x.word y.word → Same x.entries y.entries
-        → Balanced set y
-    balanced_arms armed taken listed cancelling word entries =
-        record {
-          backed = λ d q n.
-              let a : y.armed d q n ≡ x.armed d q n + h d q n = armed d q n in
-              let t : y.taken d q n ≡ x.taken d q n = taken d q n in
-              let c : y.cancelling d q n ≡ x.cancelling d q n = cancelling d q n in
-              let w : y.word d q n ≡ x.word d q n + h d q n = word d q n in
-              let before : x.armed d q n + x.taken d q n ≤ x.word d q n + x.cancelling d q n =
-              b.backed d q n in
-              omega arith;
-          entered = λ d q n is.
-              let l : y.listed d q n + h d q n ≡ x.listed d q n = listed d q n in
-              let c : y.cancelling d q n ≡ x.cancelling d q n = cancelling d q n in
-              let w : y.word d q n ≡ x.word d q n + h d q n = word d q n in
-              let s : y.entries d q n ≡ x.entries d q n = entries d q n in
-              let before : x.entries d q n ≤ x.word d q n + x.cancelling d q n + x.listed d q n =
-              b.entered d q n is in
-              omega arith;
-          standing = λ d q n.
-              let l : y.listed d q n + h d q n ≡ x.listed d q n = listed d q n in
-              let a : y.armed d q n ≡ x.armed d q n + h d q n = armed d q n in
-              let s : y.entries d q n ≡ x.entries d q n = entries d q n in
-              let before : x.listed d q n + x.armed d q n ≤ x.entries d q n = b.standing d q n in
-              omega arith;
-          once = once;
-        }
+    pub balanced_arms : KindTurns x y (Listed (Declared p)) (Armed (Declared p)) e m
+        → More e p m x.word y.word → Same x.entries y.entries → Balanced set y
+    balanced_arms turns word entries =
+        by_turn (Listed (Declared p)) (Armed (Declared p)) e m turns none at none none
+        (by_more e p m x.word y.word word) (by_same x.entries y.entries entries)
+        (λ d q n. omega arith) (λ d q n. omega arith) (λ d q n. omega arith)
 
-    pub balanced_disarms : Fewer x.armed y.armed → Same x.taken y.taken → More x.listed y.listed
-        → Same x.cancelling y.cancelling → Fewer x.word y.word → Same x.entries y.entries
-        → Balanced set y
-    balanced_disarms armed taken listed cancelling word entries =
-        record {
-          backed = λ d q n.
-              let a : y.armed d q n + h d q n ≡ x.armed d q n = armed d q n in
-              let t : y.taken d q n ≡ x.taken d q n = taken d q n in
-              let c : y.cancelling d q n ≡ x.cancelling d q n = cancelling d q n in
-              let w : y.word d q n + h d q n ≡ x.word d q n = word d q n in
-              let before : x.armed d q n + x.taken d q n ≤ x.word d q n + x.cancelling d q n =
-              b.backed d q n in
-              omega arith;
-          entered = λ d q n is.
-              let l : y.listed d q n ≡ x.listed d q n + h d q n = listed d q n in
-              let c : y.cancelling d q n ≡ x.cancelling d q n = cancelling d q n in
-              let w : y.word d q n + h d q n ≡ x.word d q n = word d q n in
-              let s : y.entries d q n ≡ x.entries d q n = entries d q n in
-              let before : x.entries d q n ≤ x.word d q n + x.cancelling d q n + x.listed d q n =
-              b.entered d q n is in
-              omega arith;
-          standing = λ d q n.
-              let l : y.listed d q n ≡ x.listed d q n + h d q n = listed d q n in
-              let a : y.armed d q n + h d q n ≡ x.armed d q n = armed d q n in
-              let s : y.entries d q n ≡ x.entries d q n = entries d q n in
-              let before : x.listed d q n + x.armed d q n ≤ x.entries d q n = b.standing d q n in
-              omega arith;
-          once = once;
-        }
+    pub balanced_disarms : KindTurns x y (Armed (Declared p)) (Listed (Declared p)) e m
+        → Fewer e p m x.word y.word → Same x.entries y.entries → Balanced set y
+    balanced_disarms turns word entries =
+        by_turn (Armed (Declared p)) (Listed (Declared p)) e m turns at none none none
+        (by_fewer e p m x.word y.word word) (by_same x.entries y.entries entries)
+        (λ d q n. omega arith) (λ d q n. omega arith) (λ d q n. omega arith)
 
     pub balanced_keeps_taken : x.entries e p m ≡ 0
-        → Same x.armed y.armed → Fewer x.taken y.taken → Same x.listed y.listed
-        → Same x.cancelling y.cancelling → Fewer x.word y.word → Same x.entries y.entries
-        → Balanced set y
-    balanced_keeps_taken no_entry armed taken listed cancelling word entries =
+        → KindTurns x y (Taken (Declared p)) Own e m → Fewer e p m x.word y.word
+        → Same x.entries y.entries → Balanced set y
+    balanced_keeps_taken no_entry turns word entries =
+        let words : Moves x.word y.word at none = by_fewer e p m x.word y.word word in
+        let stay : Moves x.entries y.entries none none = by_same x.entries y.entries entries in
         record {
           backed = λ d q n.
-              let a : y.armed d q n ≡ x.armed d q n = armed d q n in
-              let t : y.taken d q n + h d q n ≡ x.taken d q n = taken d q n in
-              let c : y.cancelling d q n ≡ x.cancelling d q n = cancelling d q n in
-              let w : y.word d q n + h d q n ≡ x.word d q n = word d q n in
-              let before : x.armed d q n + x.taken d q n ≤ x.word d q n + x.cancelling d q n =
-              b.backed d q n in
-              omega arith;
+              by_backed (Taken (Declared p)) Own e m turns at none none none words stay d q n
+              (omega arith);
           entered = λ d q n is.
-              let l : y.listed d q n ≡ x.listed d q n = listed d q n in
-              let c : y.cancelling d q n ≡ x.cancelling d q n = cancelling d q n in
-              let w : y.word d q n + h d q n ≡ x.word d q n = word d q n in
-              let s : y.entries d q n ≡ x.entries d q n = entries d q n in
-              let before : x.entries d q n ≤ x.word d q n + x.cancelling d q n + x.listed d q n =
-              b.entered d q n is in
               elim (hit_tells (λ d q n. x.entries d q n ≡ 0) e p m no_entry d q n) [
-                | inl far ↦ let none : h d q n ≡ 0 = far in omega arith
-                | inr here ↦ let none : x.entries d q n ≡ 0 = here.1 in omega arith
+                | inl far ↦
+                    let nothing : at d q n ≡ 0 = far in
+                    by_entered (Taken (Declared p)) Own e m turns at none none none words stay d q n
+                    is (omega arith)
+                | inr here ↦
+                    let nothing : x.entries d q n ≡ 0 = here.1 in
+                    let s : y.entries d q n ≡ x.entries d q n = entries d q n in
+                    omega arith
               ];
           standing = λ d q n.
-              let l : y.listed d q n ≡ x.listed d q n = listed d q n in
-              let a : y.armed d q n ≡ x.armed d q n = armed d q n in
-              let s : y.entries d q n ≡ x.entries d q n = entries d q n in
-              let before : x.listed d q n + x.armed d q n ≤ x.entries d q n = b.standing d q n in
-              omega arith;
+              by_standing (Taken (Declared p)) Own e m turns at none none none words stay d q n
+              (omega arith);
           once = once;
         }
 
     -- the cancel routine begins: it has the right that the word had
-    pub balanced_calls : Same x.armed y.armed → Same x.taken y.taken → Same x.listed y.listed
-        → More x.cancelling y.cancelling → Fewer x.word y.word → Same x.entries y.entries
-        → Balanced set y
-    balanced_calls armed taken listed cancelling word entries =
-        record {
-          backed = λ d q n.
-              let a : y.armed d q n ≡ x.armed d q n = armed d q n in
-              let t : y.taken d q n ≡ x.taken d q n = taken d q n in
-              let c : y.cancelling d q n ≡ x.cancelling d q n + h d q n = cancelling d q n in
-              let w : y.word d q n + h d q n ≡ x.word d q n = word d q n in
-              let before : x.armed d q n + x.taken d q n ≤ x.word d q n + x.cancelling d q n =
-              b.backed d q n in
-              omega arith;
-          entered = λ d q n is.
-              let l : y.listed d q n ≡ x.listed d q n = listed d q n in
-              let c : y.cancelling d q n ≡ x.cancelling d q n + h d q n = cancelling d q n in
-              let w : y.word d q n + h d q n ≡ x.word d q n = word d q n in
-              let s : y.entries d q n ≡ x.entries d q n = entries d q n in
-              let before : x.entries d q n ≤ x.word d q n + x.cancelling d q n + x.listed d q n =
-              b.entered d q n is in
-              omega arith;
-          standing = λ d q n.
-              let l : y.listed d q n ≡ x.listed d q n = listed d q n in
-              let a : y.armed d q n ≡ x.armed d q n = armed d q n in
-              let s : y.entries d q n ≡ x.entries d q n = entries d q n in
-              let before : x.listed d q n + x.armed d q n ≤ x.entries d q n = b.standing d q n in
-              omega arith;
-          once = once;
-        }
+    pub balanced_calls : KindTurns x y BlankKind (Cancelling (Declared p)) e m
+        → Fewer e p m x.word y.word → Same x.entries y.entries → Balanced set y
+    balanced_calls turns word entries =
+        by_turn BlankKind (Cancelling (Declared p)) e m turns at none none none
+        (by_fewer e p m x.word y.word word) (by_same x.entries y.entries entries)
+        (λ d q n. omega arith) (λ d q n. omega arith) (λ d q n. omega arith)

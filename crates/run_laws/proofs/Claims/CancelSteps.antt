@@ -5,7 +5,7 @@ use Rattle.std.proofs.Common.{◌≡◌, ℕ, ◌+◌, ◌≤◌, Bool, true, fa
 use Rattle.std.specs.Prelude.{nat_eq, slice_get, if◌then◌else◌}
 use Rattle.std.proofs.lemmas.Bool.Decides.{eqb_tells}
 use Rattle.model.specs.declared.abs.Kind.{Kind}
-use Rattle.model.specs.declared.abs.Kind.TheVariants.{Cancelling}
+use Rattle.model.specs.declared.abs.Kind.TheVariants.{Blank as BlankKind, Cancelling}
 use Rattle.model.specs.declared.set.QueueName.TheVariants.{Declared}
 use Rattle.model.specs.declared.world.Activation.{Activation}
 use Rattle.model.specs.declared.world.Frame.{Frame}
@@ -17,11 +17,11 @@ use Rattle.model.specs.Set.{Set, cancel_routine_named, cancels_for}
 use Rattle.model.specs.Trace.{Entry}
 use Rattle.model.specs.World.{Shared, World, packet_of, with_armer, with_packet, entered, without_packet}
 use Rattle.run_laws.specs.Holder.{named_as, named_in, stack_sum, thread_sum, times_listed, times_waiting, frame_rights}
-use Rattle.run_laws.proofs.Claims.Balance.{balanced_calls}
+use Rattle.run_laws.proofs.Claims.Balance.{KindTurns, at_kind, at_swapped, balanced_calls}
 use Rattle.run_laws.proofs.Claims.Held.{word_holds}
 use Rattle.run_laws.proofs.Claims.Names.{OfQueues, armed_queues, cancelling_queues, listed_queues, names, taken_queues, was_queues, queue_packets}
 use Rattle.run_laws.proofs.Claims.Quiet.{Quiet}
-use Rattle.run_laws.proofs.Claims.Steps.{after, all_apart, at_kind, at_none}
+use Rattle.run_laws.proofs.Claims.Steps.{after, all_apart}
 use Rattle.run_laws.proofs.Claims.Sums.{Claimed, FrameApart, frame_names, is_taken, numbers, takes_in, was_taken, word_at}
 use Rattle.run_laws.proofs.Holders.Counts.{Holding, walk_taken}
 use Rattle.run_laws.proofs.Holders.Rights.{handed_names}
@@ -92,7 +92,7 @@ module _ (set : Set) (states : States) (w : World) (past : List Entry) (good : I
         ∙ handed_names g (queue_packets g of) (Cancelling armer.queue) (Ref n) m
 
     called_sums : (g : Kind → Bool) → OfQueues g → (on : ℕ → Bool) (m : ℕ)
-        → thread_sum (frame_names states g on m) to.threads
+        → thread_sum (frame_names states g on m) to.threads + 0
         ≡ thread_sum (frame_names states g on m) w.threads
         + at_kind g on armer.device (Cancelling armer.queue) n m
     called_sums g of on m =
@@ -107,49 +107,42 @@ module _ (set : Set) (states : States) (w : World) (past : List Entry) (good : I
         ap (stack_sum (frame_names states g on m)) frames in
         let its : frame_names states g on m (Routine called)
         ≡ at_kind g on armer.device (Cancelling armer.queue) n m =
-        ap (λ (sum : ℕ). if on armer.device then sum else 0) (called_names g of m) in
-        omega arith
-
-    called_same : (g : Kind → Bool) → OfQueues g → g (Cancelling armer.queue) ≡ false
-        → (on : ℕ → Bool) (m : ℕ)
-        → thread_sum (frame_names states g on m) to.threads
-        ≡ thread_sum (frame_names states g on m) w.threads
-    called_same g of none on m =
-        let sums : thread_sum (frame_names states g on m) to.threads
-        ≡ thread_sum (frame_names states g on m) w.threads
-        + at_kind g on armer.device (Cancelling armer.queue) n m = called_sums g of on m in
-        let zero_more : at_kind g on armer.device (Cancelling armer.queue) n m ≡ 0 =
-        at_none g on armer.device (Cancelling armer.queue) n m none in
+        ap (λ (sum : ℕ). if on armer.device then sum else 0) (called_names g of m)
+        ∙ at_swapped (g (Cancelling armer.queue)) (on armer.device) (if nat_eq n m then 1 else 0) in
         omega arith
 
     called_for : (name : QueueName) → armer.queue ≡ name → Claimed set states to
     called_for (Declared q) is =
         let sums : (g : Kind → Bool) → OfQueues g → (on : ℕ → Bool) (m : ℕ)
-        → thread_sum (frame_names states g on m) to.threads
+        → thread_sum (frame_names states g on m) to.threads + 0
         ≡ thread_sum (frame_names states g on m) w.threads
         + at_kind g on armer.device (Cancelling (Declared q)) n m =
         λ g of on m. called_sums g of on m
         ∙ ap (λ (name : QueueName). thread_sum (frame_names states g on m) w.threads
         + at_kind g on armer.device (Cancelling name) n m) is in
+        let changes : KindTurns (numbers states w) (numbers states to) BlankKind
+        (Cancelling (Declared q)) armer.device n =
+        record {
+          armed = λ d l. sums (is_armed (Declared l)) (armed_queues (Declared l)) (λ e. nat_eq e d);
+          taken = λ d l. sums (is_taken (Declared l)) (taken_queues (Declared l)) (λ e. nat_eq e d);
+          listed = λ d l.
+              sums (is_listed (Declared l)) (listed_queues (Declared l)) (λ e. nat_eq e d);
+          cancelling = λ d l.
+              sums (is_cancelling (Declared l)) (cancelling_queues (Declared l))
+              (λ e. nat_eq e d);
+          takes = sums was_taken was_queues (λ e. true);
+        } in
         record {
           balanced = balanced_calls set (numbers states w) (numbers states to) c.balanced
               (λ m.
-              let took : takes_in states m to.threads ≡ takes_in states m w.threads =
-              called_same was_taken was_queues refl (λ e. true) m in
+              let took : takes_in states m to.threads + 0 ≡ takes_in states m w.threads + 0 =
+              changes.takes m in
               let before : takes_in states m w.threads + times_listed w.shared m ≤ 1 =
               c.balanced.once m in
               let lists : times_listed h.outcome.shared m
               ≡ times_listed w.shared m = rw shared refl in
               omega arith)
-              armer.device q n
-              (λ d l m. called_same (is_armed (Declared l)) (armed_queues (Declared l)) refl
-              (λ e. nat_eq e d) m)
-              (λ d l m. called_same (is_taken (Declared l)) (taken_queues (Declared l)) refl
-              (λ e. nat_eq e d) m)
-              (λ d l m. called_same (is_listed (Declared l)) (listed_queues (Declared l)) refl
-              (λ e. nat_eq e d) m)
-              (λ d l m. sums (is_cancelling (Declared l)) (cancelling_queues (Declared l))
-              (λ e. nat_eq e d) m)
+              armer.device q n changes
               (λ d l m. rw shared (word_emptied w.shared n armer.device q p there armer (refl, is)
               is_set
               d l m))

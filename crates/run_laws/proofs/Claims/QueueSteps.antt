@@ -22,13 +22,13 @@ use Rattle.model.specs.Sound.{OperandFits}
 use Rattle.model.specs.Trace.{Entry}
 use Rattle.model.specs.World.{World, next, queue_of, register, with_queue, with_register}
 use Rattle.run_laws.specs.Holder.{named_as, named_in, stack_sum, thread_sum, times_in, times_listed, times_queued, times_waiting}
-use Rattle.run_laws.proofs.Claims.Balance.{balanced_cancels, balanced_inserts, balanced_joins, balanced_leaves, balanced_less, balanced_removes, balanced_unlinks, hit}
+use Rattle.run_laws.proofs.Claims.Balance.{KindTurns, balanced_cancels, balanced_inserts, balanced_joins, balanced_leaves, balanced_less, balanced_removes, balanced_unlinks, hit}
 use Rattle.run_laws.proofs.Claims.Guards.{NeedsGuard, armed_needs, excluded, listed_needs, taken_needs}
 use Rattle.run_laws.proofs.Claims.Held.{is_own, one_holder, own_alone, owns_in}
 use Rattle.run_laws.proofs.Claims.Names.{KeepsNames, OfQueues, TurnsNames, armed_queues, cancelling_queues, listed_queues, names, next_takes, next_turns, taken_queues, was_queues}
 use Rattle.run_laws.proofs.Claims.Queues.{unlinked_other, unlinked_out, entries_fewer, entries_more, entries_others, unlinked_fewer, unlinked_none}
 use Rattle.run_laws.proofs.Claims.Quiet.{apart_keeps, frame_keeps}
-use Rattle.run_laws.proofs.Claims.Steps.{after, all_apart, apart_here, fewer_sum, kept_sum, more_sum, names_among, same_sums, takes_sum}
+use Rattle.run_laws.proofs.Claims.Steps.{after, all_apart, apart_here, kind_turns, names_among, same_sums}
 use Rattle.run_laws.proofs.Claims.Sums.{Claimed, FrameApart, frame_names, is_taken, names_on, numbers, takes_in, times_of, was_taken, word_at}
 use Rattle.run_laws.proofs.Claims.Working.{Unlinks, apart_down, apart_up, cancelable_is, some_none, taken_le, unlinked_kind}
 use Rattle.run_laws.proofs.Claims.Waiting.{once_more}
@@ -190,29 +190,19 @@ module _ (set : Set) (states : States) (w : World) (past : List Entry) (good : I
     inserts_by : (cancel : Option ℕ) → cancel_routine_of set a.driver q ≡ cancel
         → TurnsNames states a (next a) Own (kind_inserted cancel q) m → Claimed set states to
     inserts_by None none turns =
+        let changes : KindTurns (numbers states w) (numbers states to) Own BlankKind a.device m =
+        kind_turns set states w past good stands c t h leaves a (next a) Own BlankKind m frame frames refl turns in
         record {
           balanced = balanced_joins set (numbers states w) (numbers states to) c.balanced
               (λ n.
               let took : takes_in states n to.threads + 0 ≡ takes_in states n w.threads + 0 =
-              takes_sum set states w past good stands c t h leaves a (next a) Own BlankKind m frame
-              frames refl turns n in
+              changes.takes n in
               let least : takes_in states n w.threads + times_listed h.outcome.shared n ≤ 1 =
               once_put m (own_there (Insert r q) r m run inserted_own reads) inserted_lists n in
               omega arith)
               a.device q m
               (cancelable_is set a.device a.driver q None run.stays.serves none)
-              (λ d p n. kept_sum set states w past good stands c t h leaves a (next a) Own
-              BlankKind m frame frames refl turns
-              (is_armed (Declared p)) (armed_queues (Declared p)) refl refl d n)
-              (λ d p n. kept_sum set states w past good stands c t h leaves a (next a) Own
-              BlankKind m frame frames refl turns
-              (is_taken (Declared p)) (taken_queues (Declared p)) refl refl d n)
-              (λ d p n. kept_sum set states w past good stands c t h leaves a (next a) Own
-              BlankKind m frame frames refl turns
-              (is_listed (Declared p)) (listed_queues (Declared p)) refl refl d n)
-              (λ d p n. kept_sum set states w past good stands c t h leaves a (next a) Own
-              BlankKind m frame frames refl turns
-              (is_cancelling (Declared p)) (cancelling_queues (Declared p)) refl refl d n)
+              changes
               words_same inserted_entries;
           apart = all_apart set states w past good stands c t h leaves
               (rw frames (
@@ -222,28 +212,18 @@ module _ (set : Set) (states : States) (w : World) (past : List Entry) (good : I
               ));
         }
     inserts_by (Some cancel) some turns =
+        let changes : KindTurns (numbers states w) (numbers states to) Own (Listed (Declared q)) a.device m =
+        kind_turns set states w past good stands c t h leaves a (next a) Own (Listed (Declared q)) m frame frames refl turns in
         record {
           balanced = balanced_inserts set (numbers states w) (numbers states to) c.balanced
               (λ n.
               let took : takes_in states n to.threads + 0 ≡ takes_in states n w.threads + 0 =
-              takes_sum set states w past good stands c t h leaves a (next a) Own (Listed (Declared
-              q)) m frame frames refl turns n in
+              changes.takes n in
               let least : takes_in states n w.threads + times_listed h.outcome.shared n ≤ 1 =
               once_put m (own_there (Insert r q) r m run inserted_own reads) inserted_lists n in
               omega arith)
               a.device q m
-              (λ d p n. kept_sum set states w past good stands c t h leaves a (next a) Own (Listed
-              (Declared q)) m frame frames refl turns
-              (is_armed (Declared p)) (armed_queues (Declared p)) refl refl d n)
-              (λ d p n. kept_sum set states w past good stands c t h leaves a (next a) Own (Listed
-              (Declared q)) m frame frames refl turns
-              (is_taken (Declared p)) (taken_queues (Declared p)) refl refl d n)
-              (λ d p n. more_sum set states w past good stands c t h leaves a (next a) Own (Listed
-              (Declared q)) m frame frames refl turns
-              (is_listed (Declared p)) (listed_queues (Declared p)) refl d n)
-              (λ d p n. kept_sum set states w past good stands c t h leaves a (next a) Own (Listed
-              (Declared q)) m frame frames refl turns
-              (is_cancelling (Declared p)) (cancelling_queues (Declared p)) refl refl d n)
+              changes
               words_same inserted_entries;
           apart = all_apart set states w past good stands c t h leaves
               (rw frames (
@@ -359,30 +339,20 @@ module _ (set : Set) (states : States) (w : World) (past : List Entry) (good : I
       removes_by : (cancel : Option ℕ) → cancel_routine_of set a.driver q ≡ cancel
           → TurnsNames states a taker BlankKind (kind_removed cancel q) m → Claimed set states to
       removes_by None none turns =
+          let changes : KindTurns (numbers states w) (numbers states to) BlankKind Own a.device m =
+          kind_turns set states w past good stands c t h leaves a taker BlankKind Own m frame frames refl turns in
           record {
             balanced = balanced_leaves set (numbers states w) (numbers states to) c.balanced
                 (λ n.
                 let took : takes_in states n to.threads + 0 ≡ takes_in states n w.threads + 0 =
-                takes_sum set states w past good stands c t h leaves a taker BlankKind Own m frame
-                frames refl turns n in
+                changes.takes n in
                 let lists : times_listed h.outcome.shared n + (if nat_eq m n then 1 else 0)
                 ≡ times_listed w.shared n = removed_lists n in
                 let before : takes_in states n w.threads + times_listed w.shared n ≤ 1 =
                 c.balanced.once n in
                 omega arith)
                 a.device q m removed_armed removed_listed
-                (λ d p n. kept_sum set states w past good stands c t h leaves a taker BlankKind Own
-                m frame frames refl turns
-                (is_armed (Declared p)) (armed_queues (Declared p)) refl refl d n)
-                (λ d p n. kept_sum set states w past good stands c t h leaves a taker BlankKind Own
-                m frame frames refl turns
-                (is_taken (Declared p)) (taken_queues (Declared p)) refl refl d n)
-                (λ d p n. kept_sum set states w past good stands c t h leaves a taker BlankKind Own
-                m frame frames refl turns
-                (is_listed (Declared p)) (listed_queues (Declared p)) refl refl d n)
-                (λ d p n. kept_sum set states w past good stands c t h leaves a taker BlankKind Own
-                m frame frames refl turns
-                (is_cancelling (Declared p)) (cancelling_queues (Declared p)) refl refl d n)
+                changes
                 words_same removed_entries;
             apart = all_apart set states w past good stands c t h leaves
                 (rw frames (
@@ -392,13 +362,14 @@ module _ (set : Set) (states : States) (w : World) (past : List Entry) (good : I
                 ));
           }
       removes_by (Some cancel) some turns =
+          let changes : KindTurns (numbers states w) (numbers states to) BlankKind (Taken (Declared q)) a.device m =
+          kind_turns set states w past good stands c t h leaves a taker BlankKind (Taken (Declared q)) m frame frames refl turns in
           record {
             balanced = balanced_removes set (numbers states w) (numbers states to) c.balanced
                 (λ n.
                 let took : takes_in states n to.threads + 0
                 ≡ takes_in states n w.threads + (if nat_eq m n then 1 else 0) =
-                takes_sum set states w past good stands c t h leaves a taker BlankKind (Taken
-                (Declared q)) m frame frames refl turns n in
+                changes.takes n in
                 let lists : times_listed h.outcome.shared n + (if nat_eq m n then 1 else 0)
                 ≡ times_listed w.shared n = removed_lists n in
                 let before : takes_in states n w.threads + times_listed w.shared n ≤ 1 =
@@ -407,18 +378,7 @@ module _ (set : Set) (states : States) (w : World) (past : List Entry) (good : I
                 a.device q m
                 (cancelable_is set a.device a.driver q (Some cancel) run.stays.serves some)
                 removed_armed removed_taken removed_listed
-                (λ d p n. kept_sum set states w past good stands c t h leaves a taker BlankKind
-                (Taken (Declared q)) m frame frames refl turns
-                (is_armed (Declared p)) (armed_queues (Declared p)) refl refl d n)
-                (λ d p n. more_sum set states w past good stands c t h leaves a taker BlankKind
-                (Taken (Declared q)) m frame frames refl turns
-                (is_taken (Declared p)) (taken_queues (Declared p)) refl d n)
-                (λ d p n. kept_sum set states w past good stands c t h leaves a taker BlankKind
-                (Taken (Declared q)) m frame frames refl turns
-                (is_listed (Declared p)) (listed_queues (Declared p)) refl refl d n)
-                (λ d p n. kept_sum set states w past good stands c t h leaves a taker BlankKind
-                (Taken (Declared q)) m frame frames refl turns
-                (is_cancelling (Declared p)) (cancelling_queues (Declared p)) refl refl d n)
+                changes
                 words_same removed_entries;
             apart = all_apart set states w past good stands c t h leaves
                 (rw frames (
@@ -504,28 +464,18 @@ module _ (set : Set) (states : States) (w : World) (past : List Entry) (good : I
           let its : times_of (queue_of w.shared a.device q) m ≡ times_in entries m =
           ap (λ (o : Option (List ℕ)). times_of o m) there in
           let some : 1 ≤ times_in entries m = omega arith in
+          let changes : KindTurns (numbers states w) (numbers states to) (Listed (Declared q)) Own a.device m =
+          kind_turns set states w past good stands c t h leaves a (next a) (Listed (Declared q)) Own m frame frames refl turns in
           record {
             balanced = balanced_unlinks set (numbers states w) (numbers states to) c.balanced
                 (λ n.
                 let took : takes_in states n to.threads + 0 ≡ takes_in states n w.threads + 0 =
-                takes_sum set states w past good stands c t h leaves a (next a) (Listed (Declared
-                q)) Own m frame frames refl turns n in
+                changes.takes n in
                 let least : takes_in states n w.threads + times_listed h.outcome.shared n ≤ 1 =
                 once_less unlinked_lists n in
                 omega arith)
                 a.device q m
-                (λ d p n. kept_sum set states w past good stands c t h leaves a (next a) (Listed
-                (Declared q)) Own m frame frames refl turns
-                (is_armed (Declared p)) (armed_queues (Declared p)) refl refl d n)
-                (λ d p n. kept_sum set states w past good stands c t h leaves a (next a) (Listed
-                (Declared q)) Own m frame frames refl turns
-                (is_taken (Declared p)) (taken_queues (Declared p)) refl refl d n)
-                (λ d p n. fewer_sum set states w past good stands c t h leaves a (next a) (Listed
-                (Declared q)) Own m frame frames refl turns
-                (is_listed (Declared p)) (listed_queues (Declared p)) refl d n)
-                (λ d p n. kept_sum set states w past good stands c t h leaves a (next a) (Listed
-                (Declared q)) Own m frame frames refl turns
-                (is_cancelling (Declared p)) (cancelling_queues (Declared p)) refl refl d n)
+                changes
                 words_same
                 (λ d p n. rw queues (entries_fewer w.shared a.device q m entries
                 (unlinked entries m)
@@ -570,12 +520,13 @@ module _ (set : Set) (states : States) (w : World) (past : List Entry) (good : I
           let once : takes_in states m w.threads + times_listed w.shared m
           ≤ 1 = c.balanced.once m in
           let few : times_in entries m ≤ 1 = omega arith in
+          let changes : KindTurns (numbers states w) (numbers states to) (Cancelling (Declared q)) Own a.device m =
+          kind_turns set states w past good stands c t h leaves a (next a) (Cancelling (Declared q)) Own m frame frames refl turns in
           record {
             balanced = balanced_cancels set (numbers states w) (numbers states to) c.balanced
                 (λ n.
                 let took : takes_in states n to.threads + 0 ≡ takes_in states n w.threads + 0 =
-                takes_sum set states w past good stands c t h leaves a (next a) (Cancelling
-                (Declared q)) Own m frame frames refl turns n in
+                changes.takes n in
                 let least : takes_in states n w.threads + times_listed h.outcome.shared n ≤ 1 =
                 once_less unlinked_lists n in
                 omega arith)
@@ -584,18 +535,7 @@ module _ (set : Set) (states : States) (w : World) (past : List Entry) (good : I
                 (λ d p n none. rw queues (entries_others w.shared a.device q m entries
                 (unlinked entries m) there (λ n other. unlinked_other entries m n other) d p n
                 none))
-                (λ d p n. kept_sum set states w past good stands c t h leaves a (next a)
-                (Cancelling (Declared q)) Own m frame frames refl turns
-                (is_armed (Declared p)) (armed_queues (Declared p)) refl refl d n)
-                (λ d p n. kept_sum set states w past good stands c t h leaves a (next a)
-                (Cancelling (Declared q)) Own m frame frames refl turns
-                (is_taken (Declared p)) (taken_queues (Declared p)) refl refl d n)
-                (λ d p n. kept_sum set states w past good stands c t h leaves a (next a)
-                (Cancelling (Declared q)) Own m frame frames refl turns
-                (is_listed (Declared p)) (listed_queues (Declared p)) refl refl d n)
-                (λ d p n. fewer_sum set states w past good stands c t h leaves a (next a)
-                (Cancelling (Declared q)) Own m frame frames refl turns
-                (is_cancelling (Declared p)) (cancelling_queues (Declared p)) refl d n)
+                changes
                 words_same;
             apart = all_apart set states w past good stands c t h leaves
                 (rw frames (

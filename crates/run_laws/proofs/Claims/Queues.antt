@@ -11,7 +11,7 @@ use Rattle.model.specs.Queues.{StartState, unlinked}
 use Rattle.model.specs.Set.{Set, cancel_routine_of}
 use Rattle.model.specs.World.{Shared, queue_of, with_queue}
 use Rattle.run_laws.specs.Holder.{times_in, times_on, times_plain, times_plain_on, times_queued, times_started, times_to_start}
-use Rattle.run_laws.proofs.Claims.Balance.{hit}
+use Rattle.run_laws.proofs.Claims.Balance.{hit, hit_elsewhere}
 use Rattle.run_laws.proofs.Claims.Sums.{is_cancelable, times_of}
 use Rattle.run_laws.proofs.Lists.{set_other, set_same}
 use Rattle.run_laws.proofs.States.Fits.{queue_row}
@@ -33,7 +33,7 @@ put_or_not s d q before after e p there =
     get_or_from_slice_get s.queues d row.0 [] row.1 in
     elim (eqb_tells d e) [
       | inr apart ↦ inr (
-        λ n m. rw apart.0 refl,
+        λ n m. hit_elsewhere d q n e p m apart.0,
         ap (λ (o : Option (List (List ℕ))). option_and_then (λ lists. slice_get lists p) o)
             (set_other s.queues d e (slice_set (slice_index_or s.queues d []) q after)
             (λ same. apart.1 same)),
@@ -46,7 +46,7 @@ put_or_not s d q before after e p there =
           let old : slice_get s.queues e ≡ Some row.0 = rw (← here.1) row.1 in
           elim (eqb_tells q p) [
             | inr other ↦ inr (
-              λ n m. rw (here.0, other.0) refl,
+              λ n m. rw other.0 refl,
               ap (λ (o : Option (List (List ℕ))). option_and_then (λ lists. slice_get lists p) o)
                   put
                   ∙ set_other row.0 q p after (λ same. other.1 same)

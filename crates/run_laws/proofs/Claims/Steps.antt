@@ -2,7 +2,6 @@
 -- becomes of another kind, and what the other frames have.
 use Rattle.std.proofs.Common.{◌≡◌, ℕ, ◌+◌, ◌-◌, ◌≤◌, Bool, true, false, List, [], ◌∷◌, ◌++◌, Option, None, Some, refl, ap, sym, ◌∙◌, subst, arith, inl, inr, eq-eqb}
 use Rattle.std.specs.Prelude.{nat_eq, if◌then◌else◌}
-use Rattle.std.proofs.lemmas.Bool.{cond_both}
 use Rattle.model.specs.declared.abs.Kind.{Kind}
 use Rattle.model.specs.declared.set.QueueName.TheVariants.{Declared}
 use Rattle.model.specs.declared.status.Status.{Status}
@@ -18,7 +17,7 @@ use Rattle.model.specs.Set.{Set, instruction_at}
 use Rattle.model.specs.Trace.{Entry}
 use Rattle.model.specs.World.{World}
 use Rattle.run_laws.specs.Holder.{named_as, stack_sum, thread_sum, times_listed}
-use Rattle.run_laws.proofs.Claims.Balance.{balanced_less}
+use Rattle.run_laws.proofs.Claims.Balance.{KindTurns, at_kind, at_swapped, balanced_less}
 use Rattle.run_laws.proofs.Claims.Changed.{changed}
 use Rattle.run_laws.proofs.Claims.Names.{KeepsNames, OfQueues, TurnsNames, armed_queues, cancelling_queues, listed_queues, names, queue_packets, taken_queues, was_queues}
 use Rattle.run_laws.proofs.Claims.Quiet.{Quiet, apart_keeps}
@@ -36,16 +35,6 @@ use Rattle.run_laws.proofs.States.Standing.{Standing, stands_there}
 use Rattle.run_laws.proofs.States.Told.{last_same, told_frame, told_is, told_last}
 use Rattle.run_laws.proofs.Steps.Below.{stood}
 
--- a packet in a register of a kind, of a frame for a device
-abbrev pub at_kind : (Kind → Bool) → (ℕ → Bool) → ℕ → Kind → ℕ → ℕ → ℕ
-at_kind g on d k m n = if on d then named_as g k (Ref m) n else 0
-
-pub at_none : (g : Kind → Bool) (on : ℕ → Bool) (d : ℕ) (k : Kind) (m n : ℕ) → g k ≡ false
-    → at_kind g on d k m n ≡ 0
-at_none g on d k m n none =
-    cond_both (on d) (named_as g k (Ref m) n) 0 (λ (sum : ℕ). sum ≡ 0)
-    (λ its. rw none refl) (λ other. refl)
-
 if_sums : (b : Bool) (one two three four : ℕ) → one + two ≡ three + four
     → (if b then one else 0) + (if b then two else 0) ≡ (if b then three else 0)
     + (if b then four else 0)
@@ -61,10 +50,16 @@ frame_turns states a b j k m turns device g queues on n =
     let here : frame_names states g on n (Routine b)
     ≡ (if on a.device then names states g b n else 0) =
     ap (λ (d : ℕ). if on d then names states g b n else 0) device in
-    let both : (if on a.device then names states g b n else 0) + at_kind g on a.device j m n
-    ≡ (if on a.device then names states g a n else 0) + at_kind g on a.device k m n =
+    let both : (if on a.device then names states g b n else 0)
+    + (if on a.device then named_as g j (Ref m) n else 0)
+    ≡ (if on a.device then names states g a n else 0)
+    + (if on a.device then named_as g k (Ref m) n else 0) =
     if_sums (on a.device) (names states g b n) (named_as g j (Ref m) n) (names states g a n)
     (named_as g k (Ref m) n) (turns g queues n) in
+    let one : (if on a.device then named_as g j (Ref m) n else 0) ≡ at_kind g on a.device j m n =
+    at_swapped (g j) (on a.device) (if nat_eq m n then 1 else 0) in
+    let other : (if on a.device then named_as g k (Ref m) n else 0) ≡ at_kind g on a.device k m n =
+    at_swapped (g k) (on a.device) (if nat_eq m n then 1 else 0) in
     omega arith
 
 -- in a frame that is told a status packets are as apart as before
@@ -181,7 +176,7 @@ module _ (set : Set) (states : States) (w : World) (past : List Entry) (good : I
   module _ (a b : Activation) (j k : Kind) (m : ℕ) (frame : h.frame ≡ Routine a)
       (frames : h.outcome.frames ≡ Routine b ∷ []) (device : b.device ≡ a.device)
       (turns : TurnsNames states a b j k m) where
-    pub turned_sums : (g : Kind → Bool) → OfQueues g → (on : ℕ → Bool) (n : ℕ)
+    turned_sums : (g : Kind → Bool) → OfQueues g → (on : ℕ → Bool) (n : ℕ)
         → thread_sum (frame_names states g on n) after.threads + at_kind g on a.device j m n
         ≡ thread_sum (frame_names states g on n) w.threads + at_kind g on a.device k m n
     turned_sums g queues on n =
@@ -200,47 +195,21 @@ module _ (set : Set) (states : States) (w : World) (past : List Entry) (good : I
         frame_turns states a b j k m turns device g queues on n in
         omega arith
 
-    pub kept_sum : (g : Kind → Bool) → OfQueues g → g j ≡ false → g k ≡ false → (d n : ℕ)
-        → names_on states g d n after.threads ≡ names_on states g d n w.threads
-    kept_sum g queues no_j no_k d n =
-        let both : names_on states g d n after.threads
-        + at_kind g (λ e. nat_eq e d) a.device j m n
-        ≡ names_on states g d n w.threads + at_kind g (λ e. nat_eq e d) a.device k m n =
-        turned_sums g queues (λ e. nat_eq e d) n in
-        let before : at_kind g (λ e. nat_eq e d) a.device j m n ≡ 0 =
-        at_none g (λ e. nat_eq e d) a.device j m n no_j in
-        let now : at_kind g (λ e. nat_eq e d) a.device k m n ≡ 0 =
-        at_none g (λ e. nat_eq e d) a.device k m n no_k in
-        omega arith
-
-    pub more_sum : (g : Kind → Bool) → OfQueues g → g j ≡ false → (d n : ℕ)
-        → names_on states g d n after.threads
-        ≡ names_on states g d n w.threads + at_kind g (λ e. nat_eq e d) a.device k m n
-    more_sum g queues no_j d n =
-        let both : names_on states g d n after.threads
-        + at_kind g (λ e. nat_eq e d) a.device j m n
-        ≡ names_on states g d n w.threads + at_kind g (λ e. nat_eq e d) a.device k m n =
-        turned_sums g queues (λ e. nat_eq e d) n in
-        let before : at_kind g (λ e. nat_eq e d) a.device j m n ≡ 0 =
-        at_none g (λ e. nat_eq e d) a.device j m n no_j in
-        omega arith
-
-    pub fewer_sum : (g : Kind → Bool) → OfQueues g → g k ≡ false → (d n : ℕ)
-        → names_on states g d n after.threads + at_kind g (λ e. nat_eq e d) a.device j m n
-        ≡ names_on states g d n w.threads
-    fewer_sum g queues no_k d n =
-        let both : names_on states g d n after.threads
-        + at_kind g (λ e. nat_eq e d) a.device j m n
-        ≡ names_on states g d n w.threads + at_kind g (λ e. nat_eq e d) a.device k m n =
-        turned_sums g queues (λ e. nat_eq e d) n in
-        let now : at_kind g (λ e. nat_eq e d) a.device k m n ≡ 0 =
-        at_none g (λ e. nat_eq e d) a.device k m n no_k in
-        omega arith
-
-    pub takes_sum : (n : ℕ)
-        → takes_in states n after.threads + named_as was_taken j (Ref m) n
-        ≡ takes_in states n w.threads + named_as was_taken k (Ref m) n
-    takes_sum n = turned_sums was_taken was_queues (λ e. true) n
+    pub kind_turns : KindTurns (numbers states w) (numbers states after) j k a.device m
+    kind_turns =
+        record {
+          armed = λ d q n.
+              turned_sums (is_armed (Declared q)) (armed_queues (Declared q)) (λ e. nat_eq e d) n;
+          taken = λ d q n.
+              turned_sums (is_taken (Declared q)) (taken_queues (Declared q)) (λ e. nat_eq e d) n;
+          listed = λ d q n.
+              turned_sums (is_listed (Declared q)) (listed_queues (Declared q)) (λ e. nat_eq e d)
+              n;
+          cancelling = λ d q n.
+              turned_sums (is_cancelling (Declared q)) (cancelling_queues (Declared q))
+              (λ e. nat_eq e d) n;
+          takes = turned_sums was_taken was_queues (λ e. true);
+        }
 
   -- a frame's names are among all
   pub names_among : (a : Activation) (g : Kind → Bool) (n : ℕ) → h.frame ≡ Routine a

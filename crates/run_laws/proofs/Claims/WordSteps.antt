@@ -20,11 +20,11 @@ use Rattle.model.specs.Set.{Set}
 use Rattle.model.specs.Trace.{Entry}
 use Rattle.model.specs.World.{Shared, World, at_label, next, queue_of, register, packet_of, with_armer, with_packet}
 use Rattle.run_laws.specs.Holder.{named_as, named_in, stack_sum, thread_sum, times_listed, times_queued, times_waiting, times_named}
-use Rattle.run_laws.proofs.Claims.Balance.{balanced_less, hit, balanced_arms, balanced_disarms, balanced_keeps_taken}
+use Rattle.run_laws.proofs.Claims.Balance.{KindTurns, balanced_gives, balanced_less, hit, balanced_arms, balanced_disarms, balanced_keeps_taken}
 use Rattle.run_laws.proofs.Claims.Held.{one_holder, owns_in, word_holds}
 use Rattle.run_laws.proofs.Claims.Names.{OfQueues, TurnsNames, armed_queues, cancelling_queues, listed_queues, names, next_turns, taken_queues, was_queues, gone_names, label_turns, next_names, stay_names}
 use Rattle.run_laws.proofs.Claims.Quiet.{word_kept, word_put}
-use Rattle.run_laws.proofs.Claims.Steps.{after, all_apart, apart_here, fewer_sum, kept_sum, more_sum, names_among, same_sums, takes_sum, at_kind, less_sums}
+use Rattle.run_laws.proofs.Claims.Steps.{after, all_apart, apart_here, kind_turns, names_among, same_sums, less_sums}
 use Rattle.run_laws.proofs.Claims.Sums.{Claimed, FrameApart, frame_names, is_taken, names_on, numbers, takes_in, times_of, was_taken, word_at, word_for}
 use Rattle.run_laws.proofs.Claims.Working.{apart_down, apart_up, taken_le}
 use Rattle.run_laws.proofs.Holders.Counts.{reads_ref}
@@ -83,25 +83,28 @@ word_is_for armer d q h =
     names_both (nat_eq armer.device d) (is_name armer.queue (Declared q)) h in
     (eqb-true armer.device d both.0, named_queue armer.queue q both.1)
 
+if_both : (here its : Bool) (one : ℕ) → (if here && its then one else 0)
+    ≡ (if its then (if here then one else 0) else 0)
+if_both true its one = refl
+if_both false true one = refl
+if_both false false one = refl
+
 -- what a word says of each queue
 word_hit : (armer : Armer) (d q m e p : ℕ) → IsFor armer d q
     → word_for (Some armer) e p ≡ hit d q m e p m
 word_hit armer d q m e p is =
-    rw (is.0, is.1, eq-eqb m m refl) (elim (cases_Bool (nat_eq d e)) [
-      | inl here ↦ rw here refl
-      | inr apart ↦ rw apart refl
-    ])
+    rw (is.0, is.1, eq-eqb m m refl) (if_both (nat_eq d e) (nat_eq q p) 1)
 
 -- a packet's word before and after: filled, or emptied
 module _ (s : Shared) (m d q : ℕ) (p : Packet) (there : packet_of s m ≡ Some p) (armer : Armer)
     (is : IsFor armer d q) where
   hit_other : (e l n : ℕ) → nat_eq m n ≡ false → hit d q m e l n ≡ 0
   hit_other e l n other =
-      rw other (elim (cases_Bool (nat_eq d e)) [
+      rw other (elim (cases_Bool (nat_eq q l)) [
         | inr apart ↦ rw apart refl
-        | inl here ↦ rw here (elim (cases_Bool (nat_eq q l)) [
+        | inl its ↦ rw its (elim (cases_Bool (nat_eq d e)) [
           | inr apart ↦ rw apart refl
-          | inl its ↦ rw its refl
+          | inl here ↦ rw here refl
         ])
       ])
 
@@ -260,32 +263,20 @@ module _ (set : Set) (states : States) (w : World) (past : List Entry) (good : I
           ≤ names_on states (is_cancelling (Declared q)) a.device m w.threads =
           names_among set states w past good stands c t h leaves a (is_cancelling (Declared q)) m
           frame in
+          let changes : KindTurns (numbers states w) (numbers states to) (Listed (Declared q)) (Armed (Declared q)) a.device m =
+          kind_turns set states w past good stands c t h leaves a (next a) (Listed (Declared q)) (Armed (Declared q)) m frame frames refl turns in
           record {
             balanced = balanced_arms set (numbers states w) (numbers states to) c.balanced
                 (λ n.
                 let took : takes_in states n to.threads + 0 ≡ takes_in states n w.threads + 0 =
-                takes_sum set states w past good stands c t h leaves a (next a) (Listed (Declared q))
-                (Armed (Declared q)) m frame frames refl
-                turns n in
+                changes.takes n in
                 let before : takes_in states n w.threads + times_listed w.shared n ≤ 1 =
                 c.balanced.once n in
                 let lists : times_listed h.outcome.shared n
                 ≡ times_listed w.shared n = rw shared refl in
                 omega arith)
                 a.device q m
-                (λ d l n. more_sum set states w past good stands c t h leaves a (next a) (Listed
-                (Declared q)) (Armed (Declared q)) m frame frames
-                refl turns (is_armed (Declared l)) (armed_queues (Declared l)) refl d n)
-                (λ d l n. kept_sum set states w past good stands c t h leaves a (next a) (Listed
-                (Declared q)) (Armed (Declared q)) m frame frames
-                refl turns (is_taken (Declared l)) (taken_queues (Declared l)) refl refl d n)
-                (λ d l n. fewer_sum set states w past good stands c t h leaves a (next a) (Listed
-                (Declared q)) (Armed (Declared q)) m frame frames
-                refl turns (is_listed (Declared l)) (listed_queues (Declared l)) refl d n)
-                (λ d l n. kept_sum set states w past good stands c t h leaves a (next a) (Listed
-                (Declared q)) (Armed (Declared q)) m frame frames
-                refl turns (is_cancelling (Declared l)) (cancelling_queues (Declared l)) refl refl d
-                n)
+                changes
                 (λ d l n. rw shared (word_filled w.shared m a.device q p there (armer_of a q)
                 (refl, refl)
                 empty d l n))
@@ -321,32 +312,20 @@ module _ (set : Set) (states : States) (w : World) (past : List Entry) (good : I
           (eq-eqb q q refl) in
           let its : IsFor armer a.device q =
           word_names set states w kept c a.device q m p armer there is_set (omega arith) in
+          let changes : KindTurns (numbers states w) (numbers states to) (Armed (Declared q)) (Listed (Declared q)) a.device m =
+          kind_turns set states w past good stands c t h leaves a (next a) (Armed (Declared q)) (Listed (Declared q)) m frame frames refl turns in
           record {
             balanced = balanced_disarms set (numbers states w) (numbers states to) c.balanced
                 (λ n.
                 let took : takes_in states n to.threads + 0 ≡ takes_in states n w.threads + 0 =
-                takes_sum set states w past good stands c t h leaves a (next a) (Armed (Declared
-                q)) (Listed (Declared q)) m frame frames refl
-                turns n in
+                changes.takes n in
                 let before : takes_in states n w.threads + times_listed w.shared n ≤ 1 =
                 c.balanced.once n in
                 let lists : times_listed h.outcome.shared n
                 ≡ times_listed w.shared n = rw shared refl in
                 omega arith)
                 a.device q m
-                (λ d l n. fewer_sum set states w past good stands c t h leaves a (next a) (Armed
-                (Declared q)) (Listed (Declared q)) m frame
-                frames refl turns (is_armed (Declared l)) (armed_queues (Declared l)) refl d n)
-                (λ d l n. kept_sum set states w past good stands c t h leaves a (next a) (Armed
-                (Declared q)) (Listed (Declared q)) m frame
-                frames refl turns (is_taken (Declared l)) (taken_queues (Declared l)) refl refl d n)
-                (λ d l n. more_sum set states w past good stands c t h leaves a (next a) (Armed
-                (Declared q)) (Listed (Declared q)) m frame
-                frames refl turns (is_listed (Declared l)) (listed_queues (Declared l)) refl d n)
-                (λ d l n. kept_sum set states w past good stands c t h leaves a (next a) (Armed
-                (Declared q)) (Listed (Declared q)) m frame
-                frames refl turns (is_cancelling (Declared l)) (cancelling_queues (Declared l)) refl
-                refl d n)
+                changes
                 (λ d l n. rw shared (word_emptied w.shared m a.device q p there armer its is_set d l
                 n))
                 (λ d l n. rw shared refl);
@@ -371,34 +350,22 @@ module _ (set : Set) (states : States) (w : World) (past : List Entry) (good : I
           ≤ 1 = c.balanced.once m in
           let entries : times_of (queue_of w.shared a.device q) m ≤ times_queued w.shared.queues m =
           times_of_le w.shared a.device q m (queue_of w.shared a.device q) refl in
+          let changes : KindTurns (numbers states w) (numbers states to) (Taken (Declared q)) Own a.device m =
+          kind_turns set states w past good stands c t h leaves a (next a) (Taken (Declared q)) Own m frame frames refl turns in
           record {
             balanced = balanced_keeps_taken set (numbers states w) (numbers states to) c.balanced
                 (λ n.
                 let took : takes_in states n to.threads
                 + named_as was_taken (Taken (Declared q)) (Ref m) n
                 ≡ takes_in states n w.threads + 0 =
-                takes_sum set states w past good stands c t h leaves a (next a) (Taken (Declared
-                q)) Own m frame frames refl turns n in
+                changes.takes n in
                 let before : takes_in states n w.threads + times_listed w.shared n ≤ 1 =
                 c.balanced.once n in
                 let lists : times_listed h.outcome.shared n
                 ≡ times_listed w.shared n = rw shared refl in
                 omega arith)
                 a.device q m (omega arith)
-                (λ d l n. kept_sum set states w past good stands c t h leaves a (next a) (Taken
-                (Declared q)) Own m frame
-                frames refl turns (is_armed (Declared l)) (armed_queues (Declared l)) refl refl d n)
-                (λ d l n. fewer_sum set states w past good stands c t h leaves a (next a) (Taken
-                (Declared q)) Own m frame
-                frames refl turns (is_taken (Declared l)) (taken_queues (Declared l)) refl d n)
-                (λ d l n. kept_sum set states w past good stands c t h leaves a (next a) (Taken
-                (Declared q)) Own m frame
-                frames refl turns (is_listed (Declared l)) (listed_queues (Declared l)) refl refl d
-                n)
-                (λ d l n. kept_sum set states w past good stands c t h leaves a (next a) (Taken
-                (Declared q)) Own m frame
-                frames refl turns (is_cancelling (Declared l)) (cancelling_queues (Declared l)) refl
-                refl d n)
+                changes
                 (λ d l n. rw shared (word_emptied w.shared m a.device q p there armer its is_set d l
                 n))
                 (λ d l n. rw shared refl);
@@ -428,39 +395,20 @@ module _ (set : Set) (states : States) (w : World) (past : List Entry) (good : I
             let turns : TurnsNames states a (at_label a label) j BlankKind m =
             label_turns set states w.shared a (Disarm r label) run r j m label refl refl is
             (reads_ref w.shared (register a r) m reads) in
+            let changes : KindTurns (numbers states w) (numbers states to) j BlankKind a.device m =
+            kind_turns set states w past good stands c t h leaves a (at_label a label) j BlankKind m
+            frame frames refl turns in
             record {
-              balanced = balanced_less set (numbers states w) (numbers states to) c.balanced
+              balanced = balanced_gives set (numbers states w) (numbers states to) c.balanced
                   (λ n.
                   let took : takes_in states n to.threads + named_as was_taken j (Ref m) n
-                  ≡ takes_in states n w.threads + 0 =
-                  takes_sum set states w past good stands c t h leaves a (at_label a label) j
-                  BlankKind m frame frames refl turns n in
+                  ≡ takes_in states n w.threads + 0 = changes.takes n in
                   let before : takes_in states n w.threads + times_listed w.shared n ≤ 1 =
                   c.balanced.once n in
                   let lists : times_listed h.outcome.shared n
                   ≡ times_listed w.shared n = rw shared refl in
                   omega arith)
-                  (λ d l n.
-                  let less : names_on states (is_armed (Declared l)) d n to.threads
-                  + at_kind (is_armed (Declared l)) (λ e. nat_eq e d) a.device j m n
-                  ≡ names_on states (is_armed (Declared l)) d n w.threads =
-                  fewer_sum set states w past good stands c t h leaves a (at_label a label) j
-                  BlankKind m frame frames refl turns
-                  (is_armed (Declared l)) (armed_queues (Declared l)) refl d n in omega arith)
-                  (λ d l n.
-                  let less : names_on states (is_taken (Declared l)) d n to.threads
-                  + at_kind (is_taken (Declared l)) (λ e. nat_eq e d) a.device j m n
-                  ≡ names_on states (is_taken (Declared l)) d n w.threads =
-                  fewer_sum set states w past good stands c t h leaves a (at_label a label) j
-                  BlankKind m frame frames refl turns
-                  (is_taken (Declared l)) (taken_queues (Declared l)) refl d n in omega arith)
-                  (λ d l n. kept_sum set states w past good stands c t h leaves a (at_label a
-                  label) j BlankKind m frame frames refl turns
-                  (is_listed (Declared l)) (listed_queues (Declared l)) (plain l).0 refl d n)
-                  (λ d l n. kept_sum set states w past good stands c t h leaves a (at_label a
-                  label) j BlankKind m frame frames refl turns
-                  (is_cancelling (Declared l)) (cancelling_queues (Declared l)) (plain l).1 refl d
-                  n)
+                  j a.device m plain changes
                   (λ d l n. rw shared (word_kept w.shared m p (with_armer p None) there refl
                   (sym is_empty) n d l))
                   (λ d l n. rw shared refl);
