@@ -28,7 +28,7 @@ use Rattle.run_laws.proofs.Claims.Held.{is_own, one_holder, own_alone, owns_in}
 use Rattle.run_laws.proofs.Claims.Names.{KeepsNames, OfQueues, TurnsNames, armed_queues, cancelling_queues, listed_queues, names, next_takes, next_turns, taken_queues, was_queues}
 use Rattle.run_laws.proofs.Claims.Queues.{unlinked_other, unlinked_out, entries_fewer, entries_more, entries_others, unlinked_fewer, unlinked_none}
 use Rattle.run_laws.proofs.Claims.Quiet.{apart_keeps, frame_keeps}
-use Rattle.run_laws.proofs.Claims.Steps.{after, all_apart, apart_here, kind_turns, names_among, same_sums}
+use Rattle.run_laws.proofs.Claims.Steps.{after, all_apart, apart_here, kind_turns, names_among, same_balance, same_sums}
 use Rattle.run_laws.proofs.Claims.Sums.{Claimed, FrameApart, frame_names, is_taken, names_on, numbers, takes_in, times_of, was_taken, word_at}
 use Rattle.run_laws.proofs.Claims.Working.{Unlinks, apart_down, apart_up, cancelable_is, some_none, taken_le, unlinked_kind}
 use Rattle.run_laws.proofs.Claims.Waiting.{once_more}
@@ -82,27 +82,7 @@ module _ (set : Set) (states : States) (w : World) (past : List Entry) (good : I
       ap (stack_sum (frame_names states g on n)) frames in
       omega arith) in
       record {
-        balanced = balanced_less set (numbers states w) (numbers states to) c.balanced
-            (λ n.
-            let took : takes_in states n to.threads ≡ takes_in states n w.threads =
-            same was_taken was_queues (λ e. true) n in
-            let least : takes_in states n w.threads + times_listed h.outcome.shared n
-            ≤ 1 = once n in
-            omega arith)
-            (λ d q n. let one : names_on states (is_armed (Declared q)) d n to.threads
-            ≡ names_on states (is_armed (Declared q)) d n w.threads =
-            same (is_armed (Declared q)) (armed_queues (Declared q)) (λ e. nat_eq e d) n in omega
-            arith)
-            (λ d q n. let one : names_on states (is_taken (Declared q)) d n to.threads
-            ≡ names_on states (is_taken (Declared q)) d n w.threads =
-            same (is_taken (Declared q)) (taken_queues (Declared q)) (λ e. nat_eq e d) n in omega
-            arith)
-            (λ d q n. same (is_listed (Declared q)) (listed_queues (Declared q)) (λ e. nat_eq e d)
-            n)
-            (λ d q n. same (is_cancelling (Declared q)) (cancelling_queues (Declared q))
-            (λ e. nat_eq e d) n)
-            words_same
-            (λ d q n. rw queues refl);
+        balanced = same_balance set states w to c.balanced same words_same queues once;
         apart = all_apart set states w past good stands c t h leaves
             (rw frames (
               apart_keeps states a b keeps

@@ -20,7 +20,7 @@ use Rattle.run_laws.proofs.Claims.Balance.{balanced_less}
 use Rattle.run_laws.proofs.Claims.Names.{OfQueues, armed_queues, cancelling_queues, listed_queues, taken_queues, was_queues}
 use Rattle.run_laws.proofs.Claims.Queues.{to_start_le}
 use Rattle.run_laws.proofs.Claims.Quiet.{BeginsPlain, NamesNone, apart_none, begins_none, frame_none}
-use Rattle.run_laws.proofs.Claims.Steps.{after}
+use Rattle.run_laws.proofs.Claims.Steps.{after, same_balance}
 use Rattle.run_laws.proofs.Claims.Sums.{Claimed, FrameApart, frame_names, is_taken, names_on, numbers, takes_in, times_of, was_taken, word_at}
 use Rattle.run_laws.proofs.Claims.Waiting.{to_start_put, waits_in, waits_first}
 use Rattle.run_laws.proofs.Holders.Queued.{none_queued}
@@ -77,32 +77,13 @@ module _ (set : Set) (states : States) (w : World) (past : List Entry) (good : I
       let zero_names : frame_names states g on n f ≡ 0 = none g of on n in
       omega arith in
       record {
-        balanced = balanced_less set (numbers states w) (numbers states (with_thread w t s after))
-            c.balanced
+        balanced = same_balance set states w (with_thread w t s after) c.balanced same
+            (λ d q n. words n d q) queues
             (λ n.
-            let took : takes_in states n (slice_set w.threads t after)
-            ≡ takes_in states n w.threads =
-            same was_taken was_queues (λ e. true) n in
             let before : takes_in states n w.threads + times_listed w.shared n ≤ 1 =
             c.balanced.once n in
             let less : times_listed s n ≤ times_listed w.shared n = lists n in
-            omega arith)
-            (λ d q n.
-            let one : names_on states (is_armed (Declared q)) d n (slice_set w.threads t after)
-            ≡ names_on states (is_armed (Declared q)) d n w.threads =
-            same (is_armed (Declared q)) (armed_queues (Declared q)) (λ e. nat_eq e d) n in omega
-            arith)
-            (λ d q n.
-            let one : names_on states (is_taken (Declared q)) d n (slice_set w.threads t after)
-            ≡ names_on states (is_taken (Declared q)) d n w.threads =
-            same (is_taken (Declared q)) (taken_queues (Declared q)) (λ e. nat_eq e d) n in omega
-            arith)
-            (λ d q n. same (is_listed (Declared q)) (listed_queues (Declared q)) (λ e. nat_eq e d)
-            n)
-            (λ d q n. same (is_cancelling (Declared q)) (cancelling_queues (Declared q))
-            (λ e. nat_eq e d) n)
-            (λ d q n. words n d q)
-            (λ d q n. rw queues refl);
+            omega arith);
         apart = each_frames w t s after (λ k frames. Each (FrameApart states) frames) thread found
             (rw items (apart, tt)) (λ k other. c.apart k);
       }

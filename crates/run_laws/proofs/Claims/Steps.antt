@@ -17,11 +17,11 @@ use Rattle.model.specs.Set.{Set, instruction_at}
 use Rattle.model.specs.Trace.{Entry}
 use Rattle.model.specs.World.{World}
 use Rattle.run_laws.specs.Holder.{named_as, stack_sum, thread_sum, times_listed}
-use Rattle.run_laws.proofs.Claims.Balance.{KindTurns, at_kind, at_swapped, balanced_less}
+use Rattle.run_laws.proofs.Claims.Balance.{KindTurns, Same, at_kind, at_swapped, balanced_less}
 use Rattle.run_laws.proofs.Claims.Changed.{changed}
 use Rattle.run_laws.proofs.Claims.Names.{KeepsNames, OfQueues, TurnsNames, armed_queues, cancelling_queues, listed_queues, names, queue_packets, taken_queues, was_queues}
 use Rattle.run_laws.proofs.Claims.Quiet.{Quiet, apart_keeps}
-use Rattle.run_laws.proofs.Claims.Sums.{Claimed, FrameApart, frame_names, is_taken, names_on, numbers, takes_in, was_taken}
+use Rattle.run_laws.proofs.Claims.Sums.{Balanced, Claimed, FrameApart, frame_names, is_taken, names_on, numbers, takes_in, was_taken}
 use Rattle.run_laws.proofs.Holders.Rights.{named_told}
 use Rattle.run_laws.proofs.Holders.Sums.{top_le}
 use Rattle.run_laws.proofs.Lists.{Each, each_after, each_append, each_before}
@@ -102,6 +102,35 @@ module _ (set : Set) (states : States) (issued : ℕ) where
       subst (λ (xs : List Frame). Each (FrameApart states) xs) (sym (last_same set below)) h
   after_apart below f (Some status) (e ∷ frames) stacked to h =
       let no : Some status ≡ None = to.0 in cc
+
+-- frames name as many packets of queues with a cancel routine as before, words and queues are as they
+-- were, and no packet stands in two lists
+pub same_balance : (set : Set) (states : States) (v w : World) → Balanced set (numbers states v)
+    → ((g : Kind → Bool) → OfQueues g → (on : ℕ → Bool) (n : ℕ)
+    → thread_sum (frame_names states g on n) w.threads
+    ≡ thread_sum (frame_names states g on n) v.threads)
+    → Same (numbers states v).word (numbers states w).word
+    → w.shared.queues ≡ v.shared.queues
+    → ((n : ℕ) → takes_in states n v.threads + times_listed w.shared n ≤ 1)
+    → Balanced set (numbers states w)
+same_balance set states v w balanced same words queues once =
+    balanced_less set (numbers states v) (numbers states w) balanced
+    (λ n.
+    let took : takes_in states n w.threads ≡ takes_in states n v.threads =
+    same was_taken was_queues (λ e. true) n in
+    let least : takes_in states n v.threads + times_listed w.shared n ≤ 1 = once n in
+    omega arith)
+    (λ d q n. let one : names_on states (is_armed (Declared q)) d n w.threads
+    ≡ names_on states (is_armed (Declared q)) d n v.threads =
+    same (is_armed (Declared q)) (armed_queues (Declared q)) (λ e. nat_eq e d) n in omega arith)
+    (λ d q n. let one : names_on states (is_taken (Declared q)) d n w.threads
+    ≡ names_on states (is_taken (Declared q)) d n v.threads =
+    same (is_taken (Declared q)) (taken_queues (Declared q)) (λ e. nat_eq e d) n in omega arith)
+    (λ d q n. same (is_listed (Declared q)) (listed_queues (Declared q)) (λ e. nat_eq e d) n)
+    (λ d q n. same (is_cancelling (Declared q)) (cancelling_queues (Declared q)) (λ e. nat_eq e d)
+    n)
+    words
+    (λ d q n. rw queues refl)
 
 module _ (set : Set) (states : States) (w : World) (past : List Entry) (good : IsGood set states)
     (stands : Standing set states w past) (c : Claimed set states w) (t : ℕ)
@@ -227,30 +256,14 @@ module _ (set : Set) (states : States) (w : World) (past : List Entry) (good : I
   -- quiet steps
   pub quiet_claims : Quiet states w.shared h.frame h.outcome → Claimed set states after
   quiet_claims q =
-      let same : (g : Kind → Bool) → OfQueues g → (d n : ℕ)
-      → names_on states g d n after.threads ≡ names_on states g d n w.threads =
-      λ g of d n. same_sums g of (λ e. nat_eq e d) n (q.names g of (λ e. nat_eq e d) n) in
-      let takes : (n : ℕ) → takes_in states n after.threads ≡ takes_in states n w.threads =
-      λ n. same_sums was_taken was_queues (λ e. true) n (q.names was_taken was_queues (λ e. true) n)
-      in
       record {
-        balanced = balanced_less set (numbers states w) (numbers states after) c.balanced
+        balanced = same_balance set states w after c.balanced
+            (λ g of on n. same_sums g of on n (q.names g of on n)) (λ d p n. q.words n d p) q.queues
             (λ n.
             let before : takes_in states n w.threads + times_listed w.shared n
             ≤ 1 = c.balanced.once n in
-            let took : takes_in states n after.threads ≡ takes_in states n w.threads = takes n in
             let lists : times_listed h.outcome.shared n ≡ times_listed w.shared n =
             rw (q.queues, q.starts) refl in
-            omega arith)
-            (λ d q n. let one : names_on states (is_armed (Declared q)) d n after.threads
-            ≡ names_on states (is_armed (Declared q)) d n w.threads =
-            same (is_armed (Declared q)) (armed_queues (Declared q)) d n in omega arith)
-            (λ d q n. let one : names_on states (is_taken (Declared q)) d n after.threads
-            ≡ names_on states (is_taken (Declared q)) d n w.threads =
-            same (is_taken (Declared q)) (taken_queues (Declared q)) d n in omega arith)
-            (λ d q n. same (is_listed (Declared q)) (listed_queues (Declared q)) d n)
-            (λ d q n. same (is_cancelling (Declared q)) (cancelling_queues (Declared q)) d n)
-            (λ d p n. q.words n d p)
-            (λ d p n. rw q.queues refl);
+            omega arith);
         apart = all_apart (q.apart apart_here);
       }
