@@ -1,7 +1,9 @@
--- The devices of a sound set: each fits at its place.
-use Rattle.std.proofs.Common.{◌≡◌, ◌+◌, ℕ, zero, suc, List, [], ◌∷◌, length, Some, arith, subst}
+-- The devices of a sound set: each fits at its place, and is the one that its routines are for.
+use Rattle.std.proofs.Common.{◌≡◌, ◌+◌, ℕ, zero, suc, List, [], ◌∷◌, length, Option, None, Some, refl, arith, subst}
 use Rattle.std.specs.Prelude.{slice_get}
 use Rattle.model.specs.declared.set.Device.{Device}
+use Rattle.model.specs.declared.status.Major.{Major}
+use Rattle.model.specs.Effect.{dispatched}
 use Rattle.model.specs.Set.{Set}
 use Rattle.model.specs.Sound.{IsSound, DeviceFits, DevicesFit}
 
@@ -23,3 +25,9 @@ device_fits set i d sound there =
     let same : 0 + i ≡ i = omega arith in
     subst (λ (x : ℕ). DeviceFits (length set.drivers) x d) same
     (fits_from (length set.drivers) 0 set.devices i d sound.devices there)
+
+-- a dispatch routine is for the device whose request it serves
+pub dispatched_device : (set : Set) (device : ℕ) (o : Option Device) (major : Option Major) (n : ℕ)
+    → (dispatched set device o major n).device ≡ device
+dispatched_device set device None major n = refl
+dispatched_device set device (Some d) major n = refl

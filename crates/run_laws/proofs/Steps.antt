@@ -1,5 +1,6 @@
 pub mod Words
 pub mod Comes
+pub mod Onward
 pub mod Walk
 pub mod Faults
 pub mod Below

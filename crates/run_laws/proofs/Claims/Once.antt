@@ -7,11 +7,10 @@ use Rattle.model.specs.declared.world.Packet.{Packet}
 use Rattle.model.specs.Kinds.{is_cancelling, is_listed}
 use Rattle.model.specs.Run.{Run}
 use Rattle.model.specs.Set.{Set}
-use Rattle.model.specs.World.{World, packet_of, queue_of}
-use Rattle.run_laws.specs.Holder.{alive, frame_rights, is_live, thread_sum, times_listed, times_queued, times_started, times_to_start, times_waiting}
-use Rattle.run_laws.proofs.Claims.Held.{owns_in, rights_cover, word_holds}
-use Rattle.run_laws.proofs.Claims.Queues.{queued_zero, to_start_le}
-use Rattle.run_laws.proofs.Claims.Sums.{Claimed, names_on, takes_in, times_of, word_at}
+use Rattle.model.specs.World.{World, packet_of}
+use Rattle.run_laws.specs.Holder.{alive, frame_rights, is_live, thread_sum, times_listed, times_waiting}
+use Rattle.run_laws.proofs.Claims.Held.{none_alone, owns_in, rights_cover}
+use Rattle.run_laws.proofs.Claims.Sums.{Claimed, names_on, takes_in}
 use Rattle.run_laws.proofs.Holders.Runs.{live_listed}
 use Rattle.run_laws.proofs.Holders.Sums.{Held, unheld}
 use Rattle.run_laws.proofs.Past.LivePackets.{find, find_place}
@@ -21,26 +20,17 @@ use Rattle.run_laws.proofs.States.Rules.{States}
 module _ (set : Set) (states : States) (w : World) (kept : Held set states w)
     (claimed : Claimed set states w) (n : ℕ) where
   -- a packet that no register has a right to and that waits nowhere stands in no list
-  pub none_listed : unheld (find w.shared.packets n) ≡ 0 → times_listed w.shared n ≡ 0
-  none_listed nobody =
+  gone_unlisted : unheld (find w.shared.packets n) ≡ 0 → times_listed w.shared n ≡ 0
+  gone_unlisted nobody =
       let all : thread_sum (λ f. frame_rights states f n) w.threads + times_waiting set w.shared n
       ≡ unheld (find w.shared.packets n) = kept.rights n in
-      let queued : times_queued w.shared.queues n ≡ 0 =
-      queued_zero set w.shared n (omega arith) (λ d q may.
+      let none : takes_in states n w.threads + times_listed w.shared n ≡ 0 =
+      none_alone set states w kept n claimed.balanced (λ d q.
       let cover : names_on states (is_listed (Declared q)) d n w.threads
       + names_on states (is_cancelling (Declared q)) d n w.threads
       + owns_in states n w.threads ≤ thread_sum (λ f. frame_rights states f n) w.threads =
       rights_cover states d q n w.threads in
-      let word : word_at (find w.shared.packets n) d q ≤ times_waiting set w.shared n =
-      word_holds set states w kept n d q in
-      let entered : times_of (queue_of w.shared d q) n
-      ≤ word_at (find w.shared.packets n) d q
-      + names_on states (is_cancelling (Declared q)) d n w.threads
-      + names_on states (is_listed (Declared q)) d n w.threads =
-      claimed.balanced.entered d q n may in
       omega arith) in
-      let starts : times_to_start w.shared.starts n ≤ times_started w.shared.starts n =
-      to_start_le w.shared.starts n in
       omega arith
 
   pub listed_once : times_listed w.shared n ≤ 1
@@ -52,7 +42,7 @@ module _ (set : Set) (states : States) (w : World) (kept : Held set states w)
   alive_once : (o : Option Packet) → find w.shared.packets n ≡ o
       → times_listed w.shared n ≤ alive o
   alive_once None gone =
-      let none : times_listed w.shared n ≡ 0 = none_listed (ap unheld gone) in omega arith
+      let none : times_listed w.shared n ≡ 0 = gone_unlisted (ap unheld gone) in omega arith
   alive_once (Some p) there = let one : times_listed w.shared n ≤ 1 = listed_once in omega arith
 
 -- in the words of the law

@@ -2,7 +2,7 @@
 -- the
 -- same packets of queues with a cancel routine, and cancel words and queues are as before.
 use Rattle.std.proofs.Common.{◌≡◌, ℕ, ◌+◌, ◌-◌, ◌≤◌, Bool, true, false, List, [], ◌∷◌, ◌++◌, Option, None, Some, refl, ap, sym, ◌∙◌, arith, inl, inr}
-use Rattle.std.specs.Prelude.{⊤, nat_eq, nat_lt, replicate, slice_get, if◌then◌else◌}
+use Rattle.std.specs.Prelude.{⊤, nat_eq, replicate, slice_get, if◌then◌else◌}
 use Rattle.std.specs.List.{list_any}
 use Rattle.std.proofs.lemmas.Bool.{cond_both}
 use Rattle.std.proofs.lemmas.Bool.Decides.{eqb_tells}
@@ -25,7 +25,6 @@ use Rattle.model.specs.declared.set.Sort.TheVariants.{Cancel, Dispatch, Dpc, Hol
 use Rattle.model.specs.declared.world.Activation.{Activation}
 use Rattle.model.specs.declared.world.Frame.{Frame}
 use Rattle.model.specs.declared.world.Frame.TheVariants.{Routine, Walk}
-use Rattle.model.specs.declared.world.OpenLoop.{OpenLoop}
 use Rattle.model.specs.declared.world.Packet.{Packet}
 use Rattle.model.specs.declared.world.Value.{Value}
 use Rattle.model.specs.declared.world.Value.TheVariants.{Blank}
@@ -53,8 +52,9 @@ use Rattle.run_laws.proofs.States.NoViews.{is_queued}
 use Rattle.run_laws.proofs.States.Obeyed.{SendsDown, completes_one, returns_by, sends_down}
 use Rattle.run_laws.proofs.States.OnTop.{OnTop, runs}
 use Rattle.run_laws.proofs.States.Rules.{States, first_none}
-use Rattle.run_laws.proofs.Steps.Comes.{Comes, GoesTo, jumping, onward, Reads, awaits_lock, calls_down, cancels, carries_up, completes_gone, completes_packet, computes, ends_cancel, ends_dpc, ends_startio, errs, exchanges, frees_lock, lends_to, lets_go, lets_walk, looks_at, marks_packet, opens_loop, pages, passes_down, resumes_gone, resumes_none, resumes_walk, retakes_lock, returns_status, stops_none, stops_walk, takes_lock, tops_out, touches_gone, turns_loop, walks_gone, walks_to, walks_up, works_on_queues, writes_info}
+use Rattle.run_laws.proofs.Steps.Comes.{Comes, Reads, awaits_lock, calls_down, cancels, carries_up, completes_gone, completes_packet, computes, ends_cancel, ends_dpc, ends_startio, errs, exchanges, frees_lock, lends_to, lets_go, lets_walk, looks_at, marks_packet, opens_loop, pages, passes_down, resumes_gone, resumes_none, resumes_walk, retakes_lock, returns_status, stops_none, stops_walk, takes_lock, tops_out, touches_gone, turns_loop, walks_gone, walks_to, walks_up, works_on_queues, writes_info}
 use Rattle.run_laws.proofs.Steps.Faults.{fault_among, is_touch}
+use Rattle.run_laws.proofs.Steps.Onward.{goes_device, turned_device, turned_registers}
 use Rattle.run_laws.proofs.Steps.Words.{Forwarding, lock_taken, packet_operand, work_of}
 use Rattle.run_laws.proofs.Tests.{or_left, or_right}
 
@@ -189,19 +189,6 @@ completed_unqueued : (k : Kind) → complete_kind k ≡ None → is_queued k ≡
 completed_unqueued New h = refl
 completed_unqueued Own h = refl
 completed_unqueued _ h = cc
-
-turned_device : (a : Activation) (l : OpenLoop)
-    → ((turned a l).device ≡ a.device) × ((turned a l).registers ≡ a.registers)
-turned_device a l =
-    cond_both (nat_lt 1 l.turns) _ _
-    (λ (b : Activation). (b.device ≡ a.device) × (b.registers ≡ a.registers))
-    (λ more. (refl, refl)) (λ last. (refl, refl))
-
-pub goes_device : (a : Activation) (i : Instr) (b : Activation) (jumped : Bool)
-    → GoesTo a i b jumped
-    → b.device ≡ a.device
-goes_device a i b jumped (onward values on written) = refl
-goes_device a i b jumped (jumping label labelled) = refl
 
 -- the shapes that change a claim, a word or a queue
 abbrev pub is_loud : {set : Set} {s : Shared} {t : ℕ} {under : Option Frame} {f : Frame}
@@ -352,8 +339,8 @@ module _ (set : Set) (states : States) (s : Shared) (past : List Entry) (actor :
       (λ g of n. ap (λ (state : Abs). named_in g state.kinds (turned a loop).registers n)
       ends.arrives
       ∙ ap (λ (values : List Value). named_in g (state_of states a).kinds values n)
-      (turned_device a loop).1)
-      (turned_device a loop).0 refl (λ n d q. refl) refl refl
+      (turned_registers a loop))
+      (turned_device a loop) refl (λ n d q. refl) refl refl
   quiet_step under f o top holding (pages a i b cell cells at is goes long) loud quiet =
       on_quiet a b o (goes_names set states s a i (runs set states s a i top at) b false
       (rw is refl) (rw is refl) goes) (goes_device a i b false goes) refl (λ n d q. refl) refl refl

@@ -10,18 +10,17 @@ use Rattle.model.specs.declared.world.Frame.TheVariants.{Routine, Cancel as Canc
 use Rattle.model.specs.declared.world.Value.{Value}
 use Rattle.model.specs.declared.world.Value.TheVariants.{Ref, Blank}
 use Rattle.model.specs.Effect.{top_of}
-use Rattle.model.specs.Kinds.{is_armed, is_cancelling, is_listed}
+use Rattle.model.specs.Kinds.{is_armed, is_listed}
 use Rattle.model.specs.Queues.{idle as idle_start, without_first_to_start}
 use Rattle.model.specs.Set.{Set}
 use Rattle.model.specs.Trace.{Entry, Actor}
 use Rattle.model.specs.World.{Shared, World, queue_of, with_start, idle_thread, new_packet, with_dpc}
 use Rattle.run_laws.specs.Holder.{thread_sum, times_listed, times_queued, times_to_start, times_started}
-use Rattle.run_laws.proofs.Claims.Balance.{balanced_less}
-use Rattle.run_laws.proofs.Claims.Names.{OfQueues, armed_queues, cancelling_queues, listed_queues, taken_queues, was_queues}
+use Rattle.run_laws.proofs.Claims.Names.{OfQueues}
 use Rattle.run_laws.proofs.Claims.Queues.{to_start_le}
 use Rattle.run_laws.proofs.Claims.Quiet.{BeginsPlain, NamesNone, apart_none, begins_none, frame_none}
 use Rattle.run_laws.proofs.Claims.Steps.{after, same_balance}
-use Rattle.run_laws.proofs.Claims.Sums.{Claimed, FrameApart, frame_names, is_taken, names_on, numbers, takes_in, times_of, was_taken, word_at}
+use Rattle.run_laws.proofs.Claims.Sums.{Claimed, FrameApart, frame_names, is_taken, names_on, takes_in, times_of, was_taken, word_at}
 use Rattle.run_laws.proofs.Claims.Waiting.{to_start_put, waits_in, waits_first}
 use Rattle.run_laws.proofs.Holders.Queued.{none_queued}
 use Rattle.run_laws.proofs.Holders.Sums.{Held, first_frame}

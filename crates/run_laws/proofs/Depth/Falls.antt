@@ -2,26 +2,22 @@
 -- manager's frame and a completion routine on them; or one of IoCancelIrp alone. Each step keeps
 -- them so.
 use Rattle.std.proofs.Common.{◌≡◌, ℕ, suc, ◌+◌, ◌-◌, ◌<◌, ◌≤◌, List, [], ◌∷◌, ◌++◌, length, Option, None, Some, Bool, false, refl, ap, sym, subst, arith, true, ◌∙◌}
-use Rattle.std.specs.Prelude.{⊤, slice_get, nat_lt, IfSome, option_and_then}
-use Rattle.std.proofs.lemmas.Bool.{cond_both}
+use Rattle.std.specs.Prelude.{⊤, slice_get, IfSome, option_and_then}
 use Rattle.std.proofs.lemmas.List.{length-append}
-use Rattle.model.specs.declared.instr.Instr.{Instr}
 use Rattle.model.specs.declared.instr.Instr.TheVariants.{Pass, Call, Complete}
 use Rattle.model.specs.declared.set.Device.{Device}
 use Rattle.model.specs.declared.set.Sort.TheVariants.{Dispatch}
-use Rattle.model.specs.declared.status.Major.{Major}
 use Rattle.model.specs.declared.status.Status.{Status}
 use Rattle.model.specs.declared.world.Activation.{Activation}
 use Rattle.model.specs.declared.world.Frame.{Frame}
 use Rattle.model.specs.declared.world.Frame.TheVariants.{Routine, Walk, Cancel as CancelFrame}
-use Rattle.model.specs.declared.world.OpenLoop.{OpenLoop}
 use Rattle.model.specs.declared.world.Packet.{Packet}
-use Rattle.model.specs.Effect.{Outcome, answered_in, asks, dispatched, operand_of, told_to, turned, routine_of_device}
+use Rattle.model.specs.Effect.{Outcome, answered_in, asks, dispatched, operand_of, told_to, routine_of_device}
 use Rattle.model.specs.LocalRule.{is_completion}
 use Rattle.model.specs.Set.{Set, instruction_at, lower_of, sort_of}
 use Rattle.model.specs.Sound.{DeviceFits}
-use Rattle.model.specs.World.{Shared, asked_of, at_label, current_location, next, outer_loops, with_loops, entered}
-use Rattle.run_laws.proofs.Devices.{device_fits}
+use Rattle.model.specs.World.{Shared, asked_of, current_location, entered}
+use Rattle.run_laws.proofs.Devices.{device_fits, dispatched_device}
 use Rattle.run_laws.proofs.States.Entering.{IsOfSort, IsCompleting}
 use Rattle.run_laws.proofs.States.Frames.{state_of, Serves}
 use Rattle.run_laws.proofs.States.Lacking.{down}
@@ -30,13 +26,14 @@ use Rattle.run_laws.proofs.States.OnTop.{OnTop, runs}
 use Rattle.run_laws.proofs.States.Rules.{States}
 use Rattle.run_laws.proofs.States.Stacks.{Stacked}
 use Rattle.run_laws.proofs.States.Told.{told_frame, told_last, told_is}
-use Rattle.run_laws.proofs.Steps.Comes.{GoesTo, onward, jumping, Comes, computes, turns_loop, pages, looks_at, completes_packet, passes_down, calls_down, returns_status, lets_go, lets_walk, ends_dpc, walks_gone, walks_to, walks_up, carries_up, tops_out, works_on_queues, ends_startio, exchanges, resumes_walk, resumes_gone, resumes_none, stops_walk, stops_none, ends_cancel, lends_to, cancels, Cancels, takes_cancel, calls_cancel}
+use Rattle.run_laws.proofs.Steps.Comes.{Comes, computes, turns_loop, pages, looks_at, completes_packet, passes_down, calls_down, returns_status, lets_go, lets_walk, ends_dpc, walks_gone, walks_to, walks_up, carries_up, tops_out, works_on_queues, ends_startio, exchanges, resumes_walk, resumes_gone, resumes_none, stops_walk, stops_none, ends_cancel, lends_to, cancels, Cancels, takes_cancel, calls_cancel}
 use Rattle.run_laws.proofs.States.Queueing.{queue_moves}
 use Rattle.run_laws.proofs.States.Cancelled.{begins_called}
 use Rattle.std.proofs.lemmas.Option.{slice_get_within}
 use Rattle.model.specs.declared.world.Value.TheVariants.{Ref}
 use Rattle.model.specs.declared.world.CancelStep.{CancelStep}
 use Rattle.model.specs.declared.world.Canceller.{Canceller}
+use Rattle.run_laws.proofs.Steps.Onward.{goes_device, turned_device}
 
 -- frames of a thread, the lowest first: routines for lower and lower devices, all under a first
 -- one; on an I/O manager's frame at most one stands, and on one of IoCancelIrp none
@@ -268,24 +265,6 @@ module _ (set : Set) where
   lower_in device lower (Some d) there fits is =
       subst (λ (o : Option ℕ). IfSome o (λ l. l < device)) is (fits d there).lower
 
-  dispatched_for : (device : ℕ) (o : Option Device) (major : Option Major) (n : ℕ)
-      → (dispatched set device o major n).device ≡ device
-  dispatched_for device None major n = refl
-  dispatched_for device (Some d) major n = refl
-
--- a routine that goes on is for the same device
-goes_for : (a : Activation) (i : Instr) (b : Activation) (jumped : Bool) → GoesTo a i b jumped
-    → b.device ≡ a.device
-goes_for a i b jumped (onward registers on written) = refl
-goes_for a i b jumped (jumping label labelled) = refl
-
-turned_for : (a : Activation) (l : OpenLoop) → (turned a l).device ≡ a.device
-turned_for a l =
-    cond_both (nat_lt 1 l.turns)
-    (at_label (with_loops a (outer_loops a ++ record { start = l.start; turns = l.turns - 1 } ∷ []))
-    l.start)
-    (next (with_loops a (outer_loops a))) (λ b. b.device ≡ a.device) (λ more. refl) (λ last. refl)
-
 module _ (set : Set) (states : States) (s : Shared) where
   asks_short : (a : Activation) (lower n : ℕ) (p : Packet) → OnTop set states s (Routine a)
       → IsOfSort set a Dispatch → lower_of set a.device ≡ Some lower
@@ -296,7 +275,7 @@ module _ (set : Set) (states : States) (s : Shared) where
       (λ d there. device_fits set a.device d h.good.sound there) below in
       let same : (dispatched set lower (slice_get set.devices lower) (asked_of (current_location p))
       n).device ≡ lower =
-      dispatched_for set lower (slice_get set.devices lower) (asked_of (current_location p)) n in
+      dispatched_device set lower (slice_get set.devices lower) (asked_of (current_location p)) n in
       (refl, omega arith, sort)
 
   -- IoCancelIrp goes on, ends, or calls a cancel routine for a device that is there
@@ -318,13 +297,13 @@ module _ (set : Set) (states : States) (s : Shared) where
   -- every shape
   pub short : (t : ℕ) (under : Option Frame) (f : Frame) (o : Outcome) → OnTop set states s f
       → Comes set s t under f o → Short set f o.frames
-  short t under f o h (computes a i b jumped cells at work goes long) = goes_for a i b jumped goes
-  short t under f o h (turns_loop a l at inner) = turned_for a l
-  short t under f o h (pages a i b cell cells at work goes long) = goes_for a i b false goes
+  short t under f o h (computes a i b jumped cells at work goes long) = goes_device a i b jumped goes
+  short t under f o h (turns_loop a l at inner) = turned_device a l
+  short t under f o h (pages a i b cell cells at work goes long) = goes_device a i b false goes
   short t under f o h (looks_at a i b jumped r n p at work goes operand reads there jumps) =
-      goes_for a i b jumped goes
+      goes_device a i b jumped goes
   short t under f o h (exchanges a i b jumped r n p armer at work goes operand reads there how) =
-      goes_for a i b jumped goes
+      goes_device a i b jumped goes
   short t under f o h (completes_packet a r status n p at reads there) = (
     refl,
     (completes_one (state_of states a) (sort_of set a.driver a.routine) set a.driver r status

@@ -1,8 +1,7 @@
 -- The rights of a routine's frame after an instruction that leaves the packets with who has them,
 -- and after a mark; and those that a packet which is sent down takes along.
 use Rattle.std.proofs.Common.{◌≡◌, ℕ, ◌+◌, ◌<◌, List, length, None, Some, Bool, true, false, refl, ap, sym, ◌∙◌, arith}
-use Rattle.std.specs.Prelude.{nat_lt, slice_set, slice_index_or}
-use Rattle.std.proofs.lemmas.Bool.{cond_both}
+use Rattle.std.specs.Prelude.{slice_set, slice_index_or}
 use Rattle.model.specs.declared.abs.Abs.{Abs}
 use Rattle.model.specs.declared.abs.Kind.{Kind}
 use Rattle.model.specs.declared.abs.Kind.TheVariants.{Blank as BlankKind, Num as NumKind, Lower as LowerKind, New, Own}
@@ -12,10 +11,8 @@ use Rattle.model.specs.declared.limits.TheConstants.{REGISTERS}
 use Rattle.model.specs.declared.set.Sort.{Sort}
 use Rattle.model.specs.declared.world.Activation.{Activation}
 use Rattle.model.specs.declared.world.Frame.TheVariants.{Routine}
-use Rattle.model.specs.declared.world.OpenLoop.{OpenLoop}
 use Rattle.model.specs.declared.world.Value.{Value}
 use Rattle.model.specs.declared.world.Value.TheVariants.{Blank, Num}
-use Rattle.model.specs.Effect.{turned}
 use Rattle.model.specs.Kinds.{is_right}
 use Rattle.model.specs.LocalRule.{kind_of, handed, marked, given_down, number_kind, refuses}
 use Rattle.model.specs.Set.{Set, flow_of, sort_of}
@@ -88,11 +85,6 @@ given_rights issued s values r Own m h is unlisted =
     ≡ rights s.kinds values m + 0 = rights_turn issued s.kinds values r BlankKind m h in
     omega arith
 given_rights issued s values r _ m h is unlisted = cc
-
-pub turned_registers : (a : Activation) (l : OpenLoop) → (turned a l).registers ≡ a.registers
-turned_registers a l =
-    cond_both (nat_lt 1 l.turns) _ _ (λ (b : Activation). b.registers ≡ a.registers) (λ more. refl)
-    (λ last. refl)
 
 -- the rights after an instruction that leaves the packets with who has them
 written_rights : (set : Set) (states : States) (s : Shared) (a : Activation) (i : Instr)

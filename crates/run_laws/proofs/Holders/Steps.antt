@@ -3,8 +3,7 @@
 -- routine has no right to, and none whose cancel word isn't empty.
 use Rattle.std.proofs.Common.{inr, inl, ◌≡◌, ℕ, ◌+◌, ◌<◌, ◌≤◌, List, [], ◌∷◌, ◌++◌, Option, None, Some, Bool, true, false, refl, ap, sym, ◌∙◌, arith, is_some, subst}
 use Rattle.std.specs.List.{list_any}
-use Rattle.std.specs.Prelude.{nat_eq, nat_lt, slice_get, slice_set, if◌then◌else◌}
-use Rattle.std.proofs.lemmas.Bool.{cond_both}
+use Rattle.std.specs.Prelude.{nat_eq, slice_get, slice_set, if◌then◌else◌}
 use Rattle.model.specs.declared.abs.Abs.{Abs}
 use Rattle.model.specs.declared.abs.Kind.{Kind}
 use Rattle.model.specs.declared.abs.Kind.TheVariants.{Blank as BlankKind}
@@ -24,7 +23,6 @@ use Rattle.model.specs.declared.world.CancelStep.{CancelStep}
 use Rattle.model.specs.declared.world.CancelStep.TheVariants.{Exchange}
 use Rattle.model.specs.declared.world.Frame.{Frame}
 use Rattle.model.specs.declared.world.Frame.TheVariants.{Routine, Walk, Cancel as CancelFrame}
-use Rattle.model.specs.declared.world.OpenLoop.{OpenLoop}
 use Rattle.model.specs.declared.world.Packet.{Packet}
 use Rattle.model.specs.declared.world.Value.{Value}
 use Rattle.model.specs.declared.world.Value.TheVariants.{Ref}
@@ -41,7 +39,7 @@ use Rattle.run_laws.specs.Holder.{times_waiting, right, rights, frame_rights, st
 use Rattle.run_laws.proofs.Holders.Counts.{Holding, unheld_set, held_set, unheld_taken, held_taken, unheld_removed, held_removed, reads_ref, right_free, right_lives, walk_taken, walk_lives, waits_set, right_unarmed, unheld_lent, held_lent, waits_lost, walk_unarmed, waits_removed}
 use Rattle.run_laws.proofs.Holders.Exchanges.{exchange_rights}
 use Rattle.run_laws.proofs.Holders.Lent.{IsLent, back_rights, back_unheld, hold_sort, stops_hold, walk_same}
-use Rattle.run_laws.proofs.Holders.Onward.{given_rights, goes_rights, lock_rights, mark_rights, next_state_rights, still_rights, turned_registers}
+use Rattle.run_laws.proofs.Holders.Onward.{given_rights, goes_rights, lock_rights, mark_rights, next_state_rights, still_rights}
 use Rattle.run_laws.proofs.Holders.Rights.{rights_turn, no_rights, begun_rights}
 use Rattle.run_laws.proofs.Holders.Sums.{unheld, held, own_if}
 use Rattle.run_laws.proofs.Holders.Waits.{FreesSlot, queued_rights}
@@ -56,10 +54,11 @@ use Rattle.run_laws.proofs.States.Moves.{has_next}
 use Rattle.run_laws.proofs.States.Obeyed.{SendsDown, sends_down, completes_one, never_back, returns_by}
 use Rattle.run_laws.proofs.States.OnTop.{OnTop, runs}
 use Rattle.run_laws.proofs.States.Rules.{States}
-use Rattle.run_laws.proofs.Steps.Comes.{Cancels, takes_cancel, retakes_cancel, awaits_cancel, flags_gone, sets_flag, exchanges_gone, finds_empty, finds_none, calls_cancel, Exchanged, queued_to, Queued, GoesTo, onward, jumping, Reads, Comes, errs, awaits_lock, computes, opens_loop, turns_loop, pages, touches_gone, looks_at, writes_info, marks_packet, exchanges, takes_lock, retakes_lock, frees_lock, completes_packet, completes_gone, passes_down, calls_down, returns_status, lets_go, lets_walk, resumes_walk, resumes_gone, resumes_none, stops_walk, stops_none, walks_gone, walks_to, lends_to, walks_up, carries_up, tops_out, ends_dpc, ends_cancel, works_on_queues, ends_startio, cancels, inserts}
+use Rattle.run_laws.proofs.Steps.Comes.{Cancels, takes_cancel, retakes_cancel, awaits_cancel, flags_gone, sets_flag, exchanges_gone, finds_empty, finds_none, calls_cancel, Exchanged, queued_to, Queued, GoesTo, Reads, Comes, errs, awaits_lock, computes, opens_loop, turns_loop, pages, touches_gone, looks_at, writes_info, marks_packet, exchanges, takes_lock, retakes_lock, frees_lock, completes_packet, completes_gone, passes_down, calls_down, returns_status, lets_go, lets_walk, resumes_walk, resumes_gone, resumes_none, stops_walk, stops_none, walks_gone, walks_to, lends_to, walks_up, carries_up, tops_out, ends_dpc, ends_cancel, works_on_queues, ends_startio, cancels}
 use Rattle.run_laws.proofs.Steps.Faults.{is_touch, is_completion, fault_among}
 use Rattle.run_laws.proofs.Steps.Locking.{taken_word, freed_word}
-use Rattle.run_laws.proofs.Steps.Queues.{queued_touches}
+use Rattle.run_laws.proofs.Steps.Onward.{SameRoutine, goes_same, turned_same, turned_registers}
+use Rattle.run_laws.proofs.Steps.Queues.{queued_touches, queued_same}
 use Rattle.run_laws.proofs.Steps.Words.{Forwarding, work_of, packet_operand}
 
 -- the rights before and after a step, those of the packets that are gone or came included; and the
@@ -83,25 +82,10 @@ stop_keeps : (sort : Sort) → gives_back sort Stop ≡ false
 stop_keeps Hold = refl
 stop_keeps _ = refl
 
--- a routine goes on: it is of the same routine as before
-goes_same : (set : Set) (a b : Activation) (i : Instr) (jumped : Bool) → GoesTo a i b jumped
+-- a routine that goes on is lent a packet where it was lent one before
+lent_same : (set : Set) (a b : Activation) → SameRoutine a b
     → is_lent set (Routine b ∷ []) ≡ is_lent set (Routine a ∷ [])
-goes_same set a b i jumped (onward registers on written) = refl
-goes_same set a b i jumped (jumping label labelled) = refl
-
-turned_same : (set : Set) (a : Activation) (l : OpenLoop)
-    → is_lent set (Routine (turned a l) ∷ []) ≡ is_lent set (Routine a ∷ [])
-turned_same set a l =
-    cond_both (nat_lt 1 l.turns) _ _
-    (λ (b : Activation). is_lent set (Routine b ∷ []) ≡ is_lent set (Routine a ∷ [])) (λ more. refl)
-    (λ last. refl)
-
-queued_same : (set : Set) (s : Shared) (a b : Activation) (i : Instr)
-    {queues : List (List (List ℕ))} {lists : List StartState} {actions : List Action} {full : Bool}
-    → Queued s a i b queues lists actions full
-    → is_lent set (Routine b ∷ []) ≡ is_lent set (Routine a ∷ [])
-queued_same set s a b i (inserts r q n entries reads there) = refl
-queued_same set s a b i _ = refl
+lent_same set a b same = rw (same.0, same.1) refl
 
 -- every step
 module _ (set : Set) (states : States) (s : Shared) (past : List Entry) (actor : Actor) where
@@ -262,7 +246,7 @@ module _ (set : Set) (states : States) (s : Shared) (past : List Entry) (actor :
               ≡ frame_rights states (Routine a) n + times_waiting set s n =
               queued_rights set states s a i h frees queued n in
               omega arith;
-          walks = λ stays n. rw (queued_same set s a b i queued) refl;
+          walks = λ stays n. rw (lent_same set a b (queued_same queued)) refl;
         }
 
     -- its cancel word is exchanged
@@ -291,7 +275,7 @@ module _ (set : Set) (states : States) (s : Shared) (past : List Entry) (actor :
               rw (
                 shared,
                 frames,
-                goes_same set a b i jumped goes,
+                lent_same set a b (goes_same a i b jumped goes),
                 held_set s n p at (with_armer p armer) its refl m,
               ) refl;
         }
@@ -489,7 +473,7 @@ module _ (set : Set) (states : States) (s : Shared) (past : List Entry) (actor :
   hold under f o top holding slot lent (awaits_lock a i lock owner at takes owned other) quiet =
       kept under a a o (λ n. refl) refl refl (λ n. refl) (λ n. refl) (λ n. refl)
   hold under f o top holding slot lent (computes a i b jumped cells at is goes long) quiet =
-      kept under a b o (λ n. refl) refl (goes_same set a b i jumped goes)
+      kept under a b o (λ n. refl) refl (lent_same set a b (goes_same a i b jumped goes))
       (goes_rights set states s a i (runs set states s a i top at) b jumped (rw is refl) goes)
       (λ n. refl) (λ n. refl)
   hold under f o top holding slot lent (opens_loop a turns at room) quiet =
@@ -502,13 +486,13 @@ module _ (set : Set) (states : States) (s : Shared) (past : List Entry) (actor :
   hold under f o top holding slot lent (turns_loop a loop at there) quiet =
       let ends : Moved set states s.issued a (turned a loop) (state_of states a) =
       moved_end set states s a (runs set states s a End top at) loop there in
-      kept under a (turned a loop) o (λ n. refl) refl (turned_same set a loop)
+      kept under a (turned a loop) o (λ n. refl) refl (lent_same set a (turned a loop) (turned_same a loop))
       (λ n. ap (λ (state : Abs). rights state.kinds (turned a loop).registers n) ends.arrives
       ∙ ap (λ (values : List Value). rights (state_of states a).kinds values n)
       (turned_registers a loop))
       (λ n. refl) (λ n. refl)
   hold under f o top holding slot lent (pages a i b cell cells at is goes long) quiet =
-      kept under a b o (λ n. refl) refl (goes_same set a b i false goes)
+      kept under a b o (λ n. refl) refl (lent_same set a b (goes_same a i b false goes))
       (goes_rights set states s a i (runs set states s a i top at) b false (rw is refl) goes)
       (λ n. refl) (λ n. refl)
   hold under f o top holding slot lent (touches_gone a i r n at is on operand reads gone) quiet =
@@ -516,7 +500,7 @@ module _ (set : Set) (states : States) (s : Shared) (past : List Entry) (actor :
       (gone_topped s past n holding.tells (named s (register a r) n reads) gone) quiet)
   hold under f o top holding slot lent
       (looks_at a i b jumped r n p at is goes operand reads there jumps) quiet =
-      kept under a b o (λ n. refl) refl (goes_same set a b i jumped goes)
+      kept under a b o (λ n. refl) refl (lent_same set a b (goes_same a i b jumped goes))
       (goes_rights set states s a i (runs set states s a i top at) b jumped (rw is refl) goes)
       (λ m. refl) (λ m. refl)
   hold under f o top holding slot lent (writes_info a q r n p info at reads there number) quiet =

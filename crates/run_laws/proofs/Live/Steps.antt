@@ -5,9 +5,9 @@ use Rattle.model.specs.declared.instr.Return.TheVariants.{Continue}
 use Rattle.run_laws.proofs.States.Cancelled.{begins_called}
 use Rattle.model.specs.declared.world.CancelStep.{CancelStep}
 use Rattle.run_laws.proofs.Holders.Lent.{back_unheld, hold_sort}
-use Rattle.std.proofs.Common.{◌+◌, ◌≤◌, ◌≡◌, ℕ, ◌-◌, ◌<◌, List, [], ◌∷◌, ◌++◌, Option, None, Some, Bool, true, false, refl, ap, sym, ◌∙◌, subst, inl, inr, arith, ◌⊎◌, Continue, slice_get}
-use Rattle.std.specs.Prelude.{⊤, nat_lt}
-use Rattle.std.proofs.lemmas.Bool.{eq-eqb, cond_both, cases_Bool}
+use Rattle.std.proofs.Common.{◌+◌, ◌≤◌, ◌≡◌, ℕ, ◌<◌, List, ◌∷◌, Option, None, Some, Bool, true, false, refl, ap, sym, ◌∙◌, subst, inl, inr, arith, ◌⊎◌, Continue, slice_get}
+use Rattle.std.specs.Prelude.{⊤}
+use Rattle.std.proofs.lemmas.Bool.{eq-eqb, cases_Bool}
 use Rattle.model.specs.declared.abs.Kind.{Kind}
 use Rattle.model.specs.declared.abs.Kind.TheVariants.{Blank as BlankKind, Num as NumKind, Lower as LowerKind, New, Own, Listed, Armed, Taken, Cancelling, View}
 use Rattle.model.specs.declared.instr.Instr.{Instr}
@@ -15,7 +15,6 @@ use Rattle.model.specs.declared.set.Sort.TheVariants.{Dispatch, Hold, Cancel}
 use Rattle.model.specs.declared.world.Activation.{Activation}
 use Rattle.model.specs.declared.world.Frame.{Frame}
 use Rattle.model.specs.declared.world.Frame.TheVariants.{Routine, Walk, Cancel as CancelFrame}
-use Rattle.model.specs.declared.world.OpenLoop.{OpenLoop}
 use Rattle.model.specs.declared.world.Packet.{Packet}
 use Rattle.model.specs.declared.world.Value.{Value}
 use Rattle.model.specs.declared.world.Value.TheVariants.{Ref}
@@ -29,7 +28,7 @@ use Rattle.model.specs.LocalRule.{kind_of, is_hold}
 use Rattle.model.specs.Kinds.{is_packet, is_right, is_view, is_new, is_exchanged}
 use Rattle.model.specs.Set.{flow_of, Set, lower_of, member, sort_of}
 use Rattle.model.specs.Trace.{Entry, Actor}
-use Rattle.model.specs.World.{Shared, asked_of, at_label, current_location, next, outer_loops, packet_of, packet_in, register, with_loops, queue_of, entered}
+use Rattle.model.specs.World.{Shared, asked_of, current_location, next, packet_of, packet_in, register, queue_of, entered}
 use Rattle.run_laws.proofs.Holders.Counts.{Holding, right_lives, walk_lives}
 use Rattle.run_laws.proofs.Live.Sees.{view_refers, Views, RefersTo, Seen, AllSeen, IsDeferred, News, propagate_sees, hold_sees, lent_refers, deferred_sort}
 use Rattle.run_laws.proofs.States.NoViews.{deferred_no_view, handed_views, HasNoView, no_view_at, dispatch_no_view, handed_news, hold_no_view}
@@ -40,8 +39,9 @@ use Rattle.run_laws.proofs.States.Kinds.{packet_ref, packet_wanted}
 use Rattle.run_laws.proofs.States.Lacking.{never_lacks}
 use Rattle.run_laws.proofs.States.OnTop.{OnTop, runs, value_suits}
 use Rattle.run_laws.proofs.States.Rules.{States}
-use Rattle.run_laws.proofs.Steps.Comes.{removes_none, removes, inserts, starts_packet, takes_out, takes_none, puts_in, starts_next, unlinks, Queued, GoesTo, onward, jumping, Executing, Reads, Comes, errs, awaits_lock, computes, opens_loop, turns_loop, pages, touches_gone, looks_at, writes_info, marks_packet, exchanges, takes_lock, retakes_lock, frees_lock, completes_packet, completes_gone, passes_down, calls_down, returns_status, lets_go, lets_walk, resumes_walk, resumes_gone, resumes_none, stops_walk, stops_none, walks_gone, walks_to, lends_to, walks_up, carries_up, tops_out, ends_dpc, ends_cancel, works_on_queues, ends_startio, cancels, Cancels, takes_cancel, retakes_cancel, awaits_cancel, sets_flag, calls_cancel}
+use Rattle.run_laws.proofs.Steps.Comes.{removes_none, removes, inserts, starts_packet, takes_out, takes_none, puts_in, starts_next, unlinks, Queued, GoesTo, Executing, Reads, Comes, errs, awaits_lock, computes, opens_loop, turns_loop, pages, touches_gone, looks_at, writes_info, marks_packet, exchanges, takes_lock, retakes_lock, frees_lock, completes_packet, completes_gone, passes_down, calls_down, returns_status, lets_go, lets_walk, resumes_walk, resumes_gone, resumes_none, stops_walk, stops_none, walks_gone, walks_to, lends_to, walks_up, carries_up, tops_out, ends_dpc, ends_cancel, works_on_queues, ends_startio, cancels, Cancels, takes_cancel, retakes_cancel, awaits_cancel, sets_flag, calls_cancel}
 use Rattle.run_laws.proofs.Steps.Faults.{fault_among, is_touch}
+use Rattle.run_laws.proofs.Steps.Onward.{SameRoutine, goes_same, turned_same, turned_registers}
 use Rattle.run_laws.proofs.Steps.Words.{packet_operand}
 use Rattle.run_laws.proofs.States.Moves.{falls_next, has_next}
 use Rattle.run_laws.proofs.States.HandedOver.{queued_hold, touching_copies, next_hold, keeps_copies, copies, goes_hold}
@@ -74,25 +74,6 @@ walk_seen set states (Some (Routine a)) n = tt
 walk_seen set states (Some (Walk m)) n = tt
 walk_seen set states (Some (CancelFrame c)) n = tt
 
-goes_same : (a : Activation) (i : Instr) (b : Activation) (jumped : Bool) → GoesTo a i b jumped
-    → (b.driver ≡ a.driver) × (b.routine ≡ a.routine)
-goes_same a i b jumped (onward values on written) = (refl, refl)
-goes_same a i b jumped (jumping label labelled) = (refl, refl)
-
-record Turns (a b : Activation) : Type 0 where
-  driver : b.driver ≡ a.driver
-  routine : b.routine ≡ a.routine
-  registers : b.registers ≡ a.registers
-
-turned_same : (a : Activation) (l : OpenLoop) → Turns a (turned a l)
-turned_same a l =
-    cond_both (nat_lt 1 l.turns)
-    (at_label (with_loops a (outer_loops a ++ record { start = l.start; turns = l.turns - 1 } ∷ []))
-    l.start)
-    (next (with_loops a (outer_loops a))) (Turns a)
-    (λ more. record { driver = refl; routine = refl; registers = refl })
-    (λ last. record { driver = refl; routine = refl; registers = refl })
-
 module _ (set : Set) (states : States) (s : Shared) where
   next_seen : (under : Option Frame) (a : Activation) (i : Instr) → Runs set states s a i
       → has_next (flow_of i) ≡ true → copies i ≡ false → Seen set states under (Routine a)
@@ -108,7 +89,7 @@ module _ (set : Set) (states : States) (s : Shared) where
       → Runs set states s a i → GoesTo a i b jumped
       → Seen set states under (Routine a) → Seen set states under (Routine b)
   moves_seen under a i b jumped run goes h =
-      let same : (b.driver ≡ a.driver) × (b.routine ≡ a.routine) = goes_same a i b jumped goes in
+      let same : SameRoutine a b = goes_same a i b jumped goes in
       goes_seen set states under a b same.0 same.1
       (λ m views. goes_hold is_view handed_views (RefersTo m) set states s a tt i b jumped run goes
       views)
@@ -181,10 +162,10 @@ module _ (set : Set) (states : States) (s : Shared) where
     tt,
   )
   seen t under top f o h sees (turns_loop a l at inner) =
-      let same : Turns a (turned a l) = turned_same a l in (
-        same_seen under a (turned a l) same.driver same.routine
-            (moved_end set states s a (runs set states s a End h at) l inner).arrives same.registers
-            sees,
+      let same : SameRoutine a (turned a l) = turned_same a l in (
+        same_seen under a (turned a l) same.0 same.1
+            (moved_end set states s a (runs set states s a End h at) l inner).arrives
+            (turned_registers a l) sees,
         tt,
       )
   seen t under top f o h sees (pages a i b cell cells at work goes long) =

@@ -2,17 +2,14 @@
 -- on its way up or lent alone, and no status. Those of deferred routines and of IoCancelIrp tell
 -- nothing.
 use Rattle.std.proofs.Common.{ap, ◌≡◌, ◌⊎◌, Bool, List, None, Option, Some, [], false, refl, subst, sym, true, ℕ, ◌∙◌, ◌∷◌, inl, inr}
-use Rattle.std.specs.Prelude.{⊤, nat_lt}
+use Rattle.std.specs.Prelude.{⊤}
 use Rattle.std.specs.List.{list_any}
-use Rattle.std.proofs.lemmas.Bool.{cond_both}
-use Rattle.model.specs.declared.world.OpenLoop.{OpenLoop}
 use Rattle.model.specs.declared.world.Canceller.{Canceller}
 use Rattle.model.specs.declared.world.CancelStep.{CancelStep}
 use Rattle.model.specs.declared.world.Value.TheVariants.{Ref}
 use Rattle.run_laws.proofs.States.OnTop.{OnTop}
 use Rattle.run_laws.proofs.States.Fits.{ArmerLeads, word_leads}
 use Rattle.std.specs.Prelude.{slice_get}
-use Rattle.model.specs.Effect.{turned}
 use Rattle.std.proofs.lemmas.Bool.{eq-eqb}
 use Rattle.model.specs.declared.abs.Abs.{Abs}
 use Rattle.model.specs.declared.instr.Instr.{Instr}
@@ -33,27 +30,14 @@ use Rattle.run_laws.proofs.Live.Sees.{IsDeferred, deferred_sort}
 use Rattle.run_laws.proofs.States.Entering.{Begins, IsCompleting, begins_cancelled}
 use Rattle.run_laws.proofs.States.Frames.{state_of}
 use Rattle.run_laws.proofs.States.Rules.{States, first_none, second_none}
-use Rattle.run_laws.proofs.Steps.Comes.{Cancels, calls_cancel, cancels, takes_cancel, Queued, Comes, Executing, GoesTo, Reads, calls_down, completes_packet, computes, ends_cancel, exchanges, jumping, lets_go, lets_walk, looks_at, marks_packet, onward, pages, passes_down, resumes_gone, resumes_none, resumes_walk, returns_status, stops_none, stops_walk, turns_loop, walks_gone, ends_dpc, works_on_queues, ends_startio}
+use Rattle.run_laws.proofs.Steps.Comes.{Cancels, calls_cancel, cancels, takes_cancel, Queued, Comes, Executing, Reads, calls_down, completes_packet, computes, ends_cancel, exchanges, lets_go, lets_walk, looks_at, marks_packet, pages, passes_down, resumes_gone, resumes_none, resumes_walk, returns_status, stops_none, stops_walk, turns_loop, walks_gone, ends_dpc, works_on_queues, ends_startio}
 use Rattle.run_laws.proofs.States.NoViews.{is_deferred, handed_news, none_at, HasNone}
 use Rattle.model.specs.Queues.{StartState}
 use Rattle.model.specs.Action.{Executes, Action}
 use Rattle.model.specs.declared.abs.Kind.TheVariants.{New, View}
+use Rattle.run_laws.proofs.Steps.Onward.{goes_same, turned_same}
 use Rattle.run_laws.proofs.Uses.RoutineSteps.{marked_kind}
 use Rattle.run_laws.proofs.Steps.Queues.{queued_same, queued_touches}
-
--- how an activation goes on leaves its routine alone
-pub goes_same : (a : Activation) (i : Instr) (b : Activation) (jumped : Bool) → GoesTo a i b jumped
-    → (b.driver ≡ a.driver) × (b.routine ≡ a.routine)
-goes_same a i b jumped (onward registers on written) = (refl, refl)
-goes_same a i b jumped (jumping label labelled) = (refl, refl)
-
-pub turned_same : (a : Activation) (l : OpenLoop)
-    → ((turned a l).driver ≡ a.driver) × ((turned a l).routine ≡ a.routine)
-    × ((turned a l).registers ≡ a.registers)
-turned_same a l =
-    cond_both {A = Activation} (nat_lt 1 l.turns) _ _
-    (λ b. (b.driver ≡ a.driver) × (b.routine ≡ a.routine) × (b.registers ≡ a.registers))
-    (λ more. (refl, refl, refl)) (λ last. (refl, refl, refl))
 
 -- no frame is left, or that of the routine alone
 abbrev pub IsAlone : Activation → List Frame → Type 0
@@ -171,12 +155,7 @@ completion_looks m set states s t below a o kept is lent own
     (looks_at b i c jumped r n p at work goes operand reads there jumps) =
     record { told = refl; alone = goes_same a i c jumped goes; silent = refl; by = inl refl }
 completion_looks m set states s t below a o kept is lent own (turns_loop b l at there) =
-    record {
-      told = refl;
-      alone = ((turned_same a l).0, (turned_same a l).1);
-      silent = refl;
-      by = inl refl;
-    }
+    record { told = refl; alone = turned_same a l; silent = refl; by = inl refl }
 completion_looks m set states s t below a o kept is lent own (lets_go b at sort bare) =
     record { told = refl; alone = tt; silent = refl; by = inl refl }
 completion_looks m set states s t below a o kept is lent own (lets_walk b n at sort) =
@@ -265,7 +244,7 @@ deferred_works set states s t below a o kept is none unseen
     (looks_at b i c jumped r n p at work goes operand reads there jumps) =
     record { told = refl; over = goes_same a i c jumped goes; silent = refl }
 deferred_works set states s t below a o kept is none unseen (turns_loop b l at there) =
-    record { told = refl; over = ((turned_same a l).0, (turned_same a l).1); silent = refl }
+    record { told = refl; over = turned_same a l; silent = refl }
 deferred_works set states s t below a o kept is none unseen
     (works_on_queues b i c queues starts actions full at queued) =
     record {

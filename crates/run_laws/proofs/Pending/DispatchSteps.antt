@@ -37,7 +37,6 @@ use Rattle.run_laws.proofs.Holders.Steps.{named_right}
 use Rattle.run_laws.specs.Holder.{frame_rights, right, rights}
 use Rattle.run_laws.proofs.Past.LivePackets.{find}
 use Rattle.run_laws.proofs.Past.Packets.{found, named, numbered}
-use Rattle.run_laws.proofs.Pending.CompletionSteps.{goes_same, turned_same}
 use Rattle.run_laws.proofs.Pending.DispatchServes.{AsDuty, Does, calls_own, completes_own, marks_own, passes_own, returns_own, stays_quiet}
 use Rattle.run_laws.proofs.Pending.Duties.{owned_up, fresh_rights, Arrived, Dutied, Dutiful, counted, kinds_that, new_fresh, passes_new}
 use Rattle.run_laws.proofs.Pending.LowerStatuses.{lower_ref, lowers_turn, LowerIs, Lowers, lowers_get, lowers_kept, lowers_move, lowers_none, lowers_set}
@@ -51,6 +50,7 @@ use Rattle.run_laws.proofs.States.Obeyed.{ReturnsBy, completes_one, nothing_kept
 use Rattle.run_laws.proofs.Steps.Locking.{LockWord, freed_word, taken_word}
 use Rattle.run_laws.proofs.States.Rules.{States, first_none, second_none, unbroken}
 use Rattle.run_laws.proofs.Steps.Comes.{Exchanged, arms_for, disarms, exchanges, resumes_walk, resumes_gone, resumes_none, stops_walk, stops_none, ends_cancel, unlinks, removes_none, removes, inserts, puts_in, starts_next, starts_packet, takes_none, takes_out, Queued, Reads, Comes, Executing, GoesTo, Lacks, Written, awaits_lock, calls_down, completes_gone, completes_packet, computes, errs, frees_lock, jumping, lets_go, lets_walk, looks_at, keeps_all, makes_blank, makes_number, marks_packet, moves_over, onward, opens_loop, pages, passes_down, retakes_lock, returns_status, takes_lock, touches_gone, turns_loop, writes_info, ends_dpc, works_on_queues, ends_startio}
+use Rattle.run_laws.proofs.Steps.Onward.{goes_same, turned_same, turned_registers}
 use Rattle.run_laws.proofs.Steps.Words.{goes_next, is_giving, keeps_registers, status_returned, work_of}
 use Rattle.run_laws.proofs.Tests.{not_false, or_left, or_right}
 use Rattle.run_laws.proofs.Uses.Steps.{found_put}
@@ -559,18 +559,17 @@ module _ (set : Set) (states : States) (s : Shared) (past : List Entry) (actor :
       at
       refl refl refl refl refl refl refl) refl
   dispatch_does below o (turns_loop b l at there) quiet =
-      let same : ((turned a l).driver ≡ a.driver) × ((turned a l).routine ≡ a.routine)
-      × ((turned a l).registers ≡ a.registers) = turned_same a l in
+      let registers : (turned a l).registers ≡ a.registers = turned_registers a l in
       let back : state_of states (turned a l) ≡ now = h.routine.ends l at there in
       stays_quiet s (turned a l) (Executes ∷ []) Stepped false
       (record {
-        driver = same.0;
-        routine = same.1;
+        driver = (turned_same a l).0;
+        routine = (turned_same a l).1;
         duty = ap (λ (state : Abs). state.duty) back;
         lowers = λ x left. subst (λ (state : Abs). Lowers x state.kinds (turned a l).registers)
             (sym back)
-            (subst (λ (values : List Value). Lowers x now.kinds values) (sym same.2) left);
-        news = λ m refers. rw (back, same.2) refers;
+            (subst (λ (values : List Value). Lowers x now.kinds values) (sym registers) left);
+        news = λ m refers. rw (back, registers) refers;
       }) refl
   dispatch_does below o (pages b i c cell cells at work goes long) quiet =
       stays_quiet (record s { cells = cells }) c (Executes ∷ TouchesPaged cell ∷ []) Stepped false

@@ -26,6 +26,7 @@ use Rattle.model.specs.Set.{Set, lower_of, sort_of}
 use Rattle.model.specs.Trace.{Entry}
 use Rattle.model.specs.World.{Shared, asked_of, current_location, is_marked, next, packet_of, register, sent_down, with_packet}
 use Rattle.run_laws.specs.Holder.{frame_rights, frame_walks, right, rights}
+use Rattle.run_laws.proofs.Devices.{dispatched_device}
 use Rattle.run_laws.proofs.Holders.Counts.{Holding, reads_ref}
 use Rattle.run_laws.proofs.Holders.Onward.{given_rights}
 use Rattle.run_laws.proofs.Holders.Rights.{one_right, right_le}
@@ -37,7 +38,7 @@ use Rattle.run_laws.proofs.Past.Stacks.{Measured}
 use Rattle.run_laws.proofs.Room.Changes.{AllWays, changed, keeps_other, waits_apart, ways_set, words_set}
 use Rattle.run_laws.proofs.Room.Frames.{begins_asked, next_room, no_gain, room_on}
 use Rattle.run_laws.proofs.Room.Registers.{claim_get, claims_owned, claims_right, is_owned}
-use Rattle.run_laws.proofs.Room.Sizes.{dispatched_device, smaller, some_stack, stack_at}
+use Rattle.run_laws.proofs.Room.Sizes.{smaller, some_stack, stack_at}
 use Rattle.run_laws.proofs.Room.Waiting.{FrameRoom, HasRoom, Keeps, MarkedIn, RoomAt, RoomFor, WaitingRoom, serves_driver, waiting_kept}
 use Rattle.run_laws.proofs.Room.Ways.{WayUp, sent_way}
 use Rattle.run_laws.proofs.States.Entering.{LowerThere, begins_lower}

@@ -24,7 +24,6 @@ use Rattle.model.specs.World.{Shared, next, register}
 use Rattle.run_laws.specs.Holder.{frame_rights}
 use Rattle.run_laws.proofs.Past.LivePackets.{find}
 use Rattle.run_laws.proofs.Room.Registers.{IsClaim, Refers, claim_first, claim_told, claimed_on, claims_owned, claims_right, brings, gained_by, goes_claims, is_gained, is_owned, next_claims}
-use Rattle.run_laws.proofs.Room.Sizes.{goes_device}
 use Rattle.run_laws.proofs.Room.Waiting.{FrameRoom, HasPlace, HasRoom, Keeps, MarkedIn, RoomFor, room_kept}
 use Rattle.run_laws.proofs.Room.Ways.{Stays}
 use Rattle.run_laws.proofs.States.Entering.{Begins, Enters, first_state}
@@ -34,6 +33,7 @@ use Rattle.run_laws.proofs.States.Moves.{has_next}
 use Rattle.run_laws.proofs.States.Rules.{States}
 use Rattle.run_laws.proofs.States.Told.{told_frame}
 use Rattle.run_laws.proofs.Steps.Comes.{GoesTo}
+use Rattle.run_laws.proofs.Steps.Onward.{goes_device}
 
 module _ (set : Set) (states : States) where
   -- the packets that it has the right to are as they were
@@ -114,7 +114,7 @@ module _ (set : Set) (states : States) where
         → (jumped ≡ false → GainsPlace after a i) → FrameRoom set states after a
         → FrameRoom set states after b
     goes_room b jumped goes gains room =
-        let device : b.device ≡ a.device = goes_device a b i jumped goes in
+        let device : b.device ≡ a.device = goes_device a i b jumped goes in
         record {
           rooms = rw device
               (goes_claims is_right claims_right (RoomFor set after a.device) set states s a i h b

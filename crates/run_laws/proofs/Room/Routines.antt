@@ -28,7 +28,7 @@ use Rattle.run_laws.proofs.Room.Changes.{AllKeep, AllWays, all_keep, changed, ke
 use Rattle.run_laws.proofs.Room.Frames.{GainsPlace, goes_room, next_room, no_gain, room_on, room_same}
 use Rattle.run_laws.proofs.Room.Locations.{marked_here}
 use Rattle.run_laws.proofs.Room.Registers.{gained_operand, is_owned, keeps_brings, mark_gains, nothing_gained, touching_brings}
-use Rattle.run_laws.proofs.Room.Sizes.{Turned, stack_at, turned_same}
+use Rattle.run_laws.proofs.Room.Sizes.{stack_at}
 use Rattle.run_laws.proofs.Room.Waiting.{FrameRoom, HasRoom, Place, RoomAt, SameWaiting, WaitingRoom, own_place, place_kept, queued_room, room_kept, waiting_kept, waiting_queued}
 use Rattle.run_laws.proofs.Room.Ways.{Stays, stays_marked, stays_same, stays_shared}
 use Rattle.run_laws.proofs.States.Frames.{Runs, state_of}
@@ -39,6 +39,7 @@ use Rattle.run_laws.proofs.States.OnTop.{OnTop, runs}
 use Rattle.run_laws.proofs.States.Rules.{States, first_none}
 use Rattle.run_laws.proofs.Steps.Comes.{Comes, Exchanged, Executing, Reads, arms_for, awaits_lock, calls_down, completes_gone, completes_packet, computes, disarms, ends_cancel, ends_dpc, ends_startio, errs, exchanges, frees_lock, lets_go, lets_walk, looks_at, marks_packet, opens_loop, pages, passes_down, resumes_gone, resumes_none, resumes_walk, retakes_lock, returns_status, stops_none, stops_walk, takes_lock, touches_gone, turns_loop, works_on_queues, writes_info, GoesTo}
 use Rattle.run_laws.proofs.Steps.Locking.{LockWord, freed_word, taken_word}
+use Rattle.run_laws.proofs.Steps.Onward.{turned_device, turned_registers}
 use Rattle.run_laws.proofs.Steps.Words.{is_giving, packet_operand, work_of, is_touching, goes_next}
 
 -- a cancel word that a routine finds set while it has a packet that may be cancelled names its
@@ -319,12 +320,11 @@ module _ (set : Set) (states : States) (s : Shared) where
             tt,
           ))
       routine_room under o (turns_loop b l at inner) =
-          let same : Turned a (turned a l) = turned_same a l in
           alone o refl refl refl
           (λ now. (
-            room_same set states o.shared a (turned a l) same.device
+            room_same set states o.shared a (turned a l) (turned_device a l)
                 (moved_end set states s a (runs set states s a End h at) l inner).arrives
-                same.registers now,
+                (turned_registers a l) now,
             tt,
           ))
       routine_room under o (pages b i c cell cells at work to long) =

@@ -40,7 +40,7 @@ use Rattle.run_laws.proofs.Room.Sizes.{some_stack, stack_at, stack_of}
 use Rattle.run_laws.proofs.Room.Steps.{call_faults, room_step}
 use Rattle.run_laws.proofs.Room.Waiting.{FrameRoom, HasRoom, Keeps, RoomAt, WaitingRoom, start_put_room, waiting_kept}
 use Rattle.run_laws.proofs.Room.Ways.{WayUp, new_way, stays_same}
-use Rattle.run_laws.proofs.Room.Words.{word_names}
+use Rattle.run_laws.proofs.Room.Words.{names_device}
 use Rattle.run_laws.proofs.Runs.Events.{BeginsStartIo, StepsFrame, Happens, nothing, steps, issues, begins, begins_cancel, begins_startio}
 use Rattle.run_laws.proofs.Runs.Kept.{GoesOnBy, with_queued}
 use Rattle.run_laws.proofs.Runs.Threads.{frames_there, each_frames, idle_frames}
@@ -302,7 +302,8 @@ module _ (set : Set) (states : States) (w : World) (past : List Entry) (good : I
         kept : (c : Change) → Happens set w actor.thread c → Roomy set states c.world
         kept c (nothing reply right) = roomy
         kept c (steps h) =
-            step_room actor h (word_names set states w past good stands holds claimed actor.thread h)
+            step_room actor h
+            (names_device set states w past good stands holds claimed actor.thread h)
         kept c (issues h) =
             threads_room actor.thread (with_new_packet w.shared h.d h.device h.major h.argument)
             h.thread

@@ -1,22 +1,15 @@
--- The stack sizes of devices: a device under another one has a smaller one, and a routine goes on
--- for its device.
-use Rattle.std.proofs.Common.{◌≡◌, ℕ, Bool, suc, ◌+◌, ◌<◌, ◌≤◌, inl, inr, length, Option, None, Some, true, false, refl, ap, sym, ◌∙◌, arith}
+-- The stack sizes of devices: a device under another one has a smaller one.
+use Rattle.std.proofs.Common.{◌≡◌, ℕ, suc, ◌+◌, ◌<◌, ◌≤◌, inl, inr, length, Option, None, Some, true, false, ap, sym, ◌∙◌, arith}
 use Rattle.std.specs.Prelude.{◌&&◌, nat_eq, nat_lt, slice_get, option_and_then}
-use Rattle.std.proofs.lemmas.Bool.{cond_both, eq-eqb}
+use Rattle.std.proofs.lemmas.Bool.{eq-eqb}
 use Rattle.std.proofs.lemmas.Bool.Decides.{leb_tells}
-use Rattle.model.specs.declared.instr.Instr.{Instr}
 use Rattle.model.specs.declared.set.Device.{Device}
-use Rattle.model.specs.declared.status.Major.{Major}
-use Rattle.model.specs.declared.world.Activation.{Activation}
-use Rattle.model.specs.declared.world.OpenLoop.{OpenLoop}
-use Rattle.model.specs.Effect.{turned, dispatched}
 use Rattle.model.specs.Forwarding.{device_under, is_under, is_too_small}
 use Rattle.model.specs.Set.{Set, lower_of}
 use Rattle.model.specs.Sound.{IsSound, DeviceFits}
 use Rattle.run_laws.proofs.Devices.{device_fits}
 use Rattle.run_laws.proofs.States.Entering.{any_false, not_none}
 use Rattle.run_laws.proofs.States.Frames.{Serves}
-use Rattle.run_laws.proofs.Steps.Comes.{GoesTo, onward, jumping}
 
 -- the stack size of a device
 abbrev pub stack_of : Option Device → ℕ
@@ -25,27 +18,6 @@ stack_of (Some d) = d.stack
 
 abbrev pub stack_at : Set → ℕ → ℕ
 stack_at set d = stack_of (slice_get set.devices d)
-
--- a routine goes on for its device
-pub goes_device : (a b : Activation) (i : Instr) (jumped : Bool) → GoesTo a i b jumped
-    → b.device ≡ a.device
-goes_device a b i jumped (onward registers on written) = refl
-goes_device a b i jumped (jumping label to) = refl
-
-pub record Turned (a b : Activation) : Type 0 where
-  pub device : b.device ≡ a.device
-  pub registers : b.registers ≡ a.registers
-
-pub turned_same : (a : Activation) (l : OpenLoop) → Turned a (turned a l)
-turned_same a l =
-    cond_both (nat_lt 1 l.turns) _ _ (λ (b : Activation). Turned a b)
-    (λ more. record { device = refl; registers = refl })
-    (λ last. record { device = refl; registers = refl })
-
-pub dispatched_device : (set : Set) (device : ℕ) (o : Option Device) (major : Option Major) (n : ℕ)
-    → (dispatched set device o major n).device ≡ device
-dispatched_device set device None major n = refl
-dispatched_device set device (Some d) major n = refl
 
 -- a device has a stack location
 pub some_stack : (set : Set) (device : ℕ) (e : Device) → IsSound set

@@ -2,9 +2,8 @@
 -- Armed or Taken for the packet, which the word backs, or a cancel routine that was called; and
 -- there is none of these where the word is set, since a packet has one holder.
 use Rattle.run_laws.proofs.Claims.Tops.{named_some}
-use Rattle.std.proofs.Common.{◌≡◌, ℕ, ◌+◌, ◌≤◌, Bool, true, false, List, Some, refl, arith}
-use Rattle.std.specs.Prelude.{◌&&◌, nat_eq, if◌then◌else◌}
-use Rattle.std.proofs.lemmas.Bool.{eq-eqb, eqb-true}
+use Rattle.std.proofs.Common.{◌≡◌, ℕ, ◌+◌, ◌≤◌, true, List, Some, refl, ◌∙◌, arith}
+use Rattle.std.proofs.lemmas.Bool.{eq-eqb}
 use Rattle.model.specs.declared.abs.Kind.{Kind}
 use Rattle.model.specs.declared.abs.Kind.TheVariants.{Armed, Taken}
 use Rattle.model.specs.declared.set.QueueName.TheVariants.{Declared}
@@ -13,34 +12,22 @@ use Rattle.model.specs.declared.world.Armer.{Armer}
 use Rattle.model.specs.declared.world.Frame.{Frame}
 use Rattle.model.specs.declared.world.Frame.TheVariants.{Routine, Walk, Cancel as CancelFrame}
 use Rattle.model.specs.declared.world.Packet.{Packet}
-use Rattle.model.specs.Kinds.{is_armed, is_cancelling, is_exchanged, is_listed, is_name}
+use Rattle.model.specs.Kinds.{is_armed, is_exchanged}
 use Rattle.model.specs.LocalRule.{kind_of}
 use Rattle.model.specs.Set.{Set}
 use Rattle.model.specs.Trace.{Entry}
 use Rattle.model.specs.World.{World, register}
-use Rattle.run_laws.specs.Holder.{times_waiting}
-use Rattle.run_laws.proofs.Claims.Held.{one_holder, owns_in}
-use Rattle.run_laws.proofs.Claims.Sums.{Claimed, is_taken, names_on, word_at, word_for}
+use Rattle.run_laws.proofs.Claims.Sums.{Claimed, is_taken, names_on}
+use Rattle.run_laws.proofs.Claims.WordSteps.{word_names}
 use Rattle.run_laws.proofs.Holders.Counts.{reads_ref}
 use Rattle.run_laws.proofs.Holders.Sums.{Held}
-use Rattle.run_laws.proofs.Past.LivePackets.{find}
+use Rattle.run_laws.proofs.Past.LivePackets.{find, find_place}
 use Rattle.run_laws.proofs.Room.Routines.{NamesDevice}
-use Rattle.run_laws.proofs.Room.Waiting.{word_some}
 use Rattle.run_laws.proofs.Runs.Events.{StepsFrame}
 use Rattle.run_laws.proofs.States.Frames.{IsGood, state_of}
 use Rattle.run_laws.proofs.States.Rules.{States}
 use Rattle.run_laws.proofs.States.Standing.{Standing}
 use Rattle.run_laws.proofs.Steps.Comes.{Reads}
-
--- a word that names a queue of a device names the device
-word_of_device : (armer : Armer) (d q : ℕ) → 1 ≤ word_for (Some armer) d q → armer.device ≡ d
-word_of_device armer d q some =
-    by_bits (nat_eq armer.device d) (is_name armer.queue (Declared q)) refl some
-  where
-    by_bits : (device queue : Bool) → nat_eq armer.device d ≡ device
-        → 1 ≤ (if device && queue then 1 else 0) → armer.device ≡ d
-    by_bits true queue is some = eqb-true armer.device d is
-    by_bits false queue is some = absurd (omega arith)
 
 module _ (set : Set) (states : States) (w : World) (past : List Entry) (good : IsGood set states)
     (stands : Standing set states w past) (held : Held set states w)
@@ -52,18 +39,8 @@ module _ (set : Set) (states : States) (w : World) (past : List Entry) (good : I
         + names_on states (is_taken (Declared q)) d n w.threads
         → armer.device ≡ d
     backed_device d q n p armer there is some =
-        let backed : names_on states (is_armed (Declared q)) d n w.threads
-        + names_on states (is_taken (Declared q)) d n w.threads
-        ≤ word_at (find w.shared.packets n) d q
-        + names_on states (is_cancelling (Declared q)) d n w.threads =
-        claimed.balanced.backed d q n in
-        let waits : 1 ≤ times_waiting set w.shared n = word_some set w.shared n p armer there is in
-        let one : names_on states (is_listed (Declared q)) d n w.threads
-        + names_on states (is_cancelling (Declared q)) d n w.threads + owns_in states n w.threads
-        + times_waiting set w.shared n ≤ 1 = one_holder set states w held n d q in
-        let word : word_at (find w.shared.packets n) d q ≡ word_for (Some armer) d q =
-        rw (there, is) refl in
-        word_of_device armer d q (omega arith)
+        (word_names set states w held claimed d q n p armer (find_place w.shared.packets n ∙ there)
+        is some).0
 
     module _ (t : ℕ) (h : StepsFrame set w t) (a : Activation) (top : h.frame ≡ Routine a) where
       exchanged_device : (k : Kind) (r n : ℕ) (p : Packet) (armer : Armer)
@@ -90,5 +67,5 @@ module _ (set : Set) (states : States) (w : World) (past : List Entry) (good : I
     frame_device t h (Walk n) top = tt
     frame_device t h (CancelFrame c) top = tt
 
-    pub word_names : (t : ℕ) (h : StepsFrame set w t) → NamesDevice states w.shared h.frame
-    word_names t h = frame_device t h h.frame refl
+    pub names_device : (t : ℕ) (h : StepsFrame set w t) → NamesDevice states w.shared h.frame
+    names_device t h = frame_device t h h.frame refl

@@ -4,10 +4,8 @@ use Rattle.model.specs.declared.world.Value.TheVariants.{Ref}
 use Rattle.model.specs.declared.world.Armer.{Armer}
 use Rattle.run_laws.proofs.States.Fits.{ArmerLeads, word_leads}
 use Rattle.model.specs.declared.world.CancelStep.{CancelStep}
-use Rattle.std.proofs.Common.{◌≡◌, ℕ, ◌-◌, List, [], ◌∷◌, ◌++◌, Option, None, Some, Bool, false, refl, sym, ◌∙◌, subst, slice_get}
-use Rattle.std.specs.Prelude.{⊤, nat_lt}
-use Rattle.std.proofs.lemmas.Bool.{cond_both}
-use Rattle.model.specs.declared.instr.Instr.{Instr}
+use Rattle.std.proofs.Common.{◌≡◌, ℕ, ◌-◌, List, [], ◌∷◌, Option, None, Some, false, refl, sym, ◌∙◌, subst, slice_get}
+use Rattle.std.specs.Prelude.{⊤}
 use Rattle.model.specs.declared.instr.Instr.TheVariants.{Pass, Call}
 use Rattle.model.specs.declared.set.Sort.TheVariants.{Dispatch, Propagate, Hold, Cancel}
 use Rattle.model.specs.declared.status.Status.{Status}
@@ -16,11 +14,10 @@ use Rattle.model.specs.declared.world.Frame.{Frame}
 use Rattle.model.specs.declared.world.Frame.TheVariants.{Routine, Walk, Cancel as CancelFrame}
 use Rattle.model.specs.declared.world.Irql.{Irql}
 use Rattle.model.specs.declared.world.Irql.TheVariants.{Passive}
-use Rattle.model.specs.declared.world.OpenLoop.{OpenLoop}
 use Rattle.model.specs.Effect.{Outcome, answered_in, completes_with, operand_of, turned, routine_of_device}
 use Rattle.model.specs.Events.{root_over}
 use Rattle.model.specs.Set.{Set, instruction_at}
-use Rattle.model.specs.World.{Shared, at_label, next, outer_loops, with_loops, entered}
+use Rattle.model.specs.World.{Shared, entered}
 use Rattle.run_laws.proofs.Lists.{Each}
 use Rattle.run_laws.proofs.States.Entering.{IsOfSort, Begins, begins_back, begins_lent, begins_cancelled}
 use Rattle.run_laws.proofs.States.Lacking.{down}
@@ -28,7 +25,8 @@ use Rattle.run_laws.proofs.States.OnTop.{OnTop, runs}
 use Rattle.run_laws.proofs.States.Queueing.{MovedOn, queue_moves}
 use Rattle.run_laws.proofs.States.Rules.{States}
 use Rattle.run_laws.proofs.States.Told.{told_frame, told_last}
-use Rattle.run_laws.proofs.Steps.Comes.{GoesTo, onward, jumping, Comes, computes, turns_loop, pages, looks_at, completes_packet, passes_down, calls_down, returns_status, lets_go, lets_walk, ends_dpc, walks_gone, walks_to, walks_up, carries_up, tops_out, works_on_queues, ends_startio, exchanges, resumes_walk, resumes_gone, resumes_none, stops_walk, stops_none, ends_cancel, lends_to, cancels, Cancels, takes_cancel, retakes_cancel, awaits_cancel, sets_flag, calls_cancel}
+use Rattle.run_laws.proofs.Steps.Comes.{Comes, computes, turns_loop, pages, looks_at, completes_packet, passes_down, calls_down, returns_status, lets_go, lets_walk, ends_dpc, walks_gone, walks_to, walks_up, carries_up, tops_out, works_on_queues, ends_startio, exchanges, resumes_walk, resumes_gone, resumes_none, stops_walk, stops_none, ends_cancel, lends_to, cancels, Cancels, takes_cancel, retakes_cancel, awaits_cancel, sets_flag, calls_cancel}
+use Rattle.run_laws.proofs.Steps.Onward.{SameRoutine, goes_same, turned_same}
 
 module _ (set : Set) (root : Irql) where
   abbrev pub Low : Frame → Type 0
@@ -36,18 +34,8 @@ module _ (set : Set) (root : Irql) where
   Low (Walk n) = ⊤
   Low (CancelFrame c) = ⊤
 
-  goes_low : (a : Activation) (i : Instr) (b : Activation) (jumped : Bool) → GoesTo a i b jumped
-      → Low (Routine a) → Low (Routine b)
-  goes_low a i b jumped (onward registers on written) low = low
-  goes_low a i b jumped (jumping label labelled) low = low
-
-  turned_low : (a : Activation) (l : OpenLoop) → Low (Routine a) → Low (Routine (turned a l))
-  turned_low a l low =
-      cond_both (nat_lt 1 l.turns)
-      (at_label (with_loops a (outer_loops a ++ record { start = l.start; turns = l.turns - 1 } ∷
-      []))
-      l.start)
-      (next (with_loops a (outer_loops a))) (λ b. Low (Routine b)) (λ more. low) (λ last. low)
+  goes_low : (a b : Activation) → SameRoutine a b → Low (Routine a) → Low (Routine b)
+  goes_low a b same low = λ is. low (rw (same.0, same.1) at is)
 
   -- a frame that is told something
   answered_low : (a : Activation) (status : Status) (r : Option ℕ) → Low (Routine a)
@@ -95,15 +83,16 @@ module _ (set : Set) (root : Irql) where
         → Comes set s t under f o
         → Each Low o.frames
     step_low under f o h low (computes a i b jumped cells at work goes long) =
-        (goes_low a i b jumped goes low, tt)
-    step_low under f o h low (turns_loop a l at inner) = (turned_low a l low, tt)
+        (goes_low a b (goes_same a i b jumped goes) low, tt)
+    step_low under f o h low (turns_loop a l at inner) =
+        (goes_low a (turned a l) (turned_same a l) low, tt)
     step_low under f o h low (pages a i b cell cells at work goes long) =
-        (goes_low a i b false goes low, tt)
+        (goes_low a b (goes_same a i b false goes) low, tt)
     step_low under f o h low (looks_at a i b jumped r n p at work goes operand reads there jumps) =
-        (goes_low a i b jumped goes low, tt)
+        (goes_low a b (goes_same a i b jumped goes) low, tt)
     step_low under f o h low (exchanges a i b jumped r n p armer at work goes operand reads there
         how) =
-        (goes_low a i b jumped goes low, tt)
+        (goes_low a b (goes_same a i b jumped goes) low, tt)
     step_low under f o h low (completes_packet a r status n p at reads there) = (low, (tt, tt))
     step_low under f o h low (passes_down a r n p lower at reads there below) = (
       low,

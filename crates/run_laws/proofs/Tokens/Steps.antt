@@ -36,8 +36,9 @@ use Rattle.run_laws.proofs.States.Moves.{arrives, arrives_next, falls_next, has_
 use Rattle.run_laws.proofs.States.OnTop.{OnTop, runs}
 use Rattle.run_laws.proofs.States.Rules.{States, first_none, granted, second_none, unbroken}
 use Rattle.run_laws.proofs.States.Told.{told_frame}
-use Rattle.run_laws.proofs.Steps.Comes.{Comes, GoesTo, Queued, Reads, awaits_lock, calls_down, carries_up, completes_gone, completes_packet, computes, cancels, ends_cancel, ends_dpc, ends_startio, errs, exchanges, frees_lock, inserts, jumping, lends_to, lets_go, lets_walk, looks_at, marks_packet, onward, opens_loop, pages, passes_down, puts_in, removes, removes_none, resumes_gone, resumes_none, resumes_walk, retakes_lock, returns_status, starts_next, starts_packet, stops_none, stops_walk, takes_lock, takes_none, takes_out, tops_out, touches_gone, turns_loop, unlinks, walks_gone, walks_to, walks_up, works_on_queues, writes_info, Cancels, takes_cancel, calls_cancel}
+use Rattle.run_laws.proofs.Steps.Comes.{Comes, GoesTo, Queued, Reads, awaits_lock, calls_down, carries_up, completes_gone, completes_packet, computes, cancels, ends_cancel, ends_dpc, ends_startio, errs, exchanges, frees_lock, inserts, jumping, lends_to, lets_go, lets_walk, looks_at, marks_packet, opens_loop, pages, passes_down, puts_in, removes, removes_none, resumes_gone, resumes_none, resumes_walk, retakes_lock, returns_status, starts_next, starts_packet, stops_none, stops_walk, takes_lock, takes_none, takes_out, tops_out, touches_gone, turns_loop, unlinks, walks_gone, walks_to, walks_up, works_on_queues, writes_info, Cancels, takes_cancel, calls_cancel}
 use Rattle.run_laws.proofs.Steps.Locking.{LockWord, freed_word, taken_word}
+use Rattle.run_laws.proofs.Steps.Onward.{goes_device}
 use Rattle.run_laws.proofs.Steps.Words.{Queueing, Work, is_touching, work_of}
 use Rattle.run_laws.proofs.Tests.{and_false}
 use Rattle.run_laws.proofs.Tokens.Sums.{FewTokens, at_most_one, own_token}
@@ -253,15 +254,11 @@ module _ (set : Set) (states : States) (s : Shared) where
         ap (λ (state : Abs). state.token) (arrives set states s a i h b jumped to)
         ∙ onto_token set a.driver (state_of states a) i jumped is
 
-    goes_device : (b : Activation) (jumped : Bool) → GoesTo a i b jumped → b.device ≡ a.device
-    goes_device b jumped (onward registers on written) = refl
-    goes_device b jumped (jumping label labelled) = refl
-
     goes_tokens : (b : Activation) (jumped : Bool) (o : Outcome) → leaves_token (work_of i) ≡ true
         → GoesTo a i b jumped → o.shared.starts ≡ s.starts → o.frames ≡ Routine b ∷ []
         → TokenStep states s (Routine a) o
     goes_tokens b jumped o is to starts frames =
-        goes_with a b o starts frames (goes_device b jumped to) (goes_token b jumped is to)
+        goes_with a b o starts frames (goes_device a i b jumped to) (goes_token b jumped is to)
 
     pub state_next : has_next (flow_of i) ≡ true
         → (states a.driver a.routine (a.position + 1)).token

@@ -35,9 +35,9 @@ no_slot : (slot : Option ℕ) → slot_tokens slot ≡ 0 → slot ≡ None
 no_slot None h = refl
 no_slot (Some n) h = cc
 
-none_listed : (entries : List ℕ) → length entries ≡ 0 → entries ≡ []
-none_listed [] h = refl
-none_listed (n ∷ entries) h = cc
+no_entries : (entries : List ℕ) → length entries ≡ 0 → entries ≡ []
+no_entries [] h = refl
+no_entries (n ∷ entries) h = cc
 
 -- a device has no more tokens than one where it is busy, those of a frame among them
 abbrev pub FewTokens : States → Shared → Frame → Type 0
@@ -70,4 +70,4 @@ token_slot set states w each t h a is has start there =
     let both : start_tokens start ≡ length start.start_list + slot_tokens start.slot = refl in
     let none : slot_tokens start.slot ≡ 0 = omega arith in
     let empty : length start.start_list ≡ 0 = omega arith in
-    (no_slot start.slot none, none_listed start.start_list empty)
+    (no_slot start.slot none, no_entries start.start_list empty)
