@@ -37,8 +37,7 @@ module _ (set : Set) (states : States) where
       → AlikeFrames set states s above xs ys → length xs ≡ length ys
   same_lengths s above [] [] h = refl
   same_lengths s above (x ∷ xs) (y ∷ ys) h = ap suc (same_lengths s above xs ys h.1)
-  same_lengths s above [] (y ∷ ys) h = absurd h
-  same_lengths s above (x ∷ xs) [] h = absurd h
+  same_lengths s above _ _ h = absurd h
 
   same_idle : (s : Shared) (x y : Thread) → AlikeThread set states s x y → is_idle x ≡ is_idle y
   same_idle s x y h =
@@ -111,8 +110,7 @@ module _ (set : Set) (states : States) (threads : ℕ) (w : World) (past : List 
   issue_alike t d major argument (Some x) (Some y) (Some device) h =
       rw (same_idle set states w.shared x y h)
       (issue_if t d major argument x y device (is_idle y && can_issue w.shared))
-  issue_alike t d major argument None (Some y) device h = absurd h
-  issue_alike t d major argument (Some x) None device h = absurd h
+  issue_alike t d major argument _ _ device h = absurd h
 
   -- IoCancelIrp begins
   cancelling_alike : (t n : ℕ) (level : Irql) (x y : Thread) (o : Option Packet)
@@ -143,8 +141,7 @@ module _ (set : Set) (states : States) (threads : ℕ) (w : World) (past : List 
   cancel_alike t n (Some level) (Some x) (Some y) h =
       rw (same_idle set states w.shared x y h)
       (cancel_if t n level x y (is_idle y && nat_lt n w.shared.issued))
-  cancel_alike t n level None (Some y) h = absurd h
-  cancel_alike t n level (Some x) None h = absurd h
+  cancel_alike t n level _ _ h = absurd h
 
   -- a DPC is queued, and begins
   interrupt_if : (d : ℕ) (queued : Bool)
@@ -191,8 +188,7 @@ module _ (set : Set) (states : States) (threads : ℕ) (w : World) (past : List 
   dpc_alike t d (Some x) (Some y) (Some routine) h =
       rw (same_idle set states w.shared x y h)
       (dpc_if t d routine x y (is_idle y) (is_queued w.shared d))
-  dpc_alike t d None (Some y) routine h = absurd h
-  dpc_alike t d (Some x) None routine h = absurd h
+  dpc_alike t d _ _ routine h = absurd h
 
   -- a StartIo routine begins
   startio_first : (t d routine : ℕ) (x y : Thread) (start : StartState) (n : Option ℕ)
@@ -229,8 +225,7 @@ module _ (set : Set) (states : States) (threads : ℕ) (w : World) (past : List 
   startio_alike t d (Some x) (Some y) None h = stays Refused
   startio_alike t d (Some x) (Some y) (Some routine) h =
       rw (same_idle set states w.shared x y h) (startio_if t d routine x y (is_idle y))
-  startio_alike t d None (Some y) routine h = absurd h
-  startio_alike t d (Some x) None routine h = absurd h
+  startio_alike t d _ _ routine h = absurd h
 
   -- whatever the event
   at : (t : ℕ) → AlikeAt set states w.shared (slice_get others t) (slice_get w.threads t)

@@ -111,8 +111,7 @@ module _ (set : Set) (states : States) where
       → told_register set above a ≡ None
   told_none None a free = refl
   told_none (Some (Routine b)) a free = cc
-  told_none (Some (Walk n)) a free = refl
-  told_none (Some (CancelFrame c)) a free = refl
+  told_none _ a free = refl
 
   told_same : (above other : Option Frame) (a : Activation) → is_routine above ≡ true
       → is_routine other ≡ true → told_register set above a ≡ told_register set other a

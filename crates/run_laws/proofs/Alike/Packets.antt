@@ -55,8 +55,7 @@ same_rights (k ∷ kinds) (u ∷ us) (v ∷ vs) n h =
     same_named k u v n (is_right k) refl h.0 in
     let others : rights kinds us n ≡ rights kinds vs n = same_rights kinds us vs n h.1 in
     omega arith
-same_rights (k ∷ kinds) [] (v ∷ vs) n h = absurd h
-same_rights (k ∷ kinds) (u ∷ us) [] n h = absurd h
+same_rights (k ∷ kinds) _ _ n h = absurd h
 
 -- a register that waits for a status has no right
 rights_but : (kinds : List Kind) (us vs : List Value) (r n : ℕ)
@@ -182,8 +181,7 @@ same_word (p ∷ ps) (q ∷ qs) n h =
       | inl here ↦ rw (number, here.0, armer) refl
       | inr other ↦ rw (number, other.0) (same_word ps qs n others)
     ]
-same_word [] (q ∷ qs) n h = cc
-same_word (p ∷ ps) [] n h = cc
+same_word _ _ n h = cc
 
 abbrev unless_bit : Bool → ℕ
 unless_bit b = if b then 0 else 1
@@ -191,8 +189,7 @@ unless_bit b = if b then 0 else 1
 same_bit : (b c : Bool) → unless_bit b ≡ unless_bit c → b ≡ c
 same_bit true true h = refl
 same_bit false false h = refl
-same_bit true false h = absurd (omega arith)
-same_bit false true h = absurd (omega arith)
+same_bit _ _ h = absurd (omega arith)
 
 abbrev of_shown : ShownPacket → Bool → Packet
 of_shown x completing =
@@ -244,8 +241,7 @@ same_packets low high (p ∷ ps) (q ∷ qs) rises up h same =
     same_packets (suc p.number) high ps qs rises.1 (rw (← number) at up.1) others
     (same_rest high p q ps qs number rises.1 up.1 same) in
     rw (same_packet p q one here, rest) refl
-same_packets low high [] (q ∷ qs) rises up h same = cc
-same_packets low high (p ∷ ps) [] rises up h same = cc
+same_packets low high _ _ rises up h same = cc
 
 -- worlds with alike threads that share the same but for whether the I/O manager has a packet
 module _ (set : Set) (states : States) (v w : World) (held : Held set states v)

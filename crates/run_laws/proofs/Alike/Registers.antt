@@ -182,5 +182,4 @@ pub same_labelled : (s : Abs) (us vs : List Value) (i : Instr) → SameRegisters
 same_labelled s us vs (Remove r q label) h = same_turn s.kinds us vs r BlankKind h (λ is. cc)
 same_labelled s us vs (Disarm r label) h = same_turn s.kinds us vs r BlankKind h (λ is. cc)
 same_labelled s us vs (Take r label) h = same_turn s.kinds us vs r BlankKind h (λ is. cc)
-same_labelled s us vs (IfPending r label) h = h
 same_labelled s us vs _ h = h

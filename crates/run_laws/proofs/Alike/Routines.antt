@@ -77,9 +77,7 @@ module _ (set : Set) (states : States) (s : Shared) (t : ℕ) (a : Activation) w
   under_walk (Some (Routine b)) (Some (Routine c)) h = refl
   under_walk (Some (Walk m)) (Some (Walk n)) h = refl
   under_walk (Some (CancelFrame b)) (Some (CancelFrame c)) h = refl
-  under_walk (Some _) (Some _) h = absurd h
-  under_walk None (Some f) h = absurd h
-  under_walk (Some g) None h = absurd h
+  under_walk _ _ h = absurd h
 
   module _ (us : List Value) (long : length us ≡ length a.registers)
       (h : SameRegisters (state_of states a).kinds us a.registers) where
@@ -114,9 +112,7 @@ module _ (set : Set) (states : States) (s : Shared) (t : ℕ) (a : Activation) w
         rw same (record { others = refl; frames = tt })
     lets (Some (CancelFrame c)) (Some (CancelFrame d)) h low at sort lives =
         record { others = refl; frames = tt }
-    lets (Some _) (Some _) h low at sort lives = absurd h
-    lets None (Some f) h low at sort lives = absurd h
-    lets (Some g) None h low at sort lives = absurd h
+    lets _ _ h low at sort lives = absurd h
 
     returns : (g f : Option Frame) (sort : Sort) (form : Return) → Under g f
         → UnderIssued s.issued f → TouchesLive set s t f (Routine a) → Executing set a (Ret form)

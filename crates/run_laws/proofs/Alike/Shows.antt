@@ -80,28 +80,16 @@ reads_same (Num m) (Num n) is h = let same : m ≡ n = cc in ap (λ (x : ℕ). N
 reads_same (Ref m) (Ref n) is h = let same : m ≡ n = cc in ap (λ (x : ℕ). Ref x) same
 reads_same (StatusValue one) (StatusValue other) is h =
     let same : one ≡ other = cc in ap (λ (x : Status). StatusValue x) same
-reads_same _ (Num n) is h = cc
-reads_same _ (Ref n) is h = cc
-reads_same _ (StatusValue other) is h = cc
+reads_same _ _ is h = cc
 
 pub reads_self : (v : Value) → Reads (whole_register v) v
 reads_self Blank = tt
-reads_self (Num n) = refl
-reads_self (Ref n) = refl
-reads_self (StatusValue status) = refl
+reads_self _ = refl
 
 suits_value : (issued : ℕ) (k : Kind) (v : Value) → is_blank k ≡ false → Suits issued k v
     → is_value v ≡ true
 suits_value issued BlankKind v is h = cc
-suits_value issued NumKind v is h = ap is_value h.1
-suits_value issued Lower v is h = ap is_value h.1
-suits_value issued New v is h = ap is_value h.1
-suits_value issued Own v is h = ap is_value h.1
-suits_value issued (Listed name) v is h = ap is_value h.1
-suits_value issued (Armed name) v is h = ap is_value h.1
-suits_value issued (Taken name) v is h = ap is_value h.1
-suits_value issued (Cancelling name) v is h = ap is_value h.1
-suits_value issued View v is h = ap is_value h.1
+suits_value issued _ v is h = ap is_value h.1
 
 -- registers that are read alike
 pub same_all : (kinds : List Kind) (us vs : List Value) → length us ≡ length vs
@@ -112,8 +100,7 @@ same_all [] us vs long h = tt
 same_all (k ∷ kinds) [] [] long h = tt
 same_all (k ∷ kinds) (u ∷ us) (v ∷ vs) long h =
     (h 0, same_all kinds us vs (let less : length us ≡ length vs = cc in less) (λ r. h (suc r)))
-same_all (k ∷ kinds) [] (v ∷ vs) long h = cc
-same_all (k ∷ kinds) (u ∷ us) [] long h = cc
+same_all (k ∷ kinds) _ _ long h = cc
 
 -- one register waits
 pub set_some : (kinds : List Kind) (q r : ℕ)

@@ -128,8 +128,7 @@ module _ (set : Set) (states : States) where
       first_of e frames [] other is = let same : e ≡ other = cc in ap (λ (x : Frame). Some x) same
       first_of e frames (d ∷ right) other is =
           let same : e ≡ d = cc in ap (λ (x : Frame). Some x) same
-  tops s above g [] f (e ∷ frames) h = absurd h.1
-  tops s above g (d ∷ others) f [] h = absurd h.1
+  tops s above g _ f _ h = absurd h.1
 
   -- on another frame, or none
   pub reend : (s : Shared) (above other : Option Frame) (xs ys : List Frame)
@@ -163,8 +162,7 @@ module _ (set : Set) (states : States) where
   told_split below (Routine a) status =
       ap (λ (xs : List Frame). xs ++ told_frame set (Some status) (Routine a) ∷ [])
       (before_last below (Routine a))
-  told_split below (Walk n) status = refl
-  told_split below (CancelFrame c) status = refl
+  told_split below _ status = refl
 
   pub told_above : (below : List Frame) (g : Frame) (told : Option Status)
       → told_to set (below ++ g ∷ []) told ≡ below ++ told_frame set told g ∷ []

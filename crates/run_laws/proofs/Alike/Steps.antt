@@ -103,8 +103,7 @@ module _ (set : Set) (states : States) (s : Shared) (t : ℕ) where
   told_over None above x y h = h
   told_over (Some status) (Routine a) x y h =
       alike_still set states s (Some (Routine a)) _ x y refl refl h
-  told_over (Some status) (Walk n) x y h = h
-  told_over (Some status) (CancelFrame c) x y h = h
+  told_over (Some status) _ x y h = h
 
   none_below : (taken : Bool) (told : Option Status) → told_to set (kept_below [] taken) told ≡ []
   none_below true None = refl
@@ -222,5 +221,4 @@ module _ (set : Set) (states : States) (s : Shared) (t : ℕ) where
         (stood_on on.left on.right on.one on.other o.taken_below refl on.below on.top
         (subst (λ (under : Option Frame). Comes set s t under f o) top comes) (sees on.other top)
         (subst (λ (frames : List Frame). Each (WalkIssued s.issued) frames) on.right_is low)))
-    stood_over [] (y ∷ right) h comes sees low = absurd h
-    stood_over (x ∷ left) [] h comes sees low = absurd h
+    stood_over _ _ h comes sees low = absurd h

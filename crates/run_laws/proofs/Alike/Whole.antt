@@ -160,14 +160,7 @@ module _ (set : Set) (states : States) (good : IsGood set states) where
       routine_alike issued more above other b a stands others shows
   frame_alike s issued more above other (Walk m) (Walk n) stands others shows = shows
   frame_alike s issued more above other (CancelFrame b) (CancelFrame c) stands others shows = shows
-  frame_alike s issued more above other (Routine b) (Walk n) stands others shows = absurd shows
-  frame_alike s issued more above other (Routine b) (CancelFrame c) stands others shows =
-      absurd shows
-  frame_alike s issued more above other (Walk m) (Routine a) stands others shows = absurd shows
-  frame_alike s issued more above other (Walk m) (CancelFrame c) stands others shows = absurd shows
-  frame_alike s issued more above other (CancelFrame b) (Routine a) stands others shows =
-      absurd shows
-  frame_alike s issued more above other (CancelFrame b) (Walk n) stands others shows = absurd shows
+  frame_alike s issued more above other _ _ stands others shows = absurd shows
 
   frames_alike : (s : Shared) (issued more : ℕ) (xs ys : List Frame)
       → Stacked set states issued ys → Stacked set states more xs
@@ -181,8 +174,7 @@ module _ (set : Set) (states : States) (good : IsGood set states) where
   )
   frames_alike s issued more (x ∷ u ∷ xs) (y ∷ []) stands others shows = absurd shows.1
   frames_alike s issued more (x ∷ []) (y ∷ v ∷ ys) stands others shows = absurd shows.1
-  frames_alike s issued more [] (y ∷ ys) stands others shows = absurd shows
-  frames_alike s issued more (x ∷ xs) [] stands others shows = absurd shows
+  frames_alike s issued more _ _ stands others shows = absurd shows
 
   abbrev AllStacked : ℕ → List Thread → Type 0
   AllStacked issued xs =

@@ -45,15 +45,13 @@ module _ (set : Set) (states : States) where
       → one ≡ other → AlikeFrames set states s above xs ys → root_over one xs ≡ root_over other ys
   same_roots s above one other [] [] is h = refl
   same_roots s above one other (x ∷ xs) (y ∷ ys) is h = is
-  same_roots s above one other [] (y ∷ ys) is h = absurd h
-  same_roots s above one other (x ∷ xs) [] is h = absurd h
+  same_roots s above one other _ _ is h = absurd h
 
   same_ends : (s : Shared) (above : Option Frame) (reply : Reply) (xs ys : List Frame)
       → AlikeFrames set states s above xs ys → finished_or xs reply ≡ finished_or ys reply
   same_ends s above reply [] [] h = refl
   same_ends s above reply (x ∷ xs) (y ∷ ys) h = refl
-  same_ends s above reply [] (y ∷ ys) h = absurd h
-  same_ends s above reply (x ∷ xs) [] h = absurd h
+  same_ends s above reply _ _ h = absurd h
 
   -- a thread's top frame, and those below
   step_is : (w : World) (t : ℕ) (thread : Thread) (below : List Frame) (f : Frame)
@@ -89,8 +87,7 @@ module _ (set : Set) (states : States) where
       ap top_of on.right_is ∙ last_of on.right on.other in
       subst (λ (o : Option Frame). AlikeUnder set states s top o (top_of (y ∷ ys))) (sym left)
       (subst (λ (o : Option Frame). AlikeUnder set states s top (Some on.one) o) (sym right) on.top)
-  under_same s top [] (y ∷ ys) h = absurd h
-  under_same s top (x ∷ xs) [] h = absurd h
+  under_same s top _ _ h = absurd h
 
 module _ (set : Set) (states : States) (threads : ℕ) (w : World) (past : List Entry)
     (good : IsGood set states) (keeps : Keeps set states threads w past) (others : List Thread)
@@ -202,8 +199,7 @@ module _ (set : Set) (states : States) (threads : ℕ) (w : World) (past : List 
         )
         (top_steps on.left on.right on.one on.other (left ∙ on.left_is) (right ∙ on.right_is)
         on.below on.top)
-    frames_step [] (f ∷ ys) left right h = absurd h
-    frames_step (g ∷ xs) [] left right h = absurd h
+    frames_step _ _ left right h = absurd h
 
   thread_steps : (t : ℕ) (o p : Option Thread) → slice_get w.threads t ≡ p
       → AlikeAt set states w.shared o p
@@ -211,8 +207,7 @@ module _ (set : Set) (states : States) (threads : ℕ) (w : World) (past : List 
   thread_steps t None None found h = unchanged_alike Refused
   thread_steps t (Some x) (Some y) found h =
       frames_step t x y found h x.frames.items y.frames.items refl refl h.frames
-  thread_steps t None (Some y) found h = absurd h
-  thread_steps t (Some x) None found h = absurd h
+  thread_steps t _ _ found h = absurd h
 
   pub step_alike : (t : ℕ)
       → AlikeChange set states (step_thread set other_world t (slice_get others t))

@@ -230,8 +230,7 @@ module _ (cost : Frame → ℕ) where
 
   pub self_alike : (f : Frame) → Alike f f
   self_alike (Routine a) = (refl, refl, refl)
-  self_alike (Walk n) = tt
-  self_alike (CancelFrame c) = tt
+  self_alike _ = tt
 
   alike_kept : (set : Set) (given : List Tag) (past : List Entry) (number : ℕ) (f g : Frame)
       (tag : Tag)
@@ -247,10 +246,7 @@ module _ (cost : Frame → ℕ) where
       (Activated k driver routine serving) h
       fits =
       absurd fits
-  alike_kept set given past number (Routine a) (CancelFrame d) tag h fits = absurd h
-  alike_kept set given past number (Walk m) (CancelFrame d) tag h fits = absurd h
-  alike_kept set given past number (CancelFrame c) (Routine b) tag h fits = absurd h
-  alike_kept set given past number (CancelFrame c) (Walk n) tag h fits = absurd h
+  alike_kept set given past number _ _ tag h fits = absurd h
 
   alike_counted : (f g : Frame) (number : ℕ) → Alike f g → counted_kept f g number ≡ number
   alike_counted (Routine a) (Routine b) number h = refl
@@ -258,10 +254,7 @@ module _ (cost : Frame → ℕ) where
   alike_counted (Routine a) (Walk n) number h = absurd h
   alike_counted (Walk m) (Routine b) number h = absurd h
   alike_counted (CancelFrame c) (CancelFrame d) number h = refl
-  alike_counted (Routine a) (CancelFrame d) number h = absurd h
-  alike_counted (Walk m) (CancelFrame d) number h = absurd h
-  alike_counted (CancelFrame c) (Routine b) number h = absurd h
-  alike_counted (CancelFrame c) (Walk n) number h = absurd h
+  alike_counted _ _ number h = absurd h
 
   alike_owes : (g : ℕ) (given : List Tag) (tag : Tag) (f now : Frame) → Alike f now
       → Fits given tag f
@@ -274,10 +267,7 @@ module _ (cost : Frame → ℕ) where
   alike_owes g given Managing (CancelFrame c) (CancelFrame d) h fits = refl
   alike_owes g given (Activated k driver routine serving) (CancelFrame c) (CancelFrame d) h fits =
       absurd fits
-  alike_owes g given tag (Routine a) (CancelFrame d) h fits = absurd h
-  alike_owes g given tag (Walk m) (CancelFrame d) h fits = absurd h
-  alike_owes g given tag (CancelFrame c) (Routine b) h fits = absurd h
-  alike_owes g given tag (CancelFrame c) (Walk n) h fits = absurd h
+  alike_owes g given tag _ _ h fits = absurd h
 
   alike_fits : (given : List Tag) (tag : Tag) (f now : Frame) → Alike f now → Fits given tag f
       → Fits given tag now
@@ -289,10 +279,7 @@ module _ (cost : Frame → ℕ) where
   alike_fits given Managing (CancelFrame c) (CancelFrame d) h fits = fits
   alike_fits given (Activated k driver routine serving) (CancelFrame c) (CancelFrame d) h fits =
       absurd fits
-  alike_fits given tag (Routine a) (CancelFrame d) h fits = absurd h
-  alike_fits given tag (Walk m) (CancelFrame d) h fits = absurd h
-  alike_fits given tag (CancelFrame c) (Routine b) h fits = absurd h
-  alike_fits given tag (CancelFrame c) (Walk n) h fits = absurd h
+  alike_fits given tag _ _ h fits = absurd h
 
   owed_alike : (g : ℕ) (given : List Tag) (below now : List Frame) (tags : List Tag)
       → AllAlike below now

@@ -66,9 +66,7 @@ module _ (set : Set) where
   frame_alike None (Walk n) = tt
   frame_alike (Some status) (Routine a) =
       answered_alike a status (operand_of (instruction_at set a.driver a.routine (a.position - 1)))
-  frame_alike (Some status) (Walk n) = tt
-  frame_alike None (CancelFrame c) = tt
-  frame_alike (Some status) (CancelFrame c) = tt
+  frame_alike _ _ = tt
 
   last_alike : (told : Option Status) (below : List Frame)
       → AllAlike (frame_due set) below (told_last set told below)

@@ -168,8 +168,7 @@ module _ (set : Set) (states : States) (good : IsGood set states) (d q guard : �
     top_none : (g : Frame) → Stands set states issued None g → frame_says states g lock ≡ false
         → count n g ≡ 0
     top_none (Routine b) h says = placed_none b n (placed_ready set states issued b h) says
-    top_none (Walk m) h says = refl
-    top_none (CancelFrame c) h says = refl
+    top_none _ h says = refl
 
     lower_none : (above g : Frame) → Stands set states issued (Some above) g → count n g ≡ 0
     lower_none (Walk m) (Routine b) h =
@@ -181,8 +180,7 @@ module _ (set : Set) (states : States) (good : IsGood set states) (d q guard : �
         (operand_of (instruction_at set b.driver b.routine (b.position - 1))) (h.2 Success))
         (free_says (state_of states b) b.device lock h.1)
     lower_none (CancelFrame c) (Routine b) h = absurd h
-    lower_none above (Walk m) h = refl
-    lower_none above (CancelFrame c) h = refl
+    lower_none above _ h = refl
 
     stack_none : (frames : List Frame) → Stacked set states issued frames
         → top_says states frames lock ≡ false → stack_sum (count n) frames ≡ 0

@@ -87,7 +87,6 @@ kind_three name (Cancelling other) v n =
     let le : named_as (is_cancelling name) (Cancelling other) v n ≤ value_names v n =
     some_le (is_cancelling name (Cancelling other)) (value_names v n) in
     omega arith
-kind_three name Own v n = omega arith
 kind_three name _ v n = omega arith
 
 kinds_three : (name : QueueName) (kinds : List Kind) (values : List Value) (n : ℕ)
@@ -123,8 +122,7 @@ module _ (states : States) (d q n : ℕ) where
       (names states (is_cancelling (Declared q)) a n) (names states is_own a n)
       (frame_rights states (Routine a) n)
       (kinds_three (Declared q) (state_of states a).kinds a.registers n)
-  rights_three (Walk m) = omega arith
-  rights_three (CancelFrame c) = omega arith
+  rights_three _ = omega arith
 
   pub rights_cover : (threads : List Thread)
       → names_on states (is_listed (Declared q)) d n threads

@@ -459,5 +459,4 @@ module _ (set : Set) (states : States) (s : Shared) (past : List Entry) (actor :
   quiet_step under f o top holding (carries_up n p there without deep marked) loud quiet =
       walk_quiet n (Walk n ∷ []) o refl (λ g of on m. refl) (tt, tt)
       (word_kept s n p (mark_current (moved_up (left_location p))) there refl refl) refl refl
-  quiet_step under f o top holding (tops_out n p there without first) loud quiet = cc
-  quiet_step under f o top holding (cancels n step made moves) loud quiet = cc
+  quiet_step under f o top holding _ loud quiet = cc

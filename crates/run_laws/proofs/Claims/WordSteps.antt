@@ -68,8 +68,7 @@ no_armer (Some armer) h = absurd (omega arith)
 -- an armer that a word for a queue of a device names
 names_both : (here its : Bool) → 1 ≤ (if here && its then 1 else 0) → (here ≡ true) × (its ≡ true)
 names_both true true h = (refl, refl)
-names_both true false h = absurd (omega arith)
-names_both false its h = absurd (omega arith)
+names_both _ _ h = absurd (omega arith)
 
 named_queue : (name : QueueName) (q : ℕ) → is_name name (Declared q) ≡ true → name ≡ Declared q
 named_queue (Declared p) q h = ap (λ (x : ℕ). Declared x) (eqb-true p q h)

@@ -107,11 +107,7 @@ module _ (set : Set) where
   on_walk a (Routine b ∷ Walk n ∷ []) is short = let no : true ≡ false = sym is ∙ short.1 in cc
   on_walk a (Routine b ∷ Routine c ∷ []) is short =
       let no : true ≡ false = sym is ∙ ap is_completion short.2 in cc
-  on_walk a (Routine b ∷ Walk n ∷ g ∷ frames) is short = absurd short
-  on_walk a (Routine b ∷ Routine c ∷ g ∷ frames) is short = absurd short
-  on_walk a (Walk n ∷ frames) is short = absurd short
-  on_walk a (CancelFrame c ∷ frames) is short = absurd short
-  on_walk a (Routine b ∷ CancelFrame c ∷ frames) is short = absurd short
+  on_walk a _ is short = absurd short
 
   -- frames in place of the lowest, but for one of IoCancelIrp
   first_falls : (top : ℕ) (f : Frame) (frames : List Frame) → is_cancelling f ≡ false
@@ -138,11 +134,7 @@ module _ (set : Set) where
   first_falls top (Walk n) [] other h short = tt
   first_falls top (Walk n) (Walk m ∷ []) other h short = omega arith
   first_falls top (Walk n) (Walk m ∷ Routine b ∷ []) other h short = omega arith
-  first_falls top (Walk n) (Walk m ∷ Walk k ∷ frames) other h short = absurd short
-  first_falls top (Walk n) (Walk m ∷ Routine b ∷ g ∷ frames) other h short = absurd short
-  first_falls top (Walk n) (Routine b ∷ frames) other h short = absurd short
-  first_falls top (Walk n) (CancelFrame c ∷ frames) other h short = absurd short
-  first_falls top (Walk n) (Walk m ∷ CancelFrame c ∷ frames) other h short = absurd short
+  first_falls top (Walk n) _ other h short = absurd short
 
   too_many : (below : List Frame) (f e : Frame) → length (e ∷ (below ++ f ∷ [])) ≤ 1 → ⊥
   too_many below f e h =
@@ -185,9 +177,7 @@ module _ (set : Set) where
   cancel_falls c [] short = tt
   cancel_falls c (CancelFrame d ∷ []) short = refl
   cancel_falls c (Routine b ∷ []) short = (short, tt)
-  cancel_falls c (CancelFrame d ∷ g ∷ frames) short = absurd short
-  cancel_falls c (Routine b ∷ g ∷ frames) short = absurd short
-  cancel_falls c (Walk n ∷ frames) short = absurd short
+  cancel_falls c _ short = absurd short
 
   falls_for : (states : States) (issued : ℕ) (below : List Frame) (f : Frame) (frames : List Frame)
       → Stacked set states issued (below ++ f ∷ [])
@@ -291,7 +281,6 @@ module _ (set : Set) (states : States) (s : Shared) where
       (begins_called set states s h.good h.fits n p armer routine h.stands there is
       named).ready.1.serves in
       slice_get_within set.devices armer.device served.0 served.1
-  cancel_short t n step o h (takes_cancel free) = tt
   cancel_short t n step o h _ = tt
 
   -- every shape

@@ -38,8 +38,7 @@ granted set s t under f o _ = refl
 finished_granted : (frames : List Frame) (reply : Reply) → is_refused reply ≡ false
     → is_refused (finished_or frames reply) ≡ false
 finished_granted [] Stepped h = refl
-finished_granted [] _ h = h
-finished_granted (f ∷ frames) reply h = h
+finished_granted _ _ h = h
 
 granted_top : (set : Set) (w : World) (t : ℕ) (thread : Thread) (below : List Frame)
     (o : Option Frame)
@@ -68,8 +67,4 @@ granted_step set w t within = granted_thread set w t (slice_get w.threads t) ref
 pub same_count : (set : Set) (w : World) (t : ℕ) (c : Change) → Happens set w t c
     → length c.world.threads ≡ length w.threads
 same_count set w t c (nothing reply right) = refl
-same_count set w t c (steps h) = length-set w.threads t _
-same_count set w t c (issues h) = length-set w.threads t _
-same_count set w t c (begins h) = length-set w.threads t _
-same_count set w t c (begins_startio h) = length-set w.threads t _
-same_count set w t c (begins_cancel h) = length-set w.threads t _
+same_count set w t c _ = length-set w.threads t _

@@ -51,7 +51,6 @@ IsLent set states under (CancelFrame c) = ⊤
 pub stops_hold : (sort : Sort) → is_completion sort ≡ true → form_fault sort Stop ≡ None
     → is_hold sort ≡ true
 stops_hold Hold is form = refl
-stops_hold Propagate is form = cc
 stops_hold _ is form = cc
 
 pub hold_sort : (sort : Sort) → is_hold sort ≡ true → sort ≡ Hold
@@ -72,9 +71,6 @@ new_right _ h = cc
 
 only_new : (k : Kind) → is_dropped true k ≡ false → is_right k ≡ true → is_new k ≡ true
 only_new New h is = refl
-only_new Own h is = cc
-only_new (Listed name) h is = cc
-only_new (Cancelling name) h is = cc
 only_new _ h is = cc
 
 right_other : (k : Kind) (v : Value) (n m : ℕ) → is_dropped true k ≡ false

@@ -463,10 +463,7 @@ module _ (set : Set) (states : States) (w : World) (past : List Entry) (good : I
       completion_faults set states w.shared past actor (top_of h.below) h.frame h.outcome
       (on_top set states w past good stands actor.thread h)
       (top_holding set states w past stands kept actor.thread h) h.comes
-  completion_faults_none actor c (issues h) = refl
-  completion_faults_none actor c (begins h) = refl
-  completion_faults_none actor c (begins_startio h) = refl
-  completion_faults_none actor c (begins_cancel h) = refl
+  completion_faults_none actor c _ = refl
 
 -- before the first event
 pub idle_sum : (count : Frame → ℕ) (threads : ℕ)

@@ -66,8 +66,7 @@ module _ (set : Set) (states : States) (w : World) (past : List Entry) (good : I
   frame_claims t h (Routine a) top =
       λ r n is refers.
       exchanged_lives t h a top (kind_of (state_of states a) r) r n refl is refers
-  frame_claims t h (Walk n) top = tt
-  frame_claims t h (CancelFrame c) top = tt
+  frame_claims t h _ top = tt
 
   pub claims_live : (t : ℕ) (h : StepsFrame set w t) → ClaimsLive states w.shared h.frame
   claims_live t h = frame_claims t h h.frame refl

@@ -259,13 +259,7 @@ only_view : (k : Kind) → is_packet k ≡ true → is_right k ≡ false
 only_view View is free = inl refl
 only_view (Armed name) is free = inr refl
 only_view (Taken name) is free = inr refl
-only_view New is free = cc
-only_view Own is free = cc
-only_view (Listed name) is free = cc
-only_view (Cancelling name) is free = cc
-only_view BlankKind is free = cc
-only_view NumKind is free = cc
-only_view LowerKind is free = cc
+only_view _ is free = cc
 
 -- one that may be cancelled is live, and so is one that stands in a queue
 abbrev pub ClaimsLive : States → Shared → Frame → Type 0

@@ -70,10 +70,7 @@ module _ (set : Set) (states : States) (issued : ℕ) (l : Lock) where
   below_says (Walk n) (Routine a) h = free_says (state_of states a) a.device l h.1
   below_says (Routine b) (Routine a) h = free_says (state_of states a) a.device l h.1
   below_says (Routine b) (Walk m) h = refl
-  below_says (Walk n) (Walk m) h = absurd h
-  below_says (Walk n) (CancelFrame c) h = absurd h
-  below_says (Routine b) (CancelFrame c) h = absurd h
-  below_says (CancelFrame c) g h = absurd h
+  below_says _ _ h = absurd h
 
   says_below : (below : List Frame) (f : Frame) (above : List Frame)
       → Stacked set states issued (below ++ f ∷ above)
@@ -217,10 +214,7 @@ module _ (set : Set) (states : States) (w : World) (past : List Entry) (good : I
       (subst (λ (level : Irql). Low set level h.frame) (sym (root ∙ ap root_of h.found))
       (low_there set states w past good stands actor.thread h))
       (on_top set states w past good stands actor.thread h) (own_top actor.thread h) h.comes
-  lock_faults_none actor c root (issues h) = refl
-  lock_faults_none actor c root (begins h) = refl
-  lock_faults_none actor c root (begins_startio h) = refl
-  lock_faults_none actor c root (begins_cancel h) = refl
+  lock_faults_none actor c root _ = refl
 
 -- before the first event
 pub locks_begun : (set : Set) (states : States) (threads : ℕ)

@@ -128,11 +128,7 @@ LevelFree s sort = (sort ≡ Dispatch) × (holds_lock s ≡ false)
 
 level_free : (s : Abs) (sort : Sort) → level_fault s sort ≡ None → LevelFree s sort
 level_free s Dispatch rule = (refl, unbroken _ _ rule)
-level_free s StartIo rule = cc
-level_free s Dpc rule = cc
-level_free s Propagate rule = cc
-level_free s Hold rule = cc
-level_free s Cancel rule = cc
+level_free s _ rule = cc
 
 paged_free : (s : Abs) (i : Instr) (sort : Sort) (set : Set) (driver : ℕ) → work_of i ≡ Paging
     → refuses s i sort set driver ≡ None → LevelFree s sort

@@ -27,9 +27,7 @@ module _ (test : Lock → Bool) (l : Lock) (p : test l ≡ true) where
         | inl it ↦ or_first (test m) (list_any test locks) (rw it.1 p)
         | inr other ↦ let no : false ≡ true = sym other ∙ same in cc
       ]
-  acquired_one m locks false c held same h more = or_second (test m) (list_any test locks) (more h)
-  acquired_one m locks true false held same h more =
-      or_second (test m) (list_any test locks) (more h)
+  acquired_one m locks _ _ held same h more = or_second (test m) (list_any test locks) (more h)
 
   still_held : (b held : Bool) → cond b false held ≡ true → held ≡ true
   still_held true held h = cc

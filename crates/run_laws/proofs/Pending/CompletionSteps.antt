@@ -325,10 +325,7 @@ module _ (set : Set) (states : States) (s : Shared) (t n : ℕ) where
       let begins : Begins set states s.issued b Cancel n =
       begins_cancelled set states top.good s.issued n top.stands armer routine leads named in
       record { told = refl; over = deferred_sort set b Cancel begins.of_sort refl; silent = refl }
-  cancel_cancels step o top (takes_cancel free) =
-      record { told = refl; over = tt; silent = refl }
-  cancel_cancels step o top _ =
-      record { told = refl; over = tt; silent = refl }
+  cancel_cancels step o top _ = record { told = refl; over = tt; silent = refl }
 
 pub frame_cancels : (set : Set) (states : States) (s : Shared) (t : ℕ) (below : Option Frame)
     (c : Canceller) (o : Outcome) → OnTop set states s (CancelFrame c)

@@ -174,8 +174,7 @@ module _ (set : Set) (states : States) (w later_w : World) (past : List Entry) (
           → UnderServes set states later_w later u b over (Some v)
       under_put None on = inl h
       under_put (Some (Routine c)) on = h
-      under_put (Some (Walk m)) on = absurd on
-      under_put (Some (CancelFrame d)) on = absurd on
+      under_put _ on = absurd on
 
   silent_uses : (o : Outcome) → list_any is_telling o.actions ≡ false → (n : ℕ)
       → SameUses past (recorded past actor o.actions) n

@@ -148,9 +148,7 @@ lower_is _ h = cc
 
 status_value : (v : Value) (status : Status) → status_in v ≡ Some status → v ≡ StatusValue status
 status_value (StatusValue other) status h = let same : other ≡ status = cc in ap StatusValue same
-status_value Blank status h = cc
-status_value (Num n) status h = cc
-status_value (Ref n) status h = cc
+status_value _ status h = cc
 
 lower_told : (x : Bool) (k : Kind) (v : Value) (status : Status) → k ≡ LowerKind
     → v ≡ StatusValue status
@@ -526,9 +524,7 @@ module _ (set : Set) (states : States) (s : Shared) (past : List Entry) (actor :
       (given_is now.duty (not_false _ (unbroken _ _ (second_none _ _ by.duty))))
       (lower_is (kind_of now r) (not_false _ (unbroken _ _ (first_none _ _ by.duty))))
       (status_value (register a r) status there)
-  returns_as Continue status by there = cc
-  returns_as Stop status by there = cc
-  returns_as Void status by there = cc
+  returns_as _ status by there = cc
 
   no_completion : is_completion (sort_of set a.driver a.routine) ≡ true → ⊥
   no_completion is = let no : true ≡ false = sym is ∙ ap is_completion h.is in cc

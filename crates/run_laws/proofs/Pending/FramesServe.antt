@@ -49,8 +49,7 @@ use Rattle.run_laws.proofs.States.Frames.{state_of}
 pub same_over : (under : Option Frame) (x y : Option Serving) → x ≡ y → SameOver under x y
 same_over None x y h = tt
 same_over (Some (Routine b)) x y h = h
-same_over (Some (Walk m)) x y h = tt
-same_over (Some (CancelFrame c)) x y h = tt
+same_over _ x y h = tt
 
 module _ (set : Set) (states : States) (w later_w : World) (past : List Entry) (actor : Actor)
     (number : ℕ)
@@ -254,8 +253,7 @@ module _ (set : Set) (states : States) (w later_w : World) (past : List Entry) (
             returns.status) (sym tagged)
             returns.agreed,
       )
-  dispatch_goes (Some (Walk m)) v a on tagged (inr returns) = absurd on
-  dispatch_goes (Some (CancelFrame c)) v a on tagged (inr returns) = absurd on
+  dispatch_goes _ v a on tagged (inr returns) = absurd on
 
   dispatch_turned : (a : Activation) (x : Option Serving) → served actor.tag ≡ x → OnRoutine under
       → TagNames a.driver a.routine actor.tag → MustServe set states w past a None x

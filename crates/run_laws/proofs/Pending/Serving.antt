@@ -182,8 +182,7 @@ module _ (set : Set) (states : States) (w later_w : World) (past later : List En
       → FrameServes set states later_w later under over f tag
   frame_kept under over (Routine a) tag same h =
       (h.0, under_kept under a over (served tag) same h.1)
-  frame_kept under over (Walk n) tag same h = h
-  frame_kept under over (CancelFrame c) tag same h = h
+  frame_kept under over _ tag same h = h
 
   pub all_kept : (under : Option Frame) (frames : List Frame) (tags : List Tag)
       → ((n : ℕ) → 1 ≤ stack_sum (λ f. frame_rights states f n) frames → SameUses past later n)

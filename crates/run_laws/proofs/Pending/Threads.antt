@@ -31,8 +31,7 @@ Tagged (f ∷ frames) (tag ∷ tags) = TagOf f tag × Tagged frames tags
 module _ (set : Set) (later : List Entry) (number : ℕ) where
   kept_self : (f : Frame) (tag : Tag) → TagOf f tag → kept_tag set later number f tag f ≡ tag
   kept_self (Routine a) tag h = refl
-  kept_self (Walk n) tag h = sym h
-  kept_self (CancelFrame c) tag h = sym h
+  kept_self _ tag h = sym h
 
   counted_self : (f : Frame) → counted_kept f f number ≡ number
   counted_self (Routine a) = refl
@@ -43,10 +42,7 @@ module _ (set : Set) (later : List Entry) (number : ℕ) where
       → kept_tag set later number f tag (told_frame set told f) ≡ tag
   kept_told None (Routine a) tag h = refl
   kept_told (Some status) (Routine a) tag h = refl
-  kept_told None (Walk n) tag h = sym h
-  kept_told None (CancelFrame c) tag h = sym h
-  kept_told (Some status) (Walk n) tag h = sym h
-  kept_told (Some status) (CancelFrame c) tag h = sym h
+  kept_told _ _ tag h = sym h
 
   counted_told : (told : Option Status) (f : Frame) → counted_kept f (told_frame set told f) number
       ≡ number
@@ -153,8 +149,7 @@ module _ (set : Set) (states : States) (w : World) (past : List Entry) where
   over_changed under x y (Routine a) tag same h =
       subst (λ (over : Option Serving). FrameServes set states w past under over (Routine a) tag)
       same h
-  over_changed under x y (Walk n) tag same h = h
-  over_changed under x y (CancelFrame c) tag same h = h
+  over_changed under x y _ tag same h = h
 
 -- frames below the one that ran serve on, and so do those that stand on them
 module _ (set : Set) (states : States) (w later_w : World) (past later : List Entry)

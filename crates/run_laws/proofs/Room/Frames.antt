@@ -61,8 +61,7 @@ module _ (set : Set) (states : States) where
       → ((n : ℕ) → 1 ≤ frame_rights states f n → Keeps s after n)
       → HasRoom set states s f → HasRoom set states after f
   frame_on s after (Routine a) keeps room = room_on s after a keeps room
-  frame_on s after (Walk n) keeps room = tt
-  frame_on s after (CancelFrame c) keeps room = tt
+  frame_on s after _ keeps room = tt
 
   -- the same registers of the same kinds, for the same device
   pub room_same : (s : Shared) (a b : Activation) → b.device ≡ a.device
@@ -95,8 +94,7 @@ module _ (set : Set) (states : States) where
   told_room s (Some status) (Routine a) room =
       answered_room s a status
       (operand_of (instruction_at set a.driver a.routine (a.position - 1))) room
-  told_room s (Some status) (Walk n) room = tt
-  told_room s (Some status) (CancelFrame c) room = tt
+  told_room s (Some status) _ room = tt
 
   -- it goes on: a packet to which it gets a right has a place at its device, and so has one that it
   -- marks

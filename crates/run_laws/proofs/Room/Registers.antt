@@ -125,8 +125,6 @@ nothing_gained _ h = refl
 pub mark_gains : (carried : Settled) (k : Kind) → mark_fault carried k ≡ None → is_gained k ≡ true
     → k ≡ New
 mark_gains carried New rule is = refl
-mark_gains carried (Armed name) rule is = cc
-mark_gains carried (Taken name) rule is = cc
 mark_gains carried _ rule is = cc
 
 -- what brings a packet into a register
@@ -308,7 +306,6 @@ module _ (f : Kind → Bool) (claim : IsClaim f) (M : ℕ → Type 0) where
     label_claims (Remove r q label) h = blank_claims r h
     label_claims (Disarm r label) h = blank_claims r h
     label_claims (Take r label) h = blank_claims r h
-    label_claims (IfPending r label) h = h
     label_claims _ h = h
 
   -- how a routine goes on

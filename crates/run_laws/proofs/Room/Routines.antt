@@ -425,14 +425,4 @@ module _ (set : Set) (states : States) (s : Shared) where
       routine_room under o (resumes_walk b n p at sort there) =
           changes o n p (record p { completing = true }) there refl refl
           (stays_same p (record p { completing = true }) refl refl) refl (λ now. tt)
-      routine_room under o (returns_status b form status at sort is) =
-          alone o refl refl refl (λ now. tt)
-      routine_room under o (lets_go b at sort isnt) = alone o refl refl refl (λ now. tt)
-      routine_room under o (lets_walk b n at sort) = alone o refl refl refl (λ now. tt)
-      routine_room under o (resumes_gone b n at sort gone) = alone o refl refl refl (λ now. tt)
-      routine_room under o (resumes_none b at sort isnt) = alone o refl refl refl (λ now. tt)
-      routine_room under o (stops_walk b n at sort) = alone o refl refl refl (λ now. tt)
-      routine_room under o (stops_none b at sort isnt) = alone o refl refl refl (λ now. tt)
-      routine_room under o (ends_cancel b at sort) = alone o refl refl refl (λ now. tt)
-      routine_room under o (ends_startio b at sort) = alone o refl refl refl (λ now. tt)
-      routine_room under o (ends_dpc b at sort) = alone o refl refl refl (λ now. tt)
+      routine_room under o _ = alone o refl refl refl (λ now. tt)

@@ -64,8 +64,7 @@ module _ (set : Set) (states : States) (w : World) (past : List Entry) (good : I
         λ r n p armer is reads there word.
         exchanged_device t h a top (kind_of (state_of states a) r) r n p armer refl is reads there
         word
-    frame_device t h (Walk n) top = tt
-    frame_device t h (CancelFrame c) top = tt
+    frame_device t h _ top = tt
 
     pub names_device : (t : ℕ) (h : StepsFrame set w t) → NamesDevice states w.shared h.frame
     names_device t h = frame_device t h h.frame refl

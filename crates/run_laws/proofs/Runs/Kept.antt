@@ -52,8 +52,7 @@ module _ (P : World → List Entry → Type 0) (set : Set)
     until_answered r t c a h happens (goes_on_with on quiet within) =
         λ still. kept r.world r.past (actor_on r t) c (h on)
         (record { happens = happens; root = refl; quiet = quiet; within = within })
-    until_answered r t c a h happens (stops_for bug on fault) = λ still. cc
-    until_answered r t c a h happens (stops_wrong place on reply) = λ still. cc
+    until_answered r t c a h happens _ = λ still. cc
 
     until_sets : (r : Run) (c : Change) (stopped : Bool) → r.stopped ≡ stopped → Until P r
         → Sets set r.world c → Until P (if stopped then refused r else set_in r c).run

@@ -61,27 +61,18 @@ Serving set driver number =
 
 dispatch_sort : (sort : Sort) → IsDispatch sort → sort ≡ Dispatch
 dispatch_sort Dispatch h = refl
-dispatch_sort StartIo h = absurd h
-dispatch_sort Dpc h = absurd h
-dispatch_sort Propagate h = absurd h
-dispatch_sort Hold h = absurd h
-dispatch_sort Cancel h = absurd h
+dispatch_sort _ h = absurd h
 
 dpc_sort : (sort : Sort) → IsDpc sort → sort ≡ Dpc
 dpc_sort Dispatch h = absurd h
 dpc_sort StartIo h = absurd h
 dpc_sort Dpc h = refl
-dpc_sort Propagate h = absurd h
-dpc_sort Hold h = absurd h
-dpc_sort Cancel h = absurd h
+dpc_sort _ h = absurd h
 
 startio_sort : (sort : Sort) → IsStartIo sort → sort ≡ StartIo
 startio_sort Dispatch h = absurd h
 startio_sort StartIo h = refl
-startio_sort Dpc h = absurd h
-startio_sort Propagate h = absurd h
-startio_sort Hold h = absurd h
-startio_sort Cancel h = absurd h
+startio_sort _ h = absurd h
 
 handler_fits : (driver : Driver) (major : Major) → DriverFits driver
     → HandlerFits driver.routines (handler_of driver major)
@@ -459,11 +450,7 @@ module _ (set : Set) (states : States) (good : IsGood set states) (issued n : �
 completion_only : (sort : Sort) → is_completion sort ≡ true → is_hold sort ≡ false
     → sort ≡ Propagate
 completion_only Propagate above free = refl
-completion_only Hold above free = cc
-completion_only Dispatch above free = cc
-completion_only StartIo above free = cc
-completion_only Dpc above free = cc
-completion_only Cancel above free = cc
+completion_only _ above free = cc
 
 module _ (set : Set) (states : States) (s : Shared) (good : IsGood set states) (fits : Fits set s)
     (n : ℕ) (p : Packet) (c : Completion) (low : n < s.issued) (there : packet_of s n ≡ Some p)

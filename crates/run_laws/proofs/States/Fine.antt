@@ -165,8 +165,7 @@ module _ (set : Set) (states : States) (issued : ℕ) where
   below_walk : (n : ℕ) (g : Frame) → Stands set states issued (Some (Walk n)) g
       → Stands set states issued None (told_frame set None g)
   below_walk n (Routine a) h = h.0
-  below_walk n (Walk m) h = absurd h
-  below_walk n (CancelFrame c) h = absurd h
+  below_walk n _ h = absurd h
 
 -- what a frame's step leaves
 pub record StepLeaves (set : Set) (states : States) (s : Shared) (f : Frame) (o : Outcome) : Type 0

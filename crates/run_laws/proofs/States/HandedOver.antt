@@ -193,7 +193,6 @@ module _ (f : Kind → Bool) (given : IsHanded f) (P : Value → Type 0) where
   label_hold s (Remove r q label) values h = hold_turn s.kinds values r BlankKind given.blank h
   label_hold s (Disarm r label) values h = hold_turn s.kinds values r BlankKind given.blank h
   label_hold s (Take r label) values h = hold_turn s.kinds values r BlankKind given.blank h
-  label_hold s (IfPending r label) values h = h
   label_hold s _ values h = h
 
   -- how a routine goes on

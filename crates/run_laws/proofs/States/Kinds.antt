@@ -106,17 +106,7 @@ suits_later : (issued more : ℕ) (k : Kind) (v : Value) → issued ≤ more →
 suits_later issued more BlankKind v le h = tt
 suits_later issued more NumKind v le h = h
 suits_later issued more Lower v le h = h
-suits_later issued more View v le h = (h.0, h.1, (let l : h.0 < issued = h.2 in omega arith))
-suits_later issued more New v le h = (h.0, h.1, (let l : h.0 < issued = h.2 in omega arith))
-suits_later issued more Own v le h = (h.0, h.1, (let l : h.0 < issued = h.2 in omega arith))
-suits_later issued more (Listed name) v le h =
-    (h.0, h.1, (let l : h.0 < issued = h.2 in omega arith))
-suits_later issued more (Armed name) v le h =
-    (h.0, h.1, (let l : h.0 < issued = h.2 in omega arith))
-suits_later issued more (Taken name) v le h =
-    (h.0, h.1, (let l : h.0 < issued = h.2 in omega arith))
-suits_later issued more (Cancelling name) v le h =
-    (h.0, h.1, (let l : h.0 < issued = h.2 in omega arith))
+suits_later issued more _ v le h = (h.0, h.1, (let l : h.0 < issued = h.2 in omega arith))
 
 pub kinds_later : (issued more : ℕ) (kinds : List Kind) (values : List Value) → issued ≤ more
     → HasKinds issued kinds values → HasKinds more kinds values
@@ -145,13 +135,7 @@ pub packet_ref : (s : Shared) (k : Kind) (v : Value) → is_packet k ≡ true �
 packet_ref s BlankKind v is h = cc
 packet_ref s NumKind v is h = cc
 packet_ref s Lower v is h = cc
-packet_ref s View v is h = (h.0, h.1, packet_found s v h)
-packet_ref s New v is h = (h.0, h.1, packet_found s v h)
-packet_ref s Own v is h = (h.0, h.1, packet_found s v h)
-packet_ref s (Listed name) v is h = (h.0, h.1, packet_found s v h)
-packet_ref s (Armed name) v is h = (h.0, h.1, packet_found s v h)
-packet_ref s (Taken name) v is h = (h.0, h.1, packet_found s v h)
-packet_ref s (Cancelling name) v is h = (h.0, h.1, packet_found s v h)
+packet_ref s _ v is h = (h.0, h.1, packet_found s v h)
 
 -- what an instruction demands of its operands
 pub demanded_packet : (wanted : Wanted) (k : Kind) → demanded wanted k ≡ None → is_packet k ≡ true
@@ -174,15 +158,7 @@ queued_packet fits _ h = refl
 
 number_is : (k : Kind) → number_kind k ≡ None → k ≡ NumKind
 number_is NumKind h = refl
-number_is BlankKind h = cc
-number_is Lower h = cc
-number_is View h = cc
-number_is New h = cc
-number_is Own h = cc
-number_is (Listed name) h = cc
-number_is (Armed name) h = cc
-number_is (Taken name) h = cc
-number_is (Cancelling name) h = cc
+number_is _ h = cc
 
 -- what a packet becomes in its register is still one
 packet_suits : (issued : ℕ) (k : Kind) (v : Value) → is_packet k ≡ true → Suits issued k v
@@ -190,13 +166,7 @@ packet_suits : (issued : ℕ) (k : Kind) (v : Value) → is_packet k ≡ true �
 packet_suits issued BlankKind v is h = cc
 packet_suits issued NumKind v is h = cc
 packet_suits issued Lower v is h = cc
-packet_suits issued New v is h = h
-packet_suits issued Own v is h = h
-packet_suits issued (Listed name) v is h = h
-packet_suits issued (Armed name) v is h = h
-packet_suits issued (Taken name) v is h = h
-packet_suits issued (Cancelling name) v is h = h
-packet_suits issued View v is h = h
+packet_suits issued _ v is h = h
 
 inserted_suits : (issued : ℕ) (cancel : Option ℕ) (q : ℕ) (v : Value) → IsPacket issued v
     → Suits issued (kind_inserted cancel q) v
@@ -463,7 +433,6 @@ pub label_long : (s : Abs) (i : Instr) → length (handed_at_label s i).kinds �
 label_long s (Remove r q label) = length-set s.kinds r BlankKind
 label_long s (Disarm r label) = length-set s.kinds r BlankKind
 label_long s (Take r label) = length-set s.kinds r BlankKind
-label_long s (IfPending r label) = refl
 label_long s _ = refl
 
 pub label_kinds : (s : Abs) (i : Instr) → is_giving (work_of i) ≡ false
@@ -471,7 +440,6 @@ pub label_kinds : (s : Abs) (i : Instr) → is_giving (work_of i) ≡ false
 label_kinds s (Remove r q label) quiet = cc
 label_kinds s (Disarm r label) quiet = cc
 label_kinds s (Take r label) quiet = cc
-label_kinds s (IfPending r label) quiet = refl
 label_kinds s _ quiet = refl
 
 pub label_suits : (issued : ℕ) (s : Abs) (i : Instr) (values : List Value)
@@ -480,7 +448,6 @@ pub label_suits : (issued : ℕ) (s : Abs) (i : Instr) (values : List Value)
 label_suits issued s (Remove r q label) values h = kinds_turn issued s.kinds values r BlankKind h tt
 label_suits issued s (Disarm r label) values h = kinds_turn issued s.kinds values r BlankKind h tt
 label_suits issued s (Take r label) values h = kinds_turn issued s.kinds values r BlankKind h tt
-label_suits issued s (IfPending r label) values h = h
 label_suits issued s _ values h = h
 
 pub label_locks : (s : Abs) (i : Instr) → (handed_at_label s i).locks ≡ s.locks

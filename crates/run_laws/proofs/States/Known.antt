@@ -65,10 +65,7 @@ Knows m = (state : ℕ → Abs) × IsKnown m state
 completion_sort : (sort : Sort) → IsCompletion sort → is_completion sort ≡ true
 completion_sort Propagate h = refl
 completion_sort Hold h = refl
-completion_sort Dispatch h = absurd h
-completion_sort StartIo h = absurd h
-completion_sort Dpc h = absurd h
-completion_sort Cancel h = absurd h
+completion_sort _ h = absurd h
 
 -- a routine in the list of a driver is the one of its number
 module _ (set : Set) (driver : ℕ) (d : Driver) (there : slice_get set.drivers driver ≡ Some d)

@@ -119,9 +119,7 @@ module _ (set : Set) (states : States) (s : Shared) (a : Activation) where
       (value_suits set states s a (Ret (Lower r)) r h) in
       let no : None ≡ Some status.0 = sym none ∙ status.1 in
       cc
-  some_status Continue h of_form none = cc
-  some_status Stop h of_form none = cc
-  some_status Void h of_form none = cc
+  some_status _ h of_form none = cc
 
   -- what is armed stands in a queue with a cancel routine
   never_bare : (r q : ℕ) → Runs set states s a (Arm r q) → cancel_routine_of set a.driver q ≡ None

@@ -170,7 +170,6 @@ module _ (set : Set) (driver : ℕ) where
       (h fresh)
   label_new s (Take r label) keeps h fresh =
       new_set s.kinds r Blank (free_not_new (kind_of s r) (second_none _ _ keeps)) (h fresh)
-  label_new s (IfPending r label) keeps h fresh = h fresh
   label_new s _ keeps h fresh = h fresh
 
 -- so it is in every state that arrives at a position

@@ -119,12 +119,7 @@ module _ (set : Set) (driver : ℕ) where
   acquired_fits locks m (Taken (Declared q)) h =
       (h.0, acquired_guards locks m (guard_of set driver q) h.1)
   acquired_fits locks m (Cancelling (Declared q)) h = h
-  acquired_fits locks m Blank h = tt
-  acquired_fits locks m Num h = tt
-  acquired_fits locks m Lower h = tt
-  acquired_fits locks m New h = tt
-  acquired_fits locks m Own h = tt
-  acquired_fits locks m View h = tt
+  acquired_fits locks m _ h = tt
 
   -- a guard is released with no packet left that needs it
   armed_goes : (locks : List Bool) (m q : ℕ) (b : Bool) → is_guard (guard_of set driver q) m ≡ b
@@ -145,12 +140,7 @@ module _ (set : Set) (driver : ℕ) where
   freed_fits locks m (Taken (Declared q)) free h =
       (h.0, other_guard locks m (guard_of set driver q) free h.1)
   freed_fits locks m (Cancelling (Declared q)) free h = h
-  freed_fits locks m Blank free h = tt
-  freed_fits locks m Num free h = tt
-  freed_fits locks m Lower free h = tt
-  freed_fits locks m New free h = tt
-  freed_fits locks m Own free h = tt
-  freed_fits locks m View free h = tt
+  freed_fits locks m _ free h = tt
 
   all_freed : (locks : List Bool) (m : ℕ) (kinds : List Kind)
       → list_any (needs_guard set driver m) kinds ≡ false → Each (KindFits set driver locks) kinds
@@ -188,15 +178,7 @@ module _ (set : Set) (driver : ℕ) where
       let same : p ≡ q = named_same p q (unless_held (is_name (Declared p) (Declared q)) CancelState
       rule) in
       subst (λ (x : ℕ). HasCancel set driver x × Guarded set driver locks x) same h
-  armed_fits locks q Blank rule h = cc
-  armed_fits locks q Num rule h = cc
-  armed_fits locks q Lower rule h = cc
-  armed_fits locks q New rule h = cc
-  armed_fits locks q Own rule h = cc
-  armed_fits locks q (Armed name) rule h = cc
-  armed_fits locks q (Taken name) rule h = cc
-  armed_fits locks q (Cancelling name) rule h = cc
-  armed_fits locks q View rule h = cc
+  armed_fits locks q _ rule h = cc
 
   disarmed_fits : (locks : List Bool) (k : Kind) → KindFits set driver locks k
       → KindFits set driver locks (kind_disarmed k)
@@ -204,12 +186,7 @@ module _ (set : Set) (driver : ℕ) where
   disarmed_fits locks (Taken (Declared q)) h = tt
   disarmed_fits locks (Listed (Declared q)) h = h
   disarmed_fits locks (Cancelling (Declared q)) h = h
-  disarmed_fits locks Blank h = tt
-  disarmed_fits locks Num h = tt
-  disarmed_fits locks Lower h = tt
-  disarmed_fits locks New h = tt
-  disarmed_fits locks Own h = tt
-  disarmed_fits locks View h = tt
+  disarmed_fits locks _ h = tt
 
   left_fits : (locks : List Bool) (k : Kind) → KindFits set driver locks (left_behind k)
   left_fits locks Num = tt
@@ -283,7 +260,6 @@ module _ (set : Set) (driver : ℕ) where
   label_fits s (Remove r q label) h = set_fits s r Blank tt h
   label_fits s (Disarm r label) h = set_fits s r Blank tt h
   label_fits s (Take r label) h = set_fits s r Blank tt h
-  label_fits s (IfPending r label) h = h
   label_fits s _ h = h
 
 -- in the state of entry

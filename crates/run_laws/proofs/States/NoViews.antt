@@ -209,7 +209,6 @@ module _ (set : Set) (driver : ℕ) (f : Kind → Bool) (never : NeverMade set d
   label_none s (Remove r q label) h = none_set f s.kinds r Blank never.blank h
   label_none s (Disarm r label) h = none_set f s.kinds r Blank never.blank h
   label_none s (Take r label) h = none_set f s.kinds r Blank never.blank h
-  label_none s (IfPending r label) h = h
   label_none s _ h = h
 
 -- a routine that begins with none has none

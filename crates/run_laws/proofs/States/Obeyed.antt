@@ -29,11 +29,7 @@ locations_wanted _ = 0
 
 pub forwards_of : (sort : Sort) → forward_sort_fault sort ≡ None → sort ≡ Dispatch
 forwards_of Dispatch h = refl
-forwards_of StartIo h = cc
-forwards_of Dpc h = cc
-forwards_of Propagate h = cc
-forwards_of Hold h = cc
-forwards_of Cancel h = cc
+forwards_of _ h = cc
 
 new_right : (k : Kind) → demanded a_new_one k ≡ None → is_right k ≡ true
 new_right New h = refl

@@ -47,8 +47,7 @@ past_opening _ after d opens = absurd opens
 -- on products
 one_product : (m n : ℕ) → 1 ≤ m → 1 ≤ n → 1 ≤ m * n
 one_product (suc m) (suc n) one others = omega arith
-one_product zero n one others = absurd (omega arith)
-one_product (suc m) zero one others = absurd (omega arith)
+one_product _ _ one others = absurd (omega arith)
 
 loop_share : (turns product first second others : ℕ) →
     product * (1 + (turns * first + second)) + others

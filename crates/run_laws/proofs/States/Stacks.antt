@@ -90,8 +90,7 @@ module _ (set : Set) (states : States) where
     walk_stands above (CancelFrame c) h = tt
     walk_stands None (Walk n) h = h
     walk_stands (Some (Routine b)) (Walk n) h = h.1
-    walk_stands (Some (Walk m)) (Walk n) h = absurd h
-    walk_stands (Some (CancelFrame c)) (Walk n) h = absurd h
+    walk_stands _ (Walk n) h = absurd h
 
     pub walks_stand : (frames : List Frame) → Stacked issued frames
         → Each (WalkIssued issued) frames
@@ -146,8 +145,7 @@ module _ (set : Set) (states : States) where
     -- a completion routine and the I/O manager's frame under it are gone
     walk_uncovered : (g : Frame) (n : ℕ) → Stands issued (Some (Walk n)) g → Stands issued None g
     walk_uncovered (Routine a) n h = h.0
-    walk_uncovered (Walk m) n h = absurd h
-    walk_uncovered (CancelFrame c) n h = absurd h
+    walk_uncovered _ n h = absurd h
 
     pub walk_taken : (others : List Frame) (n : ℕ) (f : Frame)
         → Stacked issued (others ++ Walk n ∷ f ∷ []) → Stacked issued others
@@ -180,9 +178,7 @@ module _ (set : Set) (states : States) where
     stands_later (Some (Routine b)) (Walk n) h = (h.0, let l : n < issued = h.1 in omega arith)
     stands_later (Some (Walk m)) (Walk n) h = absurd h
     stands_later None (CancelFrame c) h = let l : c.packet < issued = h in omega arith
-    stands_later (Some (Routine b)) (CancelFrame c) h = absurd h
-    stands_later (Some (Walk m)) (CancelFrame c) h = absurd h
-    stands_later (Some (CancelFrame c)) f h = absurd h
+    stands_later _ _ h = absurd h
 
     pub stacked_later : (frames : List Frame) → Stacked issued frames → Stacked more frames
     stacked_later [] h = tt

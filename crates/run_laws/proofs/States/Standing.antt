@@ -67,8 +67,7 @@ standing_begun set states threads =
 finished_stops : (frames : List Frame) (reply : Reply) → stops_run reply ≡ false
     → stops_run (finished_or frames reply) ≡ false
 finished_stops [] Stepped h = refl
-finished_stops [] _ h = h
-finished_stops (f ∷ frames) reply h = h
+finished_stops _ _ h = h
 
 module _ (set : Set) (states : States) (w : World) (past : List Entry) (good : IsGood set states)
     (stands : Standing set states w past) where
@@ -101,10 +100,7 @@ module _ (set : Set) (states : States) (w : World) (past : List Entry) (good : I
       let is : IsRight h.outcome =
       is_right_step set states w.shared t (top_of h.below) h.frame h.outcome (on_top t h) h.comes in
       (is.silent, finished_stops (standing set h.below h.outcome) h.outcome.reply is.right)
-  right_event t c (issues h) = (refl, refl)
-  right_event t c (begins h) = (refl, refl)
-  right_event t c (startio_begins h) = (refl, refl)
-  right_event t c (begins_cancel h) = (refl, refl)
+  right_event t c _ = (refl, refl)
 
   -- each thread where one has other frames
   frames_after : (t : ℕ) (s : Shared) (thread after : Thread) → slice_get w.threads t ≡ Some thread

@@ -454,8 +454,6 @@ module _ (set : Set) (states : States) (s : Shared) where
       (begins_called set states s top.good top.fits n p armer routine top.stands there is named)
       (cancel_without _) d in
       omega arith)
-  cancel_tokens t n step o top (takes_cancel free) =
-      same_starts (CancelFrame (record { packet = n; next = step })) o refl (λ d. refl)
   cancel_tokens t n step o top _ =
       same_starts (CancelFrame (record { packet = n; next = step })) o refl (λ d. refl)
 

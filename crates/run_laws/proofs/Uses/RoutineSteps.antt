@@ -169,9 +169,7 @@ pub marked_kind : (carried : Settled) (k : Kind) → mark_fault carried k ≡ No
     → (k ≡ New) ⊎ ((k ≡ View) × (carried ≡ NeedMark))
 marked_kind carried New h = inl refl
 marked_kind NeedMark View h = inr (refl, refl)
-marked_kind Open View h = cc
-marked_kind SettledMark View h = cc
-marked_kind carried _ h = cc
+marked_kind _ _ h = cc
 
 new_settled : (s : Abs) (r : ℕ) (k : Kind) → k ≡ New → (marked s r k).settled ≡ s.settled
 new_settled s r New h = refl
@@ -227,10 +225,7 @@ pub record StepsRoutine (set : Set) (states : States) (s : Shared) (past : List 
 pub completion_sort : (sort : Sort) → is_completion sort ≡ true → (sort ≡ Propagate) ⊎ (sort ≡ Hold)
 completion_sort Propagate is = inl refl
 completion_sort Hold is = inr refl
-completion_sort Dispatch is = cc
-completion_sort StartIo is = cc
-completion_sort Dpc is = cc
-completion_sort Cancel is = cc
+completion_sort _ is = cc
 
 module _ (set : Set) (states : States) (s : Shared) (past : List Entry) (actor : Actor) (t : ℕ)
     (under : Option Frame) (a : Activation) (h : StepsRoutine set states s past under a) where
