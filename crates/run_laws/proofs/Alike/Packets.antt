@@ -70,24 +70,18 @@ rights_but (k ∷ kinds) (u ∷ us) (v ∷ vs) (suc r) n free h =
     same_named k u v n (is_right k) refl h.0 in
     let others : rights kinds us n ≡ rights kinds vs n = rights_but kinds us vs r n free h.1 in
     omega arith
-rights_but (k ∷ kinds) [] (v ∷ vs) zero n free h = absurd h
-rights_but (k ∷ kinds) [] (v ∷ vs) (suc r) n free h = absurd h
-rights_but (k ∷ kinds) (u ∷ us) [] zero n free h = absurd h
-rights_but (k ∷ kinds) (u ∷ us) [] (suc r) n free h = absurd h
+rights_but (k ∷ kinds) _ _ zero n free h = absurd h
+rights_but (k ∷ kinds) _ _ (suc r) n free h = absurd h
 
 status_free : (issued : ℕ) (k : Kind) (status : Status) → Suits issued k (StatusValue status)
     → is_right k ≡ false
 status_free issued BlankKind status h = refl
 status_free issued NumKind status h = refl
 status_free issued Lower status h = refl
-status_free issued New status h = let no : StatusValue status ≡ Ref h.0 = h.1 in cc
-status_free issued Own status h = let no : StatusValue status ≡ Ref h.0 = h.1 in cc
-status_free issued (Listed name) status h = let no : StatusValue status ≡ Ref h.0 = h.1 in cc
 status_free issued (Armed name) status h = refl
 status_free issued (Taken name) status h = refl
-status_free issued (Cancelling name) status h =
-    let no : StatusValue status ≡ Ref h.0 = h.1 in cc
 status_free issued View status h = refl
+status_free issued _ status h = let no : StatusValue status ≡ Ref h.0 = h.1 in cc
 
 told_free : (issued : ℕ) (kinds : List Kind) (vs : List Value) (r : ℕ) (status : Status)
     → HasKinds issued kinds (slice_set vs r (StatusValue status))
@@ -141,15 +135,15 @@ module _ (set : Set) (states : States) (s : Shared) (issued n : ℕ) where
   stack_counts : (xs ys : List Frame) → Stacked set states issued ys
       → AlikeFrames set states s None xs ys → stack_sum count xs ≡ stack_sum count ys
   stack_counts [] [] stands h = refl
-  stack_counts (x ∷ []) (y ∷ []) stands h =
-      let one : count x ≡ count y = frame_counts None x y stands h.0 in omega arith
-  stack_counts (x ∷ u ∷ xs) (y ∷ v ∷ ys) stands h =
-      let one : count x ≡ count y = frame_counts (Some v) x y stands.0 h.0 in
-      let others : stack_sum count (u ∷ xs) ≡ stack_sum count (v ∷ ys) =
-      stack_counts (u ∷ xs) (v ∷ ys) stands.1 h.1 in
+  stack_counts (x ∷ xs) (y ∷ []) stands h =
+      let one : count x ≡ count y = frame_counts None x y stands h.0 in
+      let others : stack_sum count xs ≡ stack_sum count [] = stack_counts xs [] tt h.1 in
       omega arith
-  stack_counts (x ∷ u ∷ xs) (y ∷ []) stands h = absurd h.1
-  stack_counts (x ∷ []) (y ∷ v ∷ ys) stands h = absurd h.1
+  stack_counts (x ∷ xs) (y ∷ v ∷ ys) stands h =
+      let one : count x ≡ count y = frame_counts (Some v) x y stands.0 h.0 in
+      let others : stack_sum count xs ≡ stack_sum count (v ∷ ys) =
+      stack_counts xs (v ∷ ys) stands.1 h.1 in
+      omega arith
   stack_counts _ _ stands h = absurd h
 
   pub thread_counts : (xs ys : List Thread)

@@ -72,10 +72,8 @@ same_told [] us vs r w h = tt
 same_told (j ∷ kinds) [] [] r w h = tt
 same_told (j ∷ kinds) (u ∷ us) (v ∷ vs) zero w h = ((λ is. refl), h.1)
 same_told (j ∷ kinds) (u ∷ us) (v ∷ vs) (suc r) w h = (h.0, same_told kinds us vs r w h.1)
-same_told (j ∷ kinds) [] (v ∷ vs) zero w h = absurd h
-same_told (j ∷ kinds) [] (v ∷ vs) (suc r) w h = absurd h
-same_told (j ∷ kinds) (u ∷ us) [] zero w h = absurd h
-same_told (j ∷ kinds) (u ∷ us) [] (suc r) w h = absurd h
+same_told (j ∷ kinds) _ _ zero w h = absurd h
+same_told (j ∷ kinds) _ _ (suc r) w h = absurd h
 
 -- a register is moved to another one
 left_was : (k : Kind) → is_blank (left_behind k) ≡ false → is_blank k ≡ false

@@ -135,11 +135,10 @@ module _ (set : Set) (states : States) where
       → ((g f : Frame) → AlikeFrame set states s above g f → AlikeFrame set states s other g f)
       → AlikeFrames set states s above xs ys → AlikeFrames set states s other xs ys
   reend s above other [] [] same h = tt
-  reend s above other (g ∷ []) (f ∷ []) same h = (same g f h.0, tt)
-  reend s above other (g ∷ d ∷ xs) (f ∷ e ∷ ys) same h =
-      (h.0, reend s above other (d ∷ xs) (e ∷ ys) same h.1)
-  reend s above other (g ∷ d ∷ xs) (f ∷ []) same h = absurd h.1
-  reend s above other (g ∷ []) (f ∷ e ∷ ys) same h = absurd h.1
+  reend s above other (g ∷ xs) (f ∷ []) same h =
+      (same g f h.0, reend s above other xs [] same h.1)
+  reend s above other (g ∷ xs) (f ∷ e ∷ ys) same h =
+      (h.0, reend s above other xs (e ∷ ys) same h.1)
   reend s above other _ _ same h = absurd h
 
   -- frames on frames
@@ -148,11 +147,10 @@ module _ (set : Set) (states : States) where
       → AlikeFrames set states s above others frames
       → AlikeFrames set states s above (xs ++ others) (ys ++ frames)
   join s above [] [] others frames h new = new
-  join s above (c ∷ []) (d ∷ []) others frames h new = (h.0, new)
-  join s above (c ∷ a ∷ xs) (d ∷ b ∷ ys) others frames h new =
-      (h.0, join s above (a ∷ xs) (b ∷ ys) others frames h.1 new)
-  join s above (c ∷ a ∷ xs) (d ∷ []) others frames h new = absurd h.1
-  join s above (c ∷ []) (d ∷ b ∷ ys) others frames h new = absurd h.1
+  join s above (c ∷ xs) (d ∷ []) others frames h new =
+      (h.0, join s above xs [] others frames h.1 new)
+  join s above (c ∷ xs) (d ∷ b ∷ ys) others frames h new =
+      (h.0, join s above xs (b ∷ ys) others frames h.1 new)
   join s above _ _ others frames h new = absurd h
 
   -- the frame under those that stand in place of the one that ran is told

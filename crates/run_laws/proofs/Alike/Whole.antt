@@ -38,9 +38,8 @@ use Rattle.run_laws.proofs.States.Stacks.{Stacked, Stands}
 values_long : (issued : ℕ) (kinds : List Kind) (values : List Value) → HasKinds issued kinds values
     → length values ≡ length kinds
 values_long issued [] [] h = refl
-values_long issued [] (v ∷ values) h = absurd h
-values_long issued (k ∷ kinds) [] h = absurd h
 values_long issued (k ∷ kinds) (v ∷ values) h = ap suc (values_long issued kinds values h.1)
+values_long issued _ _ h = absurd h
 
 abbrev shown_routine : Activation → ShownActivation
 shown_routine a =

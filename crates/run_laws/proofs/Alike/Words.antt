@@ -111,16 +111,14 @@ module _ (set : Set) (states : States) (s : Shared) (t : ℕ) (a : Activation) (
 
     pub stores : (c : ℕ) (o : Option ℕ) (cells : Option Cells)
         → AlikeOutcome set states (store_effect s b c o cells) (store_effect s a c o cells)
-    stores c None cells = wrong set states s a us long h
-    stores c (Some n) None = wrong set states s a us long h
     stores c (Some n) (Some cells) = record { others = refl; frames = (kept, tt) }
+    stores c _ _ = wrong set states s a us long h
 
     pub stores_paged : (c : ℕ) (o : Option ℕ) (cells : Option Cells)
         → AlikeOutcome set states (store_paged_effect s b c o cells)
         (store_paged_effect s a c o cells)
-    stores_paged c None cells = wrong set states s a us long h
-    stores_paged c (Some n) None = wrong set states s a us long h
     stores_paged c (Some n) (Some cells) = record { others = refl; frames = (kept, tt) }
+    stores_paged c _ _ = wrong set states s a us long h
 
     -- packets
     puts_into : (info n : ℕ) (o : Option Packet)
@@ -129,9 +127,8 @@ module _ (set : Set) (states : States) (s : Shared) (t : ℕ) (a : Activation) (
     puts_into info n (Some p) = record { others = refl; frames = (kept, tt) }
 
     pub puts : (o n : Option ℕ) → AlikeOutcome set states (put_effect s b o n) (put_effect s a o n)
-    puts None n = wrong set states s a us long h
-    puts (Some info) None = wrong set states s a us long h
     puts (Some info) (Some n) = puts_into info n (packet_of s n)
+    puts _ _ = wrong set states s a us long h
 
     marks_one : (n : ℕ) (o : Option Packet)
         → AlikeOutcome set states (mark_packet s b n o) (mark_packet s a n o)
@@ -149,9 +146,8 @@ module _ (set : Set) (states : States) (s : Shared) (t : ℕ) (a : Activation) (
 
     pub arms : (q : ℕ) (n cancel : Option ℕ)
         → AlikeOutcome set states (arm_effect s b q n cancel) (arm_effect s a q n cancel)
-    arms q None cancel = wrong set states s a us long h
-    arms q (Some n) None = wrong set states s a us long h
     arms q (Some n) (Some cancel) = arms_one q n (packet_of s n)
+    arms q _ _ = wrong set states s a us long h
 
     -- locks
     takes_or_waits : (actions : List Action) (own : Bool)
@@ -175,27 +171,23 @@ module _ (set : Set) (states : States) (s : Shared) (t : ℕ) (a : Activation) (
     -- queues
     pub inserts_one : (q : ℕ) (n : Option ℕ) (o : Option (List ℕ))
         → AlikeOutcome set states (insert_effect s b q n o) (insert_effect s a q n o)
-    inserts_one q None o = wrong set states s a us long h
-    inserts_one q (Some n) None = wrong set states s a us long h
     inserts_one q (Some n) (Some entries) = record { others = refl; frames = (kept, tt) }
+    inserts_one q _ _ = wrong set states s a us long h
 
     pub unlinks_one : (q : ℕ) (n : Option ℕ) (o : Option (List ℕ))
         → AlikeOutcome set states (unlink_effect s b q n o) (unlink_effect s a q n o)
-    unlinks_one q None o = wrong set states s a us long h
-    unlinks_one q (Some n) None = wrong set states s a us long h
     unlinks_one q (Some n) (Some entries) = record { others = refl; frames = (kept, tt) }
+    unlinks_one q _ _ = wrong set states s a us long h
 
     pub starts_one : (n : Option ℕ) (o : Option StartState)
         → AlikeOutcome set states (start_effect s b n o) (start_effect s a n o)
-    starts_one None o = wrong set states s a us long h
-    starts_one (Some n) None = wrong set states s a us long h
     starts_one (Some n) (Some start) = record { others = refl; frames = (kept, tt) }
+    starts_one _ _ = wrong set states s a us long h
 
     pub begins_one : (n : Option ℕ) (o : Option StartState)
         → AlikeOutcome set states (begin_effect s b n o) (begin_effect s a n o)
-    begins_one None o = wrong set states s a us long h
-    begins_one (Some n) None = wrong set states s a us long h
     begins_one (Some n) (Some start) = record { others = refl; frames = (kept, tt) }
+    begins_one _ _ = wrong set states s a us long h
 
     pub starts_next_one : (o : Option StartState)
         → AlikeOutcome set states (next_effect s b o) (next_effect s a o)
@@ -238,9 +230,8 @@ module _ (set : Set) (states : States) (s : Shared) (t : ℕ) (a : Activation) (
 
     pub passes : (n lower : Option ℕ)
         → AlikeOutcome set states (pass_effect set s b n lower) (pass_effect set s a n lower)
-    passes None lower = wrong set states s a us long h
-    passes (Some n) None = wrong set states s a us long h
     passes (Some n) (Some lower) = passes_one lower n (packet_of s n)
+    passes _ _ = wrong set states s a us long h
 
     calls_one : (f : Option ℕ) (lower n : ℕ) (o : Option Packet)
         → AlikeOutcome set states (call_packet set s b f lower n o)
@@ -250,9 +241,8 @@ module _ (set : Set) (states : States) (s : Shared) (t : ℕ) (a : Activation) (
 
     pub calls : (f n lower : Option ℕ)
         → AlikeOutcome set states (call_effect set s b f n lower) (call_effect set s a f n lower)
-    calls f None lower = wrong set states s a us long h
-    calls f (Some n) None = wrong set states s a us long h
     calls f (Some n) (Some lower) = calls_one f lower n (packet_of s n)
+    calls f _ _ = wrong set states s a us long h
 
     -- what looks at a packet jumps or doesn't
     module _ (label : ℕ) (labelled : label_of i ≡ Some label) where

@@ -181,12 +181,11 @@ module _ (cost : Frame → ℕ) where
       → Matched given below tags → owed g (below ++ frames) (tags ++ row) ≡ owed g below tags + owed
       g frames row
   owed_append g given [] frames [] row h = omega arith
-  owed_append g given [] frames (tag ∷ tags) row h = absurd h
-  owed_append g given (f ∷ below) frames [] row h = absurd h
   owed_append g given (f ∷ below) frames (tag ∷ tags) row h =
       let others : owed g (below ++ frames) (tags ++ row) ≡ owed g below tags + owed g frames row =
       owed_append g given below frames tags row h.1 in
       omega arith
+  owed_append g given _ frames _ row h = absurd h
 
   pub all_owed_set : (g : ℕ) (threads : List Thread) (tags : List (List Tag)) (t : ℕ)
       (thread after : Thread)
@@ -195,8 +194,6 @@ module _ (cost : Frame → ℕ) where
       → all_owed g (slice_set threads t after) (slice_set tags t new)
       + owed g thread.frames.items row
       ≡ all_owed g threads tags + owed g after.frames.items new
-  all_owed_set g [] tags t thread after row new found there = cc
-  all_owed_set g (x ∷ threads) [] t thread after row new found there = cc
   all_owed_set g (x ∷ threads) (y ∷ tags) zero thread after row new found there =
       let one : x ≡ thread = cc in
       let two : y ≡ row = cc in
@@ -208,6 +205,7 @@ module _ (cost : Frame → ℕ) where
       all_owed_set g threads tags t thread after row new found there
       in
       omega arith
+  all_owed_set g _ _ t thread after row new found there = cc
 
   -- a frame that goes on is of the same routine and owes as much
   abbrev pub Alike : Frame → Frame → Type 0
@@ -320,10 +318,9 @@ module _ (cost : Frame → ℕ) where
       → activations_after number (below ++ old) (now ++ frames)
       ≡ activations_after number old frames
   count_below number [] [] old frames alike = refl
-  count_below number [] (g ∷ now) old frames alike = absurd alike
-  count_below number (f ∷ below) [] old frames alike = absurd alike
   count_below number (f ∷ below) (g ∷ now) old frames alike =
       rw (alike_counted f g number alike.0) (count_below number below now old frames alike.1)
+  count_below number _ _ old frames alike = absurd alike
 
   -- a routine that begins owes at most its certificate
   abbrev pub IsFresh : Set → Frame → Type 0

@@ -52,9 +52,8 @@ Matched given (f ∷ frames) (tag ∷ tags) = Fits given tag f × Matched given 
 
 pub fits_known : (given : List Tag) (tag : Tag) (f : Frame) → Fits given tag f → IsKnown given tag
 fits_known given Managing f h = tt
-fits_known given (Activated g driver routine serving) (Walk n) h = absurd h
-fits_known given (Activated g driver routine serving) (CancelFrame c) h = absurd h
 fits_known given (Activated g driver routine serving) (Routine a) h = h.2
+fits_known given (Activated g driver routine serving) _ h = absurd h
 
 pub fits_more : (given more : List Tag) (tag : Tag) (f : Frame) → Fits given tag f
     → Fits (given ++ more) tag f
@@ -70,19 +69,17 @@ pub matched_more : (given more : List Tag) (frames : List Frame) (tags : List Ta
     → Matched given frames tags
     → Matched (given ++ more) frames tags
 matched_more given more [] [] h = tt
-matched_more given more [] (tag ∷ tags) h = absurd h
-matched_more given more (f ∷ frames) [] h = absurd h
 matched_more given more (f ∷ frames) (tag ∷ tags) h =
     (fits_more given more tag f h.0, matched_more given more frames tags h.1)
+matched_more given more _ _ h = absurd h
 
 pub matched_append : (given : List Tag) (below frames : List Frame) (tags row : List Tag)
     → Matched given below tags
     → Matched given frames row → Matched given (below ++ frames) (tags ++ row)
 matched_append given [] frames [] row h more = more
-matched_append given [] frames (tag ∷ tags) row h more = absurd h
-matched_append given (f ∷ below) frames [] row h more = absurd h
 matched_append given (f ∷ below) frames (tag ∷ tags) row h more =
     (h.0, matched_append given below frames tags row h.1 more)
+matched_append given _ frames _ row h more = absurd h
 
 -- the tag of a routine's frame
 pub record Named (given : List Tag) (tags : List Tag) (k : ℕ) (a : Activation) : Type 0 where

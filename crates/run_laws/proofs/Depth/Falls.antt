@@ -168,9 +168,8 @@ module _ (set : Set) where
   alone : (states : States) (issued : ℕ) (g : Frame) (below : List Frame) (f : Frame)
       → is_cancelling f ≡ true → Stacked set states issued ((g ∷ below) ++ f ∷ []) → ⊥
   alone states issued g [] (CancelFrame c) is stands = absurd stands.0
-  alone states issued g [] (Routine a) is stands = cc
-  alone states issued g [] (Walk n) is stands = cc
   alone states issued g (e ∷ below) f is stands = alone states issued e below f is stands.1
+  alone states issued g [] _ is stands = cc
 
   cancel_falls : (c : Canceller) (frames : List Frame) → Short (CancelFrame c) frames
       → Falls (length set.devices) frames

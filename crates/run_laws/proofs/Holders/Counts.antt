@@ -260,15 +260,13 @@ empty_word p (Some q) is h =
 
 -- what a register refers to
 pub reads_ref : (s : Shared) (v : Value) (n : ℕ) → packet_in s v ≡ Some n → v ≡ Ref n
-reads_ref s Blank n h = cc
-reads_ref s (Num k) n h = cc
-reads_ref s (StatusValue status) n h = cc
 reads_ref s (Ref k) n h =
     elim (cases_Bool (nat_lt k s.issued)) [
       | inl low ↦ let same : Some k ≡ Some n = rw low at h in let one : k ≡ n =
           cc in ap (λ (x : ℕ). Ref x) one
       | inr high ↦ let no : None ≡ Some n = rw high at h in cc
     ]
+reads_ref s _ n h = cc
 
 -- a packet that a register has a right to is live, and isn't completing
 module _ (set : Set) (states : States) (s : Shared) (past : List Entry) (a : Activation)

@@ -33,14 +33,12 @@ RefersTo m _ = ⊤
 
 pub reads_to : (m : ℕ) (s : Shared) (v : Value) (n : ℕ) → RefersTo m v → packet_in s v ≡ Some n
     → n ≡ m
-reads_to m s Blank n refers h = cc
-reads_to m s (Num k) n refers h = cc
-reads_to m s (StatusValue status) n refers h = cc
 reads_to m s (Ref k) n refers h =
     elim (cases_Bool (nat_lt k s.issued)) [
       | inl l ↦ let same : Some k ≡ Some n = rw l at h in let one : k ≡ n = cc in sym one ∙ refers
       | inr l ↦ let no : None ≡ Some n = rw l at h in cc
     ]
+reads_to m s _ n refers h = cc
 
 -- the packets on their way up in an activation's registers are one
 abbrev pub Views : States → ℕ → Activation → Type 0

@@ -59,15 +59,13 @@ lt_false a b l =
 
 -- the packet that a value refers to was issued
 pub named : (s : Shared) (v : Value) (n : ℕ) → packet_in s v ≡ Some n → n < s.issued
-named s Blank n h = cc
-named s (Num k) n h = cc
-named s (StatusValue status) n h = cc
 named s (Ref k) n h =
     elim (cases_lt k s.issued) [
       | inl low ↦ let same : Some k ≡ Some n = rw (lt_true k s.issued low) at h in let one : k ≡ n =
           cc in rw (← one) low
       | inr high ↦ let no : None ≡ Some n = rw (lt_false k s.issued high) at h in cc
     ]
+named s _ n h = cc
 
 -- what is found was issued, and hasn't topped out
 pub found_lt : (s : Shared) (n : ℕ) (p : Packet) → Rises 0 s.packets s.issued

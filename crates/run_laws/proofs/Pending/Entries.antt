@@ -80,9 +80,8 @@ first_there [] some = absurd (omega arith)
 first_there (u ∷ upper) some = tt
 
 second_there : (used : List ℕ) → 1 < length used → HasLocation (slice_get (drop 1 used) 0)
-second_there [] some = absurd (omega arith)
-second_there (u ∷ []) some = absurd (omega arith)
 second_there (u ∷ v ∷ upper) some = tt
+second_there _ some = absurd (omega arith)
 
 module _ (set : Set) (states : States) (w : World) (past : List Entry) (actor : Actor)
     (told : UsesTell w past) where
@@ -215,10 +214,9 @@ module _ (set : Set) (states : States) (w : World) (past : List Entry) where
   pub as_many : (under : Option Frame) (frames : List Frame) (tags : List Tag)
       → AllServe set states w past under frames tags → length tags ≡ length frames
   as_many under [] [] h = refl
-  as_many under [] (tag ∷ tags) h = absurd h
-  as_many under (f ∷ frames) [] h = absurd h
   as_many under (f ∷ frames) (tag ∷ tags) h =
       let others : length tags ≡ length frames = as_many (Some f) frames tags h.1 in omega arith
+  as_many under _ _ h = absurd h
 
   tag_of : (a : Activation) (tag : Tag) (tags : List Tag) → TagNames a.driver a.routine tag
       → (sort_of set a.driver a.routine ≡ Dispatch → ServesUse tag)

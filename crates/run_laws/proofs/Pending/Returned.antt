@@ -139,8 +139,6 @@ serving_same v u packet same =
     ∙ ap (λ (x : ℕ). record { packet = u.packet; «use» = x }) same
 
 served_same : (tag : Tag) (v u : Serving) → served tag ≡ Some v → serves tag u ≡ true → v ≡ u
-served_same Managing v u is h = cc
-served_same (Activated g driver routine None) v u is h = cc
 served_same (Activated g driver routine (Some x)) v u is h =
     let same : x ≡ v = cc in
     sym same
@@ -148,6 +146,7 @@ served_same (Activated g driver routine (Some x)) v u is h =
     (eqb-true x.packet u.packet
     (and_left (nat_eq x.packet u.packet) (nat_eq x.«use» u.«use») h))
     (eqb-true x.«use» u.«use» (and_right (nat_eq x.packet u.packet) (nat_eq x.«use» u.«use») h))
+served_same _ v u is h = cc
 
 returned_more : (b : Bool) (P : Status → Type 0) (status : Status) (xs : List Status)
     → (b ≡ true → P status)

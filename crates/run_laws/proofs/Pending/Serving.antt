@@ -189,12 +189,11 @@ module _ (set : Set) (states : States) (w later_w : World) (past later : List En
       → AllServe set states w past under frames tags
       → AllServe set states later_w later under frames tags
   all_kept under [] [] same h = tt
-  all_kept under [] (tag ∷ tags) same h = absurd h
-  all_kept under (f ∷ frames) [] same h = absurd h
   all_kept under (f ∷ frames) (tag ∷ tags) same h = (
     frame_kept under (first_served tags) f tag (λ n some. same n (omega arith)) h.0,
     all_kept (Some f) frames tags (λ n some. same n (omega arith)) h.1,
   )
+  all_kept under _ _ same h = absurd h
 
 -- what is agreed on for the use below is agreed on for one that is linked to it
 abbrev pub IsFollowed : States → World → List Entry → Type 0

@@ -56,11 +56,10 @@ module _ (set : Set) (later : List Entry) (number : ℕ) where
   pub row_same : (frames : List Frame) (row : List Tag) → Tagged frames row
       → tags_after set later number frames row frames ≡ row
   row_same [] [] h = refl
-  row_same [] (tag ∷ tags) h = absurd h
-  row_same (f ∷ frames) [] h = absurd h
   row_same (f ∷ frames) (tag ∷ row) h =
       rw (kept_self f tag h.0, counted_self f)
       (ap (λ (tags : List Tag). tag ∷ tags) (row_same frames row h.1))
+  row_same _ _ h = absurd h
 
   pub tags_kept : (told : Option Status) (below old frames : List Frame) (tags rest : List Tag)
       → Tagged below tags

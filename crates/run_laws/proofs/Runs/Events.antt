@@ -166,11 +166,10 @@ module _ (set : Set) (w : World) (t : ℕ) where
       (device : Option Device)
       → slice_get w.threads t ≡ o → slice_get set.devices d ≡ device
       → Happens set w t (issue_on set w t d major argument o device)
-  happens_issue d major argument None device found there = nothing Refused refl
-  happens_issue d major argument (Some thread) None found there = nothing Refused refl
   happens_issue d major argument (Some thread) (Some device) found there =
       happens_if d major argument thread device (is_idle thread && can_issue w.shared) refl found
       there
+  happens_issue d major argument _ _ found there = nothing Refused refl
 
   happens_queued : (d routine : ℕ) (thread : Thread) (idle queued : Bool) → is_idle thread ≡ idle
       → slice_get w.threads t ≡ Some thread → dpc_of set d ≡ Some routine
@@ -192,10 +191,9 @@ module _ (set : Set) (w : World) (t : ℕ) where
   happens_dpc : (d : ℕ) (o : Option Thread) (routine : Option ℕ) → slice_get w.threads t ≡ o
       → dpc_of set d ≡ routine
       → Happens set w t (dpc_on set w t d o routine)
-  happens_dpc d None routine found there = nothing Refused refl
-  happens_dpc d (Some thread) None found there = nothing Refused refl
   happens_dpc d (Some thread) (Some routine) found there =
       happens_queued d routine thread (is_idle thread) (is_queued w.shared d) refl found there
+  happens_dpc d _ _ found there = nothing Refused refl
 
   happens_first : (d routine : ℕ) (thread : Thread) (start : StartState) (n : Option ℕ)
       → slice_get w.threads t ≡ Some thread → is_idle thread ≡ true
@@ -228,13 +226,12 @@ module _ (set : Set) (w : World) (t : ℕ) where
   happens_startio : (d : ℕ) (o : Option Thread) (routine : Option ℕ) → slice_get w.threads t ≡ o
       → startio_of set d ≡ routine
       → Happens set w t (startio_on set w t d o routine)
-  happens_startio d None routine found there = nothing Refused refl
-  happens_startio d (Some thread) None found there = nothing Refused refl
   happens_startio d (Some thread) (Some routine) found there =
       cond_both (is_idle thread) (startio_from set w t d thread routine (start_of w.shared d))
       (unchanged w Refused) (Happens set w t)
       (λ is. happens_started d routine thread (start_of w.shared d) found is there refl)
       (λ busy. nothing Refused refl)
+  happens_startio d _ _ found there = nothing Refused refl
 
   happens_cancelling : (n : ℕ) (level : Irql) (thread : Thread) (o : Option Packet)
       → slice_get w.threads t ≡ Some thread → is_idle thread ≡ true → packet_of w.shared n ≡ o

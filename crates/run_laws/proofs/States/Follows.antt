@@ -278,14 +278,12 @@ module _ (set : Set) (driver : ℕ) where
   default_next (suc (suc p)) s h leads = absurd (omega arith)
 
   default_jump : (p label : ℕ) → p < 2 → label_at (slice_get default_code p) ≡ Some label → ⊥
-  default_jump zero label h there = cc
-  default_jump (suc zero) label h there = cc
   default_jump (suc (suc p)) label h there = absurd (omega arith)
+  default_jump _ label h there = cc
 
   default_ends : (p : ℕ) → p < 2 → slice_get default_code p ≡ Some End → ⊥
-  default_ends zero h here = cc
-  default_ends (suc zero) h here = cc
   default_ends (suc (suc p)) h here = absurd (omega arith)
+  default_ends _ h here = cc
 
   pub default_typed : Typed default_member
   default_typed = (

@@ -22,9 +22,8 @@ use Rattle.run_laws.proofs.States.Stacks.{Stands, Stacked}
 kinds_long : (issued : ℕ) (kinds : List Kind) (values : List Value) → HasKinds issued kinds values
     → length values ≡ length kinds
 kinds_long issued [] [] h = refl
-kinds_long issued [] (v ∷ values) h = absurd h
-kinds_long issued (k ∷ kinds) [] h = absurd h
 kinds_long issued (k ∷ kinds) (v ∷ values) h = ap suc (kinds_long issued kinds values h.1)
+kinds_long issued _ _ h = absurd h
 
 told_inside : (set : Set) (a : Activation) (status : Status) (r : Option ℕ)
     → StandsInside set (answered_in a status r)

@@ -111,10 +111,9 @@ suits_later issued more _ v le h = (h.0, h.1, (let l : h.0 < issued = h.2 in ome
 pub kinds_later : (issued more : ℕ) (kinds : List Kind) (values : List Value) → issued ≤ more
     → HasKinds issued kinds values → HasKinds more kinds values
 kinds_later issued more [] [] le h = tt
-kinds_later issued more [] (v ∷ values) le h = absurd h
-kinds_later issued more (k ∷ kinds) [] le h = absurd h
 kinds_later issued more (k ∷ kinds) (v ∷ values) le h =
     (suits_later issued more k v le h.0, kinds_later issued more kinds values le h.1)
+kinds_later issued more _ _ le h = absurd h
 
 -- what a register of a kind holds
 pub number_there : (issued : ℕ) (v : Value) → Suits issued NumKind v
@@ -196,10 +195,9 @@ module _ (set : Set) (driver lock : ℕ) where
   go_kinds : (issued : ℕ) (kinds : List Kind) (values : List Value) → HasKinds issued kinds values
       → HasKinds issued (all_let_go set driver lock kinds) values
   go_kinds issued [] [] h = tt
-  go_kinds issued [] (v ∷ values) h = absurd h
-  go_kinds issued (k ∷ kinds) [] h = absurd h
   go_kinds issued (k ∷ kinds) (v ∷ values) h =
       (go_suits issued k v h.0, go_kinds issued kinds values h.1)
+  go_kinds issued _ _ h = absurd h
 
   go_long : (kinds : List Kind) → length (all_let_go set driver lock kinds) ≡ length kinds
   go_long [] = refl

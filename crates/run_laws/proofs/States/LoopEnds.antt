@@ -109,12 +109,11 @@ loop_opens code q (Some i) here loop = open_next code q i here ∙ opening (flow
     opening _ loop = absurd loop
 
 two_turns : (turns cost : ℕ) → 1 < turns → (turns - 1) * cost ≡ (turns - 1 - 1) * cost + cost
-two_turns zero cost some = absurd (omega arith)
-two_turns (suc zero) cost some = absurd (omega arith)
 two_turns (suc (suc n)) cost some =
     let one : suc (suc n) - 1 ≡ suc n = omega arith in
     let two : suc n - 1 ≡ n = omega arith in
     rw (one, two) (omega arith)
+two_turns _ cost some = absurd (omega arith)
 
 -- a loop's body is entered in the state of its start
 opened_state : (set : Set) (driver : ℕ) (i : Instr) → IsOpening (flow_of i) → (s : Abs)

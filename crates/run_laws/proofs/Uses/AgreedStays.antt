@@ -147,8 +147,6 @@ lent_true : (used : List ℕ) (bound : ℕ) (locations : List Location) (below u
     → Falls bound used → place ≡ length used - 1 - 1 → is_marked (slice_get locations place) ≡ true
     → fate_in (drop 1 used) locations under u ≡ Some marked
     → (marked ≡ true) × (fate_in used locations below u ≡ Some true)
-lent_true [] bound locations below under place u marked falls at here h = cc
-lent_true (v ∷ []) bound locations below under place u marked falls at here h = cc
 lent_true (v ∷ x ∷ upper) bound locations below under place u marked falls at here h =
     let same : length upper ≡ place = omega arith in
     let is : is_marked (slice_get locations (length upper)) ≡ true =
@@ -169,6 +167,7 @@ lent_true (v ∷ x ∷ upper) bound locations below under place u marked falls a
             ∙ ap (λ (b : Bool). Some b) all
       ],
     )
+lent_true _ bound locations below under place u marked falls at here h = cc
 
 -- whatever becomes of the packet
 module _ (past later : List Entry) (v : Serving) (before after : Option Packet) (late lately : ℕ)

@@ -32,8 +32,6 @@ current_others past n u h = others_of (uses past n) u h
 waits_less : (bound : ℕ) (used : List ℕ) (locations : List Location) (u lower : ℕ)
     → Falls bound used
     → WaitsAbove used locations u lower → (u < bound) × (lower < bound)
-waits_less bound [] locations u lower falls h = absurd h
-waits_less bound (x ∷ []) locations u lower falls h = absurd h
 waits_less bound (x ∷ y ∷ upper) locations u lower falls (inl here) =
     let first : x < bound = falls.0 in
     let second : y < x = falls.1.0 in
@@ -46,6 +44,7 @@ waits_less bound (x ∷ y ∷ upper) locations u lower falls (inr above) =
     let one : u < x = less.0 in
     let other : lower < x = less.1 in
     (omega arith, omega arith)
+waits_less bound _ locations u lower falls h = absurd h
 
 not_equal : (x u : ℕ) → u < x → nat_eq x u ≡ false
 not_equal x u l =
@@ -59,8 +58,6 @@ waits_fate : (bound : ℕ) (used : List ℕ) (locations : List Location) (u lowe
     → Falls bound used
     → WaitsAbove used locations u lower
     → fate_in used locations below u ≡ fate_in used locations below lower
-waits_fate bound [] locations u lower below falls h = absurd h
-waits_fate bound (x ∷ []) locations u lower below falls h = absurd h
 waits_fate bound (x ∷ y ∷ upper) locations u lower below falls (inl here) =
     let second : y < x = falls.1.0 in
     let use_is : y ≡ u = here.1 in
@@ -77,6 +74,7 @@ waits_fate bound (x ∷ y ∷ upper) locations u lower below falls (inr above) =
     fate_rest x u (y ∷ upper) locations below (not_equal x u less.0)
     ∙ waits_fate x (y ∷ upper) locations u lower under falls.1 above
     ∙ sym (fate_rest x lower (y ∷ upper) locations below (not_equal x lower less.1))
+waits_fate bound _ locations u lower below falls h = absurd h
 
 or_marked : (late b : Bool) → b ≡ true → (late || b) ≡ true
 or_marked true b h = refl
@@ -161,12 +159,11 @@ module _ (states : States) (w : World) (past : List Entry) where
   waits_unleft : (n : ℕ) (used : List ℕ) (locations : List Location) (u lower : ℕ)
       → Unleft past n used
       → WaitsAbove used locations u lower → marks_left past (nth_use n u) ≡ []
-  waits_unleft n [] locations u lower unleft h = absurd h
-  waits_unleft n (x ∷ []) locations u lower unleft h = absurd h
   waits_unleft n (x ∷ y ∷ upper) locations u lower unleft (inl here) =
       subst (λ (k : ℕ). marks_left past (nth_use n k) ≡ []) here.1 unleft.1.0
   waits_unleft n (x ∷ y ∷ upper) locations u lower unleft (inr above) =
       waits_unleft n (y ∷ upper) locations u lower unleft.1 above
+  waits_unleft n _ locations u lower unleft h = absurd h
 
   waits_agree : (n u lower : ℕ) (p : Packet) (b : Bool)
       → UsesTell w past → find w.shared.packets n ≡ Some p

@@ -38,12 +38,11 @@ waits_same : (used : List ℕ) (locations others : List Location) (u lower : ℕ
     → ((k : ℕ) → k + 1 < length used → is_marked (slice_get others k)
     ≡ is_marked (slice_get locations k))
     → WaitsAbove used locations u lower → WaitsAbove used others u lower
-waits_same [] locations others u lower same h = absurd h
-waits_same (x ∷ []) locations others u lower same h = absurd h
 waits_same (x ∷ y ∷ upper) locations others u lower same (inl here) =
     inl (here.0, here.1, same (length upper) (omega arith) ∙ here.2)
 waits_same (x ∷ y ∷ upper) locations others u lower same (inr above) =
     inr (waits_same (y ∷ upper) locations others u lower (λ k l. same k (omega arith)) above)
+waits_same _ locations others u lower same h = absurd h
 
 -- below a new use
 waits_called : (used : List ℕ) (locations : List Location) (u lower fresh : ℕ)
@@ -144,8 +143,6 @@ module _ (past later : List Entry) (v lower : Serving) (before after : Option Pa
       → Unleft past v.packet used → MarksTell past v.packet used p.locations.items
       → length used ≡ p.depth → IsLeft past later v.packet (Some p) after late lately
       → WaitsAbove used p.locations.items v.«use» lower.«use» → LeftOr used p.locations.items
-  left_or [] p packet is falls unleft marks deep turn h = absurd h
-  left_or (x ∷ []) p packet is falls unleft marks deep turn h = absurd h
   left_or (x ∷ y ∷ upper) p packet is falls unleft marks deep turn (inr above) =
       inr above
   left_or (x ∷ y ∷ upper) p packet is falls unleft marks deep turn (inl here) =
@@ -217,6 +214,7 @@ module _ (past later : List Entry) (v lower : Serving) (before after : Option Pa
               };
             })
       ]
+  left_or _ p packet is falls unleft marks deep turn h = absurd h
 
   left_waits : IsLeft past later v.packet before after late lately
       → WaitsIn past v lower before → LinkedIn later v lower after lately
