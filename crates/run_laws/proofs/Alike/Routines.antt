@@ -147,6 +147,25 @@ module _ (set : Set) (states : States) (s : Shared) (t : ℕ) (a : Activation) w
           → number_in (register b r) ≡ number_in (register a r)
       numbers_in i run r is = ap number_in (number_same set states s a us long h i run r is)
 
+      -- what looks at the packet or the number in an operand alone
+      by_packet : (i : Instr) → Runs set states s a i → (r : ℕ) → packet_operand i ≡ Some r
+          → (effect : Activation → Option ℕ → Outcome)
+          → ((o : Option ℕ) → AlikeOutcome set states (effect b o) (effect a o))
+          → AlikeOutcome set states (effect b (packet_in s (register b r)))
+          (effect a (packet_in s (register a r)))
+      by_packet i run r is effect =
+          by_same set states (effect b) (effect a) (packet_in s (register b r))
+          (packet_in s (register a r)) (packets i run r is)
+
+      by_number : (i : Instr) → Runs set states s a i → (r : ℕ) → number_operand i ≡ Some r
+          → (effect : Activation → Option ℕ → Outcome)
+          → ((o : Option ℕ) → AlikeOutcome set states (effect b o) (effect a o))
+          → AlikeOutcome set states (effect b (number_in (register b r)))
+          (effect a (number_in (register a r)))
+      by_number i run r is effect =
+          by_same set states (effect b) (effect a) (number_in (register b r))
+          (number_in (register a r)) (numbers_in i run r (inl is))
+
       executes : (i : Instr) → Runs set states s a i → Executing set a i
           → AlikeOutcome set states (instruction_effect set s t g b i)
           (instruction_effect set s t f a i)
@@ -213,18 +232,15 @@ module _ (set : Set) (states : States) (s : Shared) (t : ℕ) (a : Activation) w
       executes (Load r c) run at =
           loads set states s t a us long h r c run (slice_get s.cells a.device)
       executes (Store c r) run at =
-          by_same set states (λ o. store_effect s b c o (slice_get s.cells a.device))
-          (λ o. store_effect s a c o (slice_get s.cells a.device)) (number_in (register b r))
-          (number_in (register a r)) (numbers_in (Store c r) run r (inl refl))
+          by_number (Store c r) run r refl
+          (λ d o. store_effect s d c o (slice_get s.cells a.device))
           (λ o. stores set states s t a us long h (Store c r) run refl refl c o
           (slice_get s.cells a.device))
       executes (LoadPaged r c) run at =
           loads_paged set states s t a us long h r c run (slice_get s.cells a.device)
       executes (StorePaged c r) run at =
-          by_same set states (λ o. store_paged_effect s b c o (slice_get s.cells a.device))
-          (λ o. store_paged_effect s a c o (slice_get s.cells a.device))
-          (number_in (register b r)) (number_in (register a r))
-          (numbers_in (StorePaged c r) run r (inl refl))
+          by_number (StorePaged c r) run r refl
+          (λ d o. store_paged_effect s d c o (slice_get s.cells a.device))
           (λ o. stores_paged set states s t a us long h (StorePaged c r) run refl refl c o
           (slice_get s.cells a.device))
       executes (Get r q field) run at =
@@ -236,15 +252,11 @@ module _ (set : Set) (states : States) (s : Shared) (t : ℕ) (a : Activation) w
           (touches_gone a (Get r q field) q n at refl refl refl reads gone) refl
           (named s (register a q) n reads) gone))
       executes (Put q r) run at =
-          by_same set states (λ o. put_effect s b o (packet_in s (register b q)))
-          (λ o. put_effect s a o (packet_in s (register a q))) (number_in (register b r))
-          (number_in (register a r)) (numbers_in (Put q r) run r (inl refl))
-          (λ o. by_same set states (put_effect s b o) (put_effect s a o)
-          (packet_in s (register b q)) (packet_in s (register a q)) (packets (Put q r) run q refl)
+          by_number (Put q r) run r refl (λ d o. put_effect s d o (packet_in s (register d q)))
+          (λ o. by_packet (Put q r) run q refl (λ d. put_effect s d o)
           (puts set states s t a us long h (Put q r) run refl refl o))
       executes (Mark r) run at =
-          by_same set states (mark_effect s b) (mark_effect s a)
-          (packet_in s (register b r)) (packet_in s (register a r)) (packets (Mark r) run r refl)
+          by_packet (Mark r) run r refl (mark_effect s)
           (marks set states s t a us long h (Mark r) run refl refl)
       executes (Acquire lock) run at =
           takes set states s t a us long h (Acquire lock) run refl refl (spin_lock a lock)
@@ -259,71 +271,50 @@ module _ (set : Set) (states : States) (s : Shared) (t : ℕ) (a : Activation) w
           frees set states s t a us long h ReleaseCancel run refl refl SystemCancel
           (owner_of s.locks SystemCancel)
       executes (Insert r q) run at =
-          by_same set states (λ o. insert_effect s b q o (queue_of s a.device q))
-          (λ o. insert_effect s a q o (queue_of s a.device q)) (packet_in s (register b r))
-          (packet_in s (register a r)) (packets (Insert r q) run r refl)
+          by_packet (Insert r q) run r refl (λ d o. insert_effect s d q o (queue_of s a.device q))
           (λ o. inserts_one set states s t a us long h (Insert r q) run refl refl q o
           (queue_of s a.device q))
       executes (Remove r q label) run at =
           removes set states s t a us long h r q label run (queue_of s a.device q)
       executes (Unlink r q) run at =
-          by_same set states (λ o. unlink_effect s b q o (queue_of s a.device q))
-          (λ o. unlink_effect s a q o (queue_of s a.device q)) (packet_in s (register b r))
-          (packet_in s (register a r)) (packets (Unlink r q) run r refl)
+          by_packet (Unlink r q) run r refl (λ d o. unlink_effect s d q o (queue_of s a.device q))
           (λ o. unlinks_one set states s t a us long h (Unlink r q) run refl refl q o
           (queue_of s a.device q))
       executes (Arm r q) run at =
-          by_same set states (λ o. arm_effect s b q o (cancel_routine_of set a.driver q))
-          (λ o. arm_effect s a q o (cancel_routine_of set a.driver q)) (packet_in s (register b r))
-          (packet_in s (register a r)) (packets (Arm r q) run r refl)
+          by_packet (Arm r q) run r refl
+          (λ d o. arm_effect s d q o (cancel_routine_of set a.driver q))
           (λ o. arms set states s t a us long h (Arm r q) run refl refl q o
           (cancel_routine_of set a.driver q))
       executes (Disarm r label) run at =
-          by_same set states (disarm_effect s b label) (disarm_effect s a label)
-          (packet_in s (register b r)) (packet_in s (register a r))
-          (packets (Disarm r label) run r refl)
+          by_packet (Disarm r label) run r refl (λ d. disarm_effect s d label)
           (disarms set states s t a us long h (Disarm r label) run refl refl label refl)
       executes (IfCancel r label) run at =
-          by_same set states (ask_effect s b label) (ask_effect s a label)
-          (packet_in s (register b r)) (packet_in s (register a r))
-          (packets (IfCancel r label) run r refl)
+          by_packet (IfCancel r label) run r refl (λ d. ask_effect s d label)
           (asks_for set states s t a us long h (IfCancel r label) run refl refl label refl)
       executes (Start r) run at =
-          by_same set states (λ o. start_effect s b o (start_of s a.device))
-          (λ o. start_effect s a o (start_of s a.device)) (packet_in s (register b r))
-          (packet_in s (register a r)) (packets (Start r) run r refl)
+          by_packet (Start r) run r refl (λ d o. start_effect s d o (start_of s a.device))
           (λ o. starts_one set states s t a us long h (Start r) run refl refl o
           (start_of s a.device))
       executes (Take r label) run at =
           takes_out set states s t a us long h r label run (start_of s a.device)
       executes (Begin r) run at =
-          by_same set states (λ o. begin_effect s b o (start_of s a.device))
-          (λ o. begin_effect s a o (start_of s a.device)) (packet_in s (register b r))
-          (packet_in s (register a r)) (packets (Begin r) run r refl)
+          by_packet (Begin r) run r refl (λ d o. begin_effect s d o (start_of s a.device))
           (λ o. begins_one set states s t a us long h (Begin r) run refl refl o
           (start_of s a.device))
       executes Next run at =
           starts_next_one set states s t a us long h Next run refl refl (start_of s a.device)
       executes (Pass r) run at =
-          by_same set states (λ o. pass_effect set s b o (lower_of set a.device))
-          (λ o. pass_effect set s a o (lower_of set a.device)) (packet_in s (register b r))
-          (packet_in s (register a r)) (packets (Pass r) run r refl)
+          by_packet (Pass r) run r refl (λ d o. pass_effect set s d o (lower_of set a.device))
           (λ o. passes set states s t a us long h (Pass r) run refl refl o (lower_of set a.device))
       executes (Call r c) run at =
-          by_same set states (λ o. call_effect set s b c o (lower_of set a.device))
-          (λ o. call_effect set s a c o (lower_of set a.device)) (packet_in s (register b r))
-          (packet_in s (register a r)) (packets (Call r c) run r refl)
+          by_packet (Call r c) run r refl (λ d o. call_effect set s d c o (lower_of set a.device))
           (λ o. calls set states s t a us long h (Call r c) run refl refl c o
           (lower_of set a.device))
       executes (Complete r status) run at =
-          by_same set states (complete_effect s b status) (complete_effect s a status)
-          (packet_in s (register b r)) (packet_in s (register a r))
-          (packets (Complete r status) run r refl)
+          by_packet (Complete r status) run r refl (λ d. complete_effect s d status)
           (completes set states s t a us long h (Complete r status) run refl refl status)
       executes (IfPending r label) run at =
-          by_same set states (look_effect s b label) (look_effect s a label)
-          (packet_in s (register b r)) (packet_in s (register a r))
-          (packets (IfPending r label) run r refl)
+          by_packet (IfPending r label) run r refl (λ d. look_effect s d label)
           (looks set states s t a us long h (IfPending r label) run refl refl label refl)
       executes (Ret form) run at =
           returns g f (sort_of set a.driver a.routine) form under low lives at refl run
