@@ -61,6 +61,27 @@ set_other (z ∷ xs) zero (suc j) y h = refl
 set_other (z ∷ xs) (suc i) zero y h = refl
 set_other (z ∷ xs) (suc i) (suc j) y h = set_other xs i j y (λ e. h (ap suc e))
 
+-- a sum over a list: after a write, and of one among all
+pub sum_put : {A : Type 0} (count : A → ℕ) (sum : List A → ℕ)
+    → ((x : A) (xs : List A) → sum (x ∷ xs) ≡ count x + sum xs) → (xs : List A) (i : ℕ) (x y : A)
+    → slice_get xs i ≡ Some x → sum (slice_set xs i y) + count x ≡ sum xs + count y
+sum_put count sum more [] i x y h = cc
+sum_put count sum more (z ∷ xs) zero x y h =
+    let same : z ≡ x = cc in rw (same, more x xs, more y xs) (omega arith)
+sum_put count sum more (z ∷ xs) (suc i) x y h =
+    let others : sum (slice_set xs i y) + count x ≡ sum xs + count y =
+    sum_put count sum more xs i x y h in
+    rw (more z (slice_set xs i y), more z xs) (omega arith)
+
+pub sum_le : {A : Type 0} (count : A → ℕ) (sum : List A → ℕ)
+    → ((x : A) (xs : List A) → sum (x ∷ xs) ≡ count x + sum xs) → (xs : List A) (i : ℕ) (x : A)
+    → slice_get xs i ≡ Some x → count x ≤ sum xs
+sum_le count sum more [] i x h = cc
+sum_le count sum more (z ∷ xs) zero x h =
+    let same : z ≡ x = cc in rw (same, more x xs) (omega arith)
+sum_le count sum more (z ∷ xs) (suc i) x h =
+    let le : count x ≤ sum xs = sum_le count sum more xs i x h in rw (more z xs) (omega arith)
+
 -- what is copied to a place is still where it came from
 copied_as : {A : Type 0} (xs : List A) (r q : ℕ) (d x : A) → slice_index_or xs q d ≡ x
     → slice_index_or (slice_set xs r x) q d ≡ x

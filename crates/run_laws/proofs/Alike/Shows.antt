@@ -6,7 +6,7 @@ use Rattle.std.proofs.lemmas.List.{get_or-set_other}
 use Rattle.std.proofs.lemmas.Option.{slice_get_within}
 use Rattle.model.specs.declared.abs.Abs.{Abs}
 use Rattle.model.specs.declared.abs.Kind.{Kind}
-use Rattle.model.specs.declared.abs.Kind.TheVariants.{Blank as BlankKind, Num as NumKind, Lower, New, Own, Listed, Armed, Taken, Cancelling, View}
+use Rattle.model.specs.declared.abs.Kind.TheVariants.{Blank as BlankKind}
 use Rattle.model.specs.declared.abs.Outs.{Outs}
 use Rattle.model.specs.declared.abs.Rule.{Rule}
 use Rattle.model.specs.declared.instr.Instr.{Instr}

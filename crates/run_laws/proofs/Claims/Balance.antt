@@ -69,6 +69,17 @@ pub record KindTurns (x y : Numbers) (j k : Kind) (e m : ℕ) : Type 0 where
   pub takes : (n : ℕ)
       → y.takes n + named_as was_taken j (Ref m) n ≡ x.takes n + named_as was_taken k (Ref m) n
 
+-- where no packet is taken off a list then, each still stands in one or was taken off one
+pub once_turned : (x y : Numbers) (j k : Kind) (e m : ℕ) → KindTurns x y j k e m
+    → was_taken k ≡ false → ((n : ℕ) → x.takes n + y.lists n ≤ 1)
+    → (n : ℕ) → y.takes n + y.lists n ≤ 1
+once_turned x y j k e m turns none once n =
+    let took : y.takes n + named_as was_taken j (Ref m) n
+    ≡ x.takes n + named_as was_taken k (Ref m) n = turns.takes n in
+    let nothing : named_as was_taken k (Ref m) n ≡ 0 = rw none refl in
+    let least : x.takes n + y.lists n ≤ 1 = once n in
+    omega arith
+
 -- a number stays, or has one more or one fewer at one place
 abbrev pub Same : (ℕ → ℕ → ℕ → ℕ) → (ℕ → ℕ → ℕ → ℕ) → Type 0
 Same one other = (d q n : ℕ) → other d q n ≡ one d q n

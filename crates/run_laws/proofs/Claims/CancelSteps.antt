@@ -16,13 +16,13 @@ use Rattle.model.specs.Kinds.{is_armed, is_cancelling, is_listed, is_name}
 use Rattle.model.specs.Set.{Set, cancel_routine_named, cancels_for}
 use Rattle.model.specs.Trace.{Entry}
 use Rattle.model.specs.World.{Shared, World, packet_of, with_armer, with_packet, entered, without_packet}
-use Rattle.run_laws.specs.Holder.{named_as, named_in, stack_sum, thread_sum, times_listed, times_waiting, frame_rights}
-use Rattle.run_laws.proofs.Claims.Balance.{KindTurns, at_kind, at_swapped, balanced_calls}
+use Rattle.run_laws.specs.Holder.{named_as, named_in, stack_sum, thread_sum, times_waiting, frame_rights}
+use Rattle.run_laws.proofs.Claims.Balance.{KindTurns, at_kind, at_swapped, balanced_calls, once_turned}
 use Rattle.run_laws.proofs.Claims.Held.{word_holds}
 use Rattle.run_laws.proofs.Claims.Names.{OfQueues, armed_queues, cancelling_queues, listed_queues, names, taken_queues, was_queues, queue_packets}
 use Rattle.run_laws.proofs.Claims.Quiet.{Quiet}
 use Rattle.run_laws.proofs.Claims.Steps.{after, all_apart}
-use Rattle.run_laws.proofs.Claims.Sums.{Claimed, FrameApart, frame_names, is_taken, numbers, takes_in, was_taken, word_at}
+use Rattle.run_laws.proofs.Claims.Sums.{Claimed, FrameApart, frame_names, is_taken, numbers, was_taken, word_at}
 use Rattle.run_laws.proofs.Holders.Counts.{Holding, walk_taken}
 use Rattle.run_laws.proofs.Holders.Rights.{handed_names}
 use Rattle.run_laws.proofs.Holders.Sums.{Held, unheld}
@@ -134,14 +134,9 @@ module _ (set : Set) (states : States) (w : World) (past : List Entry) (good : I
         } in
         record {
           balanced = balanced_calls set (numbers states w) (numbers states to) c.balanced
-              (λ m.
-              let took : takes_in states m to.threads + 0 ≡ takes_in states m w.threads + 0 =
-              changes.takes m in
-              let before : takes_in states m w.threads + times_listed w.shared m ≤ 1 =
-              c.balanced.once m in
-              let lists : times_listed h.outcome.shared m
-              ≡ times_listed w.shared m = rw shared refl in
-              omega arith)
+              (once_turned (numbers states w) (numbers states to) BlankKind (Cancelling (Declared q))
+              armer.device n changes refl
+              (λ m. rw shared (c.balanced.once m)))
               armer.device q n changes
               (λ d l m. rw shared (word_emptied w.shared n armer.device q p there armer (refl, is)
               is_set

@@ -22,7 +22,7 @@ use Rattle.model.specs.Sound.{OperandFits}
 use Rattle.model.specs.Trace.{Entry}
 use Rattle.model.specs.World.{World, next, queue_of, register, with_queue, with_register}
 use Rattle.run_laws.specs.Holder.{named_as, named_in, stack_sum, thread_sum, times_in, times_listed, times_queued, times_waiting}
-use Rattle.run_laws.proofs.Claims.Balance.{KindTurns, balanced_cancels, balanced_inserts, balanced_joins, balanced_leaves, balanced_removes, balanced_unlinks, hit}
+use Rattle.run_laws.proofs.Claims.Balance.{KindTurns, balanced_cancels, balanced_inserts, balanced_joins, balanced_leaves, balanced_removes, balanced_unlinks, hit, once_turned}
 use Rattle.run_laws.proofs.Claims.Guards.{NeedsGuard, armed_needs, excluded, listed_needs, taken_needs}
 use Rattle.run_laws.proofs.Claims.Held.{is_own, one_holder, own_alone, owns_in}
 use Rattle.run_laws.proofs.Claims.Names.{KeepsNames, OfQueues, TurnsNames, names, next_takes, next_turns}
@@ -174,12 +174,9 @@ module _ (set : Set) (states : States) (w : World) (past : List Entry) (good : I
         kind_turns set states w past good stands c t h leaves a (next a) Own BlankKind m frame frames refl turns in
         record {
           balanced = balanced_joins set (numbers states w) (numbers states to) c.balanced
-              (λ n.
-              let took : takes_in states n to.threads + 0 ≡ takes_in states n w.threads + 0 =
-              changes.takes n in
-              let least : takes_in states n w.threads + times_listed h.outcome.shared n ≤ 1 =
-              once_put m (own_there (Insert r q) r m run inserted_own reads) inserted_lists n in
-              omega arith)
+              (once_turned (numbers states w) (numbers states to) Own BlankKind
+              a.device m changes refl
+              (once_put m (own_there (Insert r q) r m run inserted_own reads) inserted_lists))
               a.device q m
               (cancelable_is set a.device a.driver q None run.stays.serves none)
               changes
@@ -196,12 +193,9 @@ module _ (set : Set) (states : States) (w : World) (past : List Entry) (good : I
         kind_turns set states w past good stands c t h leaves a (next a) Own (Listed (Declared q)) m frame frames refl turns in
         record {
           balanced = balanced_inserts set (numbers states w) (numbers states to) c.balanced
-              (λ n.
-              let took : takes_in states n to.threads + 0 ≡ takes_in states n w.threads + 0 =
-              changes.takes n in
-              let least : takes_in states n w.threads + times_listed h.outcome.shared n ≤ 1 =
-              once_put m (own_there (Insert r q) r m run inserted_own reads) inserted_lists n in
-              omega arith)
+              (once_turned (numbers states w) (numbers states to) Own (Listed (Declared q))
+              a.device m changes refl
+              (once_put m (own_there (Insert r q) r m run inserted_own reads) inserted_lists))
               a.device q m
               changes
               words_same inserted_entries;
@@ -323,14 +317,11 @@ module _ (set : Set) (states : States) (w : World) (past : List Entry) (good : I
           kind_turns set states w past good stands c t h leaves a taker BlankKind Own m frame frames refl turns in
           record {
             balanced = balanced_leaves set (numbers states w) (numbers states to) c.balanced
-                (λ n.
-                let took : takes_in states n to.threads + 0 ≡ takes_in states n w.threads + 0 =
-                changes.takes n in
+                (once_turned (numbers states w) (numbers states to) BlankKind Own
+                a.device m changes refl
+                (once_less (λ n.
                 let lists : times_listed h.outcome.shared n + (if nat_eq m n then 1 else 0)
-                ≡ times_listed w.shared n = removed_lists n in
-                let before : takes_in states n w.threads + times_listed w.shared n ≤ 1 =
-                c.balanced.once n in
-                omega arith)
+                ≡ times_listed w.shared n = removed_lists n in omega arith)))
                 a.device q m removed_armed removed_listed
                 changes
                 words_same removed_entries;
@@ -448,12 +439,9 @@ module _ (set : Set) (states : States) (w : World) (past : List Entry) (good : I
           kind_turns set states w past good stands c t h leaves a (next a) (Listed (Declared q)) Own m frame frames refl turns in
           record {
             balanced = balanced_unlinks set (numbers states w) (numbers states to) c.balanced
-                (λ n.
-                let took : takes_in states n to.threads + 0 ≡ takes_in states n w.threads + 0 =
-                changes.takes n in
-                let least : takes_in states n w.threads + times_listed h.outcome.shared n ≤ 1 =
-                once_less unlinked_lists n in
-                omega arith)
+                (once_turned (numbers states w) (numbers states to) (Listed (Declared q)) Own
+                a.device m changes refl
+                (once_less unlinked_lists))
                 a.device q m
                 changes
                 words_same
@@ -504,12 +492,9 @@ module _ (set : Set) (states : States) (w : World) (past : List Entry) (good : I
           kind_turns set states w past good stands c t h leaves a (next a) (Cancelling (Declared q)) Own m frame frames refl turns in
           record {
             balanced = balanced_cancels set (numbers states w) (numbers states to) c.balanced
-                (λ n.
-                let took : takes_in states n to.threads + 0 ≡ takes_in states n w.threads + 0 =
-                changes.takes n in
-                let least : takes_in states n w.threads + times_listed h.outcome.shared n ≤ 1 =
-                once_less unlinked_lists n in
-                omega arith)
+                (once_turned (numbers states w) (numbers states to) (Cancelling (Declared q)) Own
+                a.device m changes refl
+                (once_less unlinked_lists))
                 a.device q m (omega arith) (omega arith) (omega arith)
                 (rw queues (unlinked_out w.shared a.device q m entries there few))
                 (λ d p n none. rw queues (entries_others w.shared a.device q m entries

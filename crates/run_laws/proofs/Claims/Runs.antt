@@ -21,7 +21,7 @@ use Rattle.run_laws.proofs.Claims.Queues.{to_start_le}
 use Rattle.run_laws.proofs.Claims.Quiet.{BeginsPlain, NamesNone, apart_none, begins_none, frame_none}
 use Rattle.run_laws.proofs.Claims.Steps.{after, same_balance}
 use Rattle.run_laws.proofs.Claims.Sums.{Claimed, FrameApart, frame_names, is_taken, names_on, takes_in, times_of, was_taken, word_at}
-use Rattle.run_laws.proofs.Claims.Waiting.{to_start_put, waits_in, waits_first}
+use Rattle.run_laws.proofs.Claims.Waiting.{to_start_put, waits_first}
 use Rattle.run_laws.proofs.Holders.Queued.{none_queued}
 use Rattle.run_laws.proofs.Holders.Sums.{Held, first_frame}
 use Rattle.run_laws.proofs.Lists.{Each}
@@ -50,7 +50,7 @@ use Rattle.model.specs.Fault.{first_fault}
 use Rattle.model.specs.Run.{begun}
 use Rattle.run_laws.proofs.Claims.Shapes.{shape_claims}
 use Rattle.run_laws.proofs.Holders.Runs.{idle_sum, top_holding}
-use Rattle.run_laws.proofs.Holders.Started.{none_started}
+use Rattle.run_laws.proofs.Holders.Started.{none_started, waits_in}
 use Rattle.run_laws.proofs.Runs.Kept.{GoesOnBy}
 use Rattle.run_laws.proofs.Runs.Threads.{each_frames, idle_frames}
 

@@ -21,7 +21,8 @@ use Rattle.run_laws.proofs.Claims.Names.{kinds_names, label_names, next_takes, n
 use Rattle.run_laws.proofs.Claims.Quiet.{word_kept, Quiet, on_quiet, quiet_step}
 use Rattle.run_laws.proofs.Claims.Steps.{after, quiet_claims}
 use Rattle.run_laws.proofs.Claims.Sums.{Claimed}
-use Rattle.run_laws.proofs.Claims.Waiting.{to_start_put, waits_given, waits_in, waits_next}
+use Rattle.run_laws.proofs.Claims.Waiting.{to_start_put}
+use Rattle.run_laws.proofs.Holders.Started.{waits_given, waits_in, waits_next}
 use Rattle.run_laws.proofs.Holders.Counts.{reads_ref, Holding}
 use Rattle.run_laws.proofs.Holders.Sums.{Held}
 use Rattle.run_laws.proofs.Lists.{all_at}

@@ -12,7 +12,6 @@ use Rattle.model.specs.declared.instr.Instr.TheVariants.{Arm, Disarm, Release}
 use Rattle.model.specs.declared.set.QueueName.TheVariants.{Declared}
 use Rattle.model.specs.declared.world.Activation.{Activation}
 use Rattle.model.specs.declared.world.Frame.TheVariants.{Routine}
-use Rattle.model.specs.declared.world.Value.TheVariants.{Ref}
 use Rattle.model.specs.Effect.{armer_of}
 use Rattle.model.specs.Kinds.{is_armed, is_cancelling, is_listed, all_let_go, is_exchanged, is_name, kind_disarmed}
 use Rattle.model.specs.LocalRule.{kind_of, queued_kind}
@@ -20,7 +19,7 @@ use Rattle.model.specs.Set.{Set}
 use Rattle.model.specs.Trace.{Entry}
 use Rattle.model.specs.World.{Shared, World, at_label, next, queue_of, register, packet_of, with_armer, with_packet}
 use Rattle.run_laws.specs.Holder.{named_as, named_in, stack_sum, thread_sum, times_listed, times_queued, times_waiting, times_named}
-use Rattle.run_laws.proofs.Claims.Balance.{KindTurns, balanced_gives, balanced_less, hit, balanced_arms, balanced_disarms, balanced_keeps_taken}
+use Rattle.run_laws.proofs.Claims.Balance.{KindTurns, balanced_gives, balanced_less, hit, balanced_arms, balanced_disarms, balanced_keeps_taken, once_turned}
 use Rattle.run_laws.proofs.Claims.Held.{one_holder, owns_in, word_holds}
 use Rattle.run_laws.proofs.Claims.Names.{OfQueues, TurnsNames, armed_queues, cancelling_queues, listed_queues, names, next_turns, taken_queues, was_queues, gone_names, label_turns, next_names, stay_names}
 use Rattle.run_laws.proofs.Claims.Quiet.{word_kept, word_put}
@@ -266,14 +265,9 @@ module _ (set : Set) (states : States) (w : World) (past : List Entry) (good : I
           kind_turns set states w past good stands c t h leaves a (next a) (Listed (Declared q)) (Armed (Declared q)) m frame frames refl turns in
           record {
             balanced = balanced_arms set (numbers states w) (numbers states to) c.balanced
-                (λ n.
-                let took : takes_in states n to.threads + 0 ≡ takes_in states n w.threads + 0 =
-                changes.takes n in
-                let before : takes_in states n w.threads + times_listed w.shared n ≤ 1 =
-                c.balanced.once n in
-                let lists : times_listed h.outcome.shared n
-                ≡ times_listed w.shared n = rw shared refl in
-                omega arith)
+                (once_turned (numbers states w) (numbers states to) (Listed (Declared q)) (Armed (Declared q))
+                a.device m changes refl
+                (λ n. rw shared (c.balanced.once n)))
                 a.device q m
                 changes
                 (λ d l n. rw shared (word_filled w.shared m a.device q p there (armer_of a q)
@@ -315,14 +309,9 @@ module _ (set : Set) (states : States) (w : World) (past : List Entry) (good : I
           kind_turns set states w past good stands c t h leaves a (next a) (Armed (Declared q)) (Listed (Declared q)) m frame frames refl turns in
           record {
             balanced = balanced_disarms set (numbers states w) (numbers states to) c.balanced
-                (λ n.
-                let took : takes_in states n to.threads + 0 ≡ takes_in states n w.threads + 0 =
-                changes.takes n in
-                let before : takes_in states n w.threads + times_listed w.shared n ≤ 1 =
-                c.balanced.once n in
-                let lists : times_listed h.outcome.shared n
-                ≡ times_listed w.shared n = rw shared refl in
-                omega arith)
+                (once_turned (numbers states w) (numbers states to) (Armed (Declared q)) (Listed (Declared q))
+                a.device m changes refl
+                (λ n. rw shared (c.balanced.once n)))
                 a.device q m
                 changes
                 (λ d l n. rw shared (word_emptied w.shared m a.device q p there armer its is_set d l
@@ -353,16 +342,9 @@ module _ (set : Set) (states : States) (w : World) (past : List Entry) (good : I
           kind_turns set states w past good stands c t h leaves a (next a) (Taken (Declared q)) Own m frame frames refl turns in
           record {
             balanced = balanced_keeps_taken set (numbers states w) (numbers states to) c.balanced
-                (λ n.
-                let took : takes_in states n to.threads
-                + named_as was_taken (Taken (Declared q)) (Ref m) n
-                ≡ takes_in states n w.threads + 0 =
-                changes.takes n in
-                let before : takes_in states n w.threads + times_listed w.shared n ≤ 1 =
-                c.balanced.once n in
-                let lists : times_listed h.outcome.shared n
-                ≡ times_listed w.shared n = rw shared refl in
-                omega arith)
+                (once_turned (numbers states w) (numbers states to) (Taken (Declared q)) Own
+                a.device m changes refl
+                (λ n. rw shared (c.balanced.once n)))
                 a.device q m (omega arith)
                 changes
                 (λ d l n. rw shared (word_emptied w.shared m a.device q p there armer its is_set d l
@@ -399,14 +381,9 @@ module _ (set : Set) (states : States) (w : World) (past : List Entry) (good : I
             frame frames refl turns in
             record {
               balanced = balanced_gives set (numbers states w) (numbers states to) c.balanced
-                  (λ n.
-                  let took : takes_in states n to.threads + named_as was_taken j (Ref m) n
-                  ≡ takes_in states n w.threads + 0 = changes.takes n in
-                  let before : takes_in states n w.threads + times_listed w.shared n ≤ 1 =
-                  c.balanced.once n in
-                  let lists : times_listed h.outcome.shared n
-                  ≡ times_listed w.shared n = rw shared refl in
-                  omega arith)
+                  (once_turned (numbers states w) (numbers states to) j BlankKind
+                  a.device m changes refl
+                  (λ n. rw shared (c.balanced.once n)))
                   j a.device m plain changes
                   (λ d l n. rw shared (word_kept w.shared m p (with_armer p None) there refl
                   (sym is_empty) n d l))

@@ -54,13 +54,21 @@ some_none f g less (k ∷ kinds) h =
     )
     refl
 
--- in one frame
-pub apart_down : (states : States) (a b : Activation) (j k : Kind) (m : ℕ)
-    → TurnsNames states a b j k m
-    → ((q : ℕ) → (is_armed (Declared q) k ≡ false) × (is_taken (Declared q) k ≡ false)
-    × (is_cancelling (Declared q) k ≡ false))
-    → FrameApart states (Routine a) → FrameApart states (Routine b)
-apart_down states a b j k m turns none h q n =
+-- in one frame: its claims to a packet, and one of a kind
+abbrev pub claims : States → Activation → ℕ → ℕ → ℕ
+claims states a q n =
+    names states (is_armed (Declared q)) a n + names states (is_taken (Declared q)) a n
+    + names states (is_cancelling (Declared q)) a n
+
+abbrev claims_as : Kind → ℕ → ℕ → ℕ → ℕ
+claims_as k q m n =
+    named_as (is_armed (Declared q)) k (Ref m) n + named_as (is_taken (Declared q)) k (Ref m) n
+    + named_as (is_cancelling (Declared q)) k (Ref m) n
+
+claims_turn : (states : States) (a b : Activation) (j k : Kind) (m : ℕ)
+    → TurnsNames states a b j k m → (q n : ℕ)
+    → claims states b q n + claims_as j q m n ≡ claims states a q n + claims_as k q m n
+claims_turn states a b j k m turns q n =
     let armed : names states (is_armed (Declared q)) b n
     + named_as (is_armed (Declared q)) j (Ref m) n
     ≡ names states (is_armed (Declared q)) a n + named_as (is_armed (Declared q)) k (Ref m) n =
@@ -74,14 +82,18 @@ apart_down states a b j k m turns none h q n =
     ≡ names states (is_cancelling (Declared q)) a n
     + named_as (is_cancelling (Declared q)) k (Ref m) n =
     turns (is_cancelling (Declared q)) (cancelling_queues (Declared q)) n in
-    let no_armed : named_as (is_armed (Declared q)) k (Ref m) n ≡ 0 =
-    named_none (is_armed (Declared q)) k (Ref m) n (none q).0 in
-    let no_taken : named_as (is_taken (Declared q)) k (Ref m) n ≡ 0 =
-    named_none (is_taken (Declared q)) k (Ref m) n (none q).1 in
-    let no_cancelling : named_as (is_cancelling (Declared q)) k (Ref m) n ≡ 0 =
-    named_none (is_cancelling (Declared q)) k (Ref m) n (none q).2 in
-    let before : names states (is_armed (Declared q)) a n + names states (is_taken (Declared q)) a n
-    + names states (is_cancelling (Declared q)) a n ≤ 1 = h q n in
+    omega arith
+
+pub apart_down : (states : States) (a b : Activation) (j k : Kind) (m : ℕ)
+    → TurnsNames states a b j k m
+    → ((q : ℕ) → (is_armed (Declared q) k ≡ false) × (is_taken (Declared q) k ≡ false)
+    × (is_cancelling (Declared q) k ≡ false))
+    → FrameApart states (Routine a) → FrameApart states (Routine b)
+apart_down states a b j k m turns none h q n =
+    let turn : claims states b q n + claims_as j q m n ≡ claims states a q n + claims_as k q m n =
+    claims_turn states a b j k m turns q n in
+    let nothing : claims_as k q m n ≡ 0 = rw ((none q).0, (none q).1, (none q).2) refl in
+    let before : claims states a q n ≤ 1 = h q n in
     omega arith
 
 -- a claim comes for a packet that is in none
@@ -105,28 +117,14 @@ claim_tells l q m n sum h =
 
 pub apart_up : (states : States) (a b : Activation) (j k : Kind) (m l : ℕ)
     → TurnsNames states a b j k m
-    → NewClaim k l
-    → names states (is_armed (Declared l)) a m + names states (is_taken (Declared l)) a m
-    + names states (is_cancelling (Declared l)) a m ≡ 0
+    → NewClaim k l → claims states a l m ≡ 0
     → FrameApart states (Routine a) → FrameApart states (Routine b)
 apart_up states a b j k m l turns new free h q n =
-    let armed : names states (is_armed (Declared q)) b n
-    + named_as (is_armed (Declared q)) j (Ref m) n
-    ≡ names states (is_armed (Declared q)) a n + named_as (is_armed (Declared q)) k (Ref m) n =
-    turns (is_armed (Declared q)) (armed_queues (Declared q)) n in
-    let taken : names states (is_taken (Declared q)) b n
-    + named_as (is_taken (Declared q)) j (Ref m) n
-    ≡ names states (is_taken (Declared q)) a n + named_as (is_taken (Declared q)) k (Ref m) n =
-    turns (is_taken (Declared q)) (taken_queues (Declared q)) n in
-    let cancelling : names states (is_cancelling (Declared q)) b n
-    + named_as (is_cancelling (Declared q)) j (Ref m) n
-    ≡ names states (is_cancelling (Declared q)) a n
-    + named_as (is_cancelling (Declared q)) k (Ref m) n =
-    turns (is_cancelling (Declared q)) (cancelling_queues (Declared q)) n in
+    let turn : claims states b q n + claims_as j q m n ≡ claims states a q n + claims_as k q m n =
+    claims_turn states a b j k m turns q n in
     let no_cancelling : named_as (is_cancelling (Declared q)) k (Ref m) n ≡ 0 =
     named_none (is_cancelling (Declared q)) k (Ref m) n (new.1 q) in
-    let before : names states (is_armed (Declared q)) a n + names states (is_taken (Declared q)) a n
-    + names states (is_cancelling (Declared q)) a n ≤ 1 = h q n in
+    let before : claims states a q n ≤ 1 = h q n in
     elim (claim_tells l q m n (named_as (is_armed (Declared q)) k (Ref m) n
     + named_as (is_taken (Declared q)) k (Ref m) n) (new.0 q n m)) [
       | inl none ↦
@@ -136,15 +134,9 @@ apart_up states a b j k m l turns new free h q n =
       | inr one ↦
           let claim : named_as (is_armed (Declared q)) k (Ref m) n
           + named_as (is_taken (Declared q)) k (Ref m) n ≡ 1 = one.2 in
-          let zero_before : names states (is_armed (Declared q)) a n
-          + names states (is_taken (Declared q)) a n
-          + names states (is_cancelling (Declared q)) a n ≡ 0 =
-          subst (λ (x : ℕ). names states (is_armed (Declared q)) a x
-          + names states (is_taken (Declared q)) a x
-          + names states (is_cancelling (Declared q)) a x ≡ 0) one.1
-          (subst (λ (x : ℕ). names states (is_armed (Declared x)) a m
-          + names states (is_taken (Declared x)) a m
-          + names states (is_cancelling (Declared x)) a m ≡ 0) one.0 free) in
+          let zero_before : claims states a q n ≡ 0 =
+          subst (λ (x : ℕ). claims states a q x ≡ 0) one.1
+          (subst (λ (x : ℕ). claims states a x m ≡ 0) one.0 free) in
           omega arith
     ]
 

@@ -1,6 +1,6 @@
 -- A step of a thread that is there is refused for want of room alone, and no thread comes to be or
 -- ends.
-use Rattle.std.proofs.Common.{◌≡◌, ℕ, ◌-◌, ◌<◌, List, [], ◌∷◌, length, take, Option, None, Some, Bool, true, false, refl, sym, ◌∙◌}
+use Rattle.std.proofs.Common.{◌≡◌, ℕ, ◌-◌, ◌<◌, List, [], length, take, Option, None, Some, Bool, true, false, refl, sym, ◌∙◌}
 use Rattle.std.specs.Prelude.{slice_get}
 use Rattle.std.proofs.lemmas.List.{length-set}
 use Rattle.std.proofs.lemmas.Option.{slice_get-get_or}
@@ -14,7 +14,7 @@ use Rattle.model.specs.Effect.{Outcome, top_of, frame_effect}
 use Rattle.model.specs.Events.{Change, finished_or, standing, top_effect, step_thread, effect}
 use Rattle.model.specs.Set.{Set}
 use Rattle.model.specs.World.{Shared, World, idle_thread}
-use Rattle.run_laws.proofs.Runs.Events.{Happens, nothing, steps, issues, begins, begins_startio, begins_cancel}
+use Rattle.run_laws.proofs.Runs.Events.{Happens, nothing}
 use Rattle.run_laws.proofs.Steps.Comes.{Cancels, takes_cancel, Comes, errs, cancels}
 use Rattle.run_laws.proofs.Steps.Walk.{comes}
 

@@ -9,7 +9,7 @@ use Rattle.model.specs.declared.world.Frame.{Frame}
 use Rattle.model.specs.declared.world.Frame.TheVariants.{Routine, Walk}
 use Rattle.model.specs.declared.world.Packet.{Packet}
 use Rattle.model.specs.declared.world.Value.{Value}
-use Rattle.model.specs.declared.world.Value.TheVariants.{Blank, Num, Ref, Status as StatusValue}
+use Rattle.model.specs.declared.world.Value.TheVariants.{Ref}
 use Rattle.model.specs.Kinds.{is_right}
 use Rattle.model.specs.LocalRule.{kind_of}
 use Rattle.model.specs.Queues.{StartState}

@@ -6,12 +6,12 @@ use Rattle.std.specs.Prelude.{⊤, nat_eq, slice_index_or, if◌then◌else◌}
 use Rattle.std.proofs.lemmas.Bool.{cases_Bool}
 use Rattle.std.proofs.lemmas.Bool.Decides.{eqb_tells}
 use Rattle.model.specs.declared.abs.Kind.{Kind}
-use Rattle.model.specs.declared.abs.Kind.TheVariants.{Blank as BlankKind, New, Own, Listed, Cancelling}
+use Rattle.model.specs.declared.abs.Kind.TheVariants.{Blank as BlankKind, New}
 use Rattle.model.specs.declared.abs.Rule.TheVariants.{Completion}
 use Rattle.model.specs.declared.instr.Instr.TheVariants.{Ret}
 use Rattle.model.specs.declared.instr.Return.TheVariants.{Continue, Stop}
 use Rattle.model.specs.declared.set.Sort.{Sort}
-use Rattle.model.specs.declared.set.Sort.TheVariants.{Hold, Propagate}
+use Rattle.model.specs.declared.set.Sort.TheVariants.{Hold}
 use Rattle.model.specs.declared.world.Activation.{Activation}
 use Rattle.model.specs.declared.world.Frame.{Frame}
 use Rattle.model.specs.declared.world.Frame.TheVariants.{Routine, Walk, Cancel as CancelFrame}

@@ -8,7 +8,7 @@ use Rattle.model.specs.World.{Shared, queue_of, with_queue}
 use Rattle.run_laws.specs.Holder.{times_in, times_on, times_queued}
 use Rattle.run_laws.proofs.States.Fits.{queue_row}
 use Rattle.std.proofs.lemmas.Bool.{eq-eqb, cases_eq}
-use Rattle.run_laws.proofs.Lists.{set_other, set_same}
+use Rattle.run_laws.proofs.Lists.{set_other, set_same, sum_le, sum_put}
 use Rattle.model.specs.declared.world.Packet.{Packet}
 use Rattle.run_laws.proofs.Past.LivePackets.{find}
 use Rattle.std.proofs.lemmas.Bool.Decides.{eqb_tells}
@@ -22,29 +22,6 @@ times_pushed (k ∷ entries) m n =
     times_pushed entries m n in
     omega arith
 
-on_put : (lists : List (List ℕ)) (q : ℕ) (before after : List ℕ) (n : ℕ)
-    → slice_get lists q ≡ Some before
-    → times_on (slice_set lists q after) n + times_in before n ≡ times_on lists n + times_in after n
-on_put [] q before after n there = cc
-on_put (entries ∷ lists) zero before after n there =
-    let same : entries ≡ before = cc in rw same (omega arith)
-on_put (entries ∷ lists) (suc q) before after n there =
-    let others : times_on (slice_set lists q after) n + times_in before n
-    ≡ times_on lists n + times_in after n = on_put lists q before after n there in
-    omega arith
-
-queued_put : (queues : List (List (List ℕ))) (d : ℕ) (before after : List (List ℕ)) (n : ℕ)
-    → slice_get queues d ≡ Some before
-    → times_queued (slice_set queues d after) n + times_on before n
-    ≡ times_queued queues n + times_on after n
-queued_put [] d before after n there = cc
-queued_put (lists ∷ queues) zero before after n there =
-    let same : lists ≡ before = cc in rw same (omega arith)
-queued_put (lists ∷ queues) (suc d) before after n there =
-    let others : times_queued (slice_set queues d after) n + times_on before n
-    ≡ times_queued queues n + times_on after n = queued_put queues d before after n there in
-    omega arith
-
 pub times_put : (s : Shared) (d q : ℕ) (before after : List ℕ) (n : ℕ)
     → queue_of s d q ≡ Some before
     → times_queued (with_queue s d q after).queues n + times_in before n
@@ -55,38 +32,27 @@ times_put s d q before after n there =
     let same : slice_index_or s.queues d [] ≡ row.0 =
     get_or_from_slice_get s.queues d row.0 [] row.1 in
     let one : times_on (slice_set row.0 q after) n + times_in before n
-    ≡ times_on row.0 n + times_in after n = on_put row.0 q before after n row.2 in
+    ≡ times_on row.0 n + times_in after n =
+    sum_put (λ entries. times_in entries n) (λ lists. times_on lists n) (λ x xs. refl) row.0 q before
+    after row.2 in
     let all : times_queued (slice_set s.queues d (slice_set row.0 q after)) n + times_on row.0 n
     ≡ times_queued s.queues n + times_on (slice_set row.0 q after) n =
-    queued_put s.queues d row.0 (slice_set row.0 q after) n row.1 in
+    sum_put (λ lists. times_on lists n) (λ queues. times_queued queues n) (λ x xs. refl) s.queues d
+    row.0 (slice_set row.0 q after) row.1 in
     rw same (omega arith)
 
 -- a queue is one of all
-on_le : (lists : List (List ℕ)) (q : ℕ) (entries : List ℕ) (n : ℕ)
-    → slice_get lists q ≡ Some entries
-    → times_in entries n ≤ times_on lists n
-on_le [] q entries n there = cc
-on_le (other ∷ lists) zero entries n there =
-    let same : other ≡ entries = cc in rw same (omega arith)
-on_le (other ∷ lists) (suc q) entries n there =
-    let le : times_in entries n ≤ times_on lists n = on_le lists q entries n there in omega arith
-
-queued_le : (queues : List (List (List ℕ))) (d : ℕ) (lists : List (List ℕ)) (n : ℕ)
-    → slice_get queues d ≡ Some lists → times_on lists n ≤ times_queued queues n
-queued_le [] d lists n there = cc
-queued_le (other ∷ queues) zero lists n there =
-    let same : other ≡ lists = cc in rw same (omega arith)
-queued_le (other ∷ queues) (suc d) lists n there =
-    let le : times_on lists n ≤ times_queued queues n = queued_le queues d lists n there in omega
-    arith
-
 pub times_le : (s : Shared) (d q : ℕ) (entries : List ℕ) (n : ℕ) → queue_of s d q ≡ Some entries
     → times_in entries n ≤ times_queued s.queues n
 times_le s d q entries n there =
     let row : (lists : List (List ℕ)) × (slice_get s.queues d ≡ Some lists)
     × (slice_get lists q ≡ Some entries) = queue_row s d q entries there in
-    let one : times_in entries n ≤ times_on row.0 n = on_le row.0 q entries n row.2 in
-    let all : times_on row.0 n ≤ times_queued s.queues n = queued_le s.queues d row.0 n row.1 in
+    let one : times_in entries n ≤ times_on row.0 n =
+    sum_le (λ entries. times_in entries n) (λ lists. times_on lists n) (λ x xs. refl) row.0 q
+    entries row.2 in
+    let all : times_on row.0 n ≤ times_queued s.queues n =
+    sum_le (λ lists. times_on lists n) (λ queues. times_queued queues n) (λ x xs. refl) s.queues d
+    row.0 row.1 in
     omega arith
 
 -- a queue after one is changed: that one, or one as it was

@@ -7,30 +7,23 @@ use Rattle.model.specs.Queues.{StartState, head_of, idle, inserted, next_of, nex
 use Rattle.model.specs.World.{Shared, start_of, with_start}
 use Rattle.run_laws.specs.Holder.{times_at, times_in, times_in_slot, times_started}
 use Rattle.run_laws.proofs.Holders.Queued.{times_pushed}
-use Rattle.run_laws.proofs.Lists.{set_other, set_same}
+use Rattle.run_laws.proofs.Lists.{set_other, set_same, sum_le, sum_put}
 
 -- one device's state in place of another
 pub started_put : (starts : List StartState) (d : ℕ) (before after : StartState) (n : ℕ)
     → slice_get starts d ≡ Some before
     → times_started (slice_set starts d after) n + times_at before n
     ≡ times_started starts n + times_at after n
-started_put [] d before after n there = cc
-started_put (start ∷ starts) zero before after n there =
-    let same : start ≡ before = cc in rw same (omega arith)
-started_put (start ∷ starts) (suc d) before after n there =
-    let others : times_started (slice_set starts d after) n + times_at before n
-    ≡ times_started starts n + times_at after n = started_put starts d before after n there in
-    omega arith
+started_put starts d before after n there =
+    sum_put (λ start. times_at start n) (λ starts. times_started starts n) (λ x xs. refl) starts d
+    before after there
 
 -- and it is one of all
 pub started_le : (starts : List StartState) (d : ℕ) (start : StartState) (n : ℕ)
     → slice_get starts d ≡ Some start → times_at start n ≤ times_started starts n
-started_le [] d start n there = cc
-started_le (other ∷ starts) zero start n there =
-    let same : other ≡ start = cc in rw same (omega arith)
-started_le (other ∷ starts) (suc d) start n there =
-    let le : times_at start n ≤ times_started starts n = started_le starts d start n there in
-    omega arith
+started_le starts d start n there =
+    sum_le (λ start. times_at start n) (λ starts. times_started starts n) (λ x xs. refl) starts d
+    start there
 
 -- after one is changed: that one, or one as it was
 pub start_after : (s : Shared) (d : ℕ) (before after : StartState) (e : ℕ) (start : StartState)
@@ -54,13 +47,17 @@ none_started (suc devices) n =
     let others : times_started (replicate devices idle) n
     ≡ 0 = none_started devices n in omega arith
 
+-- in the lists of a device, and not in its current slot
+abbrev pub waits_in : StartState → ℕ → ℕ
+waits_in start n = times_in start.start_list n + times_in start.device_queue n
+
 -- a packet is started: it stands in the start list, or in the device queue of a busy device
-pub times_given : (start : StartState) (m n : ℕ)
-    → times_at (started start m) n ≡ times_at start n + (if nat_eq m n then 1 else 0)
-times_given start m n =
+pub waits_given : (start : StartState) (m n : ℕ)
+    → waits_in (started start m) n ≡ waits_in start n + (if nat_eq m n then 1 else 0)
+waits_given start m n =
     cond_both start.busy (record start { device_queue = inserted start.device_queue m })
     (record start { start_list = inserted start.start_list m; busy = true })
-    (λ (x : StartState). times_at x n ≡ times_at start n + (if nat_eq m n then 1 else 0))
+    (λ (x : StartState). waits_in x n ≡ waits_in start n + (if nat_eq m n then 1 else 0))
     (λ busy.
     let pushed : times_in (inserted start.device_queue m) n
     ≡ times_in start.device_queue n + (if nat_eq m n then 1 else 0) =
@@ -70,11 +67,23 @@ times_given start m n =
     ≡ times_in start.start_list n + (if nat_eq m n then 1 else 0) =
     times_pushed start.start_list m n in omega arith)
 
+pub times_given : (start : StartState) (m n : ℕ)
+    → times_at (started start m) n ≡ times_at start n + (if nat_eq m n then 1 else 0)
+times_given start m n =
+    let given : waits_in (started start m) n ≡ waits_in start n + (if nat_eq m n then 1 else 0) =
+    waits_given start m n in
+    let slot : (started start m).slot ≡ start.slot =
+    cond_both start.busy _ _ (λ (x : StartState). x.slot ≡ start.slot) (λ busy. refl)
+    (λ free. refl) in
+    let same : times_in_slot (started start m).slot n ≡ times_in_slot start.slot n =
+    ap (λ (o : Option ℕ). times_in_slot o n) slot in
+    omega arith
+
 -- the next one goes from the device queue to the start list
-next_times : (start : StartState) (waiting : List ℕ) (n : ℕ) → start.device_queue ≡ waiting
-    → times_at (next_of start waiting) n ≡ times_at start n
-next_times start [] n is = refl
-next_times start (m ∷ waiting) n is =
+next_waits : (start : StartState) (waiting : List ℕ) (n : ℕ) → start.device_queue ≡ waiting
+    → waits_in (next_of start waiting) n ≡ waits_in start n
+next_waits start [] n is = refl
+next_waits start (m ∷ waiting) n is =
     let pushed : times_in (inserted start.start_list m) n
     ≡ times_in start.start_list n + (if nat_eq m n then 1 else 0) =
     times_pushed start.start_list m n in
@@ -83,8 +92,19 @@ next_times start (m ∷ waiting) n is =
     ap (λ (entries : List ℕ). times_in entries n) is in
     omega arith
 
+pub waits_next : (start : StartState) (n : ℕ) → waits_in (next_started start) n ≡ waits_in start n
+waits_next start n = next_waits start start.device_queue n refl
+
+next_slot : (start : StartState) (waiting : List ℕ) → (next_of start waiting).slot ≡ start.slot
+next_slot start [] = refl
+next_slot start (m ∷ waiting) = refl
+
 pub times_next : (start : StartState) (n : ℕ) → times_at (next_started start) n ≡ times_at start n
-times_next start n = next_times start start.device_queue n refl
+times_next start n =
+    let waits : waits_in (next_started start) n ≡ waits_in start n = waits_next start n in
+    let same : times_in_slot (next_started start).slot n ≡ times_in_slot start.slot n =
+    ap (λ (o : Option ℕ). times_in_slot o n) (next_slot start start.device_queue) in
+    omega arith
 
 -- another packet in the current slot, or none
 pub times_slot : (start : StartState) (slot : Option ℕ) (n : ℕ)

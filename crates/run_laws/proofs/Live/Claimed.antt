@@ -12,7 +12,7 @@ use Rattle.model.specs.declared.abs.Kind.TheVariants.{Armed, Taken}
 use Rattle.model.specs.declared.set.QueueName.TheVariants.{Declared}
 use Rattle.model.specs.declared.world.Activation.{Activation}
 use Rattle.model.specs.declared.world.Frame.{Frame}
-use Rattle.model.specs.declared.world.Frame.TheVariants.{Routine, Walk, Cancel as CancelFrame}
+use Rattle.model.specs.declared.world.Frame.TheVariants.{Routine}
 use Rattle.model.specs.Kinds.{is_armed, is_cancelling, is_exchanged, is_listed}
 use Rattle.model.specs.LocalRule.{kind_of}
 use Rattle.model.specs.Set.{Set}

@@ -11,7 +11,7 @@ use Rattle.model.specs.declared.world.Activation.{Activation}
 use Rattle.model.specs.declared.world.Frame.{Frame}
 use Rattle.model.specs.declared.world.Frame.TheVariants.{Routine, Walk, Cancel as CancelFrame}
 use Rattle.model.specs.declared.world.Value.{Value}
-use Rattle.model.specs.declared.world.Value.TheVariants.{Blank, Num, Ref, Status as StatusValue}
+use Rattle.model.specs.declared.world.Value.TheVariants.{Blank, Ref, Status as StatusValue}
 use Rattle.model.specs.Effect.{operand_of, answered_in, told_to}
 use Rattle.model.specs.Set.{Set, instruction_at, sort_of}
 use Rattle.model.specs.World.{Shared, packet_in, register}

@@ -7,7 +7,7 @@ use Rattle.std.proofs.lemmas.Bool.Decides.{eqb_tells, leb_tells}
 use Rattle.std.proofs.lemmas.Bool.{cases_lt, eq-eqb}
 use Rattle.model.specs.declared.world.Packet.{Packet}
 use Rattle.model.specs.declared.world.Value.{Value}
-use Rattle.model.specs.declared.world.Value.TheVariants.{Blank, Num, Ref, Status as StatusValue}
+use Rattle.model.specs.declared.world.Value.TheVariants.{Ref}
 use Rattle.model.specs.declared.status.Major.{Major}
 use Rattle.model.specs.World.{Shared, packet_in, packet_of, with_packet, without_packet, new_packet}
 use Rattle.model.specs.Trace.{Entry}

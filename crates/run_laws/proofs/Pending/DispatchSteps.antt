@@ -12,7 +12,7 @@ use Rattle.model.specs.declared.event.Reply.TheVariants.{Stepped, Waited}
 use Rattle.model.specs.declared.instr.Instr.{Instr}
 use Rattle.model.specs.declared.instr.Instr.TheVariants.{Arm, Begin, Disarm, Next, Remove, Insert, Unlink, Start, Take, Call, Complete, Loop, Mark, Pass, Put, Ret}
 use Rattle.model.specs.declared.instr.Return.{Return}
-use Rattle.model.specs.declared.instr.Return.TheVariants.{Continue, Lower as LowerStatus, Stop, WithStatus, Void}
+use Rattle.model.specs.declared.instr.Return.TheVariants.{Lower as LowerStatus, WithStatus}
 use Rattle.model.specs.declared.set.QueueName.TheVariants.{Declared}
 use Rattle.model.specs.declared.set.Sort.TheVariants.{Cancel, Dispatch, Dpc, StartIo}
 use Rattle.model.specs.declared.status.Status.{Status}

@@ -1,6 +1,6 @@
 -- The statuses that were returned from uses are as agreed on: so pending agreement holds of the
 -- trace. And which actions tell something of uses.
-use Rattle.std.proofs.Common.{◌≡◌, Bool, List, Some, None, [], ap, arith, cond, false, inl, inr, refl, subst, suc, sym, true, zero, ℕ, ◌∙◌, ◌∷◌}
+use Rattle.std.proofs.Common.{◌≡◌, Bool, List, Some, [], ap, arith, cond, false, inl, inr, refl, subst, suc, sym, true, zero, ℕ, ◌∙◌, ◌∷◌}
 use Rattle.std.specs.Prelude.{All, nat_eq, not, slice_index_or}
 use Rattle.std.specs.List.{list_any}
 use Rattle.std.proofs.lemmas.Bool.{eqb-true}
@@ -9,7 +9,7 @@ use Rattle.model.specs.declared.status.Status.{Status}
 use Rattle.model.specs.Action.{Action, Calls, Executes, Issues, Leaves, Marks, Returns, Ups}
 use Rattle.model.specs.LocalRule.{is_pending}
 use Rattle.model.specs.PendingAgreement.{statuses_returned, PendingAgree, serves}
-use Rattle.model.specs.Trace.{Actor, Activated, Entry, Managing, Serving, Tag, entry, recorded}
+use Rattle.model.specs.Trace.{Actor, Activated, Entry, Serving, Tag, entry, recorded}
 use Rattle.model.specs.World.{World}
 use Rattle.run_laws.proofs.Pending.Serving.{KeepsAgreed, served}
 use Rattle.run_laws.proofs.States.Rules.{States}

@@ -9,7 +9,7 @@ use Rattle.model.specs.declared.abs.Kind.{Kind}
 use Rattle.model.specs.declared.abs.Kind.TheVariants.{Blank as BlankKind, Num as NumKind, Lower, New, Own, Listed, Armed, Taken, Cancelling, View}
 use Rattle.model.specs.declared.abs.Settled.{Settled}
 use Rattle.model.specs.declared.instr.Instr.{Instr}
-use Rattle.model.specs.declared.instr.Instr.TheVariants.{Const, Move, Clear, Load, LoadPaged, Get, Mark, Release, Insert, Remove, Unlink, Arm, Disarm, Start, Take, Begin, Pass, Call, Complete, IfPending}
+use Rattle.model.specs.declared.instr.Instr.TheVariants.{Const, Move, Clear, Load, LoadPaged, Get, Mark, Release, Insert, Remove, Unlink, Arm, Disarm, Start, Take, Begin, Pass, Call, Complete}
 use Rattle.model.specs.declared.set.QueueName.{QueueName}
 use Rattle.model.specs.declared.set.QueueName.TheVariants.{Declared}
 use Rattle.model.specs.declared.set.Sort.{Sort}

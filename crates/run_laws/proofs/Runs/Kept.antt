@@ -10,7 +10,7 @@ use Rattle.model.specs.Run.{Run, Answered, actor_on, begun, refused, root_of, st
 use Rattle.model.specs.Set.{Set}
 use Rattle.model.specs.Trace.{Entry, Actor, recorded}
 use Rattle.model.specs.World.{World, with_dpc}
-use Rattle.run_laws.proofs.Runs.Events.{Happens, Sets, sets_nothing, queues, Concerns, a_thread, no_thread, concerns, Answers, refuses_stopped, refuses_over, goes_on_with, stops_for, stops_wrong, answers, set_in, answers_none}
+use Rattle.run_laws.proofs.Runs.Events.{Happens, Sets, sets_nothing, queues, Concerns, a_thread, no_thread, concerns, Answers, refuses_stopped, refuses_over, goes_on_with, answers, set_in, answers_none}
 
 module _ (P : Run → Type 0) (set : Set) (kept : (r : Run) (e : Event) → P r → P (step set r e).run)
   where

@@ -12,7 +12,7 @@ use Rattle.model.specs.declared.limits.TheConstants.{MAX_QUEUES, MAX_ROUTINES}
 use Rattle.model.specs.declared.set.Driver.{Driver}
 use Rattle.model.specs.declared.set.Routine.{Routine}
 use Rattle.model.specs.declared.set.Sort.{Sort}
-use Rattle.model.specs.declared.set.Sort.TheVariants.{Dispatch, Dpc, Propagate, StartIo, Hold, Cancel}
+use Rattle.model.specs.declared.set.Sort.TheVariants.{Propagate, Hold}
 use Rattle.model.specs.LocalRule.{entered_with, is_completion}
 use Rattle.model.specs.Loops.{open_at}
 use Rattle.model.specs.Set.{Set, Member, member, routine_of, default_routine, default_number, default_code}

@@ -11,7 +11,7 @@ use Rattle.model.specs.declared.instr.Instr.{Instr}
 use Rattle.model.specs.declared.instr.Instr.TheVariants.{Pass, Call, Complete, Ret}
 use Rattle.model.specs.declared.instr.Return.{Return}
 use Rattle.model.specs.declared.set.Sort.{Sort}
-use Rattle.model.specs.declared.set.Sort.TheVariants.{Dispatch, Dpc, Propagate, StartIo, Hold, Cancel}
+use Rattle.model.specs.declared.set.Sort.TheVariants.{Dispatch, Hold}
 use Rattle.model.specs.declared.status.Status.{Status}
 use Rattle.model.specs.Forwarding.{lacks_lower, is_too_small}
 use Rattle.model.specs.LocalRule.{an_owned_one, gives_back, is_dropped, is_hold, kind_of, is_pending, is_completion, holds_lock, holds_spin_lock, a_new_one, one_handed_or_owned, demanded, complete_kind, broken_if, least_of, completion_sort_fault, forward_sort_fault, kept_fault, given_down, handed, refuses, forward_fault, duty_fault, form_fault, settled_fault}
