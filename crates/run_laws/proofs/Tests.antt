@@ -1,6 +1,6 @@
--- Parts of tests that succeed or fail.
-use Rattle.std.proofs.Common.{◌≡◌, ◌≤◌, ◌<◌, ℕ, suc, Bool, true, false, refl, sym, ◌∙◌, inl, inr, arith}
-use Rattle.std.specs.Prelude.{◌||◌, ◌&&◌, not, nat_le, nat_lt}
+-- Parts of tests that succeed or fail, and numbers that go by one.
+use Rattle.std.proofs.Common.{◌≡◌, ◌≤◌, ◌<◌, ℕ, suc, Bool, true, false, cond, refl, sym, ◌∙◌, inl, inr, arith}
+use Rattle.std.specs.Prelude.{if◌then◌else◌, ◌||◌, ◌&&◌, not, nat_le, nat_lt}
 use Rattle.std.proofs.lemmas.Bool.Decides.{leb_tells}
 
 pub or_left : (a b : Bool) → (a || b) ≡ false → a ≡ false
@@ -10,6 +10,14 @@ or_left false b h = refl
 pub or_right : (a b : Bool) → (a || b) ≡ false → b ≡ false
 or_right true b h = cc
 or_right false b h = h
+
+pub or_first : (a b : Bool) → a ≡ true → (a || b) ≡ true
+or_first true b h = refl
+or_first false b h = cc
+
+pub or_second : (a b : Bool) → b ≡ true → (a || b) ≡ true
+or_second true b h = refl
+or_second false b h = h
 
 pub and_left : (a b : Bool) → (a && b) ≡ true → a ≡ true
 and_left true b h = refl
@@ -34,3 +42,16 @@ lt_of a b h =
 pub not_at_most : (a b : ℕ) → b < a → nat_le a b ≡ false
 not_at_most a b l =
     elim (leb_tells a b) [ inl g ↦ let k : a ≤ b = g.1 in absurd (omega arith) | inr g ↦ g.0 ]
+
+-- numbers that go by a test
+pub if_none : (b : Bool) → cond {A = ℕ} b 0 0 ≡ 0
+if_none true = refl
+if_none false = refl
+
+pub if_one : (b : Bool) → (if b then 1 else 0) ≤ 1
+if_one true = omega arith
+if_one false = omega arith
+
+pub if_le : (b : Bool) (m n : ℕ) → m ≤ n → (if b then m else 0) ≤ (if b then n else 0)
+if_le true m n h = h
+if_le false m n h = omega arith

@@ -1,6 +1,6 @@
 -- What the frames that stand still owe under each activation's number, and what it is after a step.
 -- How much a frame owes is any measure of it here.
-use Rattle.std.proofs.Common.{◌≡◌, ℕ, zero, suc, ◌+◌, ◌<◌, ◌≤◌, inl, inr, List, [], ◌∷◌, ◌++◌, Option, Some, Bool, true, false, cond, refl, ap, sym, ◌∙◌, arith, nat_eq}
+use Rattle.std.proofs.Common.{◌≡◌, ℕ, zero, suc, ◌+◌, ◌<◌, ◌≤◌, inl, inr, List, [], ◌∷◌, ◌++◌, Option, Some, Bool, true, false, refl, ap, sym, ◌∙◌, arith, nat_eq}
 use Rattle.std.specs.Prelude.{⊤, slice_get, slice_set, if◌then◌else◌}
 use Rattle.std.proofs.lemmas.Bool.Decides.{eqb_tells}
 use Rattle.model.specs.declared.world.Activation.{Activation}
@@ -15,6 +15,7 @@ use Rattle.model.specs.Trace.{Entry, Actor, Serving, Tag, Managing, Activated, e
 use Rattle.run_laws.specs.Lifetime.{is_activation, instructions_in, executions}
 use Rattle.run_laws.proofs.Certificates.Tags.{IsAmong, Fits, Matched, Numbered, fresh_tags, fresh_matched, fresh_numbered, fits_more, matched_more, matched_append, among_right, numbered_from}
 use Rattle.model.specs.declared.world.Canceller.{Canceller}
+use Rattle.run_laws.proofs.Tests.{if_none, if_le}
 
 -- a number of one tag
 abbrev pub if_own : ℕ → Tag → ℕ → ℕ
@@ -24,14 +25,6 @@ own_add : (b : Bool) (m n k : ℕ) → m + n ≤ k → (if b then m else 0) + (i
     ≤ (if b then k else 0)
 own_add true m n k h = h
 own_add false m n k h = omega arith
-
-pub own_le : (b : Bool) (m n : ℕ) → m ≤ n → (if b then m else 0) ≤ (if b then n else 0)
-own_le true m n h = h
-own_le false m n h = omega arith
-
-own_none : (b : Bool) → cond {A = ℕ} b 0 0 ≡ 0
-own_none true = refl
-own_none false = refl
 
 own_sum : (b : Bool) (m n : ℕ) → (if b then m + n else 0) ≡ (if b then m else 0)
     + (if b then n else 0)
@@ -145,7 +138,7 @@ pub executions_after : (past : List Entry) (actor : Actor) (actions : List Actio
     → executions (recorded past actor actions) g ≡ executions past g + if_own g actor.tag
     (executed_in actions)
 executions_after past actor [] g =
-    let none : if_own g actor.tag 0 ≡ 0 = own_none (is_activation g actor.tag) in omega arith
+    let none : if_own g actor.tag 0 ≡ 0 = if_none (is_activation g actor.tag) in omega arith
 executions_after past actor (action ∷ actions) g =
     let others : executions (recorded (entry past actor action ∷ past) actor actions) g
     ≡ executions (entry past actor action ∷ past) g + if_own g actor.tag (executed_in actions) =
@@ -355,7 +348,7 @@ module _ (cost : Frame → ℕ) where
       fresh_owed set g past (number + 1) frames h.1 in
       let one : (if nat_eq number g then cost (Routine a) else 0)
       ≤ (if nat_eq number g then certificate_of set a.driver a.routine else 0) =
-      own_le (nat_eq number g) (cost (Routine a)) (certificate_of set a.driver a.routine) h.0
+      if_le (nat_eq number g) (cost (Routine a)) (certificate_of set a.driver a.routine) h.0
       in
       omega arith
   fresh_owed set g past number (Walk n ∷ frames) h =
@@ -395,7 +388,7 @@ module _ (cost : Frame → ℕ) where
         paid = λ g.
             let less : owed g frames (fresh_tags set past number frames)
             ≤ allowed set g (fresh_tags set past number frames) = others g in
-            let none : if_own g tag 0 ≡ 0 = own_none (is_activation g tag) in
+            let none : if_own g tag 0 ≡ 0 = if_none (is_activation g tag) in
             omega arith;
         matched = fresh_matched set past number frames (given ++ fresh_tags set past number frames)
             (λ x among. among_right x given (fresh_tags set past number frames) among);
@@ -439,7 +432,7 @@ module _ (cost : Frame → ℕ) where
         numbered = fresh_numbered set past number frames;
         paid = λ g.
             let one : if_own g tag n ≤ if_own g tag (cost (Routine a)) =
-            own_le (is_activation g tag) n (cost (Routine a)) paid in
+            if_le (is_activation g tag) n (cost (Routine a)) paid in
             let others : owed g frames (fresh_tags set past number frames)
             ≤ allowed set g (fresh_tags set past number frames) =
             fresh_owed set g past number frames fresh in
@@ -497,7 +490,7 @@ module _ (cost : Frame → ℕ) where
         numbered = refl;
         paid = λ g.
             let one : if_own g tag n ≤ if_own g tag (cost f) =
-            own_le (is_activation g tag) n (cost f) pays in
+            if_le (is_activation g tag) n (cost f) pays in
             omega arith;
         matched = tt;
       }
@@ -578,7 +571,7 @@ module _ (cost : Frame → ℕ) where
         numbered = refl;
         paid = λ x.
             let one : if_own x tag n ≤ if_own x tag (cost f) =
-            own_le (is_activation x tag) n (cost f) paid in
+            if_le (is_activation x tag) n (cost f) paid in
             omega arith;
         matched = tt;
       })

@@ -41,6 +41,7 @@ use Rattle.model.specs.declared.set.QueueName.{QueueName}
 use Rattle.model.specs.declared.world.Armer.{Armer}
 use Rattle.model.specs.declared.world.Packet.{Packet}
 use Rattle.run_laws.proofs.Past.Packets.{found}
+use Rattle.run_laws.proofs.Tests.{if_le}
 
 -- an exchange wants a packet that stands in a queue, or a claim
 armed_kind : (q : ℕ) (k : Kind) → queued_kind (is_listed (Declared q) k) k ≡ None
@@ -166,11 +167,6 @@ pub times_of_le : (s : Shared) (d q n : ℕ) (o : Option (List ℕ)) → queue_o
     → times_of o n ≤ times_queued s.queues n
 times_of_le s d q n None there = omega arith
 times_of_le s d q n (Some entries) there = times_le s d q entries n there
-
-some_less : (b : Bool) (few more : ℕ) → few ≤ more
-    → (if b then few else 0) ≤ (if b then more else 0)
-some_less true few more h = h
-some_less false few more h = omega arith
 
 -- a cancel word that isn't empty is for the queue of a claim
 pub word_names : (set : Set) (states : States) (w : World) → Held set states w
@@ -432,7 +428,7 @@ module _ (set : Set) (states : States) (w : World) (past : List Entry) (good : I
       λ g of on n. less_sums set states w past good stands c t h leaves g of on n
       (let one : frame_names states g on n (Routine (next a))
       ≤ frame_names states g on n (Routine a) =
-      some_less (on a.device) (names states g (next a) n) (names states g a n) (less g of n) in
+      if_le (on a.device) (names states g (next a) n) (names states g a n) (less g of n) in
       let was : frame_names states g on n h.frame ≡ frame_names states g on n (Routine a) =
       ap (frame_names states g on n) frame in
       let now : stack_sum (frame_names states g on n) h.outcome.frames

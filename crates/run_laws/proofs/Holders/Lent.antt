@@ -24,7 +24,7 @@ use Rattle.model.specs.Trace.{Entry}
 use Rattle.model.specs.World.{Shared, register}
 use Rattle.run_laws.specs.Holder.{frame_rights, right, rights}
 use Rattle.run_laws.proofs.Holders.Counts.{Holding}
-use Rattle.run_laws.proofs.Holders.Rights.{none_either, one_right, right_le}
+use Rattle.run_laws.proofs.Holders.Rights.{one_right, right_le}
 use Rattle.run_laws.proofs.Holders.Sums.{unheld, unheld_one}
 use Rattle.run_laws.proofs.Past.LivePackets.{find}
 use Rattle.run_laws.proofs.States.Entering.{IsOfSort}
@@ -34,7 +34,7 @@ use Rattle.run_laws.proofs.States.Lent.{HasNew, lent_new}
 use Rattle.run_laws.proofs.States.Obeyed.{ReturnsBy, returns_by}
 use Rattle.run_laws.proofs.States.OnTop.{value_suits}
 use Rattle.run_laws.proofs.States.Rules.{States, granted}
-use Rattle.run_laws.proofs.Tests.{or_left, or_right}
+use Rattle.run_laws.proofs.Tests.{or_left, or_right, if_none}
 
 -- a completion routine that may hold its packet stands on the I/O manager's frame of that, and what
 -- it has done nothing with in its registers is that packet
@@ -75,9 +75,9 @@ only_new _ h is = cc
 
 right_other : (k : Kind) (v : Value) (n m : ℕ) → is_dropped true k ≡ false
     → ((j : ℕ) → is_new k ≡ true → v ≡ Ref j → j ≡ n) → nat_eq n m ≡ false → right k v m ≡ 0
-right_other k Blank n m left to apart = none_either (is_right k)
-right_other k (Num number) n m left to apart = none_either (is_right k)
-right_other k (StatusValue status) n m left to apart = none_either (is_right k)
+right_other k Blank n m left to apart = if_none (is_right k)
+right_other k (Num number) n m left to apart = if_none (is_right k)
+right_other k (StatusValue status) n m left to apart = if_none (is_right k)
 right_other k (Ref j) n m left to apart =
     elim (cases_Bool (is_right k)) [
       | inl own ↦

@@ -1,5 +1,5 @@
 -- No packet tops out twice: one that tops out is live, so it hasn't topped out.
-use Rattle.std.proofs.Common.{◌≡◌, ℕ, ◌≤◌, List, Option, Some, Bool, true, false, refl, subst, inl, inr, arith}
+use Rattle.std.proofs.Common.{◌≡◌, ℕ, ◌≤◌, List, Option, Some, false, refl, subst, inl, inr, arith}
 use Rattle.std.specs.Prelude.{if◌then◌else◌}
 use Rattle.std.proofs.lemmas.Bool.Decides.{eqb_tells}
 use Rattle.model.specs.declared.world.CancelStep.{CancelStep}
@@ -15,6 +15,7 @@ use Rattle.run_laws.proofs.Past.Packets.{Tells, found, untopped}
 use Rattle.run_laws.proofs.Runs.Events.{Happens, nothing, steps, issues, begins, begins_startio, begins_cancel}
 use Rattle.run_laws.proofs.Steps.Comes.{Cancels, takes_cancel, Comes, tops_out, works_on_queues, cancels}
 use Rattle.run_laws.proofs.Steps.Queues.{queued_touches}
+use Rattle.run_laws.proofs.Tests.{if_one}
 
 -- a packet that hasn't topped out has done so no time, and one that has, once
 abbrev pub ToppedOnce : List Entry → Type 0
@@ -65,8 +66,7 @@ module _ (set : Set) (past : List Entry) (actor : Actor) (once : ToppedOnce past
       arith)
 
 pub tops_at_most_once : (past : List Entry) → ToppedOnce past → (n : ℕ) → times_topped past n ≤ 1
-tops_at_most_once past once n = at_most_one (topped past n) (times_topped past n) (once n)
-  where
-    at_most_one : (b : Bool) (n : ℕ) → n ≡ (if b then 1 else 0) → n ≤ 1
-    at_most_one true n h = omega arith
-    at_most_one false n h = omega arith
+tops_at_most_once past once n =
+    let same : times_topped past n ≡ (if topped past n then 1 else 0) = once n in
+    let least : (if topped past n then 1 else 0) ≤ 1 = if_one (topped past n) in
+    omega arith

@@ -7,8 +7,8 @@ use Rattle.model.specs.Effect.{routine_of_device}
 use Rattle.model.specs.Set.{Set, cancel_routine_of}
 use Rattle.model.specs.World.{Shared, queue_of, with_queue}
 use Rattle.run_laws.specs.Holder.{times_in, times_plain, times_plain_on}
-use Rattle.run_laws.proofs.Holders.Rights.{none_either}
 use Rattle.run_laws.proofs.States.Fits.{queue_row}
+use Rattle.run_laws.proofs.Tests.{if_none}
 
 -- how often a packet stands in a queue, where this has no cancel routine
 abbrev pub plain_in : Set → ℕ → ℕ → List ℕ → ℕ → ℕ
@@ -128,7 +128,7 @@ module _ (set : Set) (n : ℕ) where
       let others : times_plain_on set driver (base + 1) (replicate count []) n ≡ 0 =
       none_plain_on driver (base + 1) count in
       let none : (if is_some (cancel_routine_of set driver base) then 0 else times_in [] n) ≡ 0 =
-      none_either (is_some (cancel_routine_of set driver base)) in
+      if_none (is_some (cancel_routine_of set driver base)) in
       omega arith
 
   pub none_plain : (base devices : ℕ)

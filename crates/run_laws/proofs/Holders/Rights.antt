@@ -1,7 +1,7 @@
 -- The packets that a frame's registers of some kinds name, and those that they have rights to, as
 -- they
 -- are written.
-use Rattle.std.proofs.Common.{◌≡◌, ℕ, zero, suc, ◌+◌, ◌-◌, ◌<◌, ◌≤◌, true, false, List, [], ◌∷◌, length, refl, arith, ap, ◌∙◌, Option, Some, None, is_some, Bool, cond}
+use Rattle.std.proofs.Common.{◌≡◌, ℕ, zero, suc, ◌+◌, ◌-◌, ◌<◌, ◌≤◌, true, false, List, [], ◌∷◌, length, refl, arith, ap, ◌∙◌, Option, Some, None, is_some, Bool}
 use Rattle.std.specs.Prelude.{nat_eq, replicate, slice_set, slice_index_or, if◌then◌else◌}
 use Rattle.std.specs.List.{list_any}
 use Rattle.std.proofs.lemmas.Bool.{eq-eqb}
@@ -26,7 +26,7 @@ use Rattle.run_laws.proofs.States.NoViews.{left_none}
 use Rattle.run_laws.proofs.States.Entering.{first_state, Begins, Enters}
 use Rattle.run_laws.proofs.States.Kinds.{HasKinds, Suits}
 use Rattle.run_laws.proofs.States.Rules.{States}
-use Rattle.run_laws.proofs.Tests.{or_left, or_right}
+use Rattle.run_laws.proofs.Tests.{or_left, or_right, if_none}
 
 pub no_right : (k : Kind) (v : Value) (n : ℕ) → is_right k ≡ false → right k v n ≡ 0
 no_right k v n h = rw h refl
@@ -56,10 +56,6 @@ right_packets Own h = cc
 right_packets (Listed name) h = cc
 right_packets (Cancelling name) h = cc
 right_packets _ h = refl
-
-pub none_either : (b : Bool) → cond {A = ℕ} b 0 0 ≡ 0
-none_either true = refl
-none_either false = refl
 
 pub named_none : (f : Kind → Bool) (k : Kind) (v : Value) (n : ℕ) → f k ≡ false
     → named_as f k v n ≡ 0
@@ -99,7 +95,7 @@ module _ (f : Kind → Bool) where
       omega arith
 
   no_name : (k : Kind) (n : ℕ) → named_as f k Blank n ≡ 0
-  no_name k n = none_either (f k)
+  no_name k n = if_none (f k)
 
   pub named_turn : (issued : ℕ) (kinds : List Kind) (values : List Value) (r : ℕ) (k : Kind) (n : ℕ)
       → HasKinds issued kinds values

@@ -11,8 +11,8 @@ use Rattle.model.specs.Effect.{answered_in, operand_of, top_of}
 use Rattle.model.specs.Set.{Set, instruction_at}
 use Rattle.model.specs.World.{idle_thread}
 use Rattle.run_laws.specs.Holder.{all_walking, frame_walks, is_lent, walking}
-use Rattle.run_laws.proofs.Holders.Rights.{none_either}
 use Rattle.run_laws.proofs.States.Told.{told_frame, told_last}
+use Rattle.run_laws.proofs.Tests.{if_none}
 
 -- the I/O manager's frame that stands under another one, if any
 abbrev pub walks_under : Option Frame → ℕ → ℕ
@@ -35,7 +35,7 @@ pub walking_on : (set : Set) (below frames : List Frame) (n : ℕ)
     ≡ walking set below n + walking_from set (top_of below) frames n
 walking_on set [] frames n =
     let none : (if is_lent set frames then 0 else walks_under (top_of []) n) ≡ 0 =
-    none_either (is_lent set frames) in
+    if_none (is_lent set frames) in
     omega arith
 walking_on set (g ∷ []) frames n = omega arith
 walking_on set (g ∷ e ∷ below) frames n =
@@ -59,7 +59,7 @@ pub pushed_walks : (set : Set) (a : Activation) (f : Frame) (n : ℕ) → frame_
     → walking set (Routine a ∷ f ∷ []) n ≡ walking set (Routine a ∷ []) n
 pushed_walks set a f n none =
     let first : (if is_lent set (f ∷ []) then 0 else frame_walks (Routine a) n) ≡ 0 =
-    none_either (is_lent set (f ∷ [])) in
+    if_none (is_lent set (f ∷ [])) in
     omega arith
 
 -- the frame that is told a status counts as it did

@@ -8,14 +8,7 @@ use Rattle.model.specs.Action.{Action, Acquires, Releases}
 use Rattle.model.specs.Fault.{is_lock, holds_after, holds, holds_any, with_acquired, acquired}
 use Rattle.model.specs.Trace.{Entry}
 use Rattle.run_laws.proofs.Past.Owners.{lock_tells}
-
-or_first : (a b : Bool) → a ≡ true → (a || b) ≡ true
-or_first true b h = refl
-or_first false b h = cc
-
-or_second : (a b : Bool) → b ≡ true → (a || b) ≡ true
-or_second true b h = refl
-or_second false b h = h
+use Rattle.run_laws.proofs.Tests.{or_first, or_second}
 
 -- a lock that is held was acquired
 module _ (test : Lock → Bool) (l : Lock) (p : test l ≡ true) where

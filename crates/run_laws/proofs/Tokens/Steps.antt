@@ -40,8 +40,8 @@ use Rattle.run_laws.proofs.Steps.Comes.{Comes, GoesTo, Queued, Reads, awaits_loc
 use Rattle.run_laws.proofs.Steps.Locking.{LockWord, freed_word, taken_word}
 use Rattle.run_laws.proofs.Steps.Onward.{goes_device}
 use Rattle.run_laws.proofs.Steps.Words.{Queueing, Work, is_touching, work_of}
-use Rattle.run_laws.proofs.Tests.{and_false}
-use Rattle.run_laws.proofs.Tokens.Sums.{FewTokens, at_most_one, own_token}
+use Rattle.run_laws.proofs.Tests.{and_false, if_one}
+use Rattle.run_laws.proofs.Tokens.Sums.{FewTokens, own_token}
 use Rattle.model.specs.declared.set.QueueName.{QueueName}
 use Rattle.model.specs.declared.set.Sort.TheVariants.{Cancel}
 use Rattle.model.specs.declared.world.CancelStep.{CancelStep}
@@ -348,7 +348,7 @@ module _ (set : Set) (states : States) (s : Shared) where
         → (state_of states a).token ≡ true → slot_tokens start.slot ≡ 0
     slot_empty start there has =
         let all : 1 + start_tokens start ≤ (if start.busy then 1 else 0) = beside start there has in
-        let most : (if start.busy then 1 else 0) ≤ 1 = at_most_one start.busy in
+        let most : (if start.busy then 1 else 0) ≤ 1 = if_one start.busy in
         omega arith
 
     busy_with : (start : StartState) → start_of s a.device ≡ Some start

@@ -1,6 +1,6 @@
 -- What a run keeps of the tokens of devices: a busy one has one, an idle one none and nothing that
 -- waits.
-use Rattle.std.proofs.Common.{◌≡◌, ◌≤◌, ℕ, ◌+◌, Bool, true, false, List, [], ◌∷◌, length, Option, None, Some, refl, arith}
+use Rattle.std.proofs.Common.{◌≡◌, ◌≤◌, ℕ, ◌+◌, true, false, List, [], ◌∷◌, length, Option, None, Some, refl, arith}
 use Rattle.std.specs.Prelude.{if◌then◌else◌}
 use Rattle.std.proofs.lemmas.Bool.{eq-eqb}
 use Rattle.model.specs.declared.world.Activation.{Activation}
@@ -15,16 +15,13 @@ use Rattle.run_laws.proofs.Holders.Sums.{top_le}
 use Rattle.run_laws.proofs.Runs.Events.{StepsFrame}
 use Rattle.run_laws.proofs.States.Frames.{state_of}
 use Rattle.run_laws.proofs.States.Rules.{States}
+use Rattle.run_laws.proofs.Tests.{if_one}
 
 pub record OneTokenEach (states : States) (w : World) : Type 0 where
   pub one : (d : ℕ) (start : StartState) → start_of w.shared d ≡ Some start
       → tokens states w.threads d start ≡ (if start.busy then 1 else 0)
   pub idle : (d : ℕ) (start : StartState) → start_of w.shared d ≡ Some start → start.busy ≡ false
       → start.device_queue ≡ []
-
-pub at_most_one : (b : Bool) → (if b then 1 else 0) ≤ 1
-at_most_one true = omega arith
-at_most_one false = omega arith
 
 -- a frame whose state has the token has one of its own device
 pub own_token : (states : States) (a : Activation) → (state_of states a).token ≡ true
@@ -66,7 +63,7 @@ token_slot set states w each t h a is has start there =
     let top : frame_tokens states a.device h.frame ≡ 1 = rw is here in
     let all : frame_tokens states a.device h.frame + start_tokens start
     ≤ (if start.busy then 1 else 0) = few_tokens set states w each t h a.device start there in
-    let few : (if start.busy then 1 else 0) ≤ 1 = at_most_one start.busy in
+    let few : (if start.busy then 1 else 0) ≤ 1 = if_one start.busy in
     let both : start_tokens start ≡ length start.start_list + slot_tokens start.slot = refl in
     let none : slot_tokens start.slot ≡ 0 = omega arith in
     let empty : length start.start_list ≡ 0 = omega arith in

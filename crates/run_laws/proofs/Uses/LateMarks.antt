@@ -6,6 +6,7 @@ use Rattle.run_laws.proofs.Holders.Sums.{Held, held}
 use Rattle.run_laws.proofs.Past.LivePackets.{find}
 use Rattle.run_laws.proofs.States.Rules.{States}
 use Rattle.run_laws.proofs.States.Told.{last_under, told_frame, told_is, told_last}
+use Rattle.run_laws.proofs.Tests.{if_none}
 use Rattle.run_laws.proofs.Uses.Fates.{late_in, late_mark, late_marks, late_on}
 use Rattle.std.proofs.Common.{◌≡◌, ℕ, zero, suc, ◌+◌, ◌-◌, ◌≤◌, inl, inr, List, [], ◌∷◌, ◌++◌, Option, None, Some, Bool, true, false, cond, refl, ap, ◌∙◌, subst, arith}
 use Rattle.std.specs.Prelude.{⊤, slice_get, slice_set, if◌then◌else◌}
@@ -240,10 +241,6 @@ AllCarried set states threads =
     (t : ℕ) (thread : Thread) → slice_get threads t ≡ Some thread
     → Each (Carried set states) thread.frames.items
 
-either_none : (b : Bool) → cond {A = ℕ} b 0 0 ≡ 0
-either_none true = refl
-either_none false = refl
-
 -- so at most one for each of the I/O manager's frames whose packet isn't lent
 module _ (set : Set) (states : States) (returned : Bool) (n : ℕ) where
   abbrev lates_on : Option Frame → List Frame → ℕ
@@ -295,7 +292,7 @@ module _ (set : Set) (states : States) (returned : Bool) (n : ℕ) where
   late_first frames carried =
       let few : lates_on None frames ≤ unlent_under frames None + walking set frames n =
       late_few None frames carried in
-      let none : unlent_under frames None ≡ 0 = either_none (is_lent set frames) in
+      let none : unlent_under frames None ≡ 0 = if_none (is_lent set frames) in
       omega arith
 
   late_threads : (threads : List Thread) → AllCarried set states threads
@@ -390,7 +387,7 @@ module _ (set : Set) (states : States) (returned : Bool) (n : ℕ) where
       let some : 1 ≤ unlent_under (below ++ Routine a ∷ []) None
       + walking set (below ++ Routine a ∷ []) n = walks_under_top below a None is free in
       let none : unlent_under (below ++ Routine a ∷ []) None ≡ 0 =
-      either_none (is_lent set (below ++ Routine a ∷ [])) in
+      if_none (is_lent set (below ++ Routine a ∷ [])) in
       omega arith
 
 -- where the I/O manager's frame of a packet is a top one, none is late
@@ -407,7 +404,7 @@ no_late_walk set states w t n thread below returned kept carried found frames =
     ≤ cond {A = ℕ} (is_lent set (below ++ Walk n ∷ [])) 0 0 + walking set (below ++ Walk n ∷ []) n =
     late_below set states returned n None below each in
     let none : cond {A = ℕ} (is_lent set (below ++ Walk n ∷ [])) 0 0 ≡ 0 =
-    either_none (is_lent set (below ++ Walk n ∷ [])) in
+    if_none (is_lent set (below ++ Walk n ∷ [])) in
     let less : late_marks states returned n w.threads + 1 ≤ all_walking set w.threads n =
     late_less set states returned n w.threads t thread found carried (rw frames (omega arith)) in
     let all : all_walking set w.threads n ≡ held (find w.shared.packets n) =
