@@ -19,6 +19,9 @@ pub or_second : (a b : Bool) → b ≡ true → (a || b) ≡ true
 or_second true b h = refl
 or_second false b h = h
 
+pub or_both : (a b : Bool) → a ≡ false → b ≡ false → (a || b) ≡ false
+or_both a b one other = rw (one, other) refl
+
 pub and_left : (a b : Bool) → (a && b) ≡ true → a ≡ true
 and_left true b h = refl
 and_left false b h = cc
@@ -30,6 +33,10 @@ and_right false b h = cc
 pub and_false : (b : Bool) → (b && false) ≡ false
 and_false true = refl
 and_false false = refl
+
+pub not_and : (a b : Bool) → a ≡ true → (a && b) ≡ false → b ≡ false
+not_and true b is h = h
+not_and false b is h = cc
 
 pub not_false : (a : Bool) → not a ≡ false → a ≡ true
 not_false true h = refl

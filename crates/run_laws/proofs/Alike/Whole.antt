@@ -4,7 +4,6 @@ use Rattle.std.proofs.Common.{◌≡◌, ◌≢◌, ℕ, suc, false, List, [], �
 use Rattle.std.specs.Prelude.{slice_get, slice_index_or, slice_set}
 use Rattle.std.proofs.lemmas.List.{get_or-set_other, length-set}
 use Rattle.model.specs.declared.abs.Abs.{Abs}
-use Rattle.model.specs.declared.abs.Kind.{Kind}
 use Rattle.model.specs.declared.abs.Kind.TheVariants.{Blank as BlankKind}
 use Rattle.model.specs.declared.limits.TheConstants.{REGISTERS}
 use Rattle.model.specs.declared.status.Status.TheVariants.{Success}
@@ -13,7 +12,6 @@ use Rattle.model.specs.declared.world.Frame.{Frame}
 use Rattle.model.specs.declared.world.Frame.TheVariants.{Routine, Walk, Cancel as CancelFrame}
 use Rattle.model.specs.declared.world.OpenLoop.{OpenLoop}
 use Rattle.model.specs.declared.world.Thread.{Thread}
-use Rattle.model.specs.declared.world.Value.{Value}
 use Rattle.model.specs.declared.world.Value.TheVariants.{Blank, Status as StatusValue}
 use Rattle.model.specs.Effect.{answered_in}
 use Rattle.model.specs.Kinds.{is_blank}
@@ -31,15 +29,9 @@ use Rattle.run_laws.proofs.Alike.Stacks.{AlikeThreads}
 use Rattle.run_laws.proofs.Alike.Worlds.{AlikeWorld}
 use Rattle.run_laws.proofs.Runs.Threads.{frames_there}
 use Rattle.run_laws.proofs.States.Frames.{IsGood, Ready, state_of}
-use Rattle.run_laws.proofs.States.Kinds.{HasKinds}
+use Rattle.run_laws.proofs.States.Inside.{kinds_long}
 use Rattle.run_laws.proofs.States.Rules.{States}
 use Rattle.run_laws.proofs.States.Stacks.{Stacked, Stands}
-
-values_long : (issued : ℕ) (kinds : List Kind) (values : List Value) → HasKinds issued kinds values
-    → length values ≡ length kinds
-values_long issued [] [] h = refl
-values_long issued (k ∷ kinds) (v ∷ values) h = ap suc (values_long issued kinds values h.1)
-values_long issued _ _ h = absurd h
 
 abbrev shown_routine : Activation → ShownActivation
 shown_routine a =
@@ -71,10 +63,10 @@ module _ (set : Set) (states : States) (good : IsGood set states) where
   answered_long : (issued : ℕ) (a : Activation) (q : Option ℕ)
       → Ready set states issued (answered_in a Success q) → length a.registers ≡ REGISTERS
   answered_long issued a None ready =
-      values_long issued (state_of states a).kinds a.registers ready.1.kinds ∙ ready.1.sixteen
+      kinds_long issued (state_of states a).kinds a.registers ready.1.kinds ∙ ready.1.sixteen
   answered_long issued a (Some q) ready =
       sym (length-set a.registers q (StatusValue Success))
-      ∙ values_long issued (state_of states a).kinds (slice_set a.registers q (StatusValue Success))
+      ∙ kinds_long issued (state_of states a).kinds (slice_set a.registers q (StatusValue Success))
       ready.1.kinds ∙ ready.1.sixteen
 
   stands_long : (issued : ℕ) (above : Option Frame) (a : Activation)

@@ -4,7 +4,7 @@
 -- of
 -- the device has such a packet.
 use Rattle.std.proofs.Common.{◌≡◌, ◌≢◌, ℕ, zero, suc, ◌+◌, ◌-◌, ◌<◌, Bool, true, false, List, [], ◌∷◌, ◌++◌, length, Option, None, Some, refl, ap, sym, ◌∙◌, subst, arith, eqb-true, eq-eqb, inl, inr}
-use Rattle.std.specs.Prelude.{◌&&◌, nat_eq, slice_get, slice_index_or}
+use Rattle.std.specs.Prelude.{nat_eq, slice_get, slice_index_or}
 use Rattle.std.specs.List.{list_any}
 use Rattle.std.proofs.lemmas.Bool.{cases_Bool}
 use Rattle.model.specs.declared.abs.Kind.{Kind}
@@ -44,6 +44,7 @@ use Rattle.run_laws.proofs.States.Listed.{AllFit, Guarded, KindFits, arrives_fit
 use Rattle.run_laws.proofs.States.Rules.{States}
 use Rattle.run_laws.proofs.States.Stacks.{Stacked, Stands}
 use Rattle.run_laws.proofs.States.Standing.{Standing, stands_there}
+use Rattle.run_laws.proofs.Tests.{not_and}
 
 -- kinds that a register has only while the guard of a queue is held
 abbrev pub NeedsGuard : Set → ℕ → (Kind → Bool) → ℕ → Type 0
@@ -141,10 +142,6 @@ module _ (set : Set) (states : States) (good : IsGood set states) (d q guard : �
             cc
       ]
 
-  own_says : (here held : Bool) → here ≡ true → (here && held) ≡ false → held ≡ false
-  own_says true held is h = h
-  own_says false held is h = cc
-
   placed_none : (b : Activation) (n : ℕ) → Placed set states b
       → frame_says states (Routine b) lock ≡ false → count n (Routine b) ≡ 0
   placed_none b n placed says =
@@ -158,7 +155,7 @@ module _ (set : Set) (states : States) (good : IsGood set states) (d q guard : �
             let driver : b.driver ≡ device.driver =
             sym placed.serves.2 ∙ ap (λ (x : Device). x.driver) one in
             let free : slice_index_or (state_of states b).locks guard false ≡ false =
-            own_says (nat_eq b.device d) (slice_index_or (state_of states b).locks guard false) its
+            not_and (nat_eq b.device d) (slice_index_or (state_of states b).locks guard false) its
             says in
             rw its (named_nowhere f (state_of states b).kinds b.registers n
             (none_at_all f (state_of states b).kinds (λ r. one_none b r placed driver free)))

@@ -9,10 +9,7 @@ use Rattle.std.proofs.lemmas.Bool.Decides.{eqb_tells}
 use Rattle.model.specs.declared.abs.Abs.{Abs}
 use Rattle.model.specs.declared.abs.Kind.{Kind}
 use Rattle.model.specs.declared.abs.Kind.TheVariants.{Blank as BlankKind, New, Own, Listed, Armed, Taken, Cancelling, View}
-use Rattle.model.specs.declared.event.Bug.{Bug}
-use Rattle.model.specs.declared.event.BugCheck.TheVariants.{IrqlNotLessOrEqual}
 use Rattle.model.specs.declared.event.Lock.{Lock}
-use Rattle.model.specs.declared.event.Subject.TheVariants.{Packet as PacketSubject}
 use Rattle.model.specs.declared.instr.Instr.{Instr}
 use Rattle.model.specs.declared.instr.Instr.TheVariants.{Acquire, AcquireCancel, Call, Complete, End, Loop, Mark, Pass, Put, Ret}
 use Rattle.model.specs.declared.instr.Return.{Return}
@@ -29,7 +26,6 @@ use Rattle.model.specs.declared.world.Packet.{Packet}
 use Rattle.model.specs.declared.world.Value.{Value}
 use Rattle.model.specs.declared.world.Value.TheVariants.{Blank}
 use Rattle.model.specs.Effect.{Outcome, completes_with, dispatched, set_by, turned}
-use Rattle.model.specs.Fault.{bug_if, first_or, topped}
 use Rattle.model.specs.Kinds.{is_armed, is_cancelling}
 use Rattle.model.specs.LocalRule.{complete_kind, gives_back, handed, is_dropped, kind_of}
 use Rattle.model.specs.Set.{Set, cancels_for, flow_of, lower_of, sort_of}
@@ -53,7 +49,7 @@ use Rattle.run_laws.proofs.States.Obeyed.{SendsDown, completes_one, returns_by, 
 use Rattle.run_laws.proofs.States.OnTop.{OnTop, runs}
 use Rattle.run_laws.proofs.States.Rules.{States, first_none}
 use Rattle.run_laws.proofs.Steps.Comes.{Comes, Reads, awaits_lock, calls_down, cancels, carries_up, completes_gone, completes_packet, computes, ends_cancel, ends_dpc, ends_startio, errs, exchanges, frees_lock, lends_to, lets_go, lets_walk, looks_at, marks_packet, opens_loop, pages, passes_down, resumes_gone, resumes_none, resumes_walk, retakes_lock, returns_status, stops_none, stops_walk, takes_lock, tops_out, touches_gone, turns_loop, walks_gone, walks_to, walks_up, works_on_queues, writes_info}
-use Rattle.run_laws.proofs.Steps.Faults.{fault_among, is_touch}
+use Rattle.run_laws.proofs.Steps.Faults.{fault_among, is_touch, topped_faults}
 use Rattle.run_laws.proofs.Steps.Onward.{goes_device, turned_device, turned_registers}
 use Rattle.run_laws.proofs.Steps.Words.{Forwarding, lock_taken, packet_operand, work_of}
 use Rattle.run_laws.proofs.Tests.{or_left, or_right}
@@ -267,13 +263,6 @@ module _ (set : Set) (states : States) (s : Shared) (past : List Entry) (actor :
         starts = starts;
       }
 
-  goes_topped : (n : ℕ) → topped past n ≡ true
-      → first_or (bug_if (topped past n) IrqlNotLessOrEqual (PacketSubject n)) None ≡ None → ⊥
-  goes_topped n gone quiet =
-      let bug : Bug = record { check = IrqlNotLessOrEqual; subject = PacketSubject n } in
-      let no : Some bug ≡ None = rw gone at quiet in
-      cc
-
   taken_kinds : (a : Activation) (i : Instr) (lock : Lock) → lock_taken a i ≡ Some lock
       → ((handed set a.driver (state_of states a) i).kinds ≡ (state_of states a).kinds)
       × (has_next (flow_of i) ≡ true)
@@ -345,7 +334,7 @@ module _ (set : Set) (states : States) (s : Shared) (past : List Entry) (actor :
       on_quiet a b o (goes_names set states s a i (runs set states s a i top at) b false
       (rw is refl) (rw is refl) goes) (goes_device a i b false goes) refl (λ n d q. refl) refl refl
   quiet_step under f o top holding (touches_gone a i r n at is on operand reads gone) loud quiet =
-      absurd (goes_topped n
+      absurd (topped_faults past n
       (gone_topped s past n holding.tells (named s (register a r) n reads) gone) quiet)
   quiet_step under f o top holding
       (looks_at a i b jumped r n p at is goes operand reads there jumps) loud quiet =

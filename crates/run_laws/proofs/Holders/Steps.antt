@@ -7,9 +7,6 @@ use Rattle.std.specs.Prelude.{nat_eq, slice_get, slice_set, if◌then◌else◌}
 use Rattle.model.specs.declared.abs.Abs.{Abs}
 use Rattle.model.specs.declared.abs.Kind.{Kind}
 use Rattle.model.specs.declared.abs.Kind.TheVariants.{Blank as BlankKind}
-use Rattle.model.specs.declared.event.Bug.{Bug}
-use Rattle.model.specs.declared.event.BugCheck.TheVariants.{IrqlNotLessOrEqual}
-use Rattle.model.specs.declared.event.Subject.TheVariants.{Packet as PacketSubject}
 use Rattle.model.specs.declared.instr.Instr.{Instr}
 use Rattle.model.specs.declared.instr.Instr.TheVariants.{Loop, End, Put, Mark, Pass, Call, Complete, Ret}
 use Rattle.model.specs.declared.instr.Return.{Return}
@@ -28,7 +25,7 @@ use Rattle.model.specs.declared.world.Value.{Value}
 use Rattle.model.specs.declared.world.Value.TheVariants.{Ref}
 use Rattle.model.specs.Action.{Action}
 use Rattle.model.specs.Effect.{Outcome, turned, dispatched, completes_with, set_by, is_walk, routine_of_device}
-use Rattle.model.specs.Fault.{topped, completing, armed, bug_if, first_or, completion_fault}
+use Rattle.model.specs.Fault.{topped, completing, armed, completion_fault}
 use Rattle.model.specs.Kinds.{is_right, is_new}
 use Rattle.model.specs.LocalRule.{kind_of, gives_back, is_dropped, marked, given_down, is_hold}
 use Rattle.model.specs.Queues.{StartState}
@@ -55,7 +52,7 @@ use Rattle.run_laws.proofs.States.Obeyed.{SendsDown, sends_down, completes_one, 
 use Rattle.run_laws.proofs.States.OnTop.{OnTop, runs}
 use Rattle.run_laws.proofs.States.Rules.{States}
 use Rattle.run_laws.proofs.Steps.Comes.{Cancels, takes_cancel, retakes_cancel, awaits_cancel, flags_gone, sets_flag, exchanges_gone, finds_empty, finds_none, calls_cancel, Exchanged, queued_to, Queued, GoesTo, Reads, Comes, errs, awaits_lock, computes, opens_loop, turns_loop, pages, touches_gone, looks_at, writes_info, marks_packet, exchanges, takes_lock, retakes_lock, frees_lock, completes_packet, completes_gone, passes_down, calls_down, returns_status, lets_go, lets_walk, resumes_walk, resumes_gone, resumes_none, stops_walk, stops_none, walks_gone, walks_to, lends_to, walks_up, carries_up, tops_out, ends_dpc, ends_cancel, works_on_queues, ends_startio, cancels}
-use Rattle.run_laws.proofs.Steps.Faults.{is_touch, is_completion, fault_among}
+use Rattle.run_laws.proofs.Steps.Faults.{is_touch, is_completion, fault_among, first_only, topped_faults}
 use Rattle.run_laws.proofs.Steps.Locking.{taken_word, freed_word}
 use Rattle.run_laws.proofs.Steps.Onward.{SameRoutine, goes_same, turned_same, turned_registers}
 use Rattle.run_laws.proofs.Steps.Queues.{queued_touches, queued_same}
@@ -89,13 +86,6 @@ lent_same set a b same = rw (same.0, same.1) refl
 
 -- every step
 module _ (set : Set) (states : States) (s : Shared) (past : List Entry) (actor : Actor) where
-  topped_faults : (n : ℕ) → topped past n ≡ true
-      → first_or (bug_if (topped past n) IrqlNotLessOrEqual (PacketSubject n)) None ≡ None → ⊥
-  topped_faults n gone quiet =
-      let bug : Bug = record { check = IrqlNotLessOrEqual; subject = PacketSubject n } in
-      let no : Some bug ≡ None = rw gone at quiet in
-      cc
-
   module _ (under : Option Frame) where
     -- the frames have the same rights, the lists, slots and words are as before, and so is each
     -- packet, live and completing or not
@@ -496,7 +486,7 @@ module _ (set : Set) (states : States) (s : Shared) (past : List Entry) (actor :
       (goes_rights set states s a i (runs set states s a i top at) b false (rw is refl) goes)
       (λ n. refl) (λ n. refl)
   hold under f o top holding slot lent (touches_gone a i r n at is on operand reads gone) quiet =
-      absurd (topped_faults n
+      absurd (topped_faults past n
       (gone_topped s past n holding.tells (named s (register a r) n reads) gone) quiet)
   hold under f o top holding slot lent
       (looks_at a i b jumped r n p at is goes operand reads there jumps) quiet =
@@ -651,9 +641,6 @@ module _ (set : Set) (states : States) (s : Shared) (past : List Entry) (actor :
       → completion_fault past n ≡ None
   completion_fault_none n there free unarmed = rw (there, free, unarmed) refl
 
-  none_with : (bug : Option Bug) → bug ≡ None → first_or bug None ≡ None
-  none_with bug h = rw h refl
-
   cancel_completes : (n : ℕ) (step : CancelStep) (o : Outcome)
       → Cancels set s actor.thread n step o → fault_among is_completion past actor o.actions ≡ None
   cancel_completes n step o (takes_cancel free) = refl
@@ -673,7 +660,7 @@ module _ (set : Set) (states : States) (s : Shared) (past : List Entry) (actor :
       right_free set states s past a holding h.stays.kinds r n own reads p there in
       let empty : is_some p.armer ≡ false =
       right_unarmed set states s past a holding h.stays.kinds r n own reads p there in
-      none_with (completion_fault past n)
+      first_only (completion_fault past n)
       (completion_fault_none n (untopped s past n p holding.tells its)
       ((holding.tells.live n p its).taken ∙ free)
       ((holding.tells.live n p its).armed ∙ empty))

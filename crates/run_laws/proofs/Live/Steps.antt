@@ -18,12 +18,11 @@ use Rattle.model.specs.declared.world.Frame.TheVariants.{Routine, Walk, Cancel a
 use Rattle.model.specs.declared.world.Packet.{Packet}
 use Rattle.model.specs.declared.world.Value.{Value}
 use Rattle.model.specs.declared.world.Value.TheVariants.{Ref}
-use Rattle.model.specs.declared.event.Bug.{Bug}
 use Rattle.model.specs.declared.event.BugCheck.TheVariants.{IrqlNotLessOrEqual}
 use Rattle.model.specs.declared.event.Subject.TheVariants.{Packet as PacketSubject}
 use Rattle.model.specs.Action.{Executes, Action, Touches}
 use Rattle.model.specs.Effect.{completes_with, Outcome, asks, turned, routine_of_device}
-use Rattle.model.specs.Fault.{bug_if, fault_of, first_or}
+use Rattle.model.specs.Fault.{bug_if, fault_of}
 use Rattle.model.specs.LocalRule.{kind_of, is_hold}
 use Rattle.model.specs.Kinds.{is_packet, is_right, is_view, is_new, is_exchanged}
 use Rattle.model.specs.Set.{flow_of, Set, lower_of, member, sort_of}
@@ -40,7 +39,7 @@ use Rattle.run_laws.proofs.States.Lacking.{never_lacks}
 use Rattle.run_laws.proofs.States.OnTop.{OnTop, runs, value_suits}
 use Rattle.run_laws.proofs.States.Rules.{States}
 use Rattle.run_laws.proofs.Steps.Comes.{removes_none, removes, inserts, starts_packet, takes_out, takes_none, puts_in, starts_next, unlinks, Queued, GoesTo, Executing, Reads, Comes, errs, awaits_lock, computes, opens_loop, turns_loop, pages, touches_gone, looks_at, writes_info, marks_packet, exchanges, takes_lock, retakes_lock, frees_lock, completes_packet, completes_gone, passes_down, calls_down, returns_status, lets_go, lets_walk, resumes_walk, resumes_gone, resumes_none, stops_walk, stops_none, walks_gone, walks_to, lends_to, walks_up, carries_up, tops_out, ends_dpc, ends_cancel, works_on_queues, ends_startio, cancels, Cancels, takes_cancel, retakes_cancel, awaits_cancel, sets_flag, calls_cancel}
-use Rattle.run_laws.proofs.Steps.Faults.{fault_among, is_touch}
+use Rattle.run_laws.proofs.Steps.Faults.{fault_among, is_touch, first_only}
 use Rattle.run_laws.proofs.Steps.Onward.{SameRoutine, goes_same, turned_same, turned_registers}
 use Rattle.run_laws.proofs.Steps.Words.{packet_operand}
 use Rattle.run_laws.proofs.States.Moves.{falls_next, has_next}
@@ -380,9 +379,6 @@ module _ (set : Set) (states : States) (s : Shared) (past : List Entry) where
       → (packet_of s n ≡ None → ⊥) → fault_of past actor (Touches n) ≡ None
   under_one actor n None tells there lives = absurd (lives there)
   under_one actor n (Some p) tells there lives = touched_one actor n p tells there
-
-  first_only : (bug : Option Bug) → bug ≡ None → first_or bug None ≡ None
-  first_only bug h = rw h refl
 
   -- the packet that goes to a queue, or comes from one
   queued_lives : (n : ℕ) → Tells s past → 1 ≤ unheld (find s.packets n) → (actor : Actor)

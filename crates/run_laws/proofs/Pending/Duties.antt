@@ -26,6 +26,7 @@ use Rattle.run_laws.proofs.Lists.{all_at, copied}
 use Rattle.run_laws.proofs.Live.Sees.{RefersTo}
 use Rattle.run_laws.proofs.States.HandedOver.{HoldOf}
 use Rattle.run_laws.proofs.States.Kinds.{HasKinds, Suits}
+use Rattle.run_laws.proofs.States.Lent.{queued_not_new}
 use Rattle.run_laws.proofs.States.Obeyed.{inserts_right}
 use Rattle.run_laws.proofs.States.Along.{arrives_keep}
 use Rattle.run_laws.proofs.States.Kinds.{handed_long}
@@ -230,10 +231,6 @@ removed_plain : (cancel : Option ℕ) (q : ℕ) → (is_new (kind_removed cancel
 removed_plain None q = (refl, refl)
 removed_plain (Some routine) q = (refl, refl)
 
-queued_plain : (fits : Bool) (k : Kind) → queued_kind fits k ≡ None → is_new k ≡ false
-queued_plain fits New rule = cc
-queued_plain fits _ rule = refl
-
 disarmed_plain : (fits : Bool) (k : Kind) → queued_kind fits k ≡ None
     → (is_new (kind_disarmed k) ≡ false) × (is_lower (kind_disarmed k) ≡ false)
 disarmed_plain fits New rule = cc
@@ -282,15 +279,15 @@ handed_dutiful s (Remove r q label) set driver rule fits long h =
     dutied_written s.duty s.kinds r (kind_removed (cancel_routine_of set driver q) q)
     (not_new _ (unbroken _ _ (first_none _ _ (second_none _ _ rule)))) plain.0 plain.1 h
 handed_dutiful s (Unlink r q) set driver rule fits long h =
-    dutied_written s.duty s.kinds r Own (queued_plain _ (kind_of s r) (first_none _ _ rule)) refl
+    dutied_written s.duty s.kinds r Own (queued_not_new _ (kind_of s r) (first_none _ _ rule)) refl
     refl h
 handed_dutiful s (Arm r q) set driver rule fits long h =
     dutied_written s.duty s.kinds r (Armed (Declared q))
-    (queued_plain _ (kind_of s r) (first_none _ _ rule)) refl refl h
+    (queued_not_new _ (kind_of s r) (first_none _ _ rule)) refl refl h
 handed_dutiful s (Disarm r label) set driver rule fits long h =
     let plain = disarmed_plain _ (kind_of s r) rule in
     dutied_written s.duty s.kinds r (kind_disarmed (kind_of s r))
-    (queued_plain _ (kind_of s r) rule) plain.0 plain.1 h
+    (queued_not_new _ (kind_of s r) rule) plain.0 plain.1 h
 handed_dutiful s (Release lock) set driver rule fits long h =
     let lowers : kinds_that is_lower (all_let_go set driver lock s.kinds)
     ≡ kinds_that is_lower s.kinds =
@@ -335,7 +332,7 @@ label_arrived s (Remove r q label) set driver rule h =
 label_arrived s (Take r label) set driver rule h =
     emptied s r (not_new _ (unbroken _ _ (second_none _ _ rule))) h
 label_arrived s (Disarm r label) set driver rule h =
-    emptied s r (queued_plain _ (kind_of s r) rule) h
+    emptied s r (queued_not_new _ (kind_of s r) rule) h
 label_arrived s (IfPending r label) set driver rule h =
     record { long = h.long; dutiful = h.dutiful }
 label_arrived s _ set driver rule h = h

@@ -31,6 +31,7 @@ use Rattle.run_laws.proofs.Holders.Counts.{Holding, reads_ref}
 use Rattle.run_laws.proofs.Holders.Onward.{given_rights}
 use Rattle.run_laws.proofs.Holders.Rights.{one_right, right_le}
 use Rattle.run_laws.proofs.Holders.Sums.{unheld, unheld_one}
+use Rattle.run_laws.proofs.Holders.Waits.{device_driver}
 use Rattle.run_laws.proofs.Lists.{Each}
 use Rattle.run_laws.proofs.Past.LivePackets.{find}
 use Rattle.run_laws.proofs.Past.Packets.{found, named}
@@ -39,7 +40,7 @@ use Rattle.run_laws.proofs.Room.Changes.{AllWays, changed, keeps_other, waits_ap
 use Rattle.run_laws.proofs.Room.Frames.{begins_asked, next_room, no_gain, room_on}
 use Rattle.run_laws.proofs.Room.Registers.{claim_get, claims_owned, claims_right, is_owned}
 use Rattle.run_laws.proofs.Room.Sizes.{smaller, some_stack, stack_at}
-use Rattle.run_laws.proofs.Room.Waiting.{FrameRoom, HasRoom, Keeps, MarkedIn, RoomAt, RoomFor, WaitingRoom, serves_driver, waiting_kept}
+use Rattle.run_laws.proofs.Room.Waiting.{FrameRoom, HasRoom, Keeps, MarkedIn, RoomAt, RoomFor, WaitingRoom, waiting_kept}
 use Rattle.run_laws.proofs.Room.Ways.{WayUp, sent_way}
 use Rattle.run_laws.proofs.States.Entering.{LowerThere, begins_lower}
 use Rattle.run_laws.proofs.States.Frames.{IsGood, Runs, state_of}
@@ -237,7 +238,7 @@ module _ (set : Set) (states : States) (s : Shared) where
         let its : (number : ℕ) × (g ≡ Some number)
         × (c ≡ record { routine = number; device = a.device }) = set_for a g c is in
         let driver : routine_of_device (slice_get set.devices a.device) ≡ a.driver =
-        serves_driver set a.device a.driver h.stays.serves in
+        device_driver set a.device a.driver h.stays.serves in
         let sort : sort_of set a.driver its.0 ≡ Hold =
         rw (its.2, driver) at holds in
         let rule : hold_fault (kind_of (state_of states a) r) set a.driver (Some its.0) ≡ None =

@@ -8,8 +8,9 @@ use Rattle.model.specs.Forwarding.{device_under, is_under, is_too_small}
 use Rattle.model.specs.Set.{Set, lower_of}
 use Rattle.model.specs.Sound.{IsSound, DeviceFits}
 use Rattle.run_laws.proofs.Devices.{device_fits}
-use Rattle.run_laws.proofs.States.Entering.{any_false, not_none}
+use Rattle.run_laws.proofs.States.Entering.{any_false}
 use Rattle.run_laws.proofs.States.Frames.{Serves}
+use Rattle.run_laws.proofs.Tests.{not_and}
 
 -- the stack size of a device
 abbrev pub stack_of : Option Device → ℕ
@@ -50,7 +51,7 @@ smaller set device lower driver locations e served is there enough =
     enough served.1
     in
     let small : is_under locations d.stack (device_under set d) ≡ false =
-    not_none (nat_eq d.driver driver) (is_under locations d.stack (device_under set d))
+    not_and (nat_eq d.driver driver) (is_under locations d.stack (device_under set d))
     (eq-eqb d.driver driver served.2) own
     in
     let lower_is : lower_of set device ≡ d.lower =

@@ -18,7 +18,6 @@ use Rattle.model.specs.declared.world.Frame.TheVariants.{Routine, Walk, Cancel a
 use Rattle.model.specs.declared.world.Packet.{Packet}
 use Rattle.model.specs.declared.world.Value.TheVariants.{Ref}
 use Rattle.model.specs.Action.{Action}
-use Rattle.model.specs.Effect.{routine_of_device}
 use Rattle.model.specs.Kinds.{is_right, kind_removed}
 use Rattle.model.specs.LocalRule.{kind_of}
 use Rattle.model.specs.Queues.{StartState, inserted, next_started, started, unlinked, with_slot}
@@ -30,6 +29,7 @@ use Rattle.run_laws.proofs.Holders.Counts.{reads_ref}
 use Rattle.run_laws.proofs.Holders.Plain.{plain_le}
 use Rattle.run_laws.proofs.Holders.Queued.{queue_after, times_pushed}
 use Rattle.run_laws.proofs.Holders.Started.{start_after, started_le, times_given, times_next}
+use Rattle.run_laws.proofs.Holders.Waits.{device_driver}
 use Rattle.run_laws.proofs.Past.LivePackets.{find, find_place}
 use Rattle.run_laws.proofs.Room.Registers.{IsClaim, Refers, claim_get, claim_set, claims_owned, claims_right, goes_claims, is_owned, next_claims}
 use Rattle.run_laws.proofs.Room.Sizes.{stack_at}
@@ -208,15 +208,10 @@ unlinked_some (entry ∷ entries) n m =
       | inr apart ↦ rw apart.0 (omega arith)
     ]
 
--- the routine that has a queue is that of the device's driver
-pub serves_driver : (set : Set) (device driver : ℕ) → Serves set device driver
-    → routine_of_device (slice_get set.devices device) ≡ driver
-serves_driver set device driver serves = ap routine_of_device serves.1 ∙ serves.2
-
 pub served_cancels : (set : Set) (device driver q : ℕ) → Serves set device driver
     → is_cancelable set device q ≡ is_some (cancel_routine_of set driver q)
 served_cancels set device driver q serves =
-    ap (λ (x : ℕ). is_some (cancel_routine_of set x q)) (serves_driver set device driver serves)
+    ap (λ (x : ℕ). is_some (cancel_routine_of set x q)) (device_driver set device driver serves)
 
 -- a packet that is taken off a queue is the routine's own where that has no cancel routine
 removed_plain : (f : Kind → Bool) → IsClaim f → (cancel : Option ℕ) (q : ℕ)

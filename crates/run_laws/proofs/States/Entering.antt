@@ -43,7 +43,7 @@ use Rattle.run_laws.proofs.States.Kinds.{HasKinds}
 use Rattle.run_laws.proofs.States.Known.{IsKnown, routine_found}
 use Rattle.run_laws.proofs.States.Remaining.{rest, certified}
 use Rattle.run_laws.proofs.States.Rules.{States}
-use Rattle.run_laws.proofs.Tests.{or_left, or_right}
+use Rattle.run_laws.proofs.Tests.{or_left, or_right, not_and}
 
 -- a routine of a sort
 abbrev pub IsOfSort : Set → Activation → Sort → Type 0
@@ -497,10 +497,6 @@ any_false {A = A} f (y ∷ xs) zero x none there =
     subst (λ (z : A). f z ≡ false) same (or_left (f y) _ none)
 any_false f (y ∷ xs) (suc i) x none there = any_false f xs i x (or_right (f y) _ none) there
 
-pub not_none : (b c : Bool) → b ≡ true → (b && c) ≡ false → c ≡ false
-not_none true c is h = h
-not_none false c is h = cc
-
 -- the device under a device: it is there, and an earlier one
 abbrev pub LowerThere : Set → ℕ → Type 0
 LowerThere set device =
@@ -530,7 +526,7 @@ lower_there set device driver sound served none =
     let own : (nat_eq d.driver driver && is_none d.lower) ≡ false =
     any_false (λ e. nat_eq e.driver driver && is_none e.lower) set.devices device d none served.1 in
     let some : is_none d.lower ≡ false =
-    not_none (nat_eq d.driver driver) (is_none d.lower) (eq-eqb d.driver driver served.2) own in
+    not_and (nat_eq d.driver driver) (is_none d.lower) (eq-eqb d.driver driver served.2) own in
     let is : lower_of set device ≡ d.lower =
     ap (λ (o : Option Device). option_and_then (λ e. e.lower) o) served.1 in
     lower_in set device d.lower (slice_get_within set.devices device d served.1) is some fits.lower

@@ -78,7 +78,7 @@ owned_not_new : (k : Kind) → demanded an_owned_one k ≡ None → is_new k ≡
 owned_not_new New h = cc
 owned_not_new _ h = refl
 
-queued_not_new : (fits : Bool) (k : Kind) → queued_kind fits k ≡ None → is_new k ≡ false
+pub queued_not_new : (fits : Bool) (k : Kind) → queued_kind fits k ≡ None → is_new k ≡ false
 queued_not_new fits New h = cc
 queued_not_new fits _ h = refl
 

@@ -17,7 +17,6 @@ use Rattle.std.proofs.lemmas.List.{get_or-set_same}
 use Rattle.model.specs.declared.abs.Abs.{Abs}
 use Rattle.model.specs.declared.abs.Kind.{Kind}
 use Rattle.model.specs.declared.abs.Kind.TheVariants.{Blank, Num, Lower, New, Own, Listed, Armed, Taken, Cancelling, View}
-use Rattle.model.specs.declared.abs.Rule.{Rule}
 use Rattle.model.specs.declared.abs.Rule.TheVariants.{CancelState, Guard}
 use Rattle.model.specs.declared.instr.Instr.{Instr}
 use Rattle.model.specs.declared.instr.Instr.TheVariants.{Const, Move, Clear, Load, LoadPaged, Get, Mark, Acquire, Release, Insert, Remove, Unlink, Arm, Disarm, Start, Take, Begin, Pass, Call, Complete}
@@ -26,12 +25,12 @@ use Rattle.model.specs.declared.set.QueueName.{QueueName}
 use Rattle.model.specs.declared.set.QueueName.TheVariants.{Declared}
 use Rattle.model.specs.declared.set.Sort.{Sort}
 use Rattle.model.specs.Kinds.{all_let_go, is_guard, is_listed, is_name, kind_disarmed, kind_inserted, kind_removed, left_behind, let_go, needs_guard}
-use Rattle.model.specs.LocalRule.{given_down, guard_fault, handed, handed_at_label, is_guarded, kind_of, marked, queued_kind, refuses, unless, entry_of_sort, entry_of_cancel, entered_with}
+use Rattle.model.specs.LocalRule.{given_down, guard_fault, handed, handed_at_label, is_guarded, kind_of, marked, queued_kind, refuses, entry_of_sort, entry_of_cancel, entered_with}
 use Rattle.std.proofs.lemmas.Bool.{cases_Bool, eqb-true}
 use Rattle.model.specs.Set.{Set, cancel_routine_of, cancelled_from, guard_of, is_named, only_one, cancels_for, Member, cancelled_in}
 use Rattle.run_laws.proofs.States.Along.{arrives_keep}
 use Rattle.run_laws.proofs.Lists.{Each, each_map, each_set}
-use Rattle.run_laws.proofs.States.Rules.{first_none, second_none, unbroken}
+use Rattle.run_laws.proofs.States.Rules.{first_none, second_none, unbroken, granted}
 use Rattle.run_laws.proofs.Tests.{or_left, or_right}
 
 -- a queue of a driver has a cancel routine
@@ -97,10 +96,6 @@ other_guard locks m (Some g) other h =
 named_same : (p q : ℕ) → is_name (Declared p) (Declared q) ≡ true → p ≡ q
 named_same p q h = eqb-true p q h
 
-unless_held : (b : Bool) (rule : Rule) → unless b rule ≡ None → b ≡ true
-unless_held true rule h = refl
-unless_held false rule h = cc
-
 module _ (set : Set) (driver : ℕ) where
   -- one register
   pub fits_at : (locks : List Bool) (kinds : List Kind) (r : ℕ)
@@ -158,7 +153,7 @@ module _ (set : Set) (driver : ℕ) where
   guard_held : (s : Abs) (q : ℕ) → guard_fault s set driver q ≡ None → Guarded set driver s.locks q
   guard_held s q rule =
       sym (guarded_is s (guard_of set driver q))
-      ∙ unless_held (is_guarded s (guard_of set driver q)) Guard rule
+      ∙ granted (is_guarded s (guard_of set driver q)) Guard rule
 
   -- what an instruction makes
   inserted_fits : (locks : List Bool) (q : ℕ) (o : Option ℕ) → cancel_routine_of set driver q ≡ o
@@ -175,7 +170,7 @@ module _ (set : Set) (driver : ℕ) where
       → queued_kind (is_listed (Declared q) k) k ≡ None → KindFits set driver locks k
       → KindFits set driver locks (Armed (Declared q))
   armed_fits locks q (Listed (Declared p)) rule h =
-      let same : p ≡ q = named_same p q (unless_held (is_name (Declared p) (Declared q)) CancelState
+      let same : p ≡ q = named_same p q (granted (is_name (Declared p) (Declared q)) CancelState
       rule) in
       subst (λ (x : ℕ). HasCancel set driver x × Guarded set driver locks x) same h
   armed_fits locks q _ rule h = cc

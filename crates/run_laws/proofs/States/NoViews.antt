@@ -4,7 +4,7 @@
 -- that was handed over.
 use Rattle.model.specs.declared.limits.TheConstants.{REGISTERS}
 use Rattle.std.proofs.Common.{true, ◌≡◌, ℕ, zero, suc, Bool, false, List, [], ◌∷◌, Option, None, Some, refl, ap, sym, ◌∙◌, subst, replicate, ◌-◌}
-use Rattle.std.specs.Prelude.{◌||◌, slice_set, slice_index_or}
+use Rattle.std.specs.Prelude.{slice_set, slice_index_or}
 use Rattle.std.specs.List.{list_any}
 use Rattle.std.proofs.lemmas.Bool.{cond_both}
 use Rattle.model.specs.declared.abs.Abs.{Abs}
@@ -23,7 +23,7 @@ use Rattle.model.specs.Paths.{Arrives}
 use Rattle.model.specs.Set.{Set, Member, cancel_routine_of, cancels_for, guard_named}
 use Rattle.run_laws.proofs.States.Along.{arrives_keep}
 use Rattle.run_laws.proofs.States.Rules.{first_none}
-use Rattle.run_laws.proofs.Tests.{or_left, or_right}
+use Rattle.run_laws.proofs.Tests.{or_left, or_right, or_both}
 use Rattle.model.specs.declared.set.Sort.{Sort}
 
 -- kinds that no instruction makes
@@ -118,16 +118,13 @@ HasNone f s = list_any f s.kinds ≡ false
 abbrev pub HasNoView : Abs → Type 0
 HasNoView s = HasNone is_view s
 
-both_false : (b c : Bool) → b ≡ false → c ≡ false → (b || c) ≡ false
-both_false b c one other = rw (one, other) refl
-
 none_set : (f : Kind → Bool) (kinds : List Kind) (r : ℕ) (k : Kind) → f k ≡ false
     → list_any f kinds ≡ false → list_any f (slice_set kinds r k) ≡ false
 none_set f [] r k is h = refl
 none_set f (j ∷ kinds) zero k is h =
-    both_false (f k) (list_any f kinds) is (or_right (f j) (list_any f kinds) h)
+    or_both (f k) (list_any f kinds) is (or_right (f j) (list_any f kinds) h)
 none_set f (j ∷ kinds) (suc r) k is h =
-    both_false (f j) (list_any f (slice_set kinds r k))
+    or_both (f j) (list_any f (slice_set kinds r k))
     (or_left (f j) (list_any f kinds) h)
     (none_set f kinds r k is (or_right (f j) (list_any f kinds) h))
 
@@ -159,7 +156,7 @@ module _ (set : Set) (driver : ℕ) (f : Kind → Bool) (never : NeverMade set d
       → list_any f (all_let_go set driver lock kinds) ≡ false
   all_go_none lock [] h = refl
   all_go_none lock (k ∷ kinds) h =
-      both_false (f (let_go set driver lock k)) (list_any f (all_let_go set driver lock kinds))
+      or_both (f (let_go set driver lock k)) (list_any f (all_let_go set driver lock kinds))
       (go_none lock k (or_left (f k) (list_any f kinds) h))
       (all_go_none lock kinds (or_right (f k) (list_any f kinds) h))
 
@@ -268,7 +265,7 @@ cancel_none f None s none blank enters = cc
 cancel_none f (Some name) s none blank enters =
     let same : record (entered_with (Cancelling name) NoDuty SettledMark false) { cancel = true }
     ≡ s = cc in
-    subst (HasNone f) same (both_false (f (Cancelling name)) _ (none name) blank)
+    subst (HasNone f) same (or_both (f (Cancelling name)) _ (none name) blank)
 
 pub deferred_no_view : (m : Member) (p : ℕ) (s : Abs) (sort : Sort) → m.routine.sort ≡ sort
     → is_deferred sort ≡ true → Arrives m p s → HasNoView s

@@ -1,7 +1,7 @@
 -- What an instruction that breaks no rule tells of the state before it: where it sends a packet
 -- down, completes one, or returns.
 use Rattle.std.proofs.Common.{◌≡◌, ℕ, Bool, true, false, List, [], ◌∷◌, None, Some, refl, sym, ◌∙◌, subst}
-use Rattle.std.specs.Prelude.{◌||◌, ◌&&◌}
+use Rattle.std.specs.Prelude.{◌&&◌}
 use Rattle.std.specs.List.{list_any}
 use Rattle.model.specs.declared.abs.Abs.{Abs}
 use Rattle.model.specs.declared.abs.Kind.{Kind}
@@ -20,7 +20,7 @@ use Rattle.model.specs.Set.{Set}
 use Rattle.run_laws.proofs.States.NoViews.{is_queued}
 use Rattle.run_laws.proofs.States.Rules.{first_none, second_none, unbroken}
 use Rattle.run_laws.proofs.Steps.Words.{Forwarding, work_of, packet_operand}
-use Rattle.run_laws.proofs.Tests.{or_left, or_right}
+use Rattle.run_laws.proofs.Tests.{or_left, or_right, or_both}
 
 -- how many locations more a packet needs that an instruction sends down
 abbrev pub locations_wanted : Instr → ℕ
@@ -58,9 +58,6 @@ complete_right New h = refl
 complete_right Own h = refl
 complete_right _ h = cc
 
-either_free : (cancel spin : Bool) → cancel ≡ false → spin ≡ false → (cancel || spin) ≡ false
-either_free cancel spin one two = rw (one, two) refl
-
 -- where a routine that was lent no packet returns, it keeps none
 dropped_kept : (k : Kind) → is_dropped false k ≡ is_kept k
 dropped_kept k = and_true (is_kept k)
@@ -73,7 +70,7 @@ no_kept : (kinds : List Kind) → list_any (is_dropped false) kinds ≡ false
     → list_any is_kept kinds ≡ false
 no_kept [] h = refl
 no_kept (k ∷ kinds) h =
-    either_free (is_kept k) (list_any is_kept kinds)
+    or_both (is_kept k) (list_any is_kept kinds)
     (sym (dropped_kept k) ∙ or_left (is_dropped false k) (list_any (is_dropped false) kinds) h)
     (no_kept kinds (or_right (is_dropped false k) (list_any (is_dropped false) kinds) h))
 
@@ -169,7 +166,7 @@ module _ (s : Abs) (sort : Sort) (set : Set) (driver : ℕ) where
       let kept : kept_fault s back ≡ None = first_none _ _ rest in
       record {
         duty = first_none _ _ h;
-        free = either_free s.cancel (holds_spin_lock s)
+        free = or_both s.cancel (holds_spin_lock s)
             (unbroken s.cancel CancelSpinLock (first_none _ _ kept))
             (unbroken (holds_spin_lock s) SpinLock (first_none _ _ (second_none _ _ kept)));
         nothing_left = unbroken (list_any (is_dropped back) s.kinds) Dropped

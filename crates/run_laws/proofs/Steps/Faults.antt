@@ -1,11 +1,13 @@
 -- The bug checks of a list of actions, by the kind of action: of locks and paged cells, of packets
 -- that are touched, that are sent down, and that are completed. Where no kind has one there is
 -- none.
-use Rattle.std.proofs.Common.{◌≡◌, List, [], ◌∷◌, Option, None, Some, Bool, true, false, refl}
+use Rattle.std.proofs.Common.{◌≡◌, ℕ, List, [], ◌∷◌, Option, None, Some, Bool, true, false, refl}
 use Rattle.std.specs.Prelude.{if◌then◌else◌}
 use Rattle.model.specs.declared.event.Bug.{Bug}
+use Rattle.model.specs.declared.event.BugCheck.TheVariants.{IrqlNotLessOrEqual}
+use Rattle.model.specs.declared.event.Subject.TheVariants.{Packet as PacketSubject}
 use Rattle.model.specs.Action.{Action, Acquires, Releases, TouchesPaged, Touches, Calls, Completes}
-use Rattle.model.specs.Fault.{fault_of, first_or, first_fault}
+use Rattle.model.specs.Fault.{bug_if, fault_of, first_or, first_fault, topped}
 use Rattle.model.specs.Trace.{Entry, Actor, entry}
 
 abbrev pub is_of_locks : Action → Bool
@@ -96,3 +98,15 @@ quiet_among kind past actor (action ∷ actions) h =
     (fault_among kind (entry past actor action ∷ past) actor actions)
     (among_fault (kind action) (fault_of past actor action) (none_first _ _ h))
     (quiet_among kind (entry past actor action ∷ past) actor actions (none_later _ _ h))
+
+-- the first bug check of an action alone
+pub first_only : (bug : Option Bug) → bug ≡ None → first_or bug None ≡ None
+first_only bug h = rw h refl
+
+-- a packet that topped out is touched
+pub topped_faults : (past : List Entry) (n : ℕ) → topped past n ≡ true
+    → first_or (bug_if (topped past n) IrqlNotLessOrEqual (PacketSubject n)) None ≡ None → ⊥
+topped_faults past n gone quiet =
+    let bug : Bug = record { check = IrqlNotLessOrEqual; subject = PacketSubject n } in
+    let no : Some bug ≡ None = rw gone at quiet in
+    cc

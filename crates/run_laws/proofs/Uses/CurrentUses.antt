@@ -10,6 +10,7 @@ use Rattle.model.specs.declared.world.Packet.{Packet}
 use Rattle.model.specs.PendingAgreement.{marks_left}
 use Rattle.model.specs.Trace.{Entry, Serving, current_use, uses, uses_opened}
 use Rattle.model.specs.World.{World, current_location, is_marked}
+use Rattle.run_laws.proofs.Tests.{or_second}
 use Rattle.run_laws.proofs.Uses.Fates.{nth_use, Agreed, Falls, Linked, PacketUses, Unleft, UsesTell, WaitsAbove, fate, fate_in, late_marks}
 use Rattle.run_laws.proofs.Uses.FateFacts.{fate_head, fate_rest}
 use Rattle.run_laws.proofs.States.Rules.{States}
@@ -76,10 +77,6 @@ waits_fate bound (x ∷ y ∷ upper) locations u lower below falls (inr above) =
     ∙ sym (fate_rest x lower (y ∷ upper) locations below (not_equal x lower less.1))
 waits_fate bound _ locations u lower below falls h = absurd h
 
-or_marked : (late b : Bool) → b ≡ true → (late || b) ≡ true
-or_marked true b h = refl
-or_marked false b h = h
-
 module _ (states : States) (w : World) (past : List Entry) where
   -- a current use wasn't left, and its fate is that of its location, or of what has to be carried
   -- up
@@ -141,7 +138,7 @@ module _ (states : States) (w : World) (past : List Entry) where
       → Agreed states w past (nth_use n u) true
   agreed_marked n p u told there current marked =
       agreed_current n p u true (current_is n p u told there current) there
-      (or_marked (nat_lt 0 (late_marks states p.pending_returned n w.threads))
+      (or_second (nat_lt 0 (late_marks states p.pending_returned n w.threads))
       (is_marked (current_location p)) marked)
       (inl refl)
 

@@ -1,6 +1,6 @@
 -- What an event does to each packet and its uses; so it keeps what live packets and the trace tell
 -- of each other, what was agreed on for a use, and that a use waits for the one below it.
-use Rattle.std.proofs.Common.{◌≡◌, ℕ, ◌+◌, ◌-◌, true, inl, inr, List, [], ◌∷◌, ◌++◌, None, Option, Some, Bool, refl, ap, sym, ◌∙◌, subst, arith, slice_get}
+use Rattle.std.proofs.Common.{◌≡◌, ℕ, ◌+◌, ◌-◌, inl, inr, List, [], ◌∷◌, ◌++◌, None, Option, Some, Bool, refl, ap, sym, ◌∙◌, subst, arith, slice_get}
 use Rattle.std.specs.Prelude.{nat_lt, slice_set}
 use Rattle.std.proofs.lemmas.Bool.Decides.{eqb_tells}
 use Rattle.model.specs.declared.world.Activation.{Activation}
@@ -17,6 +17,7 @@ use Rattle.model.specs.Run.{frames_on}
 use Rattle.model.specs.Set.{Set}
 use Rattle.model.specs.Trace.{Actor, Entry, Managing, Serving, recorded, uses}
 use Rattle.model.specs.World.{World, new_packet}
+use Rattle.run_laws.proofs.Holders.Lent.{hold_sort}
 use Rattle.run_laws.proofs.Holders.Runs.{top_holding}
 use Rattle.run_laws.proofs.Holders.Sums.{Held}
 use Rattle.run_laws.proofs.Past.LivePackets.{find, find_above, find_push}
@@ -44,10 +45,7 @@ use Rattle.run_laws.proofs.Uses.WalkSteps.{walk_used}
 use Rattle.run_laws.proofs.Room.Marked.{LentMarked}
 use Rattle.run_laws.proofs.Lists.{Each}
 use Rattle.run_laws.proofs.States.Known.{IsKnown}
-use Rattle.model.specs.LocalRule.{is_hold}
 use Rattle.model.specs.declared.world.Canceller.{Canceller}
-use Rattle.model.specs.declared.set.Sort.{Sort}
-use Rattle.model.specs.declared.set.Sort.TheVariants.{Hold}
 use Rattle.model.specs.declared.status.Status.{Status}
 use Rattle.model.specs.declared.status.Status.TheVariants.{Success}
 use Rattle.model.specs.Effect.{answered, answered_in, operand_of}
@@ -103,10 +101,6 @@ pub record KnownWorld (set : Set) (states : States) (w : World) (past : List Ent
   pub kept : Held set states w
   pub sees : (t : ℕ) → AllSeen set states None (frames_on w t)
   pub lends : (n : ℕ) (p : Packet) → find w.shared.packets n ≡ Some p → LentMarked set p
-
-hold_sort : (sort : Sort) → is_hold sort ≡ true → sort ≡ Hold
-hold_sort Hold is = refl
-hold_sort _ is = cc
 
 -- routines that are lent a packet have nothing to carry up, on all threads
 module _ (set : Set) (states : States) (good : IsGood set states) (issued : ℕ) where
