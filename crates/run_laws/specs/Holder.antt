@@ -1,5 +1,5 @@
--- Who holds a packet: a register that has the right to it, the I/O manager's frame that completes it,
--- a queue, what a device has for StartIo, or its cancel word.
+-- Who holds a packet: a register that has the right to it, the I/O manager's frame that completes
+-- it, a queue, what a device has for StartIo, or its cancel word.
 use Rattle.std.specs.Prelude.{ℕ, ◌≡◌, ◌<◌, ◌≤◌, ◌+◌, ◌&&◌, not, Bool, List, [], ◌∷◌, length, Option, None, Some, is_some, nat_eq, nat_lt, slice_get, if◌then◌else◌, false}
 use Rattle.model.specs.declared.abs.Abs.{Abs}
 use Rattle.model.specs.declared.abs.Kind.{Kind}
@@ -168,9 +168,9 @@ pub record StandsInside (set : Set) (a : Activation) : Type 0 where
 -- a packet of a run that was issued and hasn't topped out has one holder, be it a register, the I/O
 -- manager's frame, a place in a queue without a cancel routine, a start list or a device queue, a
 -- current slot, or its cancel word, is in the list of live packets, and stands at most once in all
--- lists together; any other one has none, isn't there, and stands in none. The states are those that
--- arrive at the positions of the routines, and every routine's frame, on top of its thread or below,
--- stands at one of them
+-- lists together; any other one has none, isn't there, and stands in none. The states are those
+-- that arrive at the positions of the routines, and every routine's frame, on top of its thread or
+-- below, stands at one of them
 pub record HasOneHolder (set : Set) (threads : ℕ) (events : List Event) : Type 0 where
   pub states : ℕ → ℕ → ℕ → Abs
   pub arrive : (driver number p : ℕ) (routine : RoutineOf)

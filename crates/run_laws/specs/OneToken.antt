@@ -15,8 +15,8 @@ use Rattle.model.specs.Typable.{IsTypable}
 use Rattle.model.specs.World.{start_of}
 use Rattle.run_laws.specs.Holder.{thread_sum}
 
--- the tokens of a device that a frame has: one, if it is a routine's for that device, and has it by the
--- state at its position
+-- the tokens of a device that a frame has: one, if it is a routine's for that device, and has it by
+-- the state at its position
 abbrev pub frame_tokens : (ℕ → ℕ → ℕ → Abs) → ℕ → Frame → ℕ
 frame_tokens states d (Routine a) =
     if nat_eq a.device d && (states a.driver a.routine a.position).token then 1 else 0
@@ -36,9 +36,9 @@ abbrev pub tokens : (ℕ → ℕ → ℕ → Abs) → List Thread → ℕ → St
 tokens states threads d start =
     thread_sum (λ f. frame_tokens states d f) threads + start_tokens start
 
--- a busy device has one token: an entry of its start list, a full slot, or a routine's frame; an idle
--- one has none, and no packet waits in its device queue. The states are those that arrive at the
--- positions of the routines
+-- a busy device has one token: an entry of its start list, a full slot, or a routine's frame; an
+-- idle one has none, and no packet waits in its device queue. The states are those that arrive at
+-- the positions of the routines
 pub record HasOneToken (set : Set) (threads : ℕ) (events : List Event) : Type 0 where
   pub states : ℕ → ℕ → ℕ → Abs
   pub arrive : (driver number p : ℕ) (routine : RoutineOf)

@@ -102,7 +102,8 @@ pub one_routine : (set : Set) (first following : ℕ) (tags : List Tag) (g drive
     → Numbered first tags following → IsAmong (Activated g driver routine serving) tags
     → IsAmong (Activated g d r s) tags → (driver ≡ d) × (routine ≡ r)
 one_routine set first following [] g driver routine d r serving s h one other = absurd one
-one_routine set first following (Managing ∷ tags) g driver routine d r serving s h (inl here) other =
+one_routine set first following (Managing ∷ tags) g driver routine d r serving s h (inl here)
+    other =
     cc
 one_routine set first following (Managing ∷ tags) g driver routine d r serving s h (inr one)
     (inl here) = cc

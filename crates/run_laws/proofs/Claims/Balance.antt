@@ -1,6 +1,6 @@
--- What a step does to the numbers of claims: one register's packet becomes of another kind, and with
--- it the packet's word may change, and whether it stands in a queue of the device. Each kind of step
--- keeps the balance.
+-- What a step does to the numbers of claims: one register's packet becomes of another kind, and
+-- with it the packet's word may change, and whether it stands in a queue of the device. Each kind
+-- of step keeps the balance.
 use Rattle.std.proofs.Common.{◌≡◌, ℕ, ◌+◌, ◌≤◌, ◌⊎◌, inl, inr, Bool, true, false, refl, sym, ◌∙◌, arith, subst}
 use Rattle.std.specs.Prelude.{nat_eq, if◌then◌else◌}
 use Rattle.std.proofs.lemmas.Bool.Decides.{eqb_tells}
@@ -157,9 +157,12 @@ module _ (set : Set) (x y : Numbers) (b : Balanced set x)
           ≤ of is_armed j + of is_taken j + word_in d q n + of is_cancelling k
           → y.armed d q n + y.taken d q n ≤ y.word d q n + y.cancelling d q n
       by_backed fair =
-          let a : y.armed d q n + of is_armed j ≡ x.armed d q n + of is_armed k = turns.armed d q n in
-          let t : y.taken d q n + of is_taken j ≡ x.taken d q n + of is_taken k = turns.taken d q n in
-          let c : y.cancelling d q n + of is_cancelling j ≡ x.cancelling d q n + of is_cancelling k =
+          let a : y.armed d q n + of is_armed j ≡ x.armed d q n + of is_armed k =
+          turns.armed d q n in
+          let t : y.taken d q n + of is_taken j ≡ x.taken d q n + of is_taken k =
+          turns.taken d q n in
+          let c : y.cancelling d q n + of is_cancelling j
+          ≡ x.cancelling d q n + of is_cancelling k =
           turns.cancelling d q n in
           let w : y.word d q n + word_out d q n ≡ x.word d q n + word_in d q n = word d q n in
           let before : x.armed d q n + x.taken d q n ≤ x.word d q n + x.cancelling d q n =
@@ -173,7 +176,8 @@ module _ (set : Set) (x y : Numbers) (b : Balanced set x)
       by_entered is fair =
           let l : y.listed d q n + of is_listed j ≡ x.listed d q n + of is_listed k =
           turns.listed d q n in
-          let c : y.cancelling d q n + of is_cancelling j ≡ x.cancelling d q n + of is_cancelling k =
+          let c : y.cancelling d q n + of is_cancelling j
+          ≡ x.cancelling d q n + of is_cancelling k =
           turns.cancelling d q n in
           let w : y.word d q n + word_out d q n ≡ x.word d q n + word_in d q n = word d q n in
           let s : y.entries d q n + out d q n ≡ x.entries d q n + into d q n = entries d q n in
@@ -187,7 +191,8 @@ module _ (set : Set) (x y : Numbers) (b : Balanced set x)
       by_standing fair =
           let l : y.listed d q n + of is_listed j ≡ x.listed d q n + of is_listed k =
           turns.listed d q n in
-          let a : y.armed d q n + of is_armed j ≡ x.armed d q n + of is_armed k = turns.armed d q n in
+          let a : y.armed d q n + of is_armed j ≡ x.armed d q n + of is_armed k =
+          turns.armed d q n in
           let s : y.entries d q n + out d q n ≡ x.entries d q n + into d q n = entries d q n in
           let before : x.listed d q n + x.armed d q n ≤ x.entries d q n = b.standing d q n in
           omega arith

@@ -1,6 +1,5 @@
--- The steps of IoCancelIrp keep claims, and so does a packet that tops out: the cancel routine
--- that is
--- called has the right that the word had.
+-- The steps of IoCancelIrp keep claims, and so does a packet that tops out: the cancel routine that
+-- is called has the right that the word had.
 use Rattle.std.proofs.Common.{◌≡◌, ℕ, ◌+◌, ◌≤◌, Bool, true, false, List, [], ◌∷◌, Option, None, Some, refl, ap, sym, ◌∙◌, subst, arith, inl, inr, ◌<◌, cond}
 use Rattle.std.specs.Prelude.{nat_eq, slice_get, if◌then◌else◌}
 use Rattle.std.proofs.lemmas.Bool.Decides.{eqb_tells}
@@ -134,8 +133,8 @@ module _ (set : Set) (states : States) (w : World) (past : List Entry) (good : I
         } in
         record {
           balanced = balanced_calls set (numbers states w) (numbers states to) c.balanced
-              (once_turned (numbers states w) (numbers states to) BlankKind (Cancelling (Declared q))
-              armer.device n changes refl
+              (once_turned (numbers states w) (numbers states to) BlankKind
+              (Cancelling (Declared q)) armer.device n changes refl
               (λ m. rw shared (c.balanced.once m)))
               armer.device q n changes
               (λ d l m. rw shared (word_emptied w.shared n armer.device q p there armer (refl, is)

@@ -1,6 +1,5 @@
 -- The sums of names over threads after a step: those of the frame that ran go, and those of the
--- frames
--- in place of it come.
+-- frames in place of it come.
 use Rattle.std.proofs.Common.{◌≡◌, ℕ, ◌+◌, ◌-◌, Bool, List, [], ◌∷◌, ◌++◌, Option, None, Some, refl, ap, ◌∙◌, arith, inl, inr}
 use Rattle.std.specs.Prelude.{slice_set, if◌then◌else◌}
 use Rattle.model.specs.declared.abs.Kind.{Kind}

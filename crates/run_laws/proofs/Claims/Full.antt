@@ -130,11 +130,13 @@ module _ (set : Set) (states : States) (s : Shared) (past : List Entry) (a : Act
         rw room refl
 
     -- a packet that is put into a queue, with or without a cancel routine
-    inserted_room : (r q n : ℕ) (entries : List ℕ) → Runs set states s a (Insert r q) → Reads s a r n
+    inserted_room : (r q n : ℕ) (entries : List ℕ) → Runs set states s a (Insert r q)
+        → Reads s a r n
         → queue_of s a.device q ≡ Some entries → (cancel : Option ℕ)
         → cancel_routine_of set a.driver q ≡ cancel → is_full entries ≡ false
     inserted_room r q n entries h reads there None is =
-        room_left (Insert r q) h r n entries refl (inserts_blank set states s a (Insert r q) h r q is)
+        room_left (Insert r q) h r n entries refl
+        (inserts_blank set states s a (Insert r q) h r q is)
         (gives_right (kind_of (state_of states a) r) _ h.obeys) reads
         (λ m.
         let counts : plain_at set states s a q entries m ≡ times_in entries m =

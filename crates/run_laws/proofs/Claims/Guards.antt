@@ -1,8 +1,6 @@
 -- A register has a packet of a queue with a cancel routine, that stands in it or was taken off it,
--- only
--- while its thread holds the guard of the queue. So where a thread holds the guard, no other frame
--- of
--- the device has such a packet.
+-- only while its thread holds the guard of the queue. So where a thread holds the guard, no other
+-- frame of the device has such a packet.
 use Rattle.std.proofs.Common.{◌≡◌, ◌≢◌, ℕ, zero, suc, ◌+◌, ◌-◌, ◌<◌, Bool, true, false, List, [], ◌∷◌, ◌++◌, length, Option, None, Some, refl, ap, sym, ◌∙◌, subst, arith, eqb-true, eq-eqb, inl, inr}
 use Rattle.std.specs.Prelude.{nat_eq, slice_get, slice_index_or}
 use Rattle.std.specs.List.{list_any}

@@ -1,6 +1,5 @@
 -- What the holders of packets say of claims: a register of kind Listed or Cancelling, one of kind
--- Own,
--- and a cancel word that isn't empty hold the packet, and it has one holder.
+-- Own, and a cancel word that isn't empty hold the packet, and it has one holder.
 use Rattle.std.proofs.Common.{◌≡◌, ℕ, ◌+◌, ◌≤◌, Bool, true, false, List, [], ◌∷◌, Option, None, Some, refl, ap, arith, eq-eqb}
 use Rattle.std.specs.Prelude.{nat_eq, is_some, if◌then◌else◌}
 use Rattle.model.specs.declared.abs.Kind.{Kind}

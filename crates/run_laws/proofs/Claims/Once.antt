@@ -1,5 +1,6 @@
--- A packet stands at most once in all lists together, and in none where it isn't live: who has it is
--- a queue without a cancel routine, what a device has for StartIo, its cancel word, or a register.
+-- A packet stands at most once in all lists together, and in none where it isn't live: who has it
+-- is a queue without a cancel routine, what a device has for StartIo, its cancel word, or a
+-- register.
 use Rattle.std.proofs.Common.{◌≡◌, ℕ, ◌+◌, ◌≤◌, Option, None, Some, refl, ap, arith}
 use Rattle.std.specs.Prelude.{if◌then◌else◌}
 use Rattle.model.specs.declared.set.QueueName.TheVariants.{Declared}

@@ -1,6 +1,5 @@
 -- An instruction about queues keeps claims: a packet goes into a queue or off it, or to what a
--- device
--- has for StartIo.
+-- device has for StartIo.
 use Rattle.std.proofs.Common.{◌≡◌, ℕ, ◌+◌, ◌≤◌, Bool, true, false, List, [], ◌∷◌, Option, None, Some, refl, ap, ◌∙◌, subst, arith, inl, inr, eq-eqb}
 use Rattle.std.specs.Prelude.{nat_eq, if◌then◌else◌}
 use Rattle.std.specs.List.{list_any}
@@ -57,6 +56,9 @@ module _ (set : Set) (states : States) (w : World) (past : List Entry) (good : I
     (packets : h.outcome.shared.packets ≡ w.shared.packets) where
   abbrev to : World
   to = after set states w past good stands c t h leaves
+
+  abbrev Changes : Kind → Kind → ℕ → Type 0
+  Changes j k m = KindTurns (numbers states w) (numbers states to) j k a.device m
 
   words_same : (d q n : ℕ) → word_at (find to.shared.packets n) d q
       ≡ word_at (find w.shared.packets n) d q
@@ -170,8 +172,9 @@ module _ (set : Set) (states : States) (w : World) (past : List Entry) (good : I
     inserts_by : (cancel : Option ℕ) → cancel_routine_of set a.driver q ≡ cancel
         → TurnsNames states a (next a) Own (kind_inserted cancel q) m → Claimed set states to
     inserts_by None none turns =
-        let changes : KindTurns (numbers states w) (numbers states to) Own BlankKind a.device m =
-        kind_turns set states w past good stands c t h leaves a (next a) Own BlankKind m frame frames refl turns in
+        let changes : Changes Own BlankKind m =
+        kind_turns set states w past good stands c t h leaves a (next a) Own BlankKind m frame
+        frames refl turns in
         record {
           balanced = balanced_joins set (numbers states w) (numbers states to) c.balanced
               (once_turned (numbers states w) (numbers states to) Own BlankKind
@@ -189,8 +192,9 @@ module _ (set : Set) (states : States) (w : World) (past : List Entry) (good : I
               ));
         }
     inserts_by (Some cancel) some turns =
-        let changes : KindTurns (numbers states w) (numbers states to) Own (Listed (Declared q)) a.device m =
-        kind_turns set states w past good stands c t h leaves a (next a) Own (Listed (Declared q)) m frame frames refl turns in
+        let changes : Changes Own (Listed (Declared q)) m =
+        kind_turns set states w past good stands c t h leaves a (next a) Own (Listed (Declared q)) m
+        frame frames refl turns in
         record {
           balanced = balanced_inserts set (numbers states w) (numbers states to) c.balanced
               (once_turned (numbers states w) (numbers states to) Own (Listed (Declared q))
@@ -313,8 +317,9 @@ module _ (set : Set) (states : States) (w : World) (past : List Entry) (good : I
       removes_by : (cancel : Option ℕ) → cancel_routine_of set a.driver q ≡ cancel
           → TurnsNames states a taker BlankKind (kind_removed cancel q) m → Claimed set states to
       removes_by None none turns =
-          let changes : KindTurns (numbers states w) (numbers states to) BlankKind Own a.device m =
-          kind_turns set states w past good stands c t h leaves a taker BlankKind Own m frame frames refl turns in
+          let changes : Changes BlankKind Own m =
+          kind_turns set states w past good stands c t h leaves a taker BlankKind Own m frame frames
+          refl turns in
           record {
             balanced = balanced_leaves set (numbers states w) (numbers states to) c.balanced
                 (once_turned (numbers states w) (numbers states to) BlankKind Own
@@ -333,8 +338,9 @@ module _ (set : Set) (states : States) (w : World) (past : List Entry) (good : I
                 ));
           }
       removes_by (Some cancel) some turns =
-          let changes : KindTurns (numbers states w) (numbers states to) BlankKind (Taken (Declared q)) a.device m =
-          kind_turns set states w past good stands c t h leaves a taker BlankKind (Taken (Declared q)) m frame frames refl turns in
+          let changes : Changes BlankKind (Taken (Declared q)) m =
+          kind_turns set states w past good stands c t h leaves a taker BlankKind
+          (Taken (Declared q)) m frame frames refl turns in
           record {
             balanced = balanced_removes set (numbers states w) (numbers states to) c.balanced
                 (λ n.
@@ -435,8 +441,9 @@ module _ (set : Set) (states : States) (w : World) (past : List Entry) (good : I
           let its : times_of (queue_of w.shared a.device q) m ≡ times_in entries m =
           ap (λ (o : Option (List ℕ)). times_of o m) there in
           let some : 1 ≤ times_in entries m = omega arith in
-          let changes : KindTurns (numbers states w) (numbers states to) (Listed (Declared q)) Own a.device m =
-          kind_turns set states w past good stands c t h leaves a (next a) (Listed (Declared q)) Own m frame frames refl turns in
+          let changes : Changes (Listed (Declared q)) Own m =
+          kind_turns set states w past good stands c t h leaves a (next a) (Listed (Declared q)) Own
+          m frame frames refl turns in
           record {
             balanced = balanced_unlinks set (numbers states w) (numbers states to) c.balanced
                 (once_turned (numbers states w) (numbers states to) (Listed (Declared q)) Own
@@ -488,8 +495,9 @@ module _ (set : Set) (states : States) (w : World) (past : List Entry) (good : I
           let once : takes_in states m w.threads + times_listed w.shared m
           ≤ 1 = c.balanced.once m in
           let few : times_in entries m ≤ 1 = omega arith in
-          let changes : KindTurns (numbers states w) (numbers states to) (Cancelling (Declared q)) Own a.device m =
-          kind_turns set states w past good stands c t h leaves a (next a) (Cancelling (Declared q)) Own m frame frames refl turns in
+          let changes : Changes (Cancelling (Declared q)) Own m =
+          kind_turns set states w past good stands c t h leaves a (next a) (Cancelling (Declared q))
+          Own m frame frames refl turns in
           record {
             balanced = balanced_cancels set (numbers states w) (numbers states to) c.balanced
                 (once_turned (numbers states w) (numbers states to) (Cancelling (Declared q)) Own

@@ -1,6 +1,5 @@
 -- How often packets stand in queues with a cancel routine, after one is put into a queue or taken
--- off
--- it; and a packet that stands in no list.
+-- off it; and a packet that stands in no list.
 use Rattle.std.proofs.Common.{◌≡◌, ℕ, zero, suc, ◌+◌, ◌≤◌, ◌⊎◌, inl, inr, true, false, List, [], ◌∷◌, Option, Some, refl, ap, sym, ◌∙◌, subst, arith, eq-eqb}
 use Rattle.std.specs.Prelude.{is_some, nat_eq, option_and_then, slice_get, slice_index_or, slice_set, if◌then◌else◌}
 use Rattle.std.proofs.lemmas.Bool.{cases_Bool}
@@ -83,7 +82,8 @@ module _ (s : Shared) (d q m : ℕ) (before after : List ℕ) (there : queue_of 
           | inl its ↦ rw (its.0, its.1, its.2, its.3) (more n)
           | inr other ↦
               let none : hit d q m e p n ≡ 0 = other.0 m n in
-              let same : now e p n ≡ was e p n = ap (λ (o : Option (List ℕ)). times_of o n) other.1 in
+              let same : now e p n ≡ was e p n =
+              ap (λ (o : Option (List ℕ)). times_of o n) other.1 in
               omega arith
         ]
 
@@ -95,7 +95,8 @@ module _ (s : Shared) (d q m : ℕ) (before after : List ℕ) (there : queue_of 
           | inl its ↦ rw (its.0, its.1, its.2, its.3) (fewer n)
           | inr other ↦
               let none : hit d q m e p n ≡ 0 = other.0 m n in
-              let same : now e p n ≡ was e p n = ap (λ (o : Option (List ℕ)). times_of o n) other.1 in
+              let same : now e p n ≡ was e p n =
+              ap (λ (o : Option (List ℕ)). times_of o n) other.1 in
               omega arith
         ]
 

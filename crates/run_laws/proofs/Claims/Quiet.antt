@@ -1,6 +1,5 @@
 -- Steps that leave the claims to packets as they are: the frames in place of the one that ran name
--- the
--- same packets of queues with a cancel routine, and cancel words and queues are as before.
+-- the same packets of queues with a cancel routine, and cancel words and queues are as before.
 use Rattle.std.proofs.Common.{◌≡◌, ℕ, ◌+◌, ◌-◌, ◌≤◌, Bool, true, false, List, [], ◌∷◌, ◌++◌, Option, None, Some, refl, ap, sym, ◌∙◌, arith, inl, inr}
 use Rattle.std.specs.Prelude.{⊤, nat_eq, replicate, slice_get, if◌then◌else◌}
 use Rattle.std.specs.List.{list_any}

@@ -103,8 +103,8 @@ module _ (set : Set) (states : States) (issued : ℕ) where
   after_apart below f (Some status) (e ∷ frames) stacked to h =
       let no : Some status ≡ None = to.0 in cc
 
--- frames name as many packets of queues with a cancel routine as before, words and queues are as they
--- were, and no packet stands in two lists
+-- frames name as many packets of queues with a cancel routine as before, words and queues are as
+-- they were, and no packet stands in two lists
 pub same_balance : (set : Set) (states : States) (v w : World) → Balanced set (numbers states v)
     → ((g : Kind → Bool) → OfQueues g → (on : ℕ → Bool) (n : ℕ)
     → thread_sum (frame_names states g on n) w.threads

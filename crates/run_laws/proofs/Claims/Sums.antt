@@ -1,7 +1,6 @@
 -- Claims to packets that may be cancelled. A register of kind Armed or Taken is no right: the
--- packet's
--- cancel word has it, or the cancel routine that IoCancelIrp called. Counted over all frames, for a
--- queue of a device and a packet.
+-- packet's cancel word has it, or the cancel routine that IoCancelIrp called. Counted over all
+-- frames, for a queue of a device and a packet.
 use Rattle.std.specs.Prelude.{ℕ, ◌≡◌, ◌≤◌, ◌+◌, ◌&&◌, Bool, true, false, List, Option, None, Some, is_some, nat_eq, if◌then◌else◌, slice_get, ⊤}
 use Rattle.model.specs.declared.abs.Kind.{Kind}
 use Rattle.model.specs.declared.abs.Kind.TheVariants.{Taken}
@@ -103,9 +102,8 @@ numbers states w =
     }
 
 -- who has a claim is backed by the word or by the cancel routine; an entry of a queue with a cancel
--- routine has its word, its cancel routine, or a register of kind Listed; a register of kind
--- Listed or
--- Armed names an entry; and a packet stands in one list, or was taken off by one, or neither
+-- routine has its word, its cancel routine, or a register of kind Listed; a register of kind Listed
+-- or Armed names an entry; and a packet stands in one list, or was taken off by one, or neither
 pub record Balanced (set : Set) (x : Numbers) : Type 0 where
   pub backed : (d q n : ℕ) → x.armed d q n + x.taken d q n ≤ x.word d q n + x.cancelling d q n
   pub entered : (d q n : ℕ) → is_cancelable set d q ≡ true

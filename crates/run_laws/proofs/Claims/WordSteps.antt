@@ -1,6 +1,5 @@
 -- An exchange of a packet's cancel word keeps claims, and so does the release of a lock: the word
--- has the
--- right that a register of kind Listed had, and gives it back, or to the cancel routine.
+-- has the right that a register of kind Listed had, and gives it back, or to the cancel routine.
 use Rattle.std.proofs.Common.{◌≡◌, ◌⊎◌, ℕ, ◌+◌, ◌≤◌, Bool, true, false, List, [], ◌∷◌, Option, None, Some, refl, ap, sym, ◌∙◌, subst, arith, inl, inr, eq-eqb, eqb-true}
 use Rattle.std.specs.Prelude.{is_some, nat_eq, slice_set, if◌then◌else◌, ◌&&◌}
 use Rattle.std.proofs.lemmas.Bool.{cases_Bool}
@@ -199,6 +198,9 @@ module _ (set : Set) (states : States) (w : World) (past : List Entry) (good : I
   abbrev to : World
   to = after set states w past good stands c t h leaves
 
+  abbrev Changes : Kind → Kind → ℕ → Type 0
+  Changes j k m = KindTurns (numbers states w) (numbers states to) j k a.device m
+
   apart_a : FrameApart states (Routine a)
   apart_a = subst (FrameApart states) frame (apart_here set states w past good stands c t h leaves)
 
@@ -208,7 +210,8 @@ module _ (set : Set) (states : States) (w : World) (past : List Entry) (good : I
       named_here : (j : Kind) (g : Kind → Bool) → kind_of (state_of states a) r ≡ j → g j ≡ true
           → 1 ≤ names_on states g a.device m w.threads
       named_here j g is of =
-          let le : named_as g (kind_of (state_of states a) r) (register a r) m ≤ names states g a m =
+          let le : named_as g (kind_of (state_of states a) r) (register a r) m
+          ≤ names states g a m =
           named_le g w.shared.issued (state_of states a).kinds a.registers r m run.stays.kinds in
           let one : named_as g (kind_of (state_of states a) r) (register a r) m ≡ 1 =
           rw (is, of, reads_ref w.shared (register a r) m reads, eq-eqb m m refl) refl in
@@ -227,9 +230,8 @@ module _ (set : Set) (states : States) (w : World) (past : List Entry) (good : I
           let is : kind_of (state_of states a) r ≡ Listed (Declared q) =
           armed_kind q (kind_of (state_of states a) r) (first_none _ _ run.obeys) in
           let turns : TurnsNames states a (next a) (Listed (Declared q)) (Armed (Declared q)) m =
-          next_turns set states w.shared a (Arm r q) run r (Listed (Declared q)) (Armed (Declared q))
-          m
-          refl refl is (reads_ref w.shared (register a r) m reads) in
+          next_turns set states w.shared a (Arm r q) run r (Listed (Declared q))
+          (Armed (Declared q)) m refl refl is (reads_ref w.shared (register a r) m reads) in
           let one : 1 ≤ names_on states (is_listed (Declared q)) a.device m w.threads =
           named_here (Arm r q) r m run reads (Listed (Declared q)) (is_listed (Declared q)) is
           (eq-eqb q q refl) in
@@ -249,20 +251,23 @@ module _ (set : Set) (states : States) (w : World) (past : List Entry) (good : I
           c.balanced.backed a.device q m in
           let armed : names states (is_armed (Declared q)) a m
           ≤ names_on states (is_armed (Declared q)) a.device m w.threads =
-          names_among set states w past good stands c t h leaves a (is_armed (Declared q)) m frame in
+          names_among set states w past good stands c t h leaves a (is_armed (Declared q)) m frame
+          in
           let taken : names states (is_taken (Declared q)) a m
           ≤ names_on states (is_taken (Declared q)) a.device m w.threads =
-          names_among set states w past good stands c t h leaves a (is_taken (Declared q)) m frame in
+          names_among set states w past good stands c t h leaves a (is_taken (Declared q)) m frame
+          in
           let cancelling : names states (is_cancelling (Declared q)) a m
           ≤ names_on states (is_cancelling (Declared q)) a.device m w.threads =
           names_among set states w past good stands c t h leaves a (is_cancelling (Declared q)) m
           frame in
-          let changes : KindTurns (numbers states w) (numbers states to) (Listed (Declared q)) (Armed (Declared q)) a.device m =
-          kind_turns set states w past good stands c t h leaves a (next a) (Listed (Declared q)) (Armed (Declared q)) m frame frames refl turns in
+          let changes : Changes (Listed (Declared q)) (Armed (Declared q)) m =
+          kind_turns set states w past good stands c t h leaves a (next a) (Listed (Declared q))
+          (Armed (Declared q)) m frame frames refl turns in
           record {
             balanced = balanced_arms set (numbers states w) (numbers states to) c.balanced
-                (once_turned (numbers states w) (numbers states to) (Listed (Declared q)) (Armed (Declared q))
-                a.device m changes refl
+                (once_turned (numbers states w) (numbers states to) (Listed (Declared q))
+                (Armed (Declared q)) a.device m changes refl
                 (λ n. rw shared (c.balanced.once n)))
                 a.device q m
                 changes
@@ -301,12 +306,13 @@ module _ (set : Set) (states : States) (w : World) (past : List Entry) (good : I
           (eq-eqb q q refl) in
           let its : IsFor armer a.device q =
           word_names set states w kept c a.device q m p armer there is_set (omega arith) in
-          let changes : KindTurns (numbers states w) (numbers states to) (Armed (Declared q)) (Listed (Declared q)) a.device m =
-          kind_turns set states w past good stands c t h leaves a (next a) (Armed (Declared q)) (Listed (Declared q)) m frame frames refl turns in
+          let changes : Changes (Armed (Declared q)) (Listed (Declared q)) m =
+          kind_turns set states w past good stands c t h leaves a (next a) (Armed (Declared q))
+          (Listed (Declared q)) m frame frames refl turns in
           record {
             balanced = balanced_disarms set (numbers states w) (numbers states to) c.balanced
-                (once_turned (numbers states w) (numbers states to) (Armed (Declared q)) (Listed (Declared q))
-                a.device m changes refl
+                (once_turned (numbers states w) (numbers states to) (Armed (Declared q))
+                (Listed (Declared q)) a.device m changes refl
                 (λ n. rw shared (c.balanced.once n)))
                 a.device q m
                 changes
@@ -334,8 +340,9 @@ module _ (set : Set) (states : States) (w : World) (past : List Entry) (good : I
           ≤ 1 = c.balanced.once m in
           let entries : times_of (queue_of w.shared a.device q) m ≤ times_queued w.shared.queues m =
           times_of_le w.shared a.device q m (queue_of w.shared a.device q) refl in
-          let changes : KindTurns (numbers states w) (numbers states to) (Taken (Declared q)) Own a.device m =
-          kind_turns set states w past good stands c t h leaves a (next a) (Taken (Declared q)) Own m frame frames refl turns in
+          let changes : Changes (Taken (Declared q)) Own m =
+          kind_turns set states w past good stands c t h leaves a (next a) (Taken (Declared q)) Own
+          m frame frames refl turns in
           record {
             balanced = balanced_keeps_taken set (numbers states w) (numbers states to) c.balanced
                 (once_turned (numbers states w) (numbers states to) (Taken (Declared q)) Own
@@ -372,7 +379,7 @@ module _ (set : Set) (states : States) (w : World) (past : List Entry) (good : I
             let turns : TurnsNames states a (at_label a label) j BlankKind m =
             label_turns set states w.shared a (Disarm r label) run r j m label refl refl is
             (reads_ref w.shared (register a r) m reads) in
-            let changes : KindTurns (numbers states w) (numbers states to) j BlankKind a.device m =
+            let changes : Changes j BlankKind m =
             kind_turns set states w past good stands c t h leaves a (at_label a label) j BlankKind m
             frame frames refl turns in
             record {

@@ -285,7 +285,8 @@ module _ (set : Set) (states : States) (s : Shared) where
   -- every shape
   pub short : (t : ℕ) (under : Option Frame) (f : Frame) (o : Outcome) → OnTop set states s f
       → Comes set s t under f o → Short set f o.frames
-  short t under f o h (computes a i b jumped cells at work goes long) = goes_device a i b jumped goes
+  short t under f o h (computes a i b jumped cells at work goes long) =
+      goes_device a i b jumped goes
   short t under f o h (turns_loop a l at inner) = turned_device a l
   short t under f o h (pages a i b cell cells at work goes long) = goes_device a i b false goes
   short t under f o h (looks_at a i b jumped r n p at work goes operand reads there jumps) =

@@ -141,7 +141,8 @@ module _ (set : Set) (states : States) (s : Shared) (past : List Entry) (a : Act
     pub back_unheld : 1 ≤ unheld (find s.packets n)
     back_unheld =
         let some : 1 ≤ frame_rights states (Routine a) n = back_holds in
-        let all : frame_rights states (Routine a) n ≤ unheld (find s.packets n) = holding.rights n in
+        let all : frame_rights states (Routine a) n ≤ unheld (find s.packets n) =
+        holding.rights n in
         omega arith
 
     pub back_rights : (m : ℕ)

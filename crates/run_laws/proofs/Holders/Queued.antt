@@ -1,5 +1,5 @@
--- How often packets stand in queues: after a packet is put into one or taken off one, and that no queue
--- of different live packets is longer than there are live packets.
+-- How often packets stand in queues: after a packet is put into one or taken off one, and that no
+-- queue of different live packets is longer than there are live packets.
 use Rattle.std.proofs.Common.{true, Option, ◌∙◌, sym, inr, inl, ◌⊎◌, ◌≡◌, ◌≤◌, ◌+◌, ℕ, zero, suc, List, [], ◌∷◌, ◌++◌, length, Some, refl, ap, arith}
 use Rattle.std.specs.Prelude.{option_and_then, nat_eq, replicate, slice_get, slice_index_or, slice_set, if◌then◌else◌}
 use Rattle.std.proofs.lemmas.Option.{get_or_from_slice_get}
@@ -33,8 +33,8 @@ times_put s d q before after n there =
     get_or_from_slice_get s.queues d row.0 [] row.1 in
     let one : times_on (slice_set row.0 q after) n + times_in before n
     ≡ times_on row.0 n + times_in after n =
-    sum_put (λ entries. times_in entries n) (λ lists. times_on lists n) (λ x xs. refl) row.0 q before
-    after row.2 in
+    sum_put (λ entries. times_in entries n) (λ lists. times_on lists n) (λ x xs. refl) row.0 q
+    before after row.2 in
     let all : times_queued (slice_set s.queues d (slice_set row.0 q after)) n + times_on row.0 n
     ≡ times_queued s.queues n + times_on (slice_set row.0 q after) n =
     sum_put (λ lists. times_on lists n) (λ queues. times_queued queues n) (λ x xs. refl) s.queues d

@@ -1,6 +1,5 @@
 -- The packets that a frame's registers of some kinds name, and those that they have rights to, as
--- they
--- are written.
+-- they are written.
 use Rattle.std.proofs.Common.{◌≡◌, ℕ, zero, suc, ◌+◌, ◌-◌, ◌<◌, ◌≤◌, true, false, List, [], ◌∷◌, length, refl, arith, ap, ◌∙◌, Option, Some, None, is_some, Bool}
 use Rattle.std.specs.Prelude.{nat_eq, replicate, slice_set, slice_index_or, if◌then◌else◌}
 use Rattle.std.specs.List.{list_any}

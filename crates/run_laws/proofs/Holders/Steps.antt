@@ -476,7 +476,8 @@ module _ (set : Set) (states : States) (s : Shared) (past : List Entry) (actor :
   hold under f o top holding slot lent (turns_loop a loop at there) quiet =
       let ends : Moved set states s.issued a (turned a loop) (state_of states a) =
       moved_end set states s a (runs set states s a End top at) loop there in
-      kept under a (turned a loop) o (λ n. refl) refl (lent_same set a (turned a loop) (turned_same a loop))
+      kept under a (turned a loop) o (λ n. refl) refl
+      (lent_same set a (turned a loop) (turned_same a loop))
       (λ n. ap (λ (state : Abs). rights state.kinds (turned a loop).registers n) ends.arrives
       ∙ ap (λ (values : List Value). rights (state_of states a).kinds values n)
       (turned_registers a loop))

@@ -113,7 +113,8 @@ under_lives set states w t thread below (CancelFrame c) None kept there frames t
 under_lives set states w t thread below (CancelFrame c) (Some (Routine b)) kept there frames top =
     tt
 under_lives set states w t thread below (CancelFrame c) (Some (Walk n)) kept there frames top = tt
-under_lives set states w t thread below (CancelFrame c) (Some (CancelFrame d)) kept there frames top =
+under_lives set states w t thread below (CancelFrame c) (Some (CancelFrame d)) kept there frames
+    top =
     tt
 
 -- where something is told, no frame stands in place of the one that ran; IoCancelIrp tells nothing

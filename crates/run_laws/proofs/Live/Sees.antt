@@ -1,6 +1,6 @@
 -- Which packets the frames of a thread see: a completion routine's registers refer to the packet of
--- the I/O manager's frame below it, where they refer to one on its way up, and every other routine is a
--- dispatch routine, or a deferred one: a DPC, a StartIo or a cancel routine.
+-- the I/O manager's frame below it, where they refer to one on its way up, and every other routine
+-- is a dispatch routine, or a deferred one: a DPC, a StartIo or a cancel routine.
 use Rattle.std.proofs.Common.{true, ap, ◌≡◌, ◌⊎◌, ℕ, ◌-◌, List, [], ◌∷◌, ◌++◌, Option, None, Some, inl, inr, refl, sym, subst, ◌∙◌}
 use Rattle.std.specs.Prelude.{⊤, nat_lt, replicate}
 use Rattle.std.proofs.lemmas.Bool.{cases_Bool}
@@ -70,8 +70,8 @@ begins_views set states issued a n begins =
           refl,
     )
 
--- one that lets the completion go on has none that it was lent, and one that is lent its packet none
--- on its way up
+-- one that lets the completion go on has none that it was lent, and one that is lent its packet
+-- none on its way up
 pub propagate_sees : (set : Set) (states : States) (issued : ℕ) (a : Activation) (n : ℕ)
     → Begins set states issued a Propagate n → Views states n a × News states n a
 propagate_sees set states issued a n begins = (

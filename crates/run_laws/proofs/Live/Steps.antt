@@ -191,7 +191,8 @@ module _ (set : Set) (states : States) (s : Shared) where
       (lock_seen under a i h at (freed_word a i lock freed) sees, tt)
   seen t under top f o h sees (works_on_queues a i b queues starts actions full at queued) =
       let run : Runs set states s a i = runs set states s a i h at in
-      let on : MovedOn set states s a i b queues starts = queue_moves set states s a i run queued in (
+      let on : MovedOn set states s a i b queues starts =
+      queue_moves set states s a i run queued in (
         goes_seen set states under a b on.moved.driver on.moved.routine
             (λ m views. queued_hold is_view handed_views (RefersTo m) set states s a i tt run queued
             views)
@@ -423,7 +424,8 @@ module _ (set : Set) (states : States) (s : Shared) (past : List Entry) where
       (puts_in r n start reads there) =
       first_only _ (under_one actor n (packet_of s n) holding.tells refl
       (operand_lives under a (Begin r) r n _ h holding at seen live claims refl reads refl))
-  queued_faults actor under a i h holding seen live claims entries_live at (starts_next start there) =
+  queued_faults actor under a i h holding seen live claims entries_live at
+      (starts_next start there) =
       refl
 
   -- a step of IoCancelIrp touches none

@@ -153,7 +153,8 @@ pub record Locks (s to : Abs) (d : ℕ) (lock : Lock) (held : Bool) : Type 0 whe
 module _ (s : Abs) (a : Activation) (sort : Sort) (set : Set) (eight : length s.locks ≡ SPIN_LOCKS)
   where
     pub taken : (i : Instr) (lock : Lock) → lock_taken a i ≡ Some lock → OperandFits i
-        → refuses s i sort set a.driver ≡ None → Locks s (handed set a.driver s i) a.device lock false
+        → refuses s i sort set a.driver ≡ None
+        → Locks s (handed set a.driver s i) a.device lock false
     taken (Acquire m) lock is small rule =
         let same : spin_lock a m ≡ lock = cc in
         let low : m < SPIN_LOCKS = small in
@@ -167,7 +168,8 @@ module _ (s : Abs) (a : Activation) (sort : Sort) (set : Set) (eight : length s.
     taken _ lock is small rule = cc
 
     pub freed : (i : Instr) (lock : Lock) → lock_freed a i ≡ Some lock → OperandFits i
-        → refuses s i sort set a.driver ≡ None → Locks s (handed set a.driver s i) a.device lock true
+        → refuses s i sort set a.driver ≡ None
+        → Locks s (handed set a.driver s i) a.device lock true
     freed (Release m) lock is small rule =
         let same : spin_lock a m ≡ lock = cc in
         let low : m < SPIN_LOCKS = small in

@@ -194,22 +194,25 @@ module _ (set : Set) (states : States) (s : Shared) (past : List Entry) (actor :
   module _ (a : Activation) (i : Instr) (h : Runs set states s a i) (agrees : Agrees (Routine a))
     where
       locks_taken : (lock : Lock) → lock_taken a i ≡ Some lock
-          → Locks (state_of states a) (handed set a.driver (state_of states a) i) a.device lock false
+          → Locks (state_of states a) (handed set a.driver (state_of states a) i) a.device lock
+          false
       locks_taken lock takes =
-          taken (state_of states a) a (sort_of set a.driver a.routine) set h.stays.eight i lock takes
+          taken (state_of states a) a (sort_of set a.driver a.routine) set h.stays.eight i lock
+          takes
           (operand set states s a i h) h.obeys
 
       locks_freed : (lock : Lock) → lock_freed a i ≡ Some lock
           → Locks (state_of states a) (handed set a.driver (state_of states a) i) a.device lock true
       locks_freed lock frees =
-          freed (state_of states a) a (sort_of set a.driver a.routine) set h.stays.eight i lock frees
+          freed (state_of states a) a (sort_of set a.driver a.routine) set h.stays.eight i lock
+          frees
           (operand set states s a i h) h.obeys
 
       own_now : (lock : Lock) (held b : Bool) → has_next (flow_of i) ≡ true
           → ((l : Lock) → state_says (handed set a.driver (state_of states a) i) a.device l
           ≡ (if is_lock lock l then b else state_says (state_of states a) a.device l)) → (l : Lock)
-          → (if nat_eq actor.thread actor.thread && is_lock lock l then b else holds past actor.thread
-          l)
+          → (if nat_eq actor.thread actor.thread && is_lock lock l then b
+          else holds past actor.thread l)
           ≡ frame_says states (Routine (next a)) l
       own_now lock held b on now l =
           now_held actor.thread (is_lock lock l) (state_says (state_of states a) a.device l)

@@ -1,6 +1,6 @@
 -- The live packets tell what the past tells: which packets have topped out, and of each live one
--- whether the I/O manager has it, whether it has a cancel routine, how many locations it has and how
--- far down it was sent.
+-- whether the I/O manager has it, whether it has a cancel routine, how many locations it has and
+-- how far down it was sent.
 use Rattle.std.proofs.Common.{◌≡◌, ◌≢◌, ◌≤◌, ◌<◌, ◌+◌, ℕ, suc, List, [], ◌∷◌, ◌++◌, Option, None, Some, Bool, true, false, refl, ap, sym, ◌∙◌, inl, inr, arith, subst}
 use Rattle.std.specs.Prelude.{◌||◌, ◌&&◌, nat_eq, nat_lt, is_none, is_some, if◌then◌else◌}
 use Rattle.std.proofs.lemmas.Bool.Decides.{eqb_tells, leb_tells}
@@ -125,8 +125,8 @@ module _ (after : List Packet) (issued : ℕ) (tops ends arms : ℕ → Bool) (s
         fresh = λ m. (every m).fresh;
       }
 
--- a packet changes, and with it whether the I/O manager has it, whether it has a cancel routine, and
--- its depth
+-- a packet changes, and with it whether the I/O manager has it, whether it has a cancel routine,
+-- and its depth
 module _ (s : Shared) (past : List Entry) (tells : Tells s past) (n : ℕ) (p q : Packet)
     (there : packet_of s n ≡ Some p) where
   tells_set : (ends arms : ℕ → Bool) (deeps : ℕ → ℕ) → q.number ≡ p.number

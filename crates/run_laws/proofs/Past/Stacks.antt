@@ -10,8 +10,8 @@ use Rattle.model.specs.declared.status.Major.{Major}
 use Rattle.model.specs.declared.status.Status.{Status}
 use Rattle.model.specs.World.{current_location, marked_location, mark_current, shared_location, shared_with, sent_down, left_location, moved_up, copied_location, with_info, cancelled, with_armer, completed, unused_location, new_packet}
 
--- whether the I/O manager has a packet, whether that has a cancel routine, how many locations it has,
--- and how deep the current one is
+-- whether the I/O manager has a packet, whether that has a cancel routine, how many locations it
+-- has, and how deep the current one is
 pub record Measured (p : Packet) (end arm : Bool) (size deep : ℕ) : Type 0 where
   pub taken : end ≡ p.completing
   pub armed : arm ≡ is_some p.armer

@@ -45,8 +45,8 @@ IsAlone a [] = ⊤
 IsAlone a (Routine b ∷ []) = (b.driver ≡ a.driver) × (b.routine ≡ a.routine)
 IsAlone a _ = ⊥
 
--- a completion routine goes on, or is gone; what it tells is of a packet that it was lent, or that it
--- sees on its way up
+-- a completion routine goes on, or is gone; what it tells is of a packet that it was lent, or that
+-- it sees on its way up
 pub record Looks (states : States) (s : Shared) (m : ℕ) (a : Activation) (o : Outcome) : Type 0
   where
     pub told : o.told ≡ None

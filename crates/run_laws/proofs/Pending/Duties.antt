@@ -1,7 +1,7 @@
 -- What a dispatch routine's registers are by its duty, in every state that arrives at one of its
--- positions: a packet that it was handed goes with no duty done yet, and a lower driver's status with a
--- packet that was given down. A packet that it owns, which it marked or removed from a queue, goes with
--- any duty.
+-- positions: a packet that it was handed goes with no duty done yet, and a lower driver's status
+-- with a packet that was given down. A packet that it owns, which it marked or removed from a
+-- queue, goes with any duty.
 use Rattle.std.proofs.Common.{◌≡◌, ℕ, zero, suc, ◌+◌, ◌<◌, ◌≤◌, Bool, true, false, List, [], ◌∷◌, length, Option, None, Some, refl, ap, sym, ◌∙◌, subst, arith}
 use Rattle.std.specs.Prelude.{slice_set, slice_index_or, if◌then◌else◌, All}
 use Rattle.model.specs.declared.abs.Abs.{Abs}

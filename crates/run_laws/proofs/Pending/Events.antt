@@ -489,7 +489,8 @@ module _ (set : Set) (states : States) (w : World) (past : List Entry) (tags : L
       (agree_kept states w c.world past actor (Issues n h.device.stack ∷ []) settles.keeps refl
       attends.agree)))
 
-  -- a frame begins on an idle thread that serves no use: a deferred routine's, or one of IoCancelIrp
+  -- a frame begins on an idle thread that serves no use: a deferred routine's, or one of
+  -- IoCancelIrp
   begun_attends : (s : Shared) (thread after : Thread) (f : Frame)
       → slice_get w.threads actor.thread ≡ Some thread → thread.frames.items ≡ []
       → after.frames.items ≡ f ∷ []

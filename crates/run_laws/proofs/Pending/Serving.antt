@@ -54,7 +54,8 @@ module _ (set : Set) (states : States) where
       pub lowers : Lowers pending (state_of states a).kinds a.registers
       pub agreed : Agreed states w past v pending
 
-    -- one has returned, and another one, which was given a packet that the routine owns, is still to
+    -- one has returned, and another one, which was given a packet that the routine owns, is still
+    -- to
     pub record Knows (v : Serving) (a : Activation) : Type 0 where
       pub pending : Bool
       pub answer : (status : Status) → Lowers pending (state_of states a).kinds

@@ -148,8 +148,8 @@ module _ (set : Set) (states : States) where
             });
       }
 
-  -- a routine that serves a use goes on; where nothing was done about the packet that it was handed, it
-  -- has the right to it
+  -- a routine that serves a use goes on; where nothing was done about the packet that it was
+  -- handed, it has the right to it
   module _ (w later_w : World) (past later : List Entry) (v : Serving) (a b : Activation)
       (serves_use : ServesUse set states w past v a None)
       (owns : (m : ℕ) → (state_of states a).duty ≡ Fresh
@@ -296,8 +296,8 @@ module _ (set : Set) (states : States) where
               marked);
         }
 
-    -- the packet that it was handed is sent down in a location of its own: the lower routine serves a
-    -- new use
+    -- the packet that it was handed is sent down in a location of its own: the lower routine serves
+    -- a new use
     pub called_serves : (p : Packet)
         → Settles states w past later_w
         (recorded past actor (Executes ∷ Touches v.packet ∷ Calls v.packet ∷ []))

@@ -151,7 +151,8 @@ module _ (set : Set) (states : States) (w : World) (past : List Entry) (good : I
     call_faults_none actor c _ = refl
 
     -- frames of each thread after an event
-    threads_room : (t : ℕ) (s : Shared) (thread after : Thread) → slice_get w.threads t ≡ Some thread
+    threads_room : (t : ℕ) (s : Shared) (thread after : Thread)
+        → slice_get w.threads t ≡ Some thread
         → Each (HasRoom set states s) after.frames.items
         → ((k : ℕ) → t ≢ k → (n : ℕ) → 1 ≤ stack_sum (λ g. frame_rights states g n) (frames_on w k)
         → Keeps w.shared s n)
@@ -180,7 +181,8 @@ module _ (set : Set) (states : States) (w : World) (past : List Entry) (good : I
       new_found n q at =
           let now : (if nat_eq w.shared.issued n then Some packet else find w.shared.packets n)
           ≡ Some q =
-          sym (find_push 0 w.shared.packets w.shared.issued packet stands.tells.rises refl n) ∙ at in
+          sym (find_push 0 w.shared.packets w.shared.issued packet stands.tells.rises refl n)
+          ∙ at in
           elim (eqb_tells w.shared.issued n) [
             | inl g ↦
                 let both : Some packet ≡ Some q = rw g.0 at now in
@@ -254,7 +256,8 @@ module _ (set : Set) (states : States) (w : World) (past : List Entry) (good : I
         let room : LeavesRoom set states w.shared h.frame o =
         room_step set states w.shared past actor (top_of h.below) h.frame o
         (on_top set states w past good stands t h)
-        (top_holding set states w past stands holds t h) (top_room t h) roomy.waiting roomy.ways names
+        (top_holding set states w past stands holds t h) (top_room t h) roomy.waiting roomy.ways
+        names
         h.comes in
         let below : Each (HasRoom set states o.shared) h.below =
         others_room set states w.shared o.shared h.below

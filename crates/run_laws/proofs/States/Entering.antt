@@ -1,5 +1,5 @@
--- Routines that begin: those that serve a request of a device, its DPC and StartIo routines, and those
--- that completion calls.
+-- Routines that begin: those that serve a request of a device, its DPC and StartIo routines, and
+-- those that completion calls.
 use Rattle.run_laws.proofs.States.Listed.{named_only}
 use Rattle.model.specs.declared.set.QueueName.TheVariants.{Declared}
 use Rattle.model.specs.declared.set.Queue.{Queue}
@@ -160,8 +160,8 @@ module _ (set : Set) (sound : IsSound set) (driver number : ℕ) where
       → CancelThere set driver number
   cancel_named (Declared q) h = cancel_in q (slice_get set.drivers driver) refl h
 
--- a routine begins in the state of its sort; a cancel routine in that of the queue that names it, and
--- one that no queue names not at all
+-- a routine begins in the state of its sort; a cancel routine in that of the queue that names it,
+-- and one that no queue names not at all
 abbrev pub cancel_state : Option QueueName → Abs
 cancel_state None = entered_with BlankKind NoDuty SettledMark false
 cancel_state (Some name) =
@@ -360,7 +360,8 @@ module _ (set : Set) (states : States) (good : IsGood set states) (issued : ℕ)
 module _ (set : Set) (states : States) (good : IsGood set states) (issued n : ℕ) (low : n < issued)
   where
     begins_with : (driver number device : ℕ) (routine : RoutineOf) (sort : Sort)
-        → routine_of set driver number ≡ Some routine → routine.sort ≡ sort → Serves set device driver
+        → routine_of set driver number ≡ Some routine → routine.sort ≡ sort
+        → Serves set device driver
         → Begins set states issued (entered driver number device (Ref n)) sort n
     begins_with driver number device routine sort there is served =
         enters_with set states good issued driver number device routine sort (Ref n)
@@ -389,7 +390,8 @@ module _ (set : Set) (states : States) (good : IsGood set states) (issued n : �
         let earlier : lower < device =
         subst (λ (x : Option ℕ). IfSome x (λ l. l < device)) below fits.lower in
         let within : device < length set.devices = slice_get_within set.devices device d there in
-        begins_dispatch lower (slice_index_or set.devices lower d) (slice_get set.devices lower) major
+        begins_dispatch lower (slice_index_or set.devices lower d) (slice_get set.devices lower)
+        major
         (slice_get-get_or set.devices lower d (omega arith)) refl
 
     -- of the device under another
@@ -406,7 +408,8 @@ module _ (set : Set) (states : States) (good : IsGood set states) (issued n : �
     begins_request device d major there =
         let served : Serving set d.driver (serving (slice_get set.drivers d.driver) major) =
         serves set good.sound d.driver major in
-        begins_with d.driver (serving (slice_get set.drivers d.driver) major) device served.0 Dispatch
+        begins_with d.driver (serving (slice_get set.drivers d.driver) major) device served.0
+        Dispatch
         served.1 served.2
         (d, there, refl)
 
@@ -431,7 +434,8 @@ module _ (set : Set) (states : States) (good : IsGood set states) (issued n : �
         armer.queue
         ≡ Some number
         → Begins set states issued
-        (entered (routine_of_device (slice_get set.devices armer.device)) number armer.device (Ref n))
+        (entered (routine_of_device (slice_get set.devices armer.device)) number armer.device
+        (Ref n))
         Cancel n
     begins_cancelled armer number h named =
         let d : Device = h.0 in
@@ -443,10 +447,11 @@ module _ (set : Set) (states : States) (good : IsGood set states) (issued n : �
         cancel_named set good.sound d.driver number armer.queue its in
         subst (λ (driver : ℕ). Begins set states issued (entered driver number armer.device (Ref n))
         Cancel n) (sym is)
-        (begins_with d.driver number armer.device routine.0 Cancel routine.1 routine.2 (d, h.1, refl))
+        (begins_with d.driver number armer.device routine.0 Cancel routine.1 routine.2
+        (d, h.1, refl))
 
--- the one that is set in the location that a packet leaves: one that lets the completion go on, or one
--- that is lent the packet
+-- the one that is set in the location that a packet leaves: one that lets the completion go on, or
+-- one that is lent the packet
 completion_only : (sort : Sort) → is_completion sort ≡ true → is_hold sort ≡ false
     → sort ≡ Propagate
 completion_only Propagate above free = refl

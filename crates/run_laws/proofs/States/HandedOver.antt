@@ -1,5 +1,5 @@
--- What holds of the values in registers of kinds that no instruction makes: packets that a routine was
--- handed, and packets on their way up.
+-- What holds of the values in registers of kinds that no instruction makes: packets that a routine
+-- was handed, and packets on their way up.
 use Rattle.std.proofs.Common.{◌≡◌, ℕ, zero, suc, Bool, true, false, List, [], ◌∷◌, sym, subst, ◌∙◌, refl}
 use Rattle.std.specs.Prelude.{⊤, slice_index_or, slice_set}
 use Rattle.std.specs.List.{list_any}

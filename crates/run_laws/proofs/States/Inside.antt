@@ -19,7 +19,8 @@ use Rattle.run_laws.proofs.States.Kinds.{HasKinds}
 use Rattle.run_laws.proofs.States.Rules.{States}
 use Rattle.run_laws.proofs.States.Stacks.{Stands, Stacked}
 
-pub kinds_long : (issued : ℕ) (kinds : List Kind) (values : List Value) → HasKinds issued kinds values
+pub kinds_long : (issued : ℕ) (kinds : List Kind) (values : List Value)
+    → HasKinds issued kinds values
     → length values ≡ length kinds
 kinds_long issued [] [] h = refl
 kinds_long issued (k ∷ kinds) (v ∷ values) h = ap suc (kinds_long issued kinds values h.1)

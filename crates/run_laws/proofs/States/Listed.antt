@@ -1,6 +1,6 @@
 -- What the state at a position says of registers with packets of queues with a cancel routine: the
--- queue has one, and the thread holds its guard while it has a packet that stands in the queue, or was
--- taken off it.
+-- queue has one, and the thread holds its guard while it has a packet that stands in the queue, or
+-- was taken off it.
 use Rattle.model.specs.declared.set.Sort.TheVariants.{Dispatch, StartIo, Dpc, Propagate, Hold, Cancel}
 use Rattle.model.specs.declared.abs.Settled.TheVariants.{Settled as SettledMark, Open}
 use Rattle.model.specs.declared.limits.TheConstants.{REGISTERS, SPIN_LOCKS}

@@ -130,14 +130,16 @@ module _ (set : Set) (states : States) (s : Shared) (a : Activation) (h : Runs s
     pop_moved q loops outer turns c =
         let code : List Instr = h.routine.code in
         let p : ℕ = a.position in
-        let there : (p + 1 < length code) × (states a.driver a.routine (p + 1) ≡ state_of states a) =
+        let there : (p + 1 < length code)
+        × (states a.driver a.routine (p + 1) ≡ state_of states a) =
         next_at set states s a End h refl in
         let after : ℕ → ℕ = rest (drop (p + 1) code) in
         let now_open : open_at code (p + 1) ≡ loops =
         open_next code p End h.here ∙ ap (λ (open_now : List ℕ). drop 1 open_now) c.there in
         let before : summed (open_at code p) (rest (drop p code)) ≡ summed (q ∷ loops)
         (rest_by Closes after) =
-        rw (c.there) (ap (λ (left : ℕ → ℕ). summed (q ∷ loops) left) (rest_here code p End h.here)) in
+        rw (c.there) (ap (λ (left : ℕ → ℕ). summed (q ∷ loops) left) (rest_here code p End h.here))
+        in
         let share : summed (q ∷ loops) (rest_by Closes after) ≡ 1 + summed loops after = refl in
         let left : summed (open_at code (p + 1)) after ≡ summed loops after =
         ap (λ (open_now : List ℕ). summed open_now after) now_open in
@@ -163,7 +165,8 @@ module _ (set : Set) (states : States) (s : Shared) (a : Activation) (h : Runs s
     turn_moved : (q : ℕ) (loops : List ℕ) (outer : List OpenLoop) (turns : ℕ)
         → ClosesAt h.routine.code a q loops outer turns → 1 < turns
         → Moved set states s.issued a
-        (at_label (with_loops a (outer ++ record { start = q + 1; turns = turns - 1 } ∷ [])) (q + 1))
+        (at_label (with_loops a (outer ++ record { start = q + 1; turns = turns - 1 } ∷ []))
+        (q + 1))
         (state_of states a)
     turn_moved q loops outer turns c some =
         let code : List Instr = h.routine.code in
@@ -186,14 +189,16 @@ module _ (set : Set) (states : States) (s : Shared) (a : Activation) (h : Runs s
         ∙ ap (λ (left : ℕ → ℕ). left (suc d)) (rest_here code p End h.here)) in
         let before : summed (open_at code p) (rest (drop p code))
         ≡ summed (q ∷ loops) (rest_by Closes (rest (drop (p + 1) code))) =
-        rw (c.there) (ap (λ (left : ℕ → ℕ). summed (q ∷ loops) left) (rest_here code p End h.here)) in
+        rw (c.there) (ap (λ (left : ℕ → ℕ). summed (q ∷ loops) left) (rest_here code p End h.here))
+        in
         let share : summed (q ∷ loops) (rest_by Closes (rest (drop (p + 1) code)))
         ≡ 1 + summed loops (rest (drop (p + 1) code)) = refl in
         let after : summed (open_at code (q + 1)) body ≡ body 0 + summed loops (λ d. body (suc d)) =
         ap (λ (open_now : List ℕ). summed open_now body) now_open in
         let turns_left : extra code a.loops.items ≡ extra code outer + (turns - 1) * body 0 =
         ap (extra code) c.items ∙ extra_more code outer (record { start = q + 1; turns = turns }) in
-        let turns_after : extra code (outer ++ l ∷ []) ≡ extra code outer + (turns - 1 - 1) * body 0 =
+        let turns_after : extra code (outer ++ l ∷ [])
+        ≡ extra code outer + (turns - 1 - 1) * body 0 =
         extra_more code outer l in
         let turn : (turns - 1) * body 0 ≡ (turns - 1 - 1) * body 0 + body 0 =
         two_turns turns (body 0) some in

@@ -1,7 +1,7 @@
--- A register becomes one with a packet that was handed over, or one with a packet on its way up, where
--- a routine begins alone: a dispatch routine and a deferred routine have no packet on its way up,
--- in no state that arrives at a position, and a deferred routine and a completion routine have none
--- that was handed over.
+-- A register becomes one with a packet that was handed over, or one with a packet on its way up,
+-- where a routine begins alone: a dispatch routine and a deferred routine have no packet on its way
+-- up, in no state that arrives at a position, and a deferred routine and a completion routine have
+-- none that was handed over.
 use Rattle.model.specs.declared.limits.TheConstants.{REGISTERS}
 use Rattle.std.proofs.Common.{true, ◌≡◌, ℕ, zero, suc, Bool, false, List, [], ◌∷◌, Option, None, Some, refl, ap, sym, ◌∙◌, subst, replicate, ◌-◌}
 use Rattle.std.specs.Prelude.{slice_set, slice_index_or}

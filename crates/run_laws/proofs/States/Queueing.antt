@@ -1,6 +1,6 @@
--- What the instructions about queues do to a routine's frame: it goes on to the next position, with the
--- first packet of a queue or the one in the current slot in a register where one was taken, or to a
--- label where there was none.
+-- What the instructions about queues do to a routine's frame: it goes on to the next position, with
+-- the first packet of a queue or the one in the current slot in a register where one was taken, or
+-- to a label where there was none.
 use Rattle.std.proofs.Common.{◌<◌, ℕ, Bool, true, false, List, [], ◌∷◌, None, Some, refl, subst}
 use Rattle.std.specs.Prelude.{nat_eq, slice_set}
 use Rattle.std.proofs.lemmas.Bool.{cond_both}

@@ -1,4 +1,5 @@
--- What the devices have for StartIo fits the set: each device has it, and the packets in it were issued.
+-- What the devices have for StartIo fits the set: each device has it, and the packets in it were
+-- issued.
 use Rattle.std.proofs.Common.{◌≡◌, ◌≤◌, ◌<◌, ℕ, true, List, [], ◌∷◌, length, Option, None, Some, sym, ◌∙◌, arith}
 use Rattle.std.specs.Prelude.{⊤, replicate, slice_get, slice_index_or}
 use Rattle.std.proofs.lemmas.Bool.{cond_both}

@@ -96,8 +96,8 @@ pub data GoesTo (a : Activation) (i : Instr) : Activation → Bool → Type 0 wh
 -- what an instruction about queues comes to: a packet is put into a queue of the device or taken
 -- off one, from its front or wherever it stands, given to the device for StartIo, taken out of its
 -- current slot or put into it, or the next one is started; or there is none to take off or out, and
--- it jumps. How the activation goes on, the queues and what the devices have for StartIo after it, the packet
--- that it touches, if any, and whether a list has no room
+-- it jumps. How the activation goes on, the queues and what the devices have for StartIo after it,
+-- the packet that it touches, if any, and whether a list has no room
 pub data Queued (s : Shared) (a : Activation) : Instr → Activation → List (List (List ℕ))
     → List StartState → List Action → Bool → Type 0 where
   inserts : (r q n : ℕ) (entries : List ℕ) → Reads s a r n → queue_of s a.device q ≡ Some entries
@@ -146,9 +146,9 @@ pub data Exchanged (set : Set) (a : Activation) (p : Packet) : Instr → Bool �
   disarms : (r label : ℕ) → Exchanged set a p (Disarm r label) (is_none p.armer) None
 
 -- what a step of IoCancelIrp comes to, for a packet of a number: it takes the system cancel spin
--- lock, has it already, or waits for it; finds no packet, and frees the lock; sets the packet's cancel
--- flag; finds its cancel word empty, or no routine by it, and frees the lock; or the cancel routine
--- begins in its place
+-- lock, has it already, or waits for it; finds no packet, and frees the lock; sets the packet's
+-- cancel flag; finds its cancel word empty, or no routine by it, and frees the lock; or the cancel
+-- routine begins in its place
 pub data Cancels (set : Set) (s : Shared) (t n : ℕ) : CancelStep → Outcome → Type 0 where
   takes_cancel : owner_of s.locks SystemCancel ≡ Some None
       → Cancels set s t n AcquireStep
@@ -338,9 +338,8 @@ pub data Comes (set : Set) (s : Shared) (t : ℕ) : Option Frame → Frame → O
       → sort_of set a.driver a.routine ≡ Cancel
       → Comes set s t under (Routine a) (leaves s [] (Executes ∷ []))
   -- the I/O manager finds no packet; it runs the completion routine of the location that it leaves,
-  -- which may look at the packet or is lent it;
-  -- where there is none it goes up, without a mark or with one that it carries up; or the packet
-  -- tops out
+  -- which may look at the packet or is lent it; where there is none it goes up, without a mark or
+  -- with one that it carries up; or the packet tops out
   walks_gone : {under : Option Frame} (n : ℕ) → packet_of s n ≡ None
       → Comes set s t under (Walk n) (leaves s [] (Touches n ∷ []))
   walks_to : {under : Option Frame} (n : ℕ) (p : Packet) (c : Completion) → packet_of s n ≡ Some p

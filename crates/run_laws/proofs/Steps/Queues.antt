@@ -1,5 +1,5 @@
--- What the instructions about queues have in common: they touch one packet or none, and the routine goes
--- on.
+-- What the instructions about queues have in common: they touch one packet or none, and the routine
+-- goes on.
 use Rattle.std.proofs.Common.{◌≡◌, ◌⊎◌, ℕ, Bool, List, [], ◌∷◌, refl, inl, inr}
 use Rattle.model.specs.declared.instr.Instr.{Instr}
 use Rattle.model.specs.declared.world.Activation.{Activation}

@@ -18,8 +18,8 @@ use Rattle.model.specs.World.{register, status_in}
 
 -- computing with registers and cells, opening and turning loops, touching paged cells, looking at a
 -- packet, writing to it, marking it, exchanging its cancel routine, taking and freeing locks,
--- working on the queues of a device or on what it has for StartIo, sending a packet down, completing
--- it, and returning
+-- working on the queues of a device or on what it has for StartIo, sending a packet down,
+-- completing it, and returning
 pub data Work : Type 0 where
   Computing : Work
   Looping : Work

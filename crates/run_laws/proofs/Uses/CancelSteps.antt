@@ -55,7 +55,8 @@ module _ (set : Set) (states : States) (s : Shared) (past : List Entry) (actor :
         refl refl (λ k. refl) refl refl refl (λ done. done) quiet late
 
     pub cancel_used : (step : CancelStep) (o : Outcome) → Cancels set s t n step o → Used step o
-    cancel_used step o (takes_cancel free) = packets_stay step o refl (λ m. refl) (λ returned m. refl)
+    cancel_used step o (takes_cancel free) =
+        packets_stay step o refl (λ m. refl) (λ returned m. refl)
     cancel_used step o (retakes_cancel owned) =
         packets_stay step o refl (λ m. refl) (λ returned m. refl)
     cancel_used step o (awaits_cancel owner owned other) =

@@ -225,6 +225,7 @@ pub noted_recorded : (past : List Entry) (actor : Actor) (actions : List Action)
     → (j : ℕ) × (slice_get (marks_left (recorded past actor actions) v) j ≡ Some marked)
 noted_recorded past actor [] v k marked h = (k, h)
 noted_recorded past actor (action ∷ actions) v k marked h =
-    let one : (j : ℕ) × (slice_get (marks_left (entry past actor action ∷ past) v) j ≡ Some marked) =
+    let one : (j : ℕ)
+    × (slice_get (marks_left (entry past actor action ∷ past) v) j ≡ Some marked) =
     noted_entry past v (leaves_use action (use_of past action) v) (was_marked past v) k marked h in
     noted_recorded (entry past actor action ∷ past) actor actions v one.0 marked one.1
