@@ -1,6 +1,6 @@
 -- Every shape of a step keeps claims.
 use Rattle.std.proofs.Common.{◌≡◌, ℕ, ◌+◌, Bool, true, false, List, [], ◌∷◌, Option, None, Some, refl, ap, sym, ◌∙◌, subst, arith, ◌<◌}
-use Rattle.std.specs.Prelude.{nat_eq, slice_get, if◌then◌else◌, is_none}
+use Rattle.std.specs.Prelude.{◌≤◌, nat_eq, slice_get, if◌then◌else◌, is_none}
 use Rattle.model.specs.declared.abs.Kind.TheVariants.{Blank as BlankKind, Own}
 use Rattle.model.specs.declared.instr.Instr.{Instr}
 use Rattle.model.specs.declared.instr.Instr.TheVariants.{Begin, Next, Remove, Start, Take, Arm, Disarm, Release, ReleaseCancel}
@@ -15,12 +15,12 @@ use Rattle.model.specs.Queues.{StartState, next_started, started, with_slot}
 use Rattle.model.specs.Set.{Set, cancel_routine_named}
 use Rattle.model.specs.Sound.{OperandFits}
 use Rattle.model.specs.Trace.{Entry, Actor}
-use Rattle.model.specs.World.{World, at_label, next, register, with_register, with_start, packet_of, with_armer, with_packet, cancelled}
+use Rattle.model.specs.World.{World, start_of, at_label, next, register, with_register, with_start, packet_of, with_armer, with_packet, cancelled}
 use Rattle.run_laws.specs.Holder.{times_listed, times_queued, times_to_start}
-use Rattle.run_laws.proofs.Claims.Names.{kinds_names, label_names, next_takes, next_turns, turns_nothing}
+use Rattle.run_laws.proofs.Claims.Names.{KeepsNames, kinds_names, label_names, next_takes, next_turns, turns_nothing}
 use Rattle.run_laws.proofs.Claims.Quiet.{word_kept, Quiet, on_quiet, quiet_step}
 use Rattle.run_laws.proofs.Claims.Steps.{after, quiet_claims}
-use Rattle.run_laws.proofs.Claims.Sums.{Claimed}
+use Rattle.run_laws.proofs.Claims.Sums.{Claimed, takes_in}
 use Rattle.run_laws.proofs.Claims.Waiting.{to_start_put}
 use Rattle.run_laws.proofs.Holders.Started.{waits_given, waits_in, waits_next}
 use Rattle.run_laws.proofs.Holders.Counts.{reads_ref, Holding}
@@ -42,7 +42,7 @@ use Rattle.run_laws.proofs.States.Fits.{ArmerLeads, word_leads, WordLeads}
 use Rattle.model.specs.declared.event.Lock.{Lock}
 use Rattle.model.specs.declared.world.CancelStep.{CancelStep}
 use Rattle.run_laws.proofs.Claims.CancelSteps.{cancel_quiet, calls_claims, tops_quiet}
-use Rattle.run_laws.proofs.Claims.QueueSteps.{inserts_claims, lists_claims, once_less, once_put, own_there, removes_claims, unlinks_claims}
+use Rattle.run_laws.proofs.Claims.QueueSteps.{inserts_claims, lists_claims, once_put, own_there, removes_claims, unlinks_claims}
 use Rattle.run_laws.proofs.States.Lacking.{never_lacks}
 use Rattle.run_laws.proofs.States.OnTop.{OnTop, runs}
 use Rattle.run_laws.proofs.Steps.Faults.{fault_among, is_touch}
@@ -170,6 +170,48 @@ module _ (set : Set) (states : States) (w : World) (past : List Entry) (good : I
       disarms_by a x label n p b jumped o frame outcome run refl goes
       (subst (λ (y : ℕ). Reads w.shared a y n) (sym same) reads) there frames shared
 
+  -- an instruction leaves the queues as they are, but not what its device has for StartIo
+  lists_by : (a b : Activation) (lists : List StartState) {actions : List Action} {full : Bool}
+      → h.frame ≡ Routine a → h.outcome ≡ queued_to w.shared b w.shared.queues lists actions full
+      → KeepsNames states a b → b.device ≡ a.device
+      → ((n : ℕ) → takes_in states n w.threads
+      + (times_queued w.shared.queues n + times_to_start lists n) ≤ 1)
+      → Claimed set states to
+  lists_by a b lists frame outcome names device once =
+      lists_claims set states w past good stands c t h leaves kept a frame
+      (ap (λ (x : Outcome). x.shared.packets) outcome) b names device
+      (ap (λ (x : Outcome). x.frames) outcome) (ap (λ (x : Outcome). x.shared.queues) outcome)
+      (λ n.
+      let now : times_listed h.outcome.shared n
+      ≡ times_queued w.shared.queues n + times_to_start lists n =
+      ap (λ (x : Outcome). times_listed x.shared n) outcome in
+      let least : takes_in states n w.threads
+      + (times_queued w.shared.queues n + times_to_start lists n) ≤ 1 = once n in
+      omega arith)
+
+  same_by : (a b : Activation) {actions : List Action} {full : Bool} → h.frame ≡ Routine a
+      → h.outcome ≡ queued_to w.shared b w.shared.queues w.shared.starts actions full
+      → KeepsNames states a b → b.device ≡ a.device → Claimed set states to
+  same_by a b frame outcome names device =
+      lists_by a b w.shared.starts frame outcome names device c.balanced.once
+
+  start_by : (a b : Activation) (start after : StartState) {actions : List Action} {full : Bool}
+      → h.frame ≡ Routine a
+      → h.outcome ≡ queued_to w.shared b w.shared.queues
+      (with_start w.shared a.device after).starts actions full
+      → KeepsNames states a b → b.device ≡ a.device → start_of w.shared a.device ≡ Some start
+      → ((n : ℕ) → waits_in after n ≡ waits_in start n) → Claimed set states to
+  start_by a b start after frame outcome names device there same =
+      lists_by a b (with_start w.shared a.device after).starts frame outcome names device
+      (λ n.
+      let put : times_to_start (with_start w.shared a.device after).starts n + waits_in start n
+      ≡ times_to_start w.shared.starts n + waits_in after n =
+      to_start_put w.shared.starts a.device start after n there in
+      let waits : waits_in after n ≡ waits_in start n = same n in
+      let before : takes_in states n w.threads + times_listed w.shared n ≤ 1 =
+      c.balanced.once n in
+      omega arith)
+
   -- an instruction about queues
   queues_by : (a : Activation) (i : Instr) → h.frame ≡ Routine a → Runs set states w.shared a i
       → {b : Activation} {queues : List (List (List ℕ))} {lists : List StartState}
@@ -195,15 +237,9 @@ module _ (set : Set) (states : States) (w : World) (past : List Entry) (good : I
       (ap (λ (x : Outcome). x.shared.queues) outcome)
       (ap (λ (x : Outcome). x.shared.starts) outcome)
   queues_by a i frame run outcome (removes_none r q label there) =
-      lists_claims set states w past good stands c t h leaves kept a frame
-      (ap (λ (x : Outcome). x.shared.packets) outcome) (at_label a label)
+      same_by a (at_label a label) frame outcome
       (label_names set states w.shared a (Remove r q label) run r label refl refl
       (unbroken _ _ (first_none _ _ (second_none _ _ run.obeys)))) refl
-      (ap (λ (x : Outcome). x.frames) outcome) (ap (λ (x : Outcome). x.shared.queues) outcome)
-      (once_less set states w past good stands c t h leaves kept a frame
-      (ap (λ (x : Outcome). x.shared.packets) outcome)
-      (λ n. let same : times_listed h.outcome.shared n ≡ times_listed w.shared n =
-      ap (λ (x : Outcome). times_listed x.shared n) outcome in omega arith))
   queues_by a i frame run outcome (starts_packet r n start reads there) =
       let own : kind_of (state_of states a) r ≡ Own =
       inserts_right (kind_of (state_of states a) r) (first_none _ _ run.obeys) in
@@ -231,78 +267,26 @@ module _ (set : Set) (states : States) (w : World) (past : List Entry) (good : I
       waits_given start n m in
       omega arith))
   queues_by a i frame run outcome (takes_out r label n start there slot) =
-      lists_claims set states w past good stands c t h leaves kept a frame
-      (ap (λ (x : Outcome). x.shared.packets) outcome)
-      (next (with_register a r (Ref n)))
+      start_by a (next (with_register a r (Ref n))) start (with_slot start None) frame outcome
       (turns_nothing states a (next (with_register a r (Ref n))) BlankKind Own n refl refl
       (next_takes set states w.shared a (Take r label) run r Own n refl refl
       (unbroken _ _ (second_none _ _ run.obeys))
       (all_at OperandFits run.routine.code a.position (Take r label) run.known.operands run.here)))
-      refl
-      (ap (λ (x : Outcome). x.frames) outcome) (ap (λ (x : Outcome). x.shared.queues) outcome)
-      (once_less set states w past good stands c t h leaves kept a frame
-      (ap (λ (x : Outcome). x.shared.packets) outcome)
-      (λ m.
-      let now : times_listed h.outcome.shared m
-      ≡ times_queued w.shared.queues m
-      + times_to_start (with_start w.shared a.device (with_slot start None)).starts m =
-      ap (λ (x : Outcome). times_listed x.shared m) outcome in
-      let put : times_to_start (with_start w.shared a.device (with_slot start None)).starts m
-      + waits_in start m
-      ≡ times_to_start w.shared.starts m + waits_in (with_slot start None) m =
-      to_start_put w.shared.starts a.device start (with_slot start None) m there in
-      let same : waits_in (with_slot start None) m ≡ waits_in start m = refl in
-      omega arith))
+      refl there (λ m. refl)
   queues_by a i frame run outcome (takes_none r label start there slot) =
-      lists_claims set states w past good stands c t h leaves kept a frame
-      (ap (λ (x : Outcome). x.shared.packets) outcome) (at_label a label)
+      same_by a (at_label a label) frame outcome
       (label_names set states w.shared a (Take r label) run r label refl refl
       (unbroken _ _ (second_none _ _ run.obeys))) refl
-      (ap (λ (x : Outcome). x.frames) outcome) (ap (λ (x : Outcome). x.shared.queues) outcome)
-      (once_less set states w past good stands c t h leaves kept a frame
-      (ap (λ (x : Outcome). x.shared.packets) outcome)
-      (λ n. let same : times_listed h.outcome.shared n ≡ times_listed w.shared n =
-      ap (λ (x : Outcome). times_listed x.shared n) outcome in omega arith))
   queues_by a i frame run outcome (puts_in r n start reads there) =
       let own : kind_of (state_of states a) r ≡ Own =
       inserts_right (kind_of (state_of states a) r) (first_none _ _ run.obeys) in
-      lists_claims set states w past good stands c t h leaves kept a frame
-      (ap (λ (x : Outcome). x.shared.packets) outcome) (next a)
+      start_by a (next a) start (with_slot start (Some n)) frame outcome
       (turns_nothing states a (next a) Own BlankKind n refl refl
       (next_turns set states w.shared a (Begin r) run r Own BlankKind n refl refl own
-      (reads_ref w.shared (register a r) n reads))) refl
-      (ap (λ (x : Outcome). x.frames) outcome) (ap (λ (x : Outcome). x.shared.queues) outcome)
-      (once_less set states w past good stands c t h leaves kept a frame
-      (ap (λ (x : Outcome). x.shared.packets) outcome)
-      (λ m.
-      let now : times_listed h.outcome.shared m
-      ≡ times_queued w.shared.queues m
-      + times_to_start (with_start w.shared a.device (with_slot start (Some n))).starts m =
-      ap (λ (x : Outcome). times_listed x.shared m) outcome in
-      let put : times_to_start (with_start w.shared a.device (with_slot start (Some n))).starts m
-      + waits_in start m
-      ≡ times_to_start w.shared.starts m + waits_in (with_slot start (Some n)) m =
-      to_start_put w.shared.starts a.device start (with_slot start (Some n)) m there in
-      let same : waits_in (with_slot start (Some n)) m ≡ waits_in start m = refl in
-      omega arith))
+      (reads_ref w.shared (register a r) n reads))) refl there (λ m. refl)
   queues_by a i frame run outcome (starts_next start there) =
-      lists_claims set states w past good stands c t h leaves kept a frame
-      (ap (λ (x : Outcome). x.shared.packets) outcome) (next a)
-      (kinds_names set states w.shared a Next run refl refl) refl
-      (ap (λ (x : Outcome). x.frames) outcome) (ap (λ (x : Outcome). x.shared.queues) outcome)
-      (once_less set states w past good stands c t h leaves kept a frame
-      (ap (λ (x : Outcome). x.shared.packets) outcome)
-      (λ m.
-      let now : times_listed h.outcome.shared m
-      ≡ times_queued w.shared.queues m
-      + times_to_start (with_start w.shared a.device (next_started start)).starts m =
-      ap (λ (x : Outcome). times_listed x.shared m) outcome in
-      let put : times_to_start (with_start w.shared a.device (next_started start)).starts m
-      + waits_in start m
-      ≡ times_to_start w.shared.starts m + waits_in (next_started start) m =
-      to_start_put w.shared.starts a.device start (next_started start) m there in
-      let same : waits_in (next_started start) m ≡ waits_in start m = waits_next start m in
-      omega arith))
+      start_by a (next a) start (next_started start) frame outcome
+      (kinds_names set states w.shared a Next run refl refl) refl there (waits_next start)
 
   -- IoCancelIrp
   never_finds : (p : Packet) (armer : Armer) → p.armer ≡ Some armer → WordLeads set p

@@ -15,7 +15,7 @@ use Rattle.model.specs.declared.world.Irql.TheVariants.{Passive, Dispatch as Dis
 use Rattle.model.specs.declared.world.Packet.{Packet}
 use Rattle.model.specs.declared.world.Thread.{Thread}
 use Rattle.model.specs.Effect.{Outcome, operand_of, answered_in, top_of, kept_below, told_to}
-use Rattle.model.specs.Events.{Change, standing, with_stack, rooted, serves_request, dpc_activation, cancelling}
+use Rattle.model.specs.Events.{with_thread, Change, standing, with_stack, rooted, serves_request, dpc_activation, cancelling}
 use Rattle.model.specs.Fault.{first_fault, topped}
 use Rattle.model.specs.LocalRule.{is_hold}
 use Rattle.model.specs.Queues.{StartState, idle, without_first_to_start}
@@ -241,16 +241,37 @@ frees_slot set states w tokens t h = frees_of h.frame refl
 module _ (set : Set) (states : States) (w : World) (past : List Entry) (good : IsGood set states)
     (stands : Standing set states w past) (kept : Held set states w) where
   -- a routine begins on an idle thread
-  begun_on : (count : Frame → ℕ) (t : ℕ) (thread after : Thread) (f : Frame)
-      → slice_get w.threads t ≡ Some thread
-      → thread.frames.items ≡ [] → after.frames.items ≡ f ∷ [] → (before now : ℕ)
-      → thread_sum count w.threads ≡ before
-      → now ≡ count f + before → thread_sum count (slice_set w.threads t after) ≡ now
-  begun_on count t thread after f found idle items before now sum even =
-      let sum_after : thread_sum count (slice_set w.threads t after)
-      ≡ count f + thread_sum count w.threads =
-      first_frame count w.threads t thread after f found idle items in
-      omega arith
+  begun_held : (t : ℕ) (s : Shared) (thread after : Thread) (f : Frame)
+      → slice_get w.threads t ≡ Some thread → thread.frames.items ≡ []
+      → after.frames.items ≡ f ∷ [] → ((n : ℕ) → frame_walks f n ≡ 0)
+      → ((n : ℕ) → frame_rights states f n + times_waiting set s n
+      + unheld (find w.shared.packets n)
+      ≡ times_waiting set w.shared n + unheld (find s.packets n))
+      → ((n : ℕ) → held (find s.packets n) ≡ held (find w.shared.packets n))
+      → Held set states (with_thread w t s after)
+  begun_held t s thread after f found idle items still even same =
+      record {
+        rights = λ n.
+            let before : thread_sum (λ f. frame_rights states f n) w.threads
+            + times_waiting set w.shared n ≡ unheld (find w.shared.packets n) = kept.rights n in
+            let sum : thread_sum (λ f. frame_rights states f n) (slice_set w.threads t after)
+            ≡ frame_rights states f n + thread_sum (λ f. frame_rights states f n) w.threads =
+            first_frame (λ f. frame_rights states f n) w.threads t thread after f found idle items
+            in
+            let one : frame_rights states f n + times_waiting set s n
+            + unheld (find w.shared.packets n)
+            ≡ times_waiting set w.shared n + unheld (find s.packets n) = even n in
+            omega arith;
+        walks = λ n.
+            let sum : all_walking set (slice_set w.threads t after) n
+            ≡ frame_walks f n + all_walking set w.threads n =
+            first_walking set w.threads t thread after f n found idle items in
+            let none : frame_walks f n ≡ 0 = still n in
+            let before : all_walking set w.threads n ≡ held (find w.shared.packets n) =
+            kept.walks n in
+            let now : held (find s.packets n) ≡ held (find w.shared.packets n) = same n in
+            omega arith;
+      }
 
   -- the rights of all after a step
   rights_after : (t : ℕ) (h : StepsFrame set w t)
@@ -336,119 +357,50 @@ module _ (set : Set) (states : States) (w : World) (past : List Entry) (good : I
       let m : ℕ = w.shared.issued in
       let a : Activation = serves_request set h.d h.device h.major m in
       let p : Packet = new_packet m h.d h.major h.argument h.device.stack in
-      let after : Thread = rooted h.thread Passive a in
-      record {
-        rights = λ n.
-            let one : frame_rights states (Routine a) n ≡ (if nat_eq m n then 1 else 0) =
-            begun_rights set states (m + 1) a Dispatch m n
-            (begins_request set states good (m + 1) m (omega arith) h.d h.device h.major h.there) in
-            let packets : unheld (find (w.shared.packets ++ p ∷ []) n)
-            ≡ (if nat_eq m n then 1 else 0) + unheld (find w.shared.packets n) =
-            new_unheld w.shared p stands.tells.rises refl refl n in
-            let waits : times_waiting set c.world.shared n ≡ times_waiting set w.shared n =
-            new_waits w.shared p stands.tells.rises refl refl set c.world.shared refl refl refl refl
-            n in
-            let before : thread_sum (λ f. frame_rights states f n) w.threads
-            + times_waiting set w.shared n ≡ unheld (find w.shared.packets n) = kept.rights n in
-            let sum : thread_sum (λ f. frame_rights states f n)
-            (slice_set w.threads actor.thread after)
-            ≡ frame_rights states (Routine a) n
-            + thread_sum (λ f. frame_rights states f n) w.threads =
-            begun_on (λ f. frame_rights states f n) actor.thread h.thread after (Routine a) h.found
-            h.idle refl _ _ refl refl in
-            omega arith;
-        walks = λ n.
-            let packets : held (find (w.shared.packets ++ p ∷ []) n)
-            ≡ held (find w.shared.packets n) =
-            new_held w.shared p stands.tells.rises refl refl n in
-            let sum : all_walking set (slice_set w.threads actor.thread after) n
-            ≡ 0 + all_walking set w.threads n =
-            first_walking set w.threads actor.thread h.thread after (Routine a) n h.found h.idle
-            refl in
-            let before : all_walking set w.threads n ≡ held (find w.shared.packets n) =
-            kept.walks n in
-            omega arith;
-      }
+      begun_held actor.thread c.world.shared h.thread (rooted h.thread Passive a) (Routine a)
+      h.found h.idle refl (λ n. refl)
+      (λ n.
+      let one : frame_rights states (Routine a) n ≡ (if nat_eq m n then 1 else 0) =
+      begun_rights set states (m + 1) a Dispatch m n
+      (begins_request set states good (m + 1) m (omega arith) h.d h.device h.major h.there) in
+      let packets : unheld (find (w.shared.packets ++ p ∷ []) n)
+      ≡ (if nat_eq m n then 1 else 0) + unheld (find w.shared.packets n) =
+      new_unheld w.shared p stands.tells.rises refl refl n in
+      let waits : times_waiting set c.world.shared n ≡ times_waiting set w.shared n =
+      new_waits w.shared p stands.tells.rises refl refl set c.world.shared refl refl refl refl n in
+      omega arith)
+      (λ n. new_held w.shared p stands.tells.rises refl refl n)
   held_happens tokens actor c lent (begins h) quiet =
       let a : Activation = dpc_activation set h.d h.routine in
-      let after : Thread = rooted h.thread DispatchLevel a in
-      record {
-        rights = λ n.
-            let none : frame_rights states (Routine a) n ≡ 0 =
-            dpc_rights set states w.shared.issued a n
-            (begins_dpc set states good w.shared.issued h.d h.routine h.there) in
-            let before : thread_sum (λ f. frame_rights states f n) w.threads
-            + times_waiting set w.shared n ≡ unheld (find w.shared.packets n) = kept.rights n in
-            let sum : thread_sum (λ f. frame_rights states f n)
-            (slice_set w.threads actor.thread after)
-            ≡ frame_rights states (Routine a) n
-            + thread_sum (λ f. frame_rights states f n) w.threads =
-            begun_on (λ f. frame_rights states f n) actor.thread h.thread after (Routine a) h.found
-            h.idle refl _ _ refl refl in
-            omega arith;
-        walks = λ n.
-            let sum : all_walking set (slice_set w.threads actor.thread after) n
-            ≡ 0 + all_walking set w.threads n =
-            first_walking set w.threads actor.thread h.thread after (Routine a) n h.found h.idle
-            refl in
-            let before : all_walking set w.threads n ≡ held (find w.shared.packets n) =
-            kept.walks n in
-            omega arith;
-      }
+      begun_held actor.thread c.world.shared h.thread (rooted h.thread DispatchLevel a) (Routine a)
+      h.found h.idle refl (λ n. refl)
+      (λ n.
+      let none : frame_rights states (Routine a) n ≡ 0 =
+      dpc_rights set states w.shared.issued a n
+      (begins_dpc set states good w.shared.issued h.d h.routine h.there) in
+      omega arith)
+      (λ n. refl)
   held_happens tokens actor c lent (begins_startio h) quiet =
       let a : Activation = startio_activation set h.d h.routine h.n in
-      let after : Thread = rooted h.thread DispatchLevel a in
       let start : StartState = without_first_to_start h.start in
-      record {
-        rights = λ n.
-            let one : frame_rights states (Routine a) n ≡ (if nat_eq h.n n then 1 else 0) =
-            begun_rights set states w.shared.issued a StartIo h.n n
-            (startio_enters set states w past good stands actor.thread h) in
-            let before : thread_sum (λ f. frame_rights states f n) w.threads
-            + times_waiting set w.shared n ≡ unheld (find w.shared.packets n) = kept.rights n in
-            let put : times_started (with_start w.shared h.d start).starts n + times_at h.start n
-            ≡ times_started w.shared.starts n + times_at start n =
-            started_put w.shared.starts h.d h.start start n h.has in
-            let gone : times_at start n + (if nat_eq h.n n then 1 else 0) ≡ times_at h.start n =
-            times_first h.start h.n n h.first in
-            let sum : thread_sum (λ f. frame_rights states f n)
-            (slice_set w.threads actor.thread after)
-            ≡ frame_rights states (Routine a) n
-            + thread_sum (λ f. frame_rights states f n) w.threads =
-            begun_on (λ f. frame_rights states f n) actor.thread h.thread after (Routine a) h.found
-            h.idle refl _ _ refl refl in
-            omega arith;
-        walks = λ n.
-            let sum : all_walking set (slice_set w.threads actor.thread after) n
-            ≡ 0 + all_walking set w.threads n =
-            first_walking set w.threads actor.thread h.thread after (Routine a) n h.found h.idle
-            refl in
-            let before : all_walking set w.threads n ≡ held (find w.shared.packets n) =
-            kept.walks n in
-            omega arith;
-      }
+      begun_held actor.thread c.world.shared h.thread (rooted h.thread DispatchLevel a) (Routine a)
+      h.found h.idle refl (λ n. refl)
+      (λ n.
+      let one : frame_rights states (Routine a) n ≡ (if nat_eq h.n n then 1 else 0) =
+      begun_rights set states w.shared.issued a StartIo h.n n
+      (startio_enters set states w past good stands actor.thread h) in
+      let put : times_started (with_start w.shared h.d start).starts n + times_at h.start n
+      ≡ times_started w.shared.starts n + times_at start n =
+      started_put w.shared.starts h.d h.start start n h.has in
+      let gone : times_at start n + (if nat_eq h.n n then 1 else 0) ≡ times_at h.start n =
+      times_first h.start h.n n h.first in
+      omega arith)
+      (λ n. refl)
   -- IoCancelIrp begins: its frame has no packet
   held_happens tokens actor c lent (begins_cancel h) quiet =
-      let f : Frame = CancelFrame (record { packet = h.n; next = AcquireStep }) in
-      let after : Thread = cancelling h.thread h.level h.n in
-      record {
-        rights = λ n.
-            let before : thread_sum (λ f. frame_rights states f n) w.threads
-            + times_waiting set w.shared n ≡ unheld (find w.shared.packets n) = kept.rights n in
-            let sum : thread_sum (λ f. frame_rights states f n)
-            (slice_set w.threads actor.thread after)
-            ≡ 0 + thread_sum (λ f. frame_rights states f n) w.threads =
-            begun_on (λ f. frame_rights states f n) actor.thread h.thread after f h.found
-            h.idle refl _ _ refl refl in
-            omega arith;
-        walks = λ n.
-            let sum : all_walking set (slice_set w.threads actor.thread after) n
-            ≡ 0 + all_walking set w.threads n =
-            first_walking set w.threads actor.thread h.thread after f n h.found h.idle refl in
-            let before : all_walking set w.threads n ≡ held (find w.shared.packets n) =
-            kept.walks n in
-            omega arith;
-      }
+      begun_held actor.thread w.shared h.thread (cancelling h.thread h.level h.n)
+      (CancelFrame (record { packet = h.n; next = AcquireStep })) h.found h.idle refl (λ n. refl)
+      (λ n. omega arith) (λ n. refl)
 
   pub held_kept : OneTokenEach states w → (actor : Actor) (c : Change)
       → ((h : StepsFrame set w actor.thread) → IsLent set states (top_of h.below) h.frame)
