@@ -99,24 +99,23 @@ module _ (set : Set) (states : States) (w : World) (past : List Entry)
         apart_of (rights_in n (frames_on w k)) some (omega arith)
 
   -- no packet that isn't issued yet waits in a list or slot, and no frame has the right to one
-  pub waiting_not_yet : (n : ℕ) → 1 ≤ times_waiting set w.shared n → w.shared.issued ≢ n
-  waiting_not_yet n some same =
-      let all : thread_sum (λ f. frame_rights states f n) w.threads + times_waiting set w.shared n
-      ≡ unheld (find w.shared.packets n) =
-      kept.rights n in
+  nobody_yet : (n : ℕ) → w.shared.issued ≡ n
+      → thread_sum (λ f. frame_rights states f n) w.threads + times_waiting set w.shared n ≡ 0
+  nobody_yet n same =
       let none : find w.shared.packets n ≡ None =
       find_above 0 w.shared.packets w.shared.issued n stands.tells.rises (omega arith) in
-      let nobody : unheld (find w.shared.packets n) ≡ 0 = ap unheld none in
+      kept.rights n ∙ ap unheld none
+
+  pub waiting_not_yet : (n : ℕ) → 1 ≤ times_waiting set w.shared n → w.shared.issued ≢ n
+  waiting_not_yet n some same =
+      let nobody : thread_sum (λ f. frame_rights states f n) w.threads
+      + times_waiting set w.shared n ≡ 0 = nobody_yet n same in
       absurd (omega arith)
 
   pub not_yet : (k n : ℕ) → 1 ≤ rights_in n (frames_on w k) → w.shared.issued ≢ n
   not_yet k n some same =
       let le : rights_in n (frames_on w k) ≤ thread_sum (λ f. frame_rights states f n) w.threads =
       thread_le (λ g. frame_rights states g n) w.threads k (slice_get w.threads k) refl in
-      let all : thread_sum (λ f. frame_rights states f n) w.threads + times_waiting set w.shared n
-      ≡ unheld (find w.shared.packets n) =
-      kept.rights n in
-      let none : find w.shared.packets n ≡ None =
-      find_above 0 w.shared.packets w.shared.issued n stands.tells.rises (omega arith) in
-      let nobody : unheld (find w.shared.packets n) ≡ 0 = ap unheld none in
+      let nobody : thread_sum (λ f. frame_rights states f n) w.threads
+      + times_waiting set w.shared n ≡ 0 = nobody_yet n same in
       absurd (omega arith)

@@ -196,28 +196,21 @@ pub top_holding : (set : Set) (states : States) (w : World) (past : List Entry)
     → Held set states w → (t : ℕ) (h : StepsFrame set w t)
     → Holding set states w.shared past h.frame
 top_holding set states w past stands kept t h =
+    let waiting : (n : ℕ) → frame_rights states h.frame n + times_waiting set w.shared n
+    ≤ unheld (find w.shared.packets n) =
+    λ n.
+    let le : frame_rights states h.frame n ≤ thread_sum (λ f. frame_rights states f n) w.threads =
+    top_le (λ f. frame_rights states f n) w.threads t h.thread h.below h.frame h.found h.frames in
+    let all : thread_sum (λ f. frame_rights states f n) w.threads + times_waiting set w.shared n
+    ≡ unheld (find w.shared.packets n) = kept.rights n in
+    omega arith in
     record {
       tells = stands.tells;
       rights = λ n.
-          let le : frame_rights states h.frame n
-          ≤ thread_sum (λ f. frame_rights states f n) w.threads =
-          top_le (λ f. frame_rights states f n) w.threads t h.thread h.below h.frame h.found
-          h.frames in
-          let all : thread_sum (λ f. frame_rights states f n) w.threads
-          + times_waiting set w.shared n
-          ≡ unheld (find w.shared.packets n) =
-          kept.rights n in
+          let both : frame_rights states h.frame n + times_waiting set w.shared n
+          ≤ unheld (find w.shared.packets n) = waiting n in
           omega arith;
-      waiting = λ n.
-          let le : frame_rights states h.frame n
-          ≤ thread_sum (λ f. frame_rights states f n) w.threads =
-          top_le (λ f. frame_rights states f n) w.threads t h.thread h.below h.frame h.found
-          h.frames in
-          let all : thread_sum (λ f. frame_rights states f n) w.threads
-          + times_waiting set w.shared n
-          ≡ unheld (find w.shared.packets n) =
-          kept.rights n in
-          omega arith;
+      waiting = waiting;
       walks = λ n.
           let le : frame_walks h.frame n ≤ all_walking set w.threads n =
           walking_top set w.threads t h.thread h.below h.frame n h.found h.frames in

@@ -267,39 +267,29 @@ cancel_none f (Some name) s none blank enters =
     ≡ s = cc in
     subst (HasNone f) same (or_both (f (Cancelling name)) _ (none name) blank)
 
-pub deferred_no_view : (m : Member) (p : ℕ) (s : Abs) (sort : Sort) → m.routine.sort ≡ sort
-    → is_deferred sort ≡ true → Arrives m p s → HasNoView s
-deferred_no_view m p s Dispatch is deferred arrives = cc
-deferred_no_view m p s StartIo is deferred arrives =
-    arrives_none is_view handed_views m p s StartIo (entered_with Own NoDuty SettledMark true) is
-    refl refl arrives
-deferred_no_view m p s Dpc is deferred arrives =
-    arrives_none is_view handed_views m p s Dpc (entered_with Blank NoDuty SettledMark false) is
-    refl
-    refl arrives
-deferred_no_view m p s Propagate is deferred arrives = cc
-deferred_no_view m p s Hold is deferred arrives = cc
-deferred_no_view m p s Cancel is deferred arrives =
-    none_arrives is_view m p s (handed_never is_view handed_views m.set m.driver)
-    (λ first enters. cancel_none is_view (cancels_for m.set m.driver m.number) first (λ name. refl)
-    refl
+deferred_none : (f : Kind → Bool) → IsHanded f
+    → HasNone f (entered_with Own NoDuty SettledMark true)
+    → HasNone f (entered_with Blank NoDuty SettledMark false)
+    → ((name : QueueName) → f (Cancelling name) ≡ false)
+    → list_any f (replicate (REGISTERS - 1) Blank) ≡ false
+    → (m : Member) (p : ℕ) (s : Abs) (sort : Sort) → m.routine.sort ≡ sort
+    → is_deferred sort ≡ true → Arrives m p s → HasNone f s
+deferred_none f given startio dpc cancelling blank m p s StartIo is deferred arrives =
+    arrives_none f given m p s StartIo (entered_with Own NoDuty SettledMark true) is refl startio
+    arrives
+deferred_none f given startio dpc cancelling blank m p s Dpc is deferred arrives =
+    arrives_none f given m p s Dpc (entered_with Blank NoDuty SettledMark false) is refl dpc arrives
+deferred_none f given startio dpc cancelling blank m p s Cancel is deferred arrives =
+    none_arrives f m p s (handed_never f given m.set m.driver)
+    (λ first enters. cancel_none f (cancels_for m.set m.driver m.number) first cancelling blank
     (sym (ap (λ (x : Sort). entry_of_sort x (cancels_for m.set m.driver m.number)) is) ∙ enters))
     arrives
+deferred_none f given startio dpc cancelling blank m p s _ is deferred arrives = cc
+
+pub deferred_no_view : (m : Member) (p : ℕ) (s : Abs) (sort : Sort) → m.routine.sort ≡ sort
+    → is_deferred sort ≡ true → Arrives m p s → HasNone is_view s
+deferred_no_view = deferred_none is_view handed_views refl refl (λ name. refl) refl
 
 pub deferred_no_new : (m : Member) (p : ℕ) (s : Abs) (sort : Sort) → m.routine.sort ≡ sort
     → is_deferred sort ≡ true → Arrives m p s → HasNone is_new s
-deferred_no_new m p s Dispatch is deferred arrives = cc
-deferred_no_new m p s StartIo is deferred arrives =
-    arrives_none is_new handed_news m p s StartIo (entered_with Own NoDuty SettledMark true) is
-    refl refl arrives
-deferred_no_new m p s Dpc is deferred arrives =
-    arrives_none is_new handed_news m p s Dpc (entered_with Blank NoDuty SettledMark false) is refl
-    refl arrives
-deferred_no_new m p s Propagate is deferred arrives = cc
-deferred_no_new m p s Hold is deferred arrives = cc
-deferred_no_new m p s Cancel is deferred arrives =
-    none_arrives is_new m p s (handed_never is_new handed_news m.set m.driver)
-    (λ first enters. cancel_none is_new (cancels_for m.set m.driver m.number) first (λ name. refl)
-    refl
-    (sym (ap (λ (x : Sort). entry_of_sort x (cancels_for m.set m.driver m.number)) is) ∙ enters))
-    arrives
+deferred_no_new = deferred_none is_new handed_news refl refl (λ name. refl) refl

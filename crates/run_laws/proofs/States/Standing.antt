@@ -32,7 +32,7 @@ use Rattle.run_laws.proofs.Runs.Kept.{GoesOnBy, with_queued}
 use Rattle.run_laws.proofs.Runs.Threads.{frames_there, each_thread, each_frames, idle_frames}
 use Rattle.run_laws.proofs.States.Entering.{Begins, Enters, begins_request, begins_dpc, begins_startio, startio_activation}
 use Rattle.run_laws.proofs.States.Fine.{is_wrong, IsRight, is_right_step, StepLeaves, leaves_fine}
-use Rattle.run_laws.proofs.States.Fits.{queues_later, PacketLeads, Fits, new_leads, unused_fits, WordLeads}
+use Rattle.run_laws.proofs.States.Fits.{queues_later, PacketLeads, Fits, new_leads, unused_fits, WordLeads, with_queues_fits}
 use Rattle.run_laws.proofs.States.Frames.{IsGood}
 use Rattle.run_laws.proofs.States.OnTop.{OnTop}
 use Rattle.run_laws.proofs.States.Roots.{Low, last_low, step_low, low_over}
@@ -269,18 +269,10 @@ module _ (set : Set) (states : States) (w : World) (past : List Entry) (good : I
           let enters : Begins set states w.shared.issued a StartIo h.n =
           startio_enters actor.thread h in
           record {
-            fits = record {
-              cells = stands.fits.cells;
-              spin = stands.fits.spin;
-              rows = stands.fits.rows;
-              completions = stands.fits.completions;
-              words = stands.fits.words;
-              queued = stands.fits.queued;
-              starts =
-                  start_put_fits set w.shared h.d after (begun_fits w.shared.issued h.start fits)
-                  stands.fits.starts;
-              few = stands.fits.few;
-            };
+            fits = with_queues_fits set w.shared stands.fits w.shared.queues s.starts
+                stands.fits.queued
+                (start_put_fits set w.shared h.d after (begun_fits w.shared.issued h.start fits)
+                stands.fits.starts);
             tells = stands.tells;
             roots = roots_after t s h.thread thread h.found
                 ((λ is. (let no : StartIo ≡ Dispatch = sym enters.of_sort ∙ is in cc)), tt);
