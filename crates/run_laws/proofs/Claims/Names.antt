@@ -155,8 +155,8 @@ TurnsNames states a b j k m =
     (f : Kind → Bool) → OfQueues f → (n : ℕ)
     → names states f b n + named_as f j (Ref m) n ≡ names states f a n + named_as f k (Ref m) n
 
-module _ (f : Kind → Bool) (queues : OfQueues f) where
-  -- a mark, and what is given down: from a kind that isn't of a queue to another
+module _ (f : Kind → Bool) where
+  -- from a kind that isn't of a queue to another
   pub unqueued_turn : (issued : ℕ) (kinds : List Kind) (values : List Value) (r : ℕ) (k : Kind)
       (n : ℕ)
       → HasKinds issued kinds values → f (slice_index_or kinds r BlankKind) ≡ false → f k ≡ false
@@ -173,11 +173,13 @@ module _ (f : Kind → Bool) (queues : OfQueues f) where
       named_none f k (slice_index_or values r Blank) n is in
       omega arith
 
+module _ (f : Kind → Bool) (queues : OfQueues f) where
+  -- a mark, and what is given down
   pub mark_names : (issued : ℕ) (s : Abs) (values : List Value) (r : ℕ) (k : Kind) (n : ℕ)
       → HasKinds issued s.kinds values → k ≡ kind_of s r
       → named_in f (marked s r k).kinds values n ≡ named_in f s.kinds values n
   mark_names issued s values r New n h is =
-      unqueued_turn issued s.kinds values r Own n h (ap f (sym is) ∙ queues New refl)
+      unqueued_turn f issued s.kinds values r Own n h (ap f (sym is) ∙ queues New refl)
       (queues Own refl)
   mark_names issued s values r _ n h is = refl
 
@@ -185,10 +187,10 @@ module _ (f : Kind → Bool) (queues : OfQueues f) where
       → HasKinds issued s.kinds values → k ≡ kind_of s r
       → named_in f (given_down s r k).kinds values n ≡ named_in f s.kinds values n
   given_names issued s values r New n h is =
-      unqueued_turn issued s.kinds values r LowerKind n h (ap f (sym is) ∙ queues New refl)
+      unqueued_turn f issued s.kinds values r LowerKind n h (ap f (sym is) ∙ queues New refl)
       (queues LowerKind refl)
   given_names issued s values r Own n h is =
-      unqueued_turn issued s.kinds values r BlankKind n h (ap f (sym is) ∙ queues Own refl)
+      unqueued_turn f issued s.kinds values r BlankKind n h (ap f (sym is) ∙ queues Own refl)
       (queues BlankKind refl)
   given_names issued s values r _ n h is = refl
 
@@ -331,7 +333,7 @@ module _ (set : Set) (states : States) (s : Shared) (a : Activation) (i : Instr)
         ap (λ (state : Abs). named_in f state.kinds a.registers n)
         (arrives set states s a i h _ true (jumping label labelled))
         ∙ ap (λ (kinds : List Kind). named_in f kinds a.registers n) kinds
-        ∙ unqueued_turn f queues s.issued (state_of states a).kinds a.registers r BlankKind n
+        ∙ unqueued_turn f s.issued (state_of states a).kinds a.registers r BlankKind n
         h.stays.kinds (queue_packets f queues (kind_of (state_of states a) r) free)
         (queues BlankKind refl)
 

@@ -374,7 +374,7 @@ module _ (set : Set) (states : States) (s : Shared) (past : List Entry) (actor :
       completed_unqueued (kind_of (state_of states a) r) (first_none _ _ h.obeys) in
       goes_quiet a (next a) (Walk n ∷ []) o
       (λ g of m. next_names set states s a (Complete r status) h refl g m
-      ∙ unqueued_turn g of s.issued (state_of states a).kinds a.registers r BlankKind m
+      ∙ unqueued_turn g s.issued (state_of states a).kinds a.registers r BlankKind m
       h.stays.kinds
       (of (kind_of (state_of states a) r) was) (of BlankKind refl))
       refl refl (λ g of on m. refl) (tt, tt)
