@@ -1,18 +1,16 @@
 -- An event applied to a world that is kept whole is applied to what it shows.
-use Rattle.std.proofs.Common.{◌≡◌, ◌≢◌, ℕ, ◌<◌, List, [], ◌∷◌, ◌++◌, refl, sym, subst, ap, ◌∙◌}
+use Rattle.std.proofs.Common.{◌≡◌, ◌≢◌, ℕ, List, [], ◌∷◌, ◌++◌, refl, sym, subst, ap, ◌∙◌}
 use Rattle.model.specs.declared.event.Event.{Event}
-use Rattle.model.specs.declared.event.Event.TheVariants.{Step}
 use Rattle.model.specs.declared.event.Reply.{Reply}
 use Rattle.model.specs.declared.event.Reply.TheVariants.{Refused}
-use Rattle.model.specs.Machine.{Applies, AppliesWhole, Machine, Shows, ShowsWhole, reply_to}
+use Rattle.model.specs.Machine.{Applies, AppliesWhole, Shows, reply_to}
 use Rattle.model.specs.Run.{Run, begun, run, run_from, step}
 use Rattle.model.specs.Set.{Set}
 use Rattle.model.specs.Shown.{ShowsWorld, whole}
 use Rattle.model.specs.Sound.{IsSound}
 use Rattle.model.specs.Typable.{IsTypable}
 use Rattle.model.specs.World.{World}
-use Rattle.machine.specs.Runs.{GoesOn, IsRun, StepsThreads}
-use Rattle.run_laws.specs.NeverStops.{LetsGoOn}
+use Rattle.machine.specs.Runs.{IsRun, StepsThreads}
 use Rattle.run_laws.specs.Rules.{AcceptedRunsKeepTheRules}
 use Rattle.run_laws.specs.AlikeRuns.{AlikeRunsGoOnAlike, GoOnAlike, world_after}
 use Rattle.checked.specs.Step.{State, machine_of}
@@ -64,9 +62,3 @@ module _ (law : AlikeRunsGoOnAlike) (set : Set) (typable : IsTypable set) (sound
       (sym (replies_shown threads events shows
       ∙ ap (λ (x : Event). reply_to set threads events x) is_step))
       ((rules set typable sound threads events).lasting.stepped t within)
-
-  pub goes_on : AcceptedRunsKeepTheRules → GoesOn (whole set before.world) reply
-  goes_on rules =
-      λ threads events shows.
-      subst LetsGoOn (sym (replies_shown threads events shows))
-      ((rules set typable sound threads events).lasting.replies e)

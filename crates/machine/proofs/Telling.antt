@@ -1,9 +1,7 @@
 -- What is told of a world that is kept whole is told of each that it shows.
-use Rattle.std.proofs.Common.{◌≡◌, ℕ, zero, suc, ◌-◌, Bool, true, List, [], ◌∷◌, map, length, Option, None, Some, nat_eq, refl, arith, sym, ap, ◌∙◌}
+use Rattle.std.proofs.Common.{◌≡◌, ℕ, zero, suc, true, List, [], ◌∷◌, map, length, Option, None, Some, refl, ap, ◌∙◌}
 use Rattle.std.specs.Prelude.{is_some, option_map, slice_get}
 use Rattle.model.specs.declared.event.Event.{Event}
-use Rattle.model.specs.declared.view.FrameView.{FrameView}
-use Rattle.model.specs.declared.world.Canceller.{Canceller}
 use Rattle.model.specs.declared.world.Frame.{Frame}
 use Rattle.model.specs.declared.world.Frame.TheVariants.{Routine, Walk, Cancel as CancelFrame}
 use Rattle.model.specs.declared.world.Packet.{Packet}

@@ -1,5 +1,5 @@
 -- The I/O manager's frame on top of a thread holds its packet, so that is live.
-use Rattle.std.proofs.Common.{◌≡◌, ℕ, zero, suc, ◌+◌, ◌-◌, ◌≤◌, Bool, true, false, List, [], ◌∷◌, length, Option, None, Some, eq-eqb, refl, arith, sym, ◌∙◌, cond}
+use Rattle.std.proofs.Common.{◌≡◌, ℕ, zero, suc, ◌-◌, ◌≤◌, Bool, true, false, List, [], ◌∷◌, length, Option, None, Some, eq-eqb, refl, arith, sym, ◌∙◌}
 use Rattle.std.specs.Prelude.{is_some, slice_get, if◌then◌else◌}
 use Rattle.model.specs.declared.event.Event.{Event}
 use Rattle.model.specs.declared.world.Frame.{Frame}
@@ -9,8 +9,8 @@ use Rattle.model.specs.declared.world.Thread.{Thread}
 use Rattle.model.specs.Effect.{top_of}
 use Rattle.model.specs.Run.{Run, run}
 use Rattle.model.specs.Set.{Set}
-use Rattle.model.specs.World.{World, packet_of}
-use Rattle.run_laws.specs.Holder.{HasOneHolder, alive, all_walking, frame_walks, is_live, is_lent, walking}
+use Rattle.model.specs.World.{packet_of}
+use Rattle.run_laws.specs.Holder.{HasOneHolder, alive, all_walking, frame_walks, is_live, walking}
 
 -- the top frame of two or more is that of those above the lowest
 pub top_above : (f g : Frame) (frames : List Frame) → top_of (f ∷ g ∷ frames) ≡ top_of (g ∷ frames)

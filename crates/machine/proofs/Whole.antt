@@ -6,9 +6,12 @@ use Rattle.model.specs.declared.world.Frame.TheVariants.{Routine, Walk, Cancel a
 use Rattle.model.specs.declared.world.Thread.{Thread}
 use Rattle.model.specs.declared.world.Value.{Value}
 use Rattle.model.specs.declared.world.Value.TheVariants.{Blank, Num, Ref, Status as StatusValue}
+use Rattle.model.specs.Run.{run}
 use Rattle.model.specs.Set.{Set}
 use Rattle.model.specs.Shown.{Reads, ShowsFrame, ShowsFrames, ShowsThreads, ShowsWorld, blank_register, whole, whole_frame, whole_register, whole_thread}
 use Rattle.model.specs.World.{Shared, World, opening}
+use Rattle.checked.specs.Step.{State, machine_of}
+use Rattle.machine.specs.Runs.{IsRun, IsShown}
 
 reads_whole : (v : Value) → Reads (whole_register v) v
 reads_whole Blank = tt
@@ -69,3 +72,15 @@ opening_shown set given w threads same is =
     let begun : w ≡ first =
     is ∙ ap (λ (given : Set). opening (length given.devices) threads) same in
     subst (λ (w : World). ShowsWorld (whole set w) first) (sym begun) (whole_shows set first)
+
+-- a machine that is kept whole and shows some run shows it with parts left out, too
+pub run_shown : (set : Set) (state : State) → IsRun (machine_of set state)
+    → IsShown (whole set state.world)
+run_shown set state is =
+    let reached : World = (run set is.threads is.events).world in
+    record {
+      threads = is.threads;
+      events = is.events;
+      shows = subst (λ (w : World). ShowsWorld (whole set w) reached) (sym is.shows.world)
+          (whole_shows set reached);
+    }

@@ -17,6 +17,12 @@ pub record IsRun (m : Machine) : Type 0 where
   pub events : List Event
   pub shows : ShowsWhole m threads events
 
+-- what a machine shows is some run
+pub record IsShown (m : Shown) : Type 0 where
+  pub threads : ℕ
+  pub events : List Event
+  pub shows : Shows m threads events
+
 -- whatever run it showed, that run with the event added keeps the rules
 abbrev pub RulesKept : Shown → Event → Type 0
 RulesKept m e = (threads : ℕ) (events : List Event) → Shows m threads events
@@ -32,7 +38,8 @@ StepsThreads m e reply =
     (threads : ℕ) (events : List Event) (t : ℕ) → Shows m threads events
     → t < threads → e ≡ Step t → reply ≢ Refused
 
--- whatever run it shows, an answer tells something of that run's world
-abbrev pub TellsOf : {A : Type 0} → Shown → (World → A) → A → Type 0
-TellsOf m tell answer = (threads : ℕ) (events : List Event) → Shows m threads events
-    → answer ≡ tell (run m.set threads events).world
+-- it shows some run, and of the world of whatever run it shows an answer tells something
+pub record TellsOf {A : Type 0} (m : Shown) (tell : World → A) (answer : A) : Type 0 where
+  pub shown : IsShown m
+  pub tells : (threads : ℕ) (events : List Event) → Shows m threads events
+      → answer ≡ tell (run m.set threads events).world

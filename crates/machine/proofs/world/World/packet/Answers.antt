@@ -2,13 +2,17 @@ use Rattle.std.proofs.Common.{subst, ◌∙◌}
 use Rattle.model.specs.Shown.{Shown}
 use Rattle.model.specs.View.{packet_at}
 use Rattle.machine.proofs.Telling.{tells_packet}
+use Rattle.machine.proofs.Whole.{run_shown}
 use Rattle.machine.specs.Runs.{TellsOf}
 use Rattle.machine.proofs.world.World.packet.Goals as goal
 
 pub returns : goal.returns
 returns c =
     subst (λ (m : Shown). TellsOf m (λ w. packet_at w c.args.number) c.packet.result) c.self.view_is
-    (λ threads events shows.
-    c.packet.ensures
-    ∙ tells_packet c.self.inside.accepted c.self.inside.state.world threads events shows
-    c.args.number)
+    (record {
+      shown = run_shown c.self.inside.accepted c.self.inside.state c.self.invariant.1.1;
+      tells = λ threads events shows.
+          c.packet.ensures
+          ∙ tells_packet c.self.inside.accepted c.self.inside.state.world threads events shows
+          c.args.number;
+    })

@@ -2,14 +2,18 @@ use Rattle.std.proofs.Common.{subst, ◌∙◌}
 use Rattle.model.specs.Shown.{Shown}
 use Rattle.model.specs.View.{thread_at}
 use Rattle.machine.proofs.Telling.{tells_thread}
+use Rattle.machine.proofs.Whole.{run_shown}
 use Rattle.machine.specs.Runs.{TellsOf}
 use Rattle.machine.proofs.world.World.thread.Goals as goal
 
 pub returns : goal.returns
 returns c =
     subst (λ (m : Shown). TellsOf m (λ w. thread_at w c.args.number) c.thread.result) c.self.view_is
-    (λ threads events shows.
-    c.thread.ensures
-    ∙ tells_thread c.self.inside.accepted c.self.inside.state.world threads events shows
-    (c.accepted_runs_keep_the_rules.ensures c.self.inside.accepted c.self.invariant.0
-    c.self.invariant.1.0 threads events).holders c.args.number)
+    (record {
+      shown = run_shown c.self.inside.accepted c.self.inside.state c.self.invariant.1.1;
+      tells = λ threads events shows.
+          c.thread.ensures
+          ∙ tells_thread c.self.inside.accepted c.self.inside.state.world threads events shows
+          (c.accepted_runs_keep_the_rules.ensures c.self.inside.accepted c.self.invariant.0
+          c.self.invariant.1.0 threads events).holders c.args.number;
+    })
