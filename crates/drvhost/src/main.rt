@@ -10,23 +10,21 @@ use drvhost_parts::trace::trace;
 use std::alloc::AllocError;
 use std::env;
 use std::fs::File;
-use std::io::ErrorKind;
 use std::process::ExitCode;
 
 fn main(rt: HostRuntime) -> ExitCode {
     let status = match arguments(&rt) {
         Ok(words) => run(&rt, words.as_slice()),
-        Err(AllocError) => refuse_words(&JobFault::Memory, &mut Writer::new(rt.stderr())),
+        Err(fault) => refuse_words(&fault, &mut Writer::new(rt.stderr())),
     };
     ExitCode::from(status)
 }
 
-/// The words after the program's name; none where they can't be had as text.
-fn arguments(rt: &HostRuntime) -> Result<Vec<String>, AllocError> {
+/// The words after the program's name.
+fn arguments(rt: &HostRuntime) -> Result<Vec<String>, JobFault> {
     match env::args(rt) {
-        Ok(words) => words.skip(1).collect(rt.alloc()),
-        Err(error) if error.kind() == ErrorKind::OutOfMemory => Err(AllocError),
-        Err(_) => Ok(Vec::new(rt.alloc())),
+        Ok(words) => Ok(words.skip(1).collect(rt.alloc())?),
+        Err(error) => Err(JobFault::of_lost_words(rt.alloc(), error.kind())),
     }
 }
 

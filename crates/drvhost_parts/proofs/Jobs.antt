@@ -2,7 +2,6 @@
 use Rattle.std.proofs.Common.{◌≡◌, ◌∙◌, ◌≢◌, ℕ, List, [], ◌++◌, ◌⊎◌, inl, inr, Option, Result, Ok, Err, IfOk, IfErr, refl, sym, ap, subst}
 use Rattle.std.proofs.lemmas.List.{append-nil}
 use Rattle.std.specs.Io.KnownBytes.{Appends}
-use Rattle.asm.specs.declared.fault.AsmFault.{AsmFault}
 use Rattle.interleave.specs.declared.schedule.Schedule.{Schedule}
 use Rattle.interleave.specs.declared.schedule.ScheduleFault.{ScheduleFault}
 use Rattle.interleave.specs.Listing.{schedule_in}
@@ -18,7 +17,7 @@ use Rattle.drvhost_parts.specs.declared.fault.Fault.{Fault}
 use Rattle.drvhost_parts.specs.declared.fault.Fault.TheVariants.{Read, Write, Memory, Text, Image, Schedule as OfSchedule}
 use Rattle.drvhost_parts.specs.declared.job.Verification.{Verification}
 use Rattle.drvhost_parts.specs.declared.job.Verification.TheVariants.{Required, Skipped}
-use Rattle.drvhost_parts.specs.Answer.{Answer, FileSays, IsJudged, IsRefused, IsTraced, IsVerdict, ended, faulty, ran}
+use Rattle.drvhost_parts.specs.Answer.{Answer, FileSays, IsRefused, IsTraced, IsVerdict, ended, faulty, ran}
 use Rattle.drvhost_parts.specs.Device.{Holds, TakesBeginning}
 use Rattle.drvhost_parts.specs.Ends.{Ends, IsCheckOf, IsRunOf, IsTraceOf, IsTraceOfSet, Rightly, ReadFailed, WriteFailed, OutOfMemory}
 use Rattle.drvhost_parts.specs.Fault.{Goes, ReadsSchedule, ReadsSet, reads_failed, status_of, told_of, writes_failed}

@@ -13,6 +13,7 @@ use clap::{Arg, ArgAction, ArgMatches, Command};
 use report::fault::OUT_OF_MEMORY;
 use std::alloc::{AllocError, Global};
 use std::fmt;
+use std::io::ErrorKind as ReadKind;
 use thiserror::Error;
 
 /// The program's name, in the texts of usage and help.
@@ -60,6 +61,22 @@ impl From<AllocError> for JobFault {
 
     fn from(_refused: AllocError) -> JobFault {
         JobFault::Memory
+    }
+}
+
+impl JobFault {
+    /// Why there is no task where the words of a command line can't be had: memory ran out, or they
+    /// aren't text, and no task has such words.
+    pub fn of_lost_words(alloc: Global, kind: ReadKind) -> JobFault
+        ensures { kind ≡ ReadKind.OutOfMemory → result ≡ JobFault.Memory }
+    {
+        if kind == ReadKind::OutOfMemory {
+            return JobFault::Memory;
+        }
+        match usage(alloc) {
+            Ok(text) => JobFault::Usage(text),
+            Err(AllocError) => JobFault::Memory,
+        }
     }
 }
 
@@ -116,6 +133,12 @@ fn refused(alloc: Global, error: &clap::Error) -> JobFault
         Ok(text) => JobFault::Usage(text),
         Err(_) => JobFault::Memory,
     }
+}
+
+/// How the program is used, for the user.
+fn usage(alloc: Global) -> Result<String, AllocError> {
+    let mut program = program(alloc)?;
+    program.render_usage()
 }
 
 /// The program's command line.

@@ -3,6 +3,7 @@
 use drvhost_parts::device::Writer;
 use drvhost_parts::job::{Job, JobFault, Verification, refuse_words};
 use std::alloc::Global;
+use std::io::ErrorKind;
 use std::test::Fail;
 
 #[test]
@@ -40,12 +41,17 @@ fn tasks(rt: HostRuntime) -> Result<(), Fail> {
     Ok(())
 }
 
+/// Whether a fault is answered with a text for the user.
+fn is_for_the_user(alloc: Global, fault: &JobFault) -> bool {
+    let mut err = Writer::new(Vec::<u8>::new(alloc));
+    refuse_words(fault, &mut err) == 2 && !err.into_inner().is_empty()
+}
+
 /// Whether the words are answered with a text for the user.
 fn is_refused(alloc: Global, words: &[&str]) -> bool {
-    let mut err = Writer::new(Vec::<u8>::new(alloc));
     match Job::of(alloc, words) {
         Ok(_) => false,
-        Err(fault) => refuse_words(&fault, &mut err) == 2 && !err.into_inner().is_empty(),
+        Err(fault) => is_for_the_user(alloc, &fault),
     }
 }
 
@@ -62,6 +68,15 @@ fn wrong_words(rt: HostRuntime) {
     assert!(rt; is_refused(alloc, &["trace", "a", "b", "c"]));
     assert!(rt; is_refused(alloc, &["trace", "a", "b", "--checked"]));
     assert!(rt; is_refused(alloc, &["trace", "a", "b", "--unchecked", "--unchecked"]));
+}
+
+#[test]
+fn words_that_are_no_text(rt: HostRuntime) {
+    let alloc = rt.alloc();
+    let lost = JobFault::of_lost_words(alloc, ErrorKind::InvalidData);
+    assert!(rt; is_for_the_user(alloc, &lost));
+    let lost = JobFault::of_lost_words(alloc, ErrorKind::OutOfMemory);
+    assert!(rt; matches!(lost, JobFault::Memory));
 }
 
 #[test]

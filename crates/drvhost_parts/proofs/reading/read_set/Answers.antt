@@ -1,6 +1,6 @@
 use Rattle.std.proofs.Common.{◌∙◌, List, ℕ, subst, sym}
 use Rattle.drvhost_parts.specs.Device.{Holds}
-use Rattle.drvhost_parts.proofs.Files.{image_read, text_read}
+use Rattle.drvhost_parts.proofs.Files.{image_read}
 use Rattle.drvhost_parts.proofs.reading.read_set.Goals as goal
 
 pub returns-then-begins_image-clause-set : goal.returns-then-begins_image-clause-set
