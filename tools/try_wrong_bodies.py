@@ -3,7 +3,7 @@
 named or of all. It is for what the gate doesn't try: run it for each crate that a change touches. It copies these crates
 and what they stand on, with what earlier checks kept, puts the edits in the place of those of must-fail, and calls
 `rt must-fail` there. It prints each edit that is not refused, or whose old text isn't there once, and each that is refused
-only because a proof names what it takes away; the last line counts. With --fit it only looks whether the edits apply."""
+only because a proof names what it takes away; the last line counts, and standard error says how far it is. With --fit it only looks whether the edits apply."""
 import glob, os, re, shutil, subprocess, sys, tempfile
 
 TOP = os.path.dirname(os.path.dirname(os.path.abspath(__file__)))
@@ -83,7 +83,7 @@ def main():
     if '--fit' in words:
         print('%d wrong bodies, %d do not apply' % (len(wanted), len(misfits)))
         sys.exit(bool(misfits))
-    refused, by_a_proof = set(), set()
+    refused, by_a_proof, tried = set(), set(), 0
     with tempfile.TemporaryDirectory() as folder:
         copy(folder, with_lower(crates, below), crates)
         for name, text in answers(folder, crates):
@@ -94,6 +94,9 @@ def main():
                     print('%s refused only by a proof that names what it takes away' % name, flush=True)
             elif name not in misfits:
                 print(name or 'rt must-fail', text, flush=True)
+            if name:
+                tried += 1
+                print('%d of %d tried, the last %s' % (tried, len(wanted), name), file=sys.stderr, flush=True)
     silent = [name for name in wanted if name not in refused and name not in misfits]
     print('%d wrong bodies, %d refused (%d by a proof alone), %d not refused, %d do not apply'
           % (len(wanted), len(refused), len(by_a_proof), len(silent), len(misfits)))
