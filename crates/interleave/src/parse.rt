@@ -1,6 +1,6 @@
 //! The text of a schedule.
 
-ghost use Rattle.std.specs.Prelude.{◌≡◌, ◌+◌, ◌≤◌, ◌<◌, ◌^◌, ◌++◌, ◌↔◌, ◌≢◌, [], length, drop, replicate, vec_len, IfOk, IfErr, OnOk, MatchResult};
+ghost use Rattle.std.specs.Prelude.{◌≡◌, ◌+◌, ◌<◌, ◌^◌, ◌↔◌, ◌≢◌, [], length, IfOk, IfErr, MatchResult};
 ghost use Rattle.interleave.specs.Listing.{IsFaultOf, IsWithinLimits, Lists, events_after, listing, opening, schedule_in, with_threads};
 ghost use Rattle.interleave.specs.Meaning.{IsListing, IsFirstFault};
 ghost use Rattle.text.specs.Cut.{lines_of};
@@ -8,8 +8,7 @@ ghost use Rattle.text.specs.Cut.{lines_of};
 use crate::read::{event_line, opening_line};
 use crate::schedule::{Events, MAX_EVENTS, Schedule, ScheduleFault, ScheduleKind};
 use std::alloc::{AllocError, Global};
-use text::cut::lines_of;
-use text::piece::Piece;
+use text::cut::Lines;
 
 /// The schedule that a text lists.
 ///
@@ -44,55 +43,44 @@ pub fn parse_schedule(alloc: Global, text: &[u8]) -> Result<Schedule, ScheduleFa
 fn schedule_in(alloc: Global, text: &[u8]) -> Result<Result<Schedule, ScheduleFault>, AllocError>
     ensures { IfOk result (λ r. r ≡ schedule_in text.now) }
 {
-    let lines = lines_of(alloc, text)?;
-    match find_opening(lines.as_slice()) {
-        Ok(opening) => {
-            let rest = &lines[opening.lines..];
-            match list(alloc, rest, opening.lines as u64 + 1)? {
-                Ok(events) => Ok(Ok(Schedule {
-                    threads: opening.threads,
-                    events,
-                })),
-                Err(fault) => Ok(Err(fault)),
-            }
-        }
+    let mut left = Lines::of(text);
+    match find_opening(&mut left) {
+        Ok(opening) => match list(alloc, left, opening.line + 1)? {
+            Ok(events) => Ok(Ok(Schedule {
+                threads: opening.threads,
+                events,
+            })),
+            Err(fault) => Ok(Err(fault)),
+        },
         Err(fault) => Ok(Err(fault)),
     }
 }
 
-/// What the first line with a token says, and how many lines end with it.
+/// What the first line with a token says, and its number.
 #[derive(Clone, Copy)]
 struct Opening {
     threads: u8,
-    lines: usize,
+    line: u64,
 }
 
-/// The line that says how many threads there are.
-fn find_opening(lines: &[Piece]) -> Result<Opening, ScheduleFault>
-    ensures { MatchResult result (λ o. (o.lines ≤ length lines.now)
-        × (opening 1 lines.now ≡ with_threads o.threads
-        (listing [] (o.lines + 1) (drop o.lines lines.now))))
-        (λ fault. opening 1 lines.now ≡ Err fault) }
+/// Takes the lines of a text to the one that says how many threads there are.
+fn find_opening(left: &mut Lines<'_>) -> Result<Opening, ScheduleFault>
+    requires { length left.old < 2 ^ 63 }
+    ensures { MatchResult result (λ o. (o.line + length left.new < 2 ^ 63)
+        × (opening 1 left.old ≡ with_threads o.threads (listing [] (o.line + 1) left.new)))
+        (λ fault. opening 1 left.old ≡ Err fault) }
 {
-    for (i, line) in lines.iter().enumerate() {
-        match opening_line(line.bytes()) {
-            Ok(Some(threads)) => {
-                return Ok(Opening {
-                    threads,
-                    lines: i + 1,
-                });
-            }
+    let mut line: u64 = 1;
+    while let Some(raw) = left.next() {
+        match opening_line(raw) {
+            Ok(Some(threads)) => return Ok(Opening { threads, line }),
             Ok(None) => {}
-            Err(kind) => {
-                return Err(ScheduleFault {
-                    line: i as u64 + 1,
-                    kind,
-                });
-            }
+            Err(kind) => return Err(ScheduleFault { line, kind }),
         }
+        line += 1;
     }
     Err(ScheduleFault {
-        line: lines.len() as u64 + 1,
+        line,
         kind: ScheduleKind::UnknownWord,
     })
 }
@@ -100,25 +88,21 @@ fn find_opening(lines: &[Piece]) -> Result<Opening, ScheduleFault>
 /// The events of lines of which the first has this number.
 fn list(
     alloc: Global,
-    lines: &[Piece],
+    mut left: Lines<'_>,
     first: u64,
 ) -> Result<Result<Events, ScheduleFault>, AllocError>
-    requires { first + length lines.now < 2 ^ 64 }
+    requires { first + length left < 2 ^ 64 }
     ensures { IfOk result
-        (λ r. MatchResult r (λ events. listing [] first lines.now ≡ Ok events)
-        (λ fault. listing [] first lines.now ≡ Err fault)) }
+        (λ r. MatchResult r (λ events. listing [] first left.entry ≡ Ok events)
+        (λ fault. listing [] first left.entry ≡ Err fault)) }
 {
     let mut events = Events::new(alloc);
-    for (i, line) in lines.iter().enumerate() {
-        match add_line(&mut events, line.bytes())? {
-            Ok(()) => {}
-            Err(kind) => {
-                return Ok(Err(ScheduleFault {
-                    line: first + i as u64,
-                    kind,
-                }));
-            }
+    let mut line = first;
+    while let Some(raw) = left.next() {
+        if let Err(kind) = add_line(&mut events, raw)? {
+            return Ok(Err(ScheduleFault { line, kind }));
         }
+        line += 1;
     }
     Ok(Ok(events))
 }

@@ -1,10 +1,8 @@
 //! A text cut into lines.
 
-ghost use Rattle.std.specs.Prelude.{◌≡◌, ◌≤◌, ◌∷◌, [], List, ℕ, IfOk, MatchOption, length};
+ghost use Rattle.std.specs.Prelude.{◌≡◌, ◌≤◌, ◌∷◌, [], List, ℕ, MatchOption, length};
 ghost use Rattle.text.specs.Cut.{is_clean, is_written, lines_of};
 
-use crate::piece::Piece;
-use std::alloc::{AllocError, Global};
 use std::marker::Model;
 
 /// The lines of a text that are not read yet, in order, without their LF. Bytes after the last LF
@@ -57,22 +55,6 @@ fn first_line(text: &[u8]) -> Option<(&[u8], &[u8])>
     } else {
         Some((text, &[]))
     }
-}
-
-/// The lines of a text, all at once.
-///
-/// # Errors
-///
-/// When memory runs out.
-pub fn lines_of<'a>(alloc: Global, text: &'a [u8]) -> Result<Vec<Piece<'a>>, AllocError>
-    ensures { IfOk result (λ lines. lines.items ≡ lines_of text.now) }
-{
-    let mut found = Vec::new(alloc);
-    let mut left = Lines::of(text);
-    while let Some(line) = left.next() {
-        found.push(Piece::of(line))?;
-    }
-    Ok(found)
 }
 
 /// Whether a byte may stand in a line: tab, CR, or space to tilde.

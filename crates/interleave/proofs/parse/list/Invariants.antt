@@ -1,7 +1,13 @@
-use Rattle.std.proofs.Common.{◌≡◌, ◌+◌, [], drop}
+use Rattle.std.proofs.Common.{◌≡◌, ◌+◌, ◌<◌, ◌^◌, [], length}
 use Rattle.interleave.specs.Listing.{listing}
 use Rattle.interleave.proofs.parse.list.Given as goal
 
-abbrev pub invariant-loop-i : goal.invariant-loop-i
-invariant-loop-i l = listing l.events (l.first + l.i) (drop l.i l.lines) ≡ listing [] l.first
-    l.lines
+-- the rest is listed as the whole is, and its lines can be counted
+abbrev pub invariant-loop-raw : goal.invariant-loop-raw
+invariant-loop-raw l = record {
+  same : listing l.events l.line l.left ≡ listing [] l.first l.fn.left;
+  counted : l.line + length l.left < 2 ^ 64;
+}
+
+abbrev pub decreases-loop-raw : goal.decreases-loop-raw
+decreases-loop-raw l = length l.left
