@@ -1,11 +1,11 @@
 -- The tokens of a line that is read are of a form, but for those that are too long for a name.
-use Rattle.std.proofs.Common.{◌≡◌, ℕ, ◌≤◌, ◌+◌, Bool, true, false, ◌&&◌, ◌||◌, not, List, [], ◌∷◌, ◌++◌, length, refl, arith, length-append, length-take}
+use Rattle.std.proofs.Common.{⊎_elim, ◌∙◌, sym, ◌≡◌, ℕ, ◌≤◌, ◌+◌, Bool, true, false, ◌||◌, not, List, [], ◌∷◌, ◌++◌, length, refl, arith, length-append, length-take}
 use Rattle.std.specs.Prelude.{⊤, bytes_eq, codes, nat_eq, nat_le, nat_lt, is_some, Option, Some, None, Ok, option_map, option_and_then, if◌then◌else◌}
 use Rattle.std.specs.Char.{is_ascii_digit, is_digit}
 use Rattle.std.specs.Str.Parse.{digits_value}
 use Rattle.std.specs.List.{list_all}
 use Rattle.std.specs.Option.{ok_or}
-use Rattle.std.proofs.lemmas.Bool.{eqb-true}
+use Rattle.std.proofs.lemmas.Bool.{and_from, and_parts, cond_both, eqb-true, or_cases, or_left, or_right, true≢false}
 use Rattle.std.proofs.lemmas.Bool.Decides.{nat_tests}
 use Rattle.std.proofs.lemmas.List.Folds.{list_all-append}
 use Rattle.std.proofs.lemmas.Slice.Eq.{bytes_eq-Decides}
@@ -17,7 +17,7 @@ use Rattle.text.specs.declared.number.Numeral.TheVariants.{Other}
 use Rattle.text.specs.declared.class.TheConstants.{MAX_NAME}
 use Rattle.model.specs.declared.instr.Instr.TheVariants.{Const, Move, Clear, Add, Subtract, JumpIfZero, JumpIfLess, Jump, Loop, Load, Store, LoadPaged, StorePaged, Get, Put, Mark, Acquire, Release, Insert, Remove, Unlink, Arm, Disarm, IfCancel, Start, Take, Begin, Pass, Call, Complete, IfPending, Ret}
 use Rattle.model.specs.declared.instr.Return.TheVariants.{WithStatus, Lower}
-use Rattle.asm_line.specs.Cursor.{Reading, beginning, called, capped, cell, cell_of, constant, constant_of, field, label, lock_of, major, name, name_of, name_or_end, next_of, number, numbered, one, optional_name, paged_cell, queue, ranged, register, register_of, returned, returned_by, so_far, sort, spin_lock, status, then_read, three, turns, turns_of, two, word}
+use Rattle.asm_line.specs.Cursor.{Reading, beginning, called, capped, cell, cell_of, constant, constant_of, field, label, lock_of, major, name, name_of, name_or_end, next_of, number, numbered, one, optional_name, paged_cell, queue, ranged, register, register_of, returned, returned_by, so_far, sort, spin_lock, status, then_read, three, token, turns, turns_of, two, word}
 use Rattle.asm_line.specs.Instruction.{instruction, on_devices, on_packets, on_queues}
 use Rattle.asm_line.specs.Line.{body, body_of, device, ended, if_ended, if_in_range, labelled, line_of, line_with, queue as queue_line, step}
 use Rattle.asm_line.specs.Words.{field_of, sort_of, status_of}
@@ -39,51 +39,23 @@ abbrev pub Tells : {A : Type 0} → List (List ℕ) → Reading A → Type 0
 Tells ts None = ⊤
 Tells ts (Some read) = are_usual read.1.tokens ≡ true → are_usual ts ≡ true
 
+-- so it is wherever it reads
+record Telling {A : Type 0} (read : Cursor → Reading A) : Type 0 where
+  tells : (c : Cursor) → Tells c.tokens (read c)
+
 -- a token that says something is usual
 abbrev pub Names : {A : Type 0} → List ℕ → Option A → Type 0
 Names {A} t meaning = (a : A) → meaning ≡ Some a → is_usual t ≡ true
 
-both : (a b : Bool) → a ≡ true → b ≡ true → (a && b) ≡ true
-both true b h i = i
-both false b h i = cc
-
-first_of : (a b : Bool) → (a && b) ≡ true → a ≡ true
-first_of true b h = refl
-first_of false b h = cc
-
-second_of : (a b : Bool) → (a && b) ≡ true → b ≡ true
-second_of true b h = h
-second_of false b h = cc
-
 by_name : (t : List ℕ) → is_name t ≡ true → is_usual t ≡ true
 by_name t h = rw h refl
 
-third : (a b c d e : Bool) → c ≡ true → (a || b || c || d || e) ≡ true
-third true b c d e h = refl
-third false true c d e h = refl
-third false false true d e h = refl
-third false false false d e h = cc
-
 by_number : (t : List ℕ) → is_number t ≡ true → is_usual t ≡ true
-by_number t h =
-    third (is_name t) (is_word t) (is_number t) (is_some (label_name t))
-    (nat_lt MAX_NAME (length t)) h
-
-fourth : (a b c d e : Bool) → d ≡ true → (a || b || c || d || e) ≡ true
-fourth true b c d e h = refl
-fourth false true c d e h = refl
-fourth false false true d e h = refl
-fourth false false false true e h = refl
-fourth false false false false e h = cc
+by_number t h = or_left _ _ (or_left _ _ (or_right (is_name t || is_word t) (is_number t) h))
 
 by_label : (t : List ℕ) → is_some (label_name t) ≡ true → is_usual t ≡ true
 by_label t h =
-    fourth (is_name t) (is_word t) (is_number t) (is_some (label_name t))
-    (nat_lt MAX_NAME (length t)) h
-
-or_last : (a b : Bool) → b ≡ true → (a || b) ≡ true
-or_last true b h = refl
-or_last false b h = h
+    or_left _ _ (or_right (is_name t || is_word t || is_number t) (is_some (label_name t)) h)
 
 -- one reading, and then another
 after : {B : Type 0} (ts : List (List ℕ)) (c : Cursor) (r : Reading B)
@@ -91,63 +63,66 @@ after : {B : Type 0} (ts : List (List ℕ)) (c : Cursor) (r : Reading B)
 after ts c None first later = tt
 after ts c (Some read) first later = λ h. first (later h)
 
-then_usual : {A B : Type 0} (ts : List (List ℕ)) (r : Reading A) (next : A → Cursor → Reading B)
-    → Tells ts r → ((a : A) (c : Cursor) → Tells c.tokens (next a c)) → Tells ts (then_read r next)
-then_usual ts None next first later = tt
-then_usual ts (Some read) next first later =
-    after ts read.1 (next read.0 read.1) first (later read.0 read.1)
+then_tells : {A B : Type 0} (ts : List (List ℕ)) (r : Reading A) (next : A → Cursor → Reading B)
+    → Tells ts r → ((a : A) → Telling (next a)) → Tells ts (then_read r next)
+then_tells ts None next first later = tt
+then_tells ts (Some read) next first later =
+    after ts read.1 (next read.0 read.1) first ((later read.0).tells read.1)
 
-one_usual : {A X : Type 0} (f : A → X) (first : Cursor → Reading A)
-    → ((c : Cursor) → Tells c.tokens (first c)) → (c : Cursor) → Tells c.tokens (one f first c)
-one_usual f first tells c =
-    then_usual c.tokens (first c) (λ a rest. so_far (f a) rest) (tells c) (λ a rest h. h)
+then_usual : {A B : Type 0} {read : Cursor → Reading A} (next : A → Cursor → Reading B)
+    → Telling read → ((a : A) → Telling (next a)) → Telling (λ c. then_read (read c) next)
+then_usual {read = read} next first later =
+    record { tells = λ c. then_tells c.tokens (read c) next (first.tells c) later }
 
-two_usual : {A B X : Type 0} (f : A → B → X) (first : Cursor → Reading A)
-    (second : Cursor → Reading B) → ((c : Cursor) → Tells c.tokens (first c))
-    → ((c : Cursor) → Tells c.tokens (second c)) → (c : Cursor)
-    → Tells c.tokens (two f first second c)
-two_usual f first second tells more c =
-    then_usual c.tokens (first c) (λ a rest. one (f a) second rest) (tells c)
-    (λ a rest. one_usual (f a) second more rest)
+kept : {A : Type 0} (a : A) → Telling (so_far a)
+kept a = record { tells = λ c h. h }
 
-three_usual : {A B C X : Type 0} (f : A → B → C → X) (first : Cursor → Reading A)
-    (second : Cursor → Reading B) (third : Cursor → Reading C)
-    → ((c : Cursor) → Tells c.tokens (first c)) → ((c : Cursor) → Tells c.tokens (second c))
-    → ((c : Cursor) → Tells c.tokens (third c)) → (c : Cursor)
-    → Tells c.tokens (three f first second third c)
-three_usual f first second third tells more last c =
-    then_usual c.tokens (first c) (λ a rest. two (f a) second third rest) (tells c)
-    (λ a rest. two_usual (f a) second third more last rest)
+one_usual : {A X : Type 0} (f : A → X) {first : Cursor → Reading A} → Telling first
+    → Telling (one f first)
+one_usual f tells = then_usual (λ a. so_far (f a)) tells (λ a. kept (f a))
+
+two_usual : {A B X : Type 0} (f : A → B → X) {first : Cursor → Reading A}
+    {second : Cursor → Reading B} → Telling first → Telling second → Telling (two f first second)
+two_usual f {second = second} tells more =
+    then_usual (λ a. one (f a) second) tells (λ a. one_usual (f a) more)
+
+three_usual : {A B C X : Type 0} (f : A → B → C → X) {first : Cursor → Reading A}
+    {second : Cursor → Reading B} {third : Cursor → Reading C}
+    → Telling first → Telling second → Telling third → Telling (three f first second third)
+three_usual f {second = second} {third} tells more last =
+    then_usual (λ a. two (f a) second third) tells (λ a. two_usual (f a) more last)
 
 -- a token that says something
 said : {A X : Type 0} (f : A → X) (t : List ℕ) (c : Cursor) (m : Option A) → Names t m
     → Tells (t ∷ c.tokens) (option_and_then (λ a. so_far (f a) c) m)
 said f t c None known = tt
-said f t c (Some a) known = λ h. both (is_usual t) (are_usual c.tokens) (known a refl) h
+said f t c (Some a) known = λ h. and_from (is_usual t) (are_usual c.tokens) (known a refl) h
 
-word_from : {A : Type 0} (meaning : List ℕ → Option A) → ((t : List ℕ) → Names t (meaning t))
-    → (ts : List (List ℕ)) (c : Cursor) → Tells ts
-    (then_read (next_of ts c) (λ t rest. option_and_then (λ a. so_far a rest) (meaning t)))
-word_from meaning known [] c = tt
-word_from meaning known (t ∷ ts) c =
-    said (λ a. a) t (record c { tokens = ts }) (meaning t) (known t)
+from_token : {A : Type 0} (next : List ℕ → Cursor → Reading A)
+    → ((t : List ℕ) (c : Cursor) → Tells (t ∷ c.tokens) (next t c))
+    → (ts : List (List ℕ)) (c : Cursor) → Tells ts (then_read (next_of ts c) next)
+from_token next tells [] c = tt
+from_token next tells (t ∷ ts) c = tells t (record c { tokens = ts })
+
+token_usual : {A : Type 0} (next : List ℕ → Cursor → Reading A)
+    → ((t : List ℕ) (c : Cursor) → Tells (t ∷ c.tokens) (next t c))
+    → Telling (λ c. then_read (token c) next)
+token_usual next tells = record { tells = λ c. from_token next tells c.tokens c }
 
 word_usual : {A : Type 0} (meaning : List ℕ → Option A) → ((t : List ℕ) → Names t (meaning t))
-    → (c : Cursor) → Tells c.tokens (word meaning c)
-word_usual meaning known c = word_from meaning known c.tokens c
+    → Telling (word meaning)
+word_usual meaning known =
+    token_usual (λ t rest. option_and_then (λ a. so_far a rest) (meaning t))
+    (λ t rest. said (λ a. a) t rest (meaning t) (known t))
 
 -- one of some words
 same_usual : (t w : List ℕ) → bytes_eq t w ≡ true → is_usual w ≡ true → is_usual t ≡ true
 same_usual t w is known = let same : t ≡ w = (bytes_eq-Decides t w).0 is in rw same known
 
-named_by : {A : Type 0} (t w : List ℕ) (x y : Option A) (b : Bool) → bytes_eq t w ≡ b
-    → is_usual w ≡ true → Names t y → Names t (if b then x else y)
-named_by t w x y true is known later = λ a h. same_usual t w is known
-named_by t w x y false is known later = later
-
 named : {A : Type 0} (t w : List ℕ) (x y : Option A) → is_usual w ≡ true → Names t y
     → Names t (if bytes_eq t w then x else y)
-named t w x y known later = named_by t w x y (bytes_eq t w) refl known later
+named t w x y known later =
+    cond_both (bytes_eq t w) x y (Names t) (λ is a h. same_usual t w is known) (λ other. later)
 
 major_of_named : (t : List ℕ) → Names t (major_of t)
 major_of_named t =
@@ -180,290 +155,244 @@ status_of_named t =
     (named t (codes "INVALID_DEVICE_REQUEST") _ _ refl
     (named t (codes "CANCELLED") _ _ refl (λ a h. cc)))))))
 
-name_by : (t : List ℕ) (b : Bool) → is_name t ≡ b → Names t (if b then Some t else None)
-name_by t true is = λ a h. by_name t is
-name_by t false is = λ a h. cc
-
 name_of_named : (t : List ℕ) → Names t (name_of t)
-name_of_named t = name_by t (is_name t) refl
-
-number_by : (t : List ℕ) (b : Bool) → is_number t ≡ b
-    → Names t (capped (if b then sized (number_value t) else Other))
-number_by t true is = λ a h. by_number t is
-number_by t false is = λ a h. cc
+name_of_named t =
+    cond_both (is_name t) (Some t) None (Names t) (λ is a h. by_name t is) (λ other a h. cc)
 
 number_named : (t : List ℕ) → Names t (capped (number_in t))
-number_named t = number_by t (is_number t) refl
+number_named t =
+    cond_both (is_number t) (sized (number_value t)) Other (λ n. Names t (capped n))
+    (λ is a h. by_number t is) (λ other a h. cc)
 
 -- a letter and digits are a name, unless they are too long for one
 digit_is_name_byte : (b : ℕ) → is_digit b 10 ≡ true → is_name_byte b ≡ true
 digit_is_name_byte b h =
     let digit : is_ascii_digit b ≡ true = grind (arith, nat_tests) in
-    or_last (is_name_start b) (is_ascii_digit b) digit
+    or_right (is_name_start b) (is_ascii_digit b) digit
 
 digits_are_name_bytes : (bs : List ℕ) → list_all (λ b. is_digit b 10) bs ≡ true
     → list_all is_name_byte bs ≡ true
 digits_are_name_bytes [] h = refl
 digits_are_name_bytes (b ∷ bs) h =
-    let here = first_of (is_digit b 10) (list_all (λ b. is_digit b 10) bs) h in
-    let rest = second_of (is_digit b 10) (list_all (λ b. is_digit b 10) bs) h in
-    both (is_name_byte b) (list_all is_name_byte bs) (digit_is_name_byte b here)
-    (digits_are_name_bytes bs rest)
+    let parts = and_parts (is_digit b 10) (list_all (λ b. is_digit b 10) bs) h in
+    and_from (is_name_byte b) (list_all is_name_byte bs) (digit_is_name_byte b parts.0)
+    (digits_are_name_bytes bs parts.1)
 
 name_or_long : (t : List ℕ) (b : Bool) → nat_le (length t) MAX_NAME ≡ b → begins_name t ≡ true
     → list_all is_name_byte t ≡ true → is_usual t ≡ true
 name_or_long t true fits begins all = by_name t (rw (begins, fits, all) refl)
 name_or_long t false fits begins all =
     let long : nat_lt MAX_NAME (length t) ≡ true = grind (arith, nat_tests) in
-    or_last (is_token t) (nat_lt MAX_NAME (length t)) long
+    or_right (is_token t) (nat_lt MAX_NAME (length t)) long
 
 letter_and_digits : (b : ℕ) (bs : List ℕ) → is_name_start b ≡ true → is_numeral 10 bs ≡ true
     → is_usual (b ∷ bs) ≡ true
 letter_and_digits b bs start digits =
-    let all = second_of (not (nat_eq (length bs) 0)) (list_all (λ b. is_digit b 10) bs) digits in
+    let parts = and_parts (not (nat_eq (length bs) 0)) (list_all (λ b. is_digit b 10) bs) digits in
     let first : is_name_byte b ≡ true = rw start refl in
     name_or_long (b ∷ bs) (nat_le (length (b ∷ bs)) MAX_NAME) refl start
-    (both (is_name_byte b) (list_all is_name_byte bs) first (digits_are_name_bytes bs all))
-
-numbered_by : (letter b : ℕ) (bs : List ℕ) (x y : Bool) → nat_eq b letter ≡ x
-    → is_numeral 10 bs ≡ y → is_name_start letter ≡ true → Names (b ∷ bs)
-    (capped (if x then (if y then sized (digits_value 10 bs) else Other) else Other))
-numbered_by letter b bs true true same digits start =
-    let is : b ≡ letter = eqb-true b letter same in
-    λ a h. letter_and_digits b bs (rw is start) digits
-numbered_by letter b bs true false same digits start = λ a h. cc
-numbered_by letter b bs false y same digits start = λ a h. cc
+    (and_from (is_name_byte b) (list_all is_name_byte bs) first
+    (digits_are_name_bytes bs parts.1))
 
 numbered_named : (letter : ℕ) → is_name_start letter ≡ true → (t : List ℕ)
     → Names t (capped (numbered_in letter t))
 numbered_named letter start [] = λ a h. cc
 numbered_named letter start (b ∷ bs) =
-    numbered_by letter b bs (nat_eq b letter) (is_numeral 10 bs) refl refl start
+    let number = if is_numeral 10 bs then sized (digits_value 10 bs) else Other in
+    cond_both (nat_eq b letter) number Other (λ n. Names (b ∷ bs) (capped n))
+    (λ same. let is : b ≡ letter = eqb-true b letter same in
+    cond_both (is_numeral 10 bs) (sized (digits_value 10 bs)) Other
+    (λ n. Names (b ∷ bs) (capped n))
+    (λ digits a h. letter_and_digits b bs (rw is start) digits) (λ other a h. cc))
+    (λ other a h. cc)
 
 -- the operands
-major_usual : (c : Cursor) → Tells c.tokens (major c)
-major_usual c = word_usual major_of major_of_named c
+major_usual : Telling major
+major_usual = word_usual major_of major_of_named
 
-field_usual : (c : Cursor) → Tells c.tokens (field c)
-field_usual c = word_usual field_of field_of_named c
+field_usual : Telling field
+field_usual = word_usual field_of field_of_named
 
-sort_usual : (c : Cursor) → Tells c.tokens (sort c)
-sort_usual c = word_usual sort_of sort_of_named c
+sort_usual : Telling sort
+sort_usual = word_usual sort_of sort_of_named
 
-status_usual : (c : Cursor) → Tells c.tokens (status c)
-status_usual c = word_usual status_of status_of_named c
+status_usual : Telling status
+status_usual = word_usual status_of status_of_named
 
-name_usual : (c : Cursor) → Tells c.tokens (name c)
-name_usual c = word_usual name_of name_of_named c
+name_usual : Telling name
+name_usual = word_usual name_of name_of_named
 
 optional_from : (ts : List (List ℕ)) (c : Cursor) → Tells c.tokens (name_or_end ts c)
 optional_from [] c = λ h. h
-optional_from (t ∷ ts) c = one_usual (λ n. Some n) name name_usual c
+optional_from (t ∷ ts) c = (one_usual (λ n. Some n) name_usual).tells c
 
-optional_name_usual : (c : Cursor) → Tells c.tokens (optional_name c)
-optional_name_usual c = optional_from c.tokens c
+optional_name_usual : Telling optional_name
+optional_name_usual = record { tells = λ c. optional_from c.tokens c }
 
-label_usual : (c : Cursor) → Tells c.tokens (label c)
-label_usual c =
-    then_usual c.tokens (name c)
-    (λ n rest. so_far 0 (record rest { used = record rest.used { label = Some n } }))
-    (name_usual c) (λ n rest h. h)
+label_usual : Telling label
+label_usual =
+    then_usual
+    (λ n rest. so_far 0 (record rest { used = record rest.used { label = Some n } })) name_usual
+    (λ n. record { tells = λ rest h. h })
 
-called_usual : (c : Cursor) → Tells c.tokens (called c)
-called_usual c =
-    then_usual c.tokens (optional_name c)
+called_usual : Telling called
+called_usual =
+    then_usual
     (λ n rest. so_far None (record rest { used = record rest.used { routine = n } }))
-    (optional_name_usual c) (λ n rest h. h)
+    optional_name_usual (λ n. record { tells = λ rest h. h })
 
-queue_usual : (c : Cursor) → Tells c.tokens (queue c)
-queue_usual c =
-    then_usual c.tokens (name c)
-    (λ n rest. so_far 0 (record rest { used = record rest.used { queue = Some n } }))
-    (name_usual c) (λ n rest h. h)
+queue_usual : Telling queue
+queue_usual =
+    then_usual
+    (λ n rest. so_far 0 (record rest { used = record rest.used { queue = Some n } })) name_usual
+    (λ n. record { tells = λ rest h. h })
 
-number_usual : (c : Cursor) → Tells c.tokens (number c)
-number_usual c = word_usual (λ t. capped (number_in t)) number_named c
+number_usual : Telling number
+number_usual = word_usual (λ t. capped (number_in t)) number_named
 
-numbered_usual : (letter : ℕ) → is_name_start letter ≡ true → (c : Cursor)
-    → Tells c.tokens (numbered letter c)
-numbered_usual letter start c =
-    word_usual (λ t. capped (numbered_in letter t)) (numbered_named letter start) c
+numbered_usual : (letter : ℕ) → is_name_start letter ≡ true → Telling (numbered letter)
+numbered_usual letter start =
+    word_usual (λ t. capped (numbered_in letter t)) (numbered_named letter start)
 
-ranged_usual : (stand_in : ℕ) (m : Option ℕ) (c : Cursor) → Tells c.tokens (ranged stand_in m c)
-ranged_usual stand_in None c = λ h. h
-ranged_usual stand_in (Some n) c = λ h. h
+ranged_tells : (stand_in : ℕ) (m : Option ℕ) (c : Cursor) → Tells c.tokens (ranged stand_in m c)
+ranged_tells stand_in None c = λ h. h
+ranged_tells stand_in (Some n) c = λ h. h
 
-register_usual : (c : Cursor) → Tells c.tokens (register c)
-register_usual c =
-    then_usual c.tokens (numbered 114 c) (λ n rest. ranged 0 (register_of n) rest)
-    (numbered_usual 114 refl c) (λ n rest. ranged_usual 0 (register_of n) rest)
+-- a number that has to be in a range
+bounded_usual : (stand_in : ℕ) (of : ℕ → Option ℕ) {read : Cursor → Reading ℕ} → Telling read
+    → Telling (λ c. then_read (read c) (λ n rest. ranged stand_in (of n) rest))
+bounded_usual stand_in of tells =
+    then_usual (λ n. ranged stand_in (of n)) tells
+    (λ n. record { tells = ranged_tells stand_in (of n) })
 
-spin_lock_usual : (c : Cursor) → Tells c.tokens (spin_lock c)
-spin_lock_usual c =
-    then_usual c.tokens (numbered 108 c) (λ n rest. ranged 0 (lock_of n) rest)
-    (numbered_usual 108 refl c) (λ n rest. ranged_usual 0 (lock_of n) rest)
+register_usual : Telling register
+register_usual = bounded_usual 0 register_of (numbered_usual 114 refl)
 
-cell_usual : (c : Cursor) → Tells c.tokens (cell c)
-cell_usual c =
-    then_usual c.tokens (numbered 99 c) (λ n rest. ranged 0 (cell_of n) rest)
-    (numbered_usual 99 refl c) (λ n rest. ranged_usual 0 (cell_of n) rest)
+spin_lock_usual : Telling spin_lock
+spin_lock_usual = bounded_usual 0 lock_of (numbered_usual 108 refl)
 
-paged_cell_usual : (c : Cursor) → Tells c.tokens (paged_cell c)
-paged_cell_usual c =
-    then_usual c.tokens (numbered 112 c) (λ n rest. ranged 0 (cell_of n) rest)
-    (numbered_usual 112 refl c) (λ n rest. ranged_usual 0 (cell_of n) rest)
+cell_usual : Telling cell
+cell_usual = bounded_usual 0 cell_of (numbered_usual 99 refl)
 
-constant_usual : (c : Cursor) → Tells c.tokens (constant c)
-constant_usual c =
-    then_usual c.tokens (number c) (λ n rest. ranged 0 (constant_of n) rest) (number_usual c)
-    (λ n rest. ranged_usual 0 (constant_of n) rest)
+paged_cell_usual : Telling paged_cell
+paged_cell_usual = bounded_usual 0 cell_of (numbered_usual 112 refl)
 
-turns_usual : (c : Cursor) → Tells c.tokens (turns c)
-turns_usual c =
-    then_usual c.tokens (number c) (λ n rest. ranged 1 (turns_of n) rest) (number_usual c)
-    (λ n rest. ranged_usual 1 (turns_of n) rest)
+constant_usual : Telling constant
+constant_usual = bounded_usual 0 constant_of number_usual
+
+turns_usual : Telling turns
+turns_usual = bounded_usual 1 turns_of number_usual
 
 -- a word, and what stands behind it
 begun : {X : Type 0} (t : List ℕ) (ts : List (List ℕ)) (r : Reading X) → is_usual t ≡ true
     → Tells ts r → Tells (t ∷ ts) r
 begun t ts None known first = tt
-begun t ts (Some read) known first = λ h. both (is_usual t) (are_usual ts) known (first h)
+begun t ts (Some read) known first = λ h. and_from (is_usual t) (are_usual ts) known (first h)
 
-picked : {X : Type 0} (t w : List ℕ) (ts : List (List ℕ)) (x y : Reading X) (b : Bool)
-    → bytes_eq t w ≡ b → is_usual w ≡ true → Tells ts x → Tells (t ∷ ts) y
-    → Tells (t ∷ ts) (if b then x else y)
-picked t w ts x y true is known first later = begun t ts x (same_usual t w is known) first
-picked t w ts x y false is known first later = later
-
-pick : {X : Type 0} (t w : List ℕ) (ts : List (List ℕ)) (x y : Reading X) → is_usual w ≡ true
-    → Tells ts x → Tells (t ∷ ts) y → Tells (t ∷ ts) (if bytes_eq t w then x else y)
-pick t w ts x y known first later =
-    picked t w ts x y (bytes_eq t w) refl known first later
+pick : {X : Type 0} (t w : List ℕ) (c : Cursor) (read : Cursor → Reading X) (other : Reading X)
+    → is_usual w ≡ true → Telling read → Tells (t ∷ c.tokens) other
+    → Tells (t ∷ c.tokens) (if bytes_eq t w then read c else other)
+pick t w c read other known first later =
+    cond_both (bytes_eq t w) (read c) other (Tells (t ∷ c.tokens))
+    (λ is. begun t c.tokens (read c) (same_usual t w is known) (first.tells c)) (λ other. later)
 
 returned_by_usual : (t : List ℕ) (c : Cursor) → Tells (t ∷ c.tokens) (returned_by t c)
 returned_by_usual t c =
-    pick t (codes "lower") c.tokens _ _ refl (one_usual (λ r. Lower r) register register_usual c)
-    (pick t (codes "continue") c.tokens _ _ refl (λ h. h)
-    (pick t (codes "stop") c.tokens _ _ refl (λ h. h)
-    (pick t (codes "void") c.tokens _ _ refl (λ h. h)
+    pick t (codes "lower") c _ _ refl (one_usual (λ r. Lower r) register_usual)
+    (pick t (codes "continue") c _ _ refl (kept _)
+    (pick t (codes "stop") c _ _ refl (kept _)
+    (pick t (codes "void") c _ _ refl (kept _)
     (said (λ s. WithStatus s) t c (status_of t) (status_of_named t)))))
 
-returned_from : (ts : List (List ℕ)) (c : Cursor) → Tells ts (then_read (next_of ts c) returned_by)
-returned_from [] c = tt
-returned_from (t ∷ ts) c = returned_by_usual t (record c { tokens = ts })
-
-returned_usual : (c : Cursor) → Tells c.tokens (returned c)
-returned_usual c = returned_from c.tokens c
+returned_usual : Telling returned
+returned_usual = token_usual returned_by returned_by_usual
 
 on_packets_usual : (t : List ℕ) (c : Cursor) → Tells (t ∷ c.tokens) (on_packets t c)
 on_packets_usual t c =
-    pick t (codes "get") c.tokens _ _ refl
-    (three_usual Get register register field register_usual register_usual field_usual c)
-    (pick t (codes "put") c.tokens _ _ refl
-    (two_usual Put register register register_usual register_usual c)
-    (pick t (codes "mark") c.tokens _ _ refl (one_usual Mark register register_usual c)
-    (pick t (codes "disarm") c.tokens _ _ refl
-    (two_usual Disarm register label register_usual label_usual c)
-    (pick t (codes "ifcancel") c.tokens _ _ refl
-    (two_usual IfCancel register label register_usual label_usual c)
-    (pick t (codes "pass") c.tokens _ _ refl (one_usual Pass register register_usual c)
-    (pick t (codes "call") c.tokens _ _ refl
-    (two_usual Call register called register_usual called_usual c)
-    (pick t (codes "complete") c.tokens _ _ refl
-    (two_usual Complete register status register_usual status_usual c)
-    (pick t (codes "ifpending") c.tokens _ _ refl
-    (two_usual IfPending register label register_usual label_usual c)
-    (pick t (codes "ret") c.tokens _ _ refl (one_usual Ret returned returned_usual c) tt)))))))))
+    pick t (codes "get") c _ _ refl (three_usual Get register_usual register_usual field_usual)
+    (pick t (codes "put") c _ _ refl (two_usual Put register_usual register_usual)
+    (pick t (codes "mark") c _ _ refl (one_usual Mark register_usual)
+    (pick t (codes "disarm") c _ _ refl (two_usual Disarm register_usual label_usual)
+    (pick t (codes "ifcancel") c _ _ refl (two_usual IfCancel register_usual label_usual)
+    (pick t (codes "pass") c _ _ refl (one_usual Pass register_usual)
+    (pick t (codes "call") c _ _ refl (two_usual Call register_usual called_usual)
+    (pick t (codes "complete") c _ _ refl (two_usual Complete register_usual status_usual)
+    (pick t (codes "ifpending") c _ _ refl (two_usual IfPending register_usual label_usual)
+    (pick t (codes "ret") c _ _ refl (one_usual Ret returned_usual) tt)))))))))
 
 on_queues_usual : (t : List ℕ) (c : Cursor) → Tells (t ∷ c.tokens) (on_queues t c)
 on_queues_usual t c =
-    pick t (codes "insert") c.tokens _ _ refl
-    (two_usual Insert register queue register_usual queue_usual c)
-    (pick t (codes "remove") c.tokens _ _ refl
-    (three_usual Remove register queue label register_usual queue_usual label_usual c)
-    (pick t (codes "unlink") c.tokens _ _ refl
-    (two_usual Unlink register queue register_usual queue_usual c)
-    (pick t (codes "arm") c.tokens _ _ refl
-    (two_usual Arm register queue register_usual queue_usual c)
-    (pick t (codes "start") c.tokens _ _ refl (one_usual Start register register_usual c)
-    (pick t (codes "take") c.tokens _ _ refl
-    (two_usual Take register label register_usual label_usual c)
-    (pick t (codes "begin") c.tokens _ _ refl (one_usual Begin register register_usual c)
-    (pick t (codes "next") c.tokens _ _ refl (λ h. h) (on_packets_usual t c))))))))
+    pick t (codes "insert") c _ _ refl (two_usual Insert register_usual queue_usual)
+    (pick t (codes "remove") c _ _ refl (three_usual Remove register_usual queue_usual label_usual)
+    (pick t (codes "unlink") c _ _ refl (two_usual Unlink register_usual queue_usual)
+    (pick t (codes "arm") c _ _ refl (two_usual Arm register_usual queue_usual)
+    (pick t (codes "start") c _ _ refl (one_usual Start register_usual)
+    (pick t (codes "take") c _ _ refl (two_usual Take register_usual label_usual)
+    (pick t (codes "begin") c _ _ refl (one_usual Begin register_usual)
+    (pick t (codes "next") c _ _ refl (kept _) (on_packets_usual t c))))))))
 
 on_devices_usual : (t : List ℕ) (c : Cursor) → Tells (t ∷ c.tokens) (on_devices t c)
 on_devices_usual t c =
-    pick t (codes "load") c.tokens _ _ refl
-    (two_usual Load register cell register_usual cell_usual c)
-    (pick t (codes "store") c.tokens _ _ refl
-    (two_usual Store cell register cell_usual register_usual c)
-    (pick t (codes "loadp") c.tokens _ _ refl
-    (two_usual LoadPaged register paged_cell register_usual paged_cell_usual c)
-    (pick t (codes "storep") c.tokens _ _ refl
-    (two_usual StorePaged paged_cell register paged_cell_usual register_usual c)
-    (pick t (codes "acquire") c.tokens _ _ refl (one_usual Acquire spin_lock spin_lock_usual c)
-    (pick t (codes "release") c.tokens _ _ refl (one_usual Release spin_lock spin_lock_usual c)
-    (pick t (codes "acqc") c.tokens _ _ refl (λ h. h)
-    (pick t (codes "relc") c.tokens _ _ refl (λ h. h) (on_queues_usual t c))))))))
+    pick t (codes "load") c _ _ refl (two_usual Load register_usual cell_usual)
+    (pick t (codes "store") c _ _ refl (two_usual Store cell_usual register_usual)
+    (pick t (codes "loadp") c _ _ refl (two_usual LoadPaged register_usual paged_cell_usual)
+    (pick t (codes "storep") c _ _ refl (two_usual StorePaged paged_cell_usual register_usual)
+    (pick t (codes "acquire") c _ _ refl (one_usual Acquire spin_lock_usual)
+    (pick t (codes "release") c _ _ refl (one_usual Release spin_lock_usual)
+    (pick t (codes "acqc") c _ _ refl (kept _)
+    (pick t (codes "relc") c _ _ refl (kept _) (on_queues_usual t c))))))))
 
 instruction_usual : (t : List ℕ) (c : Cursor) → Tells (t ∷ c.tokens) (instruction t c)
 instruction_usual t c =
-    pick t (codes "const") c.tokens _ _ refl
-    (two_usual Const register constant register_usual constant_usual c)
-    (pick t (codes "mov") c.tokens _ _ refl
-    (two_usual Move register register register_usual register_usual c)
-    (pick t (codes "clear") c.tokens _ _ refl (one_usual Clear register register_usual c)
-    (pick t (codes "add") c.tokens _ _ refl
-    (two_usual Add register register register_usual register_usual c)
-    (pick t (codes "sub") c.tokens _ _ refl
-    (two_usual Subtract register register register_usual register_usual c)
-    (pick t (codes "jz") c.tokens _ _ refl
-    (two_usual JumpIfZero register label register_usual label_usual c)
-    (pick t (codes "jlt") c.tokens _ _ refl
-    (three_usual JumpIfLess register register label register_usual register_usual label_usual c)
-    (pick t (codes "jmp") c.tokens _ _ refl (one_usual Jump label label_usual c)
-    (pick t (codes "loop") c.tokens _ _ refl (one_usual Loop turns turns_usual c)
-    (pick t (codes "end") c.tokens _ _ refl (λ h. h) (on_devices_usual t c))))))))))
+    pick t (codes "const") c _ _ refl (two_usual Const register_usual constant_usual)
+    (pick t (codes "mov") c _ _ refl (two_usual Move register_usual register_usual)
+    (pick t (codes "clear") c _ _ refl (one_usual Clear register_usual)
+    (pick t (codes "add") c _ _ refl (two_usual Add register_usual register_usual)
+    (pick t (codes "sub") c _ _ refl (two_usual Subtract register_usual register_usual)
+    (pick t (codes "jz") c _ _ refl (two_usual JumpIfZero register_usual label_usual)
+    (pick t (codes "jlt") c _ _ refl
+    (three_usual JumpIfLess register_usual register_usual label_usual)
+    (pick t (codes "jmp") c _ _ refl (one_usual Jump label_usual)
+    (pick t (codes "loop") c _ _ refl (one_usual Loop turns_usual)
+    (pick t (codes "end") c _ _ refl (kept _) (on_devices_usual t c))))))))))
 
 -- a line
-device_usual : (c : Cursor) → Tells c.tokens (device c)
-device_usual c =
-    then_usual c.tokens (name c) (λ n rest. three (AddDevice n) name number optional_name rest)
-    (name_usual c)
-    (λ n rest. three_usual (AddDevice n) name number optional_name name_usual number_usual
-    optional_name_usual rest)
+device_usual : Telling device
+device_usual =
+    then_usual (λ n. three (AddDevice n) name number optional_name) name_usual
+    (λ n. three_usual (AddDevice n) name_usual number_usual optional_name_usual)
 
-queue_line_usual : (c : Cursor) → Tells c.tokens (queue_line c)
-queue_line_usual c =
-    then_usual c.tokens (name c)
+queue_line_usual : Telling queue_line
+queue_line_usual =
+    then_usual
     (λ n rest. then_read (spin_lock rest)
     (λ lock rest. one (AddQueue n (if_in_range rest.in_range lock)) optional_name rest))
-    (name_usual c)
-    (λ n rest. then_usual rest.tokens (spin_lock rest)
+    name_usual
+    (λ n. then_usual
     (λ lock rest. one (AddQueue n (if_in_range rest.in_range lock)) optional_name rest)
-    (spin_lock_usual rest)
-    (λ lock rest. one_usual (AddQueue n (if_in_range rest.in_range lock)) optional_name
-    optional_name_usual rest))
+    spin_lock_usual
+    (λ lock. record {
+      tells = λ rest.
+          (one_usual (AddQueue n (if_in_range rest.in_range lock)) optional_name_usual).tells rest;
+    }))
 
 step_usual : (t : List ℕ) (c : Cursor) → Tells (t ∷ c.tokens) (step t c)
 step_usual t c =
-    then_usual (t ∷ c.tokens) (instruction t c)
+    then_tells (t ∷ c.tokens) (instruction t c)
     (λ i rest. so_far (Step (if_in_range rest.in_range i) rest.used) rest) (instruction_usual t c)
-    (λ i rest h. h)
+    (λ i. record { tells = λ rest h. h })
 
 body_usual : (t : List ℕ) (c : Cursor) → Tells (t ∷ c.tokens) (body t c)
 body_usual t c =
-    pick t (codes "driver") c.tokens _ _ refl (one_usual OpenDriver name name_usual c)
-    (pick t (codes "endd") c.tokens _ _ refl (λ h. h)
-    (pick t (codes "queue") c.tokens _ _ refl (queue_line_usual c)
-    (pick t (codes "dispatch") c.tokens _ _ refl
-    (two_usual Handle major name major_usual name_usual c)
-    (pick t (codes "startio") c.tokens _ _ refl (one_usual HandleStartIo name name_usual c)
-    (pick t (codes "dpc") c.tokens _ _ refl (one_usual HandleDpc name name_usual c)
-    (pick t (codes "routine") c.tokens _ _ refl
-    (two_usual OpenRoutine name sort name_usual sort_usual c)
-    (pick t (codes "endr") c.tokens _ _ refl (λ h. h)
-    (pick t (codes "device") c.tokens _ _ refl (device_usual c) (step_usual t c)))))))))
+    pick t (codes "driver") c _ _ refl (one_usual OpenDriver name_usual)
+    (pick t (codes "endd") c _ _ refl (kept _)
+    (pick t (codes "queue") c _ _ refl queue_line_usual
+    (pick t (codes "dispatch") c _ _ refl (two_usual Handle major_usual name_usual)
+    (pick t (codes "startio") c _ _ refl (one_usual HandleStartIo name_usual)
+    (pick t (codes "dpc") c _ _ refl (one_usual HandleDpc name_usual)
+    (pick t (codes "routine") c _ _ refl (two_usual OpenRoutine name_usual sort_usual)
+    (pick t (codes "endr") c _ _ refl (kept _)
+    (pick t (codes "device") c _ _ refl device_usual (step_usual t c)))))))))
 
 at_end : (ts : List (List ℕ)) (said b : Body) → if_ended ts said ≡ Some b → are_usual ts ≡ true
 at_end [] said b h = refl
@@ -479,22 +408,19 @@ body_of_usual [] b h = cc
 body_of_usual (t ∷ ts) b h =
     ended_usual (t ∷ ts) (body t (beginning ts)) b (body_usual t (beginning ts)) h
 
-labelled_usual : (ts : List (List ℕ)) (name : List ℕ) (l : Line) (m : Option Body)
-    → body_of ts ≡ m → option_and_then (labelled name) m ≡ Some l → are_usual ts ≡ true
-labelled_usual ts name l None is h = cc
-labelled_usual ts name l (Some b) is h = body_of_usual ts b is
-
-plain_usual : (ts : List (List ℕ)) (l : Line) (m : Option Body) → body_of ts ≡ m
-    → option_map (λ b. record { label = None; body = b }) m ≡ Some l → are_usual ts ≡ true
-plain_usual ts l None is h = cc
-plain_usual ts l (Some b) is h = body_of_usual ts b is
+from_body : (made : Option Body → Option Line) → made None ≡ None → (ts : List (List ℕ)) (l : Line)
+    (m : Option Body) → body_of ts ≡ m → made m ≡ Some l → are_usual ts ≡ true
+from_body made none ts l None is h = let never = rw none at h in cc
+from_body made none ts l (Some b) is h = body_of_usual ts b is
 
 with_usual : (t : List ℕ) (ts : List (List ℕ)) (l : Line) (m : Option (List ℕ))
     → label_name t ≡ m → line_with (t ∷ ts) m ts ≡ Some l → are_usual (t ∷ ts) ≡ true
 with_usual t ts l (Some name) is h =
-    both (is_usual t) (are_usual ts) (by_label t (rw is refl))
-    (labelled_usual ts name l (body_of ts) refl h)
-with_usual t ts l None is h = plain_usual (t ∷ ts) l (body_of (t ∷ ts)) refl h
+    and_from (is_usual t) (are_usual ts) (by_label t (rw is refl))
+    (from_body (option_and_then (labelled name)) refl ts l (body_of ts) refl h)
+with_usual t ts l None is h =
+    from_body (option_map (λ b. record { label = None; body = b })) refl (t ∷ ts) l
+    (body_of (t ∷ ts)) refl h
 
 line_usual : (ts : List (List ℕ)) (l : Line) → line_of ts ≡ Some l → are_usual ts ≡ true
 line_usual [] l h = refl
@@ -508,12 +434,7 @@ closed_short : (held : List ℕ) → length held ≤ MAX_NAME → list_all is_sh
 closed_short [] h = refl
 closed_short (b ∷ bs) h =
     let here : nat_le (length (b ∷ bs)) MAX_NAME ≡ true = grind (arith, nat_tests) in
-    both (is_short (b ∷ bs)) true here refl
-
-one_short : (b : Bool) (x y : List (List ℕ)) → list_all is_short x ≡ true
-    → list_all is_short y ≡ true → list_all is_short (if b then x else y) ≡ true
-one_short true x y first second = first
-one_short false x y first second = second
+    and_from (is_short (b ∷ bs)) true here refl
 
 parts_short : (held bytes : List ℕ) → length held + length bytes ≤ MAX_NAME
     → list_all is_short (parts_from held bytes) ≡ true
@@ -521,34 +442,30 @@ parts_short held [] h = closed_short held (omega (arith, h))
 parts_short held (b ∷ bs) h =
     let blank : list_all is_short (closed held ++ parts_from [] bs) ≡ true =
     rw (list_all-append is_short (closed held) (parts_from [] bs))
-    (both (list_all is_short (closed held)) (list_all is_short (parts_from [] bs))
+    (and_from (list_all is_short (closed held)) (list_all is_short (parts_from [] bs))
     (closed_short held (omega (arith, h))) (parts_short [] bs (omega (arith, h)))) in
     let on = parts_short (held ++ b ∷ []) bs (omega (arith, h, length-append held (b ∷ []))) in
-    one_short (is_blank b) (closed held ++ parts_from [] bs) (parts_from (held ++ b ∷ []) bs) blank
-    on
+    cond_both (is_blank b) (closed held ++ parts_from [] bs) (parts_from (held ++ b ∷ []) bs)
+    (λ parts. list_all is_short parts ≡ true) (λ is. blank) (λ other. on)
 
 before_short : (o : Option ℕ) (line : List ℕ) → length (before o line) ≤ length line
 before_short None line = omega arith
 before_short (Some n) line = omega (arith, length-take n line)
 
-short_usual : (a b : Bool) → (a || b) ≡ true → b ≡ false → a ≡ true
-short_usual true b h other = refl
-short_usual false b h other = cc
-
 of_form : (t : List ℕ) → is_usual t ≡ true → is_short t ≡ true → is_token t ≡ true
 of_form t known short =
-    let other : nat_lt MAX_NAME (length t) ≡ false = grind (arith, nat_tests) in
-    short_usual (is_token t) (nat_lt MAX_NAME (length t)) known other
+    let fits : nat_lt MAX_NAME (length t) ≡ false = grind (arith, nat_tests) in
+    ⊎_elim (λ is. is) (λ long. absurd (true≢false (sym long ∙ fits)))
+    (or_cases (is_token t) (nat_lt MAX_NAME (length t)) known)
 
 all_of_form : (ts : List (List ℕ)) → are_usual ts ≡ true → list_all is_short ts ≡ true
     → list_all is_token ts ≡ true
 all_of_form [] known short = refl
 all_of_form (t ∷ ts) known short =
-    both (is_token t) (list_all is_token ts)
-    (of_form t (first_of (is_usual t) (are_usual ts) known)
-    (first_of (is_short t) (list_all is_short ts) short))
-    (all_of_form ts (second_of (is_usual t) (are_usual ts) known)
-    (second_of (is_short t) (list_all is_short ts) short))
+    let usual = and_parts (is_usual t) (are_usual ts) known in
+    let fits = and_parts (is_short t) (list_all is_short ts) short in
+    and_from (is_token t) (list_all is_token ts) (of_form t usual.0 fits.0)
+    (all_of_form ts usual.1 fits.1)
 
 -- the tokens of a line that is read are of a form, if it is no longer than a name may be
 read_of_form : (raw : List ℕ) (l : Line) (m : Option Line) → line_of (tokens_of raw) ≡ m
