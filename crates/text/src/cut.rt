@@ -61,6 +61,8 @@ fn first_line(text: &[u8]) -> Option<(&[u8], &[u8])>
 fn is_written(byte: u8) -> bool
     ensures { result ≡ is_written byte }
 {
+    // `|` and not `||`: without a branch a byte the loop over a line is made of wide instructions,
+    // and several times faster
     matches!(byte, b' '..=b'~') | (byte == b'\t') | (byte == b'\r')
 }
 
