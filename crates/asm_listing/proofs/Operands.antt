@@ -1,6 +1,6 @@
 -- The operands of a listing's lines are read back.
 use Rattle.std.proofs.Common.{◌≡◌, ℕ, ◌^◌, ◌<◌, ◌≤◌, true, List, [], ◌∷◌, refl, ap, ◌∙◌, arith}
-use Rattle.std.specs.Prelude.{nat_eq, nat_lt, nat_le, Option, Some, None, IfSome, option_map, option_and_then}
+use Rattle.std.specs.Prelude.{nat_eq, nat_lt, nat_le, if◌then◌else◌, Option, Some, None, IfSome, option_map, option_and_then}
 use Rattle.std.specs.Fmt.{decimal}
 use Rattle.std.proofs.lemmas.Bool.Decides.{nat_tests}
 use Rattle.text.specs.Class.{is_name_start}
@@ -94,29 +94,30 @@ ranged_back letter f stand_in n ts c same small fits =
     (λ n rest. ranged stand_in (f n) rest)) (numeral_back n small)
     ∙ in_range f stand_in n (at ts c) fits)
 
+-- a letter and a number below a count
+below_back : (letter count n : ℕ) (ts : List (List ℕ)) (c : Cursor) → nat_eq letter letter ≡ true
+    → count ≤ 1024 → n < count → then_read (reads.numbered letter (at (numbered letter n ∷ ts) c))
+    (λ n rest. ranged 0 (if nat_lt n count then Some n else None) rest) ≡ so_far n (at ts c)
+below_back letter count n ts c same few fits =
+    let test : nat_lt n count ≡ true = grind (arith, nat_tests) in
+    ranged_back letter (λ n. if nat_lt n count then Some n else None) 0 n ts c same
+    (omega (arith, few, fits)) (rw test refl)
+
 pub register_back : (r : ℕ) (ts : List (List ℕ)) (c : Cursor) → IsRegister r
     → reads.register (at (register r ∷ ts) c) ≡ so_far r (at ts c)
-register_back r ts c fits =
-    let test : nat_lt r 16 ≡ true = grind (arith, nat_tests) in
-    ranged_back 114 register_of 0 r ts c refl (omega (arith, fits)) (rw test refl)
+register_back r ts c fits = below_back 114 16 r ts c refl (omega arith) fits
 
 pub spin_lock_back : (l : ℕ) (ts : List (List ℕ)) (c : Cursor) → IsSpinLock l
     → reads.spin_lock (at (spin_lock l ∷ ts) c) ≡ so_far l (at ts c)
-spin_lock_back l ts c fits =
-    let test : nat_lt l 8 ≡ true = grind (arith, nat_tests) in
-    ranged_back 108 lock_of 0 l ts c refl (omega (arith, fits)) (rw test refl)
+spin_lock_back l ts c fits = below_back 108 8 l ts c refl (omega arith) fits
 
 pub cell_back : (n : ℕ) (ts : List (List ℕ)) (c : Cursor) → IsCell n
     → reads.cell (at (cell n ∷ ts) c) ≡ so_far n (at ts c)
-cell_back n ts c fits =
-    let test : nat_lt n 16 ≡ true = grind (arith, nat_tests) in
-    ranged_back 99 cell_of 0 n ts c refl (omega (arith, fits)) (rw test refl)
+cell_back n ts c fits = below_back 99 16 n ts c refl (omega arith) fits
 
 pub paged_cell_back : (n : ℕ) (ts : List (List ℕ)) (c : Cursor) → IsCell n
     → reads.paged_cell (at (paged_cell n ∷ ts) c) ≡ so_far n (at ts c)
-paged_cell_back n ts c fits =
-    let test : nat_lt n 16 ≡ true = grind (arith, nat_tests) in
-    ranged_back 112 cell_of 0 n ts c refl (omega (arith, fits)) (rw test refl)
+paged_cell_back n ts c fits = below_back 112 16 n ts c refl (omega arith) fits
 
 pub constant_back : (n : ℕ) (ts : List (List ℕ)) (c : Cursor) → n < 2 ^ 32
     → reads.constant (at (decimal n ∷ ts) c) ≡ so_far n (at ts c)

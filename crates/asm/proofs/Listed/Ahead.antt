@@ -3,18 +3,21 @@
 use Rattle.std.proofs.Common.{◌≡◌, ◌≢◌, ℕ, ◌+◌, ◌<◌, ◌≤◌, Bool, true, false, ◌||◌, inl, inr, ◌⊎◌, List, [], ◌∷◌, ◌++◌, length, map, Option, Some, None, refl, ap, ◌∙◌, arith, append-nil}
 use Rattle.std.specs.Prelude.{⊤, bytes_eq, option_map, option_to_list, if◌then◌else◌}
 use Rattle.std.specs.List.{list_any}
+use Rattle.std.proofs.Math.Bool.{or-true}
 use Rattle.std.proofs.lemmas.Bool.Decides.{eqb_tells}
 use Rattle.model.specs.declared.instr.Instr.{Instr}
 use Rattle.model.specs.declared.set.Driver.{Driver}
 use Rattle.model.specs.declared.set.Queue.{Queue}
 use Rattle.model.specs.declared.set.Routine.{Routine}
+use Rattle.model.specs.declared.status.Major.{Major}
+use Rattle.model.specs.declared.status.Major.TheVariants.{Read, Write, Control}
 use Rattle.asm_line.specs.declared.line.Line.{Line}
 use Rattle.asm.specs.Outline.{is_among}
 use Rattle.asm.specs.Laws.{labels_ahead, queues_ahead, routines_ahead, sorts_ahead}
 use Rattle.asm_listing.specs.declared.entry.Entry.{Entry}
 use Rattle.asm_listing.specs.declared.entry.Entry.TheVariants as line
 use Rattle.asm_listing.specs.Words.{label, numbered}
-use Rattle.asm_listing.specs.Listing.{jumps_to, listed, naming, queue_lines, routine_lines, step_lines, table_lines}
+use Rattle.asm_listing.specs.Listing.{jumps_to, label_at, listed, naming, queue_lines, routine_lines, step_lines, table_lines}
 use Rattle.asm_listing.proofs.Digits.{IsSmall}
 use Rattle.asm_listing.proofs.Meaning.{meant}
 use Rattle.asm.proofs.Listed.Names.{names_from, same_bytes}
@@ -34,21 +37,6 @@ pub before_all : (es : List Entry) → map meant es ≡ before es []
 before_all [] = refl
 before_all (e ∷ es) = ap (λ ls. meant e ∷ ls) (before_all es)
 
--- instructions, queues and lines of the table
-abbrev pub IsStep : Entry → Type 0
-IsStep (line.Step at i) = ⊤
-IsStep _ = ⊥
-
-abbrev pub IsQueue : Entry → Type 0
-IsQueue (line.Queue k q) = ⊤
-IsQueue _ = ⊥
-
-abbrev pub IsTable : Entry → Type 0
-IsTable (line.Handler major r) = ⊤
-IsTable (line.StartIo r) = ⊤
-IsTable (line.Dpc r) = ⊤
-IsTable _ = ⊥
-
 abbrev pub Each : (Entry → Type 0) → List Entry → Type 0
 Each P [] = ⊤
 Each P (e ∷ es) = P e × Each P es
@@ -58,73 +46,59 @@ pub each_append : (P : Entry → Type 0) (es ds : List Entry) → Each P es → 
 each_append P [] ds h k = k
 each_append P (e ∷ es) ds h k = (h.0, each_append P es ds h.1 k)
 
-pub steps_each : (code : List Instr) (p : ℕ) (is : List Instr)
-    → Each IsStep (listed (step_lines code) p is)
-steps_each code p [] = tt
-steps_each code p (i ∷ is) = (tt, steps_each code (p + 1) is)
+pub steps_each : (P : Entry → Type 0) → ((at : Option ℕ) (i : Instr) → P (line.Step at i))
+    → (code : List Instr) (p : ℕ) (is : List Instr) → Each P (listed (step_lines code) p is)
+steps_each P each code p [] = tt
+steps_each P each code p (i ∷ is) = (each (label_at code p) i, steps_each P each code (p + 1) is)
 
-pub queues_each : (k : ℕ) (qs : List Queue) → Each IsQueue (listed queue_lines k qs)
-queues_each k [] = tt
-queues_each k (q ∷ qs) = (tt, queues_each (k + 1) qs)
+pub queues_each : (P : Entry → Type 0) → ((k : ℕ) (q : Queue) → P (line.Queue k q)) → (k : ℕ)
+    (qs : List Queue) → Each P (listed queue_lines k qs)
+queues_each P each k [] = tt
+queues_each P each k (q ∷ qs) = (each k q, queues_each P each (k + 1) qs)
 
 naming_each : (P : Entry → Type 0) (names : ℕ → Entry) (number : Option ℕ)
     → ((r : ℕ) → P (names r)) → Each P (naming names number)
 naming_each P names None each = tt
 naming_each P names (Some r) each = (each r, tt)
 
-pub table_each : (d : Driver) → Each IsTable (table_lines d)
-table_each d =
-    each_append IsTable (naming _ d.read) _ (naming_each IsTable _ d.read (λ r. tt))
-    (each_append IsTable (naming _ d.write) _ (naming_each IsTable _ d.write (λ r. tt))
-    (each_append IsTable (naming _ d.control) _ (naming_each IsTable _ d.control (λ r. tt))
-    (each_append IsTable (naming _ d.startio) _ (naming_each IsTable _ d.startio (λ r. tt))
-    (naming_each IsTable _ d.dpc (λ r. tt)))))
+pub table_each : (P : Entry → Type 0) → ((major : Major) (r : ℕ) → P (line.Handler major r))
+    → ((r : ℕ) → P (line.StartIo r)) → ((r : ℕ) → P (line.Dpc r)) → (d : Driver)
+    → Each P (table_lines d)
+table_each P handler startio dpc d =
+    each_append P (naming _ d.read) _ (naming_each P _ d.read (handler Read))
+    (each_append P (naming _ d.write) _ (naming_each P _ d.write (handler Write))
+    (each_append P (naming _ d.control) _ (naming_each P _ d.control (handler Control))
+    (each_append P (naming _ d.startio) _ (naming_each P _ d.startio startio)
+    (naming_each P _ d.dpc dpc))))
 
--- lines that a function looks past
-pub looked_past : {X : Type 0} (F : List Line → X) (P : Entry → Type 0)
-    → ((e : Entry) (ls : List Line) → P e → F (meant e ∷ ls) ≡ F ls) → (es : List Entry)
-    (rest : List Line) → Each P es → F (before es rest) ≡ F rest
-looked_past F P one [] rest h = refl
-looked_past F P one (e ∷ es) rest h =
-    one e (before es rest) h.0 ∙ looked_past F P one es rest h.1
+-- a function looks past a line
+abbrev pub IsPast : {X : Type 0} → (List Line → X) → Entry → Type 0
+IsPast F e = (ls : List Line) → F (meant e ∷ ls) ≡ F ls
 
-routines_step : (e : Entry) (ls : List Line) → IsStep e → routines_ahead (meant e ∷ ls) ≡ routines_ahead ls
-routines_step (line.Step at i) ls h = refl
-routines_step _ ls h = absurd h
+pub looked_past : {X : Type 0} (F : List Line → X) (es : List Entry) (rest : List Line)
+    → Each (IsPast F) es → F (before es rest) ≡ F rest
+looked_past F [] rest h = refl
+looked_past F (e ∷ es) rest h = h.0 (before es rest) ∙ looked_past F es rest h.1
 
-routines_table : (e : Entry) (ls : List Line) → IsTable e → routines_ahead (meant e ∷ ls) ≡ routines_ahead ls
-routines_table (line.Handler major r) ls h = refl
-routines_table (line.StartIo r) ls h = refl
-routines_table (line.Dpc r) ls h = refl
-routines_table _ ls h = absurd h
+-- past the instructions of a routine, the queues of a driver, its table
+pub steps_past : {X : Type 0} (F : List Line → X)
+    → ((at : Option ℕ) (i : Instr) → IsPast F (line.Step at i)) → (code : List Instr)
+    (rest : List Line) → F (before (listed (step_lines code) 0 code) rest) ≡ F rest
+steps_past F one code rest =
+    looked_past F (listed (step_lines code) 0 code) rest (steps_each (IsPast F) one code 0 code)
 
-routines_queue : (e : Entry) (ls : List Line) → IsQueue e → routines_ahead (meant e ∷ ls) ≡ routines_ahead ls
-routines_queue (line.Queue k q) ls h = refl
-routines_queue _ ls h = absurd h
+pub queues_past : {X : Type 0} (F : List Line → X)
+    → ((k : ℕ) (q : Queue) → IsPast F (line.Queue k q)) → (d : Driver) (rest : List Line)
+    → F (before (listed queue_lines 0 d.queues) rest) ≡ F rest
+queues_past F one d rest =
+    looked_past F (listed queue_lines 0 d.queues) rest (queues_each (IsPast F) one 0 d.queues)
 
-sorts_step : (e : Entry) (ls : List Line) → IsStep e → sorts_ahead (meant e ∷ ls) ≡ sorts_ahead ls
-sorts_step (line.Step at i) ls h = refl
-sorts_step _ ls h = absurd h
-
-sorts_table : (e : Entry) (ls : List Line) → IsTable e → sorts_ahead (meant e ∷ ls) ≡ sorts_ahead ls
-sorts_table (line.Handler major r) ls h = refl
-sorts_table (line.StartIo r) ls h = refl
-sorts_table (line.Dpc r) ls h = refl
-sorts_table _ ls h = absurd h
-
-sorts_queue : (e : Entry) (ls : List Line) → IsQueue e → sorts_ahead (meant e ∷ ls) ≡ sorts_ahead ls
-sorts_queue (line.Queue k q) ls h = refl
-sorts_queue _ ls h = absurd h
-
-queues_step : (e : Entry) (ls : List Line) → IsStep e → queues_ahead (meant e ∷ ls) ≡ queues_ahead ls
-queues_step (line.Step at i) ls h = refl
-queues_step _ ls h = absurd h
-
-queues_table : (e : Entry) (ls : List Line) → IsTable e → queues_ahead (meant e ∷ ls) ≡ queues_ahead ls
-queues_table (line.Handler major r) ls h = refl
-queues_table (line.StartIo r) ls h = refl
-queues_table (line.Dpc r) ls h = refl
-queues_table _ ls h = absurd h
+pub table_past : {X : Type 0} (F : List Line → X)
+    → ((major : Major) (r : ℕ) → IsPast F (line.Handler major r))
+    → ((r : ℕ) → IsPast F (line.StartIo r)) → ((r : ℕ) → IsPast F (line.Dpc r)) → (d : Driver)
+    (rest : List Line) → F (before (table_lines d) rest) ≡ F rest
+table_past F handler startio dpc d rest =
+    looked_past F (table_lines d) rest (table_each (IsPast F) handler startio dpc d)
 
 -- the routines of a driver
 routine_names : (k : ℕ) (rs : List Routine) (rest : List Line)
@@ -138,7 +112,7 @@ routine_names k (r ∷ rs) rest =
     ∙ ap (λ ls. numbered 102 k ∷ routines_ahead ls)
     (before_append steps (line.EndRoutine ∷ []) (before later rest))
     ∙ ap (λ ns. numbered 102 k ∷ ns)
-    (looked_past routines_ahead IsStep routines_step steps _ (steps_each r.code 0 r.code)
+    (steps_past routines_ahead (λ at i ls. refl) r.code _
     ∙ routine_names (k + 1) rs rest)
 
 routine_sorts : (k : ℕ) (rs : List Routine) (rest : List Line)
@@ -151,7 +125,7 @@ routine_sorts k (r ∷ rs) rest =
     ∙ ap (λ ls. r.sort ∷ sorts_ahead ls)
     (before_append steps (line.EndRoutine ∷ []) (before later rest))
     ∙ ap (λ ns. r.sort ∷ ns)
-    (looked_past sorts_ahead IsStep sorts_step steps _ (steps_each r.code 0 r.code)
+    (steps_past sorts_ahead (λ at i ls. refl) r.code _
     ∙ routine_sorts (k + 1) rs rest)
 
 -- they name no queue
@@ -163,7 +137,7 @@ routine_queues k (r ∷ rs) rest =
     let later = listed routine_lines (k + 1) rs in
     ap (λ ls. queues_ahead ls) (before_append (routine_lines k r) later rest)
     ∙ ap (λ ls. queues_ahead ls) (before_append steps (line.EndRoutine ∷ []) (before later rest))
-    ∙ looked_past queues_ahead IsStep queues_step steps _ (steps_each r.code 0 r.code)
+    ∙ steps_past queues_ahead (λ at i ls. refl) r.code _
     ∙ routine_queues (k + 1) rs rest
 
 queue_names : (k : ℕ) (qs : List Queue) (rest : List Line)
@@ -194,9 +168,8 @@ pub routines_there : (d : Driver) (rest : List Line)
 routines_there d rest =
     let routines = listed routine_lines 0 d.routines in
     ap (λ ls. routines_ahead ls) (rest_split d rest)
-    ∙ looked_past routines_ahead IsQueue routines_queue (listed queue_lines 0 d.queues) _
-    (queues_each 0 d.queues)
-    ∙ looked_past routines_ahead IsTable routines_table (table_lines d) _ (table_each d)
+    ∙ queues_past routines_ahead (λ k q ls. refl) d _
+    ∙ table_past routines_ahead (λ major r ls. refl) (λ r ls. refl) (λ r ls. refl) d _
     ∙ routine_names 0 d.routines (meant line.EndDriver ∷ rest)
     ∙ append-nil (names_from 102 0 (length d.routines))
 
@@ -205,9 +178,8 @@ pub sorts_there : (d : Driver) (rest : List Line)
 sorts_there d rest =
     let routines = listed routine_lines 0 d.routines in
     ap (λ ls. sorts_ahead ls) (rest_split d rest)
-    ∙ looked_past sorts_ahead IsQueue sorts_queue (listed queue_lines 0 d.queues) _
-    (queues_each 0 d.queues)
-    ∙ looked_past sorts_ahead IsTable sorts_table (table_lines d) _ (table_each d)
+    ∙ queues_past sorts_ahead (λ k q ls. refl) d _
+    ∙ table_past sorts_ahead (λ major r ls. refl) (λ r ls. refl) (λ r ls. refl) d _
     ∙ routine_sorts 0 d.routines (meant line.EndDriver ∷ rest)
     ∙ append-nil (sorts_of d.routines)
 
@@ -217,7 +189,7 @@ queues_there d rest =
     ap (λ ls. queues_ahead ls) (rest_split d rest)
     ∙ queue_names 0 d.queues _
     ∙ ap (λ ns. names_from 113 0 (length d.queues) ++ ns)
-    (looked_past queues_ahead IsTable queues_table (table_lines d) _ (table_each d)
+    (table_past queues_ahead (λ major r ls. refl) (λ r ls. refl) (λ r ls. refl) d _
     ∙ routine_queues 0 d.routines (meant line.EndDriver ∷ rest))
     ∙ append-nil (names_from 113 0 (length d.queues))
 
@@ -225,10 +197,6 @@ queues_there d rest =
 pub record IsTarget (code : List Instr) (k : ℕ) : Type 0 where
   pub inside : k < length code
   pub jumped : list_any (jumps_to k) code ≡ true
-
-or_true : (b : Bool) → (b || true) ≡ true
-or_true true = refl
-or_true false = refl
 
 -- so its label is ahead
 found_label : (b : Bool) (p k : ℕ) (after : List (List ℕ)) → IsSmall p → IsSmall k
@@ -238,7 +206,7 @@ found_label : (b : Bool) (p k : ℕ) (after : List (List ℕ)) → IsSmall p →
 found_label true p k after small fits (inl same) =
     rw (same.1, same_bytes (label k)) refl
 found_label true p k after small fits (inr later) =
-    ap (λ b. bytes_eq (label k) (label p) || b) later ∙ or_true (bytes_eq (label k) (label p))
+    ap (λ b. bytes_eq (label k) (label p) || b) later ∙ or-true (bytes_eq (label k) (label p))
 found_label false p k after small fits (inl same) = let bad = same.0 in cc
 found_label false p k after small fits (inr later) = later
 

@@ -1,6 +1,6 @@
 -- The instructions on the lines of a listing are those of the set.
 use Rattle.std.proofs.Common.{◌≡◌, ◌≢◌, ℕ, ◌+◌, ◌<◌, ◌≤◌, Bool, true, false, inl, inr, ◌⊎◌, List, [], ◌∷◌, ◌++◌, length, map, Option, Some, None, IfSome, refl, ap, sym, ◌∙◌, arith, append-nil, All}
-use Rattle.std.specs.Prelude.{⊤, get_or, option_map, option_to_list, if◌then◌else◌}
+use Rattle.std.specs.Prelude.{get_or, option_map, option_to_list, if◌then◌else◌}
 use Rattle.std.specs.List.{list_any}
 use Rattle.std.proofs.lemmas.Bool.Decides.{eqb_tells}
 use Rattle.std.proofs.lemmas.List.{length-map}
@@ -12,7 +12,6 @@ use Rattle.model.specs.declared.instr.Instr.TheVariants.{JumpIfZero, JumpIfLess,
 use Rattle.model.specs.declared.set.Driver.{Driver}
 use Rattle.model.specs.declared.set.Routine.{Routine}
 use Rattle.model.specs.declared.set.Device.{Device}
-use Rattle.model.specs.declared.set.Queue.{Queue}
 use Rattle.model.specs.Set.{label_of, Set}
 use Rattle.model.specs.Sound.{completion_named, queue_named, CallsFit, DriverFits, IsCompletion, QueuesFit, RoutineFits, IsSound}
 use Rattle.asm_line.specs.declared.line.Body.TheVariants.{Step as TakeStep}
@@ -24,10 +23,10 @@ use Rattle.asm.specs.Code.{all_codes, call_number, codes_of, driver_code, driver
 use Rattle.asm_listing.specs.declared.entry.Entry.{Entry}
 use Rattle.asm_listing.specs.declared.entry.Entry.TheVariants as line
 use Rattle.asm_listing.specs.Words.{label, queue, routine}
-use Rattle.asm_listing.specs.Listing.{device_lines, driver_lines, is_position, jumps_to, label_at, listed, naming, queue_lines, routine_lines, set_lines, step_lines, table_lines}
+use Rattle.asm_listing.specs.Listing.{device_lines, driver_lines, is_position, jumps_to, label_at, listed, queue_lines, routine_lines, set_lines, step_lines, table_lines}
 use Rattle.asm_listing.proofs.Digits.{IsSmall}
 use Rattle.asm_listing.proofs.Meaning.{meant, names_used, unlinked}
-use Rattle.asm.proofs.Listed.Ahead.{before, before_all, before_append, driver_rest, each_append, looked_past, queues_each, queues_there, rest_split, routines_there, sorts_there, steps_each, table_each, Each, IsQueue, IsStep, IsTable, IsTarget}
+use Rattle.asm.proofs.Listed.Ahead.{before, before_all, before_append, driver_rest, each_append, looked_past, queues_each, queues_past, queues_there, rest_split, routines_there, sorts_there, steps_each, steps_past, table_each, table_past, Each, IsPast, IsTarget}
 use Rattle.asm.proofs.Listed.Closing.{Served}
 use Rattle.asm.proofs.Listed.Names.{differ, names_from, numbered_as, same_bytes}
 use Rattle.asm.proofs.Listed.Sets.{is_completion, served, sorts_of}
@@ -194,23 +193,6 @@ routine_found_code d r rest few routines queues h =
     ap (λ ls. instructions_on (has_of d) ls ls) (ends_there r.code 0 r.code rest)
     ∙ code_found d r.code 0 r.code few routines queues h
 
-codes_step : (has : Inventory) (e : Entry) (ls : List Line) → IsStep e
-    → routine_codes has (meant e ∷ ls) ≡ routine_codes has ls
-codes_step has (line.Step at i) ls h = refl
-codes_step has _ ls h = absurd h
-
-codes_queue : (has : Inventory) (e : Entry) (ls : List Line) → IsQueue e
-    → routine_codes has (meant e ∷ ls) ≡ routine_codes has ls
-codes_queue has (line.Queue k q) ls h = refl
-codes_queue has _ ls h = absurd h
-
-codes_table : (has : Inventory) (e : Entry) (ls : List Line) → IsTable e
-    → routine_codes has (meant e ∷ ls) ≡ routine_codes has ls
-codes_table has (line.Handler major r) ls h = refl
-codes_table has (line.StartIo r) ls h = refl
-codes_table has (line.Dpc r) ls h = refl
-codes_table has _ ls h = absurd h
-
 -- the codes of the routines of a driver
 codes_found : (d : Driver) (k : ℕ) (rs : List Routine) (rest : List Line)
     → length d.routines ≤ 32 → length d.queues ≤ 4 → All RoutineFits rs
@@ -232,7 +214,7 @@ codes_found d k (r ∷ rs) rest routines queues fits calls uses =
     ∙ ap (λ c. c ∷ routine_codes has (before steps (meant line.EndRoutine ∷ later)))
     (routine_found_code d r later one.few routines queues known)
     ∙ ap (λ cs. r.code ∷ cs)
-    (looked_past (routine_codes has) IsStep (codes_step has) steps _ (steps_each r.code 0 r.code)
+    (steps_past (routine_codes has) (λ at i ls. refl) r.code _
     ∙ codes_found d (k + 1) rs rest routines queues (All-tail RoutineFits r rs fits)
     (All-tail (CallsFit d.routines) r rs calls) (All-tail (QueuesFit (length d.queues)) r rs uses))
 
@@ -249,61 +231,36 @@ driver_code_found d rest fits =
     let has = has_of d in
     ap (λ has. routine_codes has (before (driver_rest d) rest)) (has_there d rest)
     ∙ ap (λ ls. routine_codes has ls) (rest_split d rest)
-    ∙ looked_past (routine_codes has) IsQueue (codes_queue has) (listed queue_lines 0 d.queues) _
-    (queues_each 0 d.queues)
-    ∙ looked_past (routine_codes has) IsTable (codes_table has) (table_lines d) _ (table_each d)
+    ∙ queues_past (routine_codes has) (λ k q ls. refl) d _
+    ∙ table_past (routine_codes has) (λ major r ls. refl) (λ r ls. refl) (λ r ls. refl) d _
     ∙ codes_found d 0 d.routines rest fits.few fits.few_queues fits.routines fits.calls fits.queues
 
 -- lines that open no driver
 abbrev IsWithin : Entry → Type 0
-IsWithin (line.Driver k) = ⊥
-IsWithin _ = ⊤
-
-drivers_within : (e : Entry) (ls : List Line) → IsWithin e → driver_codes (meant e ∷ ls) ≡ driver_codes ls
-drivers_within (line.Driver k) ls h = absurd h
-drivers_within _ ls h = refl
-
-queues_within : (k : ℕ) (qs : List Queue) → Each IsWithin (listed queue_lines k qs)
-queues_within k [] = tt
-queues_within k (q ∷ qs) = (tt, queues_within (k + 1) qs)
-
-steps_within : (code : List Instr) (p : ℕ) (is : List Instr)
-    → Each IsWithin (listed (step_lines code) p is)
-steps_within code p [] = tt
-steps_within code p (i ∷ is) = (tt, steps_within code (p + 1) is)
-
-naming_within : (names : ℕ → Entry) (number : Option ℕ) → ((r : ℕ) → IsWithin (names r))
-    → Each IsWithin (naming names number)
-naming_within names None each = tt
-naming_within names (Some r) each = (each r, tt)
-
-table_within : (d : Driver) → Each IsWithin (table_lines d)
-table_within d =
-    each_append IsWithin (naming _ d.read) _ (naming_within _ d.read (λ r. tt))
-    (each_append IsWithin (naming _ d.write) _ (naming_within _ d.write (λ r. tt))
-    (each_append IsWithin (naming _ d.control) _ (naming_within _ d.control (λ r. tt))
-    (each_append IsWithin (naming _ d.startio) _ (naming_within _ d.startio (λ r. tt))
-    (naming_within _ d.dpc (λ r. tt)))))
+IsWithin e = IsPast driver_codes e
 
 routines_within : (k : ℕ) (rs : List Routine) → Each IsWithin (listed routine_lines k rs)
 routines_within k [] = tt
 routines_within k (r ∷ rs) = (
-  tt,
+  λ ls. refl,
   each_append IsWithin (listed (step_lines r.code) 0 r.code ++ line.EndRoutine ∷ []) _
       (each_append IsWithin (listed (step_lines r.code) 0 r.code) (line.EndRoutine ∷ [])
-      (steps_within r.code 0 r.code) (tt, tt)) (routines_within (k + 1) rs),
+      (steps_each IsWithin (λ at i ls. refl) r.code 0 r.code) (λ ls. refl, tt))
+      (routines_within (k + 1) rs),
 )
 
 rest_within : (d : Driver) → Each IsWithin (driver_rest d)
 rest_within d =
-    each_append IsWithin (listed queue_lines 0 d.queues) _ (queues_within 0 d.queues)
-    (each_append IsWithin (table_lines d) _ (table_within d)
+    each_append IsWithin (listed queue_lines 0 d.queues) _
+    (queues_each IsWithin (λ k q ls. refl) 0 d.queues)
+    (each_append IsWithin (table_lines d) _
+    (table_each IsWithin (λ major r ls. refl) (λ r ls. refl) (λ r ls. refl) d)
     (each_append IsWithin (listed routine_lines 0 d.routines) _ (routines_within 0 d.routines)
-    (tt, tt)))
+    (λ ls. refl, tt)))
 
 devices_within : (k : ℕ) (ds : List Device) → Each IsWithin (listed device_lines k ds)
 devices_within k [] = tt
-devices_within k (d ∷ ds) = (tt, devices_within (k + 1) ds)
+devices_within k (d ∷ ds) = (λ ls. refl, devices_within (k + 1) ds)
 
 drivers_found : (k : ℕ) (ds : List Driver) (rest : List Line) → All DriverFits ds
     → driver_codes (before (listed driver_lines k ds) rest) ≡ all_codes ds ++ driver_codes rest
@@ -314,7 +271,7 @@ drivers_found k (d ∷ ds) rest h =
     ∙ ap (λ c. c ∷ driver_codes (before (driver_rest d) later))
     (driver_code_found d later (All-head DriverFits d ds h))
     ∙ ap (λ cs. codes_of d.routines ∷ cs)
-    (looked_past driver_codes IsWithin drivers_within (driver_rest d) later (rest_within d)
+    (looked_past driver_codes (driver_rest d) later (rest_within d)
     ∙ drivers_found (k + 1) ds rest (All-tail DriverFits d ds h))
 
 -- the instructions on the lines of a listing are those of the set
@@ -326,5 +283,5 @@ listed_codes set h =
     ∙ before_append (listed driver_lines 0 set.drivers) devices [])
     ∙ drivers_found 0 set.drivers (before devices []) h.drivers
     ∙ ap (λ cs. all_codes set.drivers ++ cs)
-    (looked_past driver_codes IsWithin drivers_within devices [] (devices_within 0 set.devices))
+    (looked_past driver_codes devices [] (devices_within 0 set.devices))
     ∙ append-nil (all_codes set.drivers)

@@ -8,6 +8,7 @@ use Rattle.model.specs.declared.set.Driver.{Driver}
 use Rattle.model.specs.declared.set.Queue.{Queue}
 use Rattle.model.specs.declared.set.Routine.{Routine}
 use Rattle.model.specs.declared.set.Sort.{Sort}
+use Rattle.model.specs.declared.status.Major.{Major}
 use Rattle.model.specs.declared.status.Major.TheVariants.{Read, Write, Control}
 use Rattle.model.specs.Set.{label_of, Set}
 use Rattle.model.specs.Sound.{completion_named, queue_named, CallsFit, CancelFits, DevicesFit, DriverFits, HasSort, IsCancel, IsDispatch, IsDpc, IsSound, IsStartIo, QueuesFit, RoutineFits}
@@ -79,35 +80,16 @@ queues_silent k d labels n (q ∷ qs) rest few h silent =
     (queues_silent k d labels (n + 1) qs rest few (All-tail (CancelFits d.routines) q qs h) silent)
 
 -- one entry of the table
-read_silent : (k : ℕ) (d : Driver) (labels : List (List ℕ)) (rest : List Line) (number : Option ℕ)
-    → length d.routines ≤ 32 → IfSome number (λ r. HasSort IsDispatch (slice_get d.routines r))
+handler_silent : (k : ℕ) (d : Driver) (labels : List (List ℕ)) (rest : List Line) (major : Major)
+    (number : Option ℕ) → length d.routines ≤ 32
+    → IfSome number (λ r. HasSort IsDispatch (slice_get d.routines r))
     → IsSilent (within k d labels) rest
-    → IsSilent (within k d labels) (before (naming (line.Handler Read) number) rest)
-read_silent k d labels rest None few h silent = silent
-read_silent k d labels rest (Some r) few h silent =
+    → IsSilent (within k d labels) (before (naming (line.Handler major) number) rest)
+handler_silent k d labels rest major None few h silent = silent
+handler_silent k d labels rest major (Some r) few h silent =
     let known = routine_known k d labels Handler (Some r) few
     (served IsDispatch Handler is_handler d.routines (Some r) h) in
-    line_silent (within k d labels) (line.Handler Read r) rest (λ m after. rw known refl) silent
-
-write_silent : (k : ℕ) (d : Driver) (labels : List (List ℕ)) (rest : List Line) (number : Option ℕ)
-    → length d.routines ≤ 32 → IfSome number (λ r. HasSort IsDispatch (slice_get d.routines r))
-    → IsSilent (within k d labels) rest
-    → IsSilent (within k d labels) (before (naming (line.Handler Write) number) rest)
-write_silent k d labels rest None few h silent = silent
-write_silent k d labels rest (Some r) few h silent =
-    let known = routine_known k d labels Handler (Some r) few
-    (served IsDispatch Handler is_handler d.routines (Some r) h) in
-    line_silent (within k d labels) (line.Handler Write r) rest (λ m after. rw known refl) silent
-
-control_silent : (k : ℕ) (d : Driver) (labels : List (List ℕ)) (rest : List Line) (number : Option ℕ)
-    → length d.routines ≤ 32 → IfSome number (λ r. HasSort IsDispatch (slice_get d.routines r))
-    → IsSilent (within k d labels) rest
-    → IsSilent (within k d labels) (before (naming (line.Handler Control) number) rest)
-control_silent k d labels rest None few h silent = silent
-control_silent k d labels rest (Some r) few h silent =
-    let known = routine_known k d labels Handler (Some r) few
-    (served IsDispatch Handler is_handler d.routines (Some r) h) in
-    line_silent (within k d labels) (line.Handler Control r) rest (λ m after. rw known refl) silent
+    line_silent (within k d labels) (line.Handler major r) rest (λ m after. rw known refl) silent
 
 startio_silent : (k : ℕ) (d : Driver) (labels : List (List ℕ)) (rest : List Line) (number : Option ℕ)
     → length d.routines ≤ 32 → IfSome number (λ r. HasSort IsStartIo (slice_get d.routines r))
@@ -141,12 +123,12 @@ table_silent k d labels rest fits silent =
     let few = fits.few in
     let five = dpc_silent k d labels rest d.dpc few fits.dpc silent in
     let four = startio_silent k d labels (before dpc rest) d.startio few fits.startio five in
-    let three = control_silent k d labels (before startio (before dpc rest)) d.control few
+    let three = handler_silent k d labels (before startio (before dpc rest)) Control d.control few
     fits.control four in
-    let two = write_silent k d labels (before control (before startio (before dpc rest))) d.write few
-    fits.write three in
-    let one = read_silent k d labels
-    (before write (before control (before startio (before dpc rest)))) d.read few fits.read two in
+    let two = handler_silent k d labels (before control (before startio (before dpc rest))) Write
+    d.write few fits.write three in
+    let one = handler_silent k d labels
+    (before write (before control (before startio (before dpc rest)))) Read d.read few fits.read two in
     let split : before (table_lines d) rest
     ≡ before read (before write (before control (before startio (before dpc rest)))) =
     before_append read (write ++ (control ++ (startio ++ dpc))) rest

@@ -17,8 +17,9 @@ use Rattle.asm.specs.Outline.{Outline, is_among, is_known_label, resolved, used_
 use Rattle.asm_listing.specs.declared.entry.Entry.TheVariants as line
 use Rattle.asm_listing.specs.Words.{label, numbered, routine}
 use Rattle.asm_listing.proofs.Digits.{IsSmall}
+use Rattle.asm.proofs.Added.{with_entries}
 use Rattle.asm.proofs.Listed.Names.{differ, fresh, length_names, names_from, names_more}
-use Rattle.asm.proofs.Listed.Stage.{guarded, no_misfit, one_reaches, read_queue, set_queue, IsAt, Names, Reaches, Stage}
+use Rattle.asm.proofs.Listed.Stage.{guarded, no_misfit, one_reaches, read_queue, set_queue, IsAt, Names, Reaches, Shape, Stage}
 
 -- a name more at the end
 more : (names : List (List ℕ)) (letter c : ℕ) → names ≡ names_from letter 0 c
@@ -120,6 +121,29 @@ none_named None number h none = refl
 none_named (Some u) number h none =
     let bad : Some u.name ≡ None = h ∙ ap (λ (k : Option ℕ). option_map routine k) none in cc
 
+-- only the table of the open driver changes
+entries_at : (s : Stage) (o : Outline) (read write control startio dpc : Option Use)
+    (given : Shape) → IsAt s o → given.sorts ≡ s.current.sorts
+    → given.queues ≡ s.current.queues → Names read given.read
+    → Names write given.write → Names control given.control → Names startio given.startio
+    → Names dpc given.dpc
+    → IsAt (record s { current = given }) (with_entries o read write control startio dpc)
+entries_at s o read write control startio dpc given h sorts queues first second third fourth last =
+    record {
+      place = h.place;
+      drivers = h.drivers;
+      devices = h.devices;
+      routines = rw sorts h.routines;
+      queues = rw queues h.queues;
+      read = first;
+      write = second;
+      control = third;
+      startio = fourth;
+      dpc = last;
+      sort = h.sort;
+      steps = h.steps;
+    }
+
 pub read_turn : (o : Outline) (n : ℕ) (s : Stage) (r : ℕ) → IsAt s o → s.place ≡ InDriver
     → s.current.read ≡ None → Reaches o n (line.Handler Read r ∷ [])
     (record s { current = record s.current { read = Some r } })
@@ -127,20 +151,8 @@ read_turn o n s r h inside none =
     let e = line.Handler Read r in
     one_reaches o n e (record s { current = record s.current { read = Some r } })
     (no_misfit o e (rw (h.place, inside) refl) (none_named o.read s.current.read h.read none) refl refl)
-    (record {
-      place = h.place;
-      drivers = h.drivers;
-      devices = h.devices;
-      routines = h.routines;
-      queues = h.queues;
-      read = refl;
-      write = h.write;
-      control = h.control;
-      startio = h.startio;
-      dpc = h.dpc;
-      sort = h.sort;
-      steps = h.steps;
-    })
+    (entries_at s o _ o.write o.control o.startio o.dpc (record s.current { read = Some r }) h
+    refl refl refl h.write h.control h.startio h.dpc)
 
 pub write_turn : (o : Outline) (n : ℕ) (s : Stage) (r : ℕ) → IsAt s o → s.place ≡ InDriver
     → s.current.write ≡ None → Reaches o n (line.Handler Write r ∷ [])
@@ -149,20 +161,8 @@ write_turn o n s r h inside none =
     let e = line.Handler Write r in
     one_reaches o n e (record s { current = record s.current { write = Some r } })
     (no_misfit o e (rw (h.place, inside) refl) (none_named o.write s.current.write h.write none) refl refl)
-    (record {
-      place = h.place;
-      drivers = h.drivers;
-      devices = h.devices;
-      routines = h.routines;
-      queues = h.queues;
-      read = h.read;
-      write = refl;
-      control = h.control;
-      startio = h.startio;
-      dpc = h.dpc;
-      sort = h.sort;
-      steps = h.steps;
-    })
+    (entries_at s o o.read _ o.control o.startio o.dpc (record s.current { write = Some r }) h
+    refl refl h.read refl h.control h.startio h.dpc)
 
 pub control_turn : (o : Outline) (n : ℕ) (s : Stage) (r : ℕ) → IsAt s o → s.place ≡ InDriver
     → s.current.control ≡ None → Reaches o n (line.Handler Control r ∷ [])
@@ -171,20 +171,8 @@ control_turn o n s r h inside none =
     let e = line.Handler Control r in
     one_reaches o n e (record s { current = record s.current { control = Some r } })
     (no_misfit o e (rw (h.place, inside) refl) (none_named o.control s.current.control h.control none) refl refl)
-    (record {
-      place = h.place;
-      drivers = h.drivers;
-      devices = h.devices;
-      routines = h.routines;
-      queues = h.queues;
-      read = h.read;
-      write = h.write;
-      control = refl;
-      startio = h.startio;
-      dpc = h.dpc;
-      sort = h.sort;
-      steps = h.steps;
-    })
+    (entries_at s o o.read o.write _ o.startio o.dpc (record s.current { control = Some r }) h
+    refl refl h.read h.write refl h.startio h.dpc)
 
 pub startio_turn : (o : Outline) (n : ℕ) (s : Stage) (r : ℕ) → IsAt s o → s.place ≡ InDriver
     → s.current.startio ≡ None → Reaches o n (line.StartIo r ∷ [])
@@ -193,20 +181,8 @@ startio_turn o n s r h inside none =
     let e = line.StartIo r in
     one_reaches o n e (record s { current = record s.current { startio = Some r } })
     (no_misfit o e (rw (h.place, inside) refl) (none_named o.startio s.current.startio h.startio none) refl refl)
-    (record {
-      place = h.place;
-      drivers = h.drivers;
-      devices = h.devices;
-      routines = h.routines;
-      queues = h.queues;
-      read = h.read;
-      write = h.write;
-      control = h.control;
-      startio = refl;
-      dpc = h.dpc;
-      sort = h.sort;
-      steps = h.steps;
-    })
+    (entries_at s o o.read o.write o.control _ o.dpc (record s.current { startio = Some r }) h
+    refl refl h.read h.write h.control refl h.dpc)
 
 pub dpc_turn : (o : Outline) (n : ℕ) (s : Stage) (r : ℕ) → IsAt s o → s.place ≡ InDriver
     → s.current.dpc ≡ None → Reaches o n (line.Dpc r ∷ [])
@@ -215,20 +191,8 @@ dpc_turn o n s r h inside none =
     let e = line.Dpc r in
     one_reaches o n e (record s { current = record s.current { dpc = Some r } })
     (no_misfit o e (rw (h.place, inside) refl) (none_named o.dpc s.current.dpc h.dpc none) refl refl)
-    (record {
-      place = h.place;
-      drivers = h.drivers;
-      devices = h.devices;
-      routines = h.routines;
-      queues = h.queues;
-      read = h.read;
-      write = h.write;
-      control = h.control;
-      startio = h.startio;
-      dpc = refl;
-      sort = h.sort;
-      steps = h.steps;
-    })
+    (entries_at s o o.read o.write o.control o.startio _ (record s.current { dpc = Some r }) h
+    refl refl h.read h.write h.control h.startio refl)
 
 -- `routine`
 pub routine_turn : (o : Outline) (n : ℕ) (s : Stage) (sort : Sort) → IsAt s o

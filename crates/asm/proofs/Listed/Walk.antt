@@ -10,6 +10,7 @@ use Rattle.model.specs.declared.set.Sort.{Sort}
 use Rattle.model.specs.declared.status.Major.TheVariants.{Read, Write, Control}
 use Rattle.asm.specs.declared.draft.Place.TheVariants.{InRoutine}
 use Rattle.asm.specs.Outline.{Outline}
+use Rattle.asm_listing.specs.declared.entry.Entry.{Entry}
 use Rattle.asm_listing.specs.declared.entry.Entry.TheVariants as line
 use Rattle.asm_listing.specs.Listing.{jumps_to, label_at, listed, naming, queue_lines, routine_lines, step_lines, table_lines}
 use Rattle.asm.proofs.Listed.Stage.{inside, no_shape, none_reaches, shape_of, then_reaches, IsAt, Reaches, Shape, Stage}
@@ -34,52 +35,20 @@ queues_walk o n opened ds c k (q ∷ qs) all h is few whole =
     (let long = longer c.queues q in omega (arith, is, long)) (omega (arith, few))
     (whole ∙ sym (append_assoc c.queues (q ∷ []) qs)))
 
--- the table of a driver
-read_walk : (o : Outline) (n : ℕ) (opened : ℕ) (ds : List Shape) (c : Shape) (number : Option ℕ)
-    → IsAt (inside opened ds c []) o → c.read ≡ None
-    → Reaches o n (naming (line.Handler Read) number) (inside opened ds (record c { read = number }) [])
-read_walk o n opened ds c None h none =
-    none_reaches o n (inside opened ds (record c { read = None }) [])
-    (subst (λ x. IsAt (inside opened ds (record c { read = x }) []) o) none h)
-read_walk o n opened ds c (Some r) h none = read_turn o n (inside opened ds c []) r h refl none
-
-write_walk : (o : Outline) (n : ℕ) (opened : ℕ) (ds : List Shape) (c : Shape) (number : Option ℕ)
-    → IsAt (inside opened ds c []) o → c.write ≡ None
-    → Reaches o n (naming (line.Handler Write) number) (inside opened ds (record c { write = number }) [])
-write_walk o n opened ds c None h none =
-    none_reaches o n (inside opened ds (record c { write = None }) [])
-    (subst (λ x. IsAt (inside opened ds (record c { write = x }) []) o) none h)
-write_walk o n opened ds c (Some r) h none = write_turn o n (inside opened ds c []) r h refl none
-
-control_walk : (o : Outline) (n : ℕ) (opened : ℕ) (ds : List Shape) (c : Shape) (number : Option ℕ)
-    → IsAt (inside opened ds c []) o → c.control ≡ None
-    → Reaches o n (naming (line.Handler Control) number) (inside opened ds (record c { control = number }) [])
-control_walk o n opened ds c None h none =
-    none_reaches o n (inside opened ds (record c { control = None }) [])
-    (subst (λ x. IsAt (inside opened ds (record c { control = x }) []) o) none h)
-control_walk o n opened ds c (Some r) h none = control_turn o n (inside opened ds c []) r h refl none
-
-startio_walk : (o : Outline) (n : ℕ) (opened : ℕ) (ds : List Shape) (c : Shape) (number : Option ℕ)
-    → IsAt (inside opened ds c []) o → c.startio ≡ None
-    → Reaches o n (naming line.StartIo number) (inside opened ds (record c { startio = number }) [])
-startio_walk o n opened ds c None h none =
-    none_reaches o n (inside opened ds (record c { startio = None }) [])
-    (subst (λ x. IsAt (inside opened ds (record c { startio = x }) []) o) none h)
-startio_walk o n opened ds c (Some r) h none = startio_turn o n (inside opened ds c []) r h refl none
-
-dpc_walk : (o : Outline) (n : ℕ) (opened : ℕ) (ds : List Shape) (c : Shape) (number : Option ℕ)
-    → IsAt (inside opened ds c []) o → c.dpc ≡ None
-    → Reaches o n (naming line.Dpc number) (inside opened ds (record c { dpc = number }) [])
-dpc_walk o n opened ds c None h none =
-    none_reaches o n (inside opened ds (record c { dpc = None }) [])
-    (subst (λ x. IsAt (inside opened ds (record c { dpc = x }) []) o) none h)
-dpc_walk o n opened ds c (Some r) h none = dpc_turn o n (inside opened ds c []) r h refl none
+-- a line of the table of a driver, if there is one
+entry_walk : (o : Outline) (n : ℕ) (names : ℕ → Entry) (stage : Option ℕ → Stage)
+    (number : Option ℕ) → IsAt (stage None) o
+    → ((r : ℕ) → Reaches o n (names r ∷ []) (stage (Some r)))
+    → Reaches o n (naming names number) (stage number)
+entry_walk o n names stage None h one = none_reaches o n (stage None) h
+entry_walk o n names stage (Some r) h one = one r
 
 pub table_walk : (o : Outline) (n : ℕ) (opened : ℕ) (ds : List Shape) (qs : List Queue) (d : Driver)
     → IsAt (inside opened ds (record no_shape { queues = qs }) []) o
     → Reaches o n (table_lines d)
     (inside opened ds (record (shape_of d) { sorts = []; queues = qs }) [])
 table_walk o n opened ds qs d h =
+    let at : Shape → Stage = λ c. inside opened ds c [] in
     let c0 = record no_shape { queues = qs } in
     let c1 = record c0 { read = d.read } in
     let c2 = record c1 { write = d.write } in
@@ -91,16 +60,20 @@ table_walk o n opened ds qs d h =
     let control = naming (line.Handler Control) d.control in
     let startio = naming line.StartIo d.startio in
     let dpc = naming line.Dpc d.dpc in
-    then_reaches o n read (write ++ (control ++ (startio ++ dpc)))
-    (inside opened ds c1 []) (inside opened ds c5 [])
-    (read_walk o n opened ds c0 d.read h refl)
-    (λ o1 n1 h1. then_reaches o1 n1 write (control ++ (startio ++ dpc)) (inside opened ds c2 [])
-    (inside opened ds c5 []) (write_walk o1 n1 opened ds c1 d.write h1 refl)
-    (λ o2 n2 h2. then_reaches o2 n2 control (startio ++ dpc) (inside opened ds c3 [])
-    (inside opened ds c5 []) (control_walk o2 n2 opened ds c2 d.control h2 refl)
-    (λ o3 n3 h3. then_reaches o3 n3 startio dpc (inside opened ds c4 []) (inside opened ds c5 [])
-    (startio_walk o3 n3 opened ds c3 d.startio h3 refl)
-    (λ o4 n4 h4. dpc_walk o4 n4 opened ds c4 d.dpc h4 refl))))
+    then_reaches o n read (write ++ (control ++ (startio ++ dpc))) (at c1) (at c5)
+    (entry_walk o n (line.Handler Read) (λ x. at (record c0 { read = x })) d.read h
+    (λ r. read_turn o n (at c0) r h refl refl))
+    (λ o1 n1 h1. then_reaches o1 n1 write (control ++ (startio ++ dpc)) (at c2) (at c5)
+    (entry_walk o1 n1 (line.Handler Write) (λ x. at (record c1 { write = x })) d.write h1
+    (λ r. write_turn o1 n1 (at c1) r h1 refl refl))
+    (λ o2 n2 h2. then_reaches o2 n2 control (startio ++ dpc) (at c3) (at c5)
+    (entry_walk o2 n2 (line.Handler Control) (λ x. at (record c2 { control = x })) d.control h2
+    (λ r. control_turn o2 n2 (at c2) r h2 refl refl))
+    (λ o3 n3 h3. then_reaches o3 n3 startio dpc (at c4) (at c5)
+    (entry_walk o3 n3 line.StartIo (λ x. at (record c3 { startio = x })) d.startio h3
+    (λ r. startio_turn o3 n3 (at c3) r h3 refl refl))
+    (λ o4 n4 h4. entry_walk o4 n4 line.Dpc (λ x. at (record c4 { dpc = x })) d.dpc h4
+    (λ r. dpc_turn o4 n4 (at c4) r h4 refl refl)))))
 
 own_label : (b : Bool) (p : ℕ) → OwnLabel (if b then Some p else None) p
 own_label true p = refl
