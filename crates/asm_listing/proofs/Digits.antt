@@ -1,5 +1,6 @@
 -- The digits of decimal numbers, and names and operands that end in them.
-use Rattle.std.proofs.Common.{◌≡◌, ℕ, suc, ◌-◌, ◌≤◌, ◌<◌, ◌^◌, Bool, true, false, not, ◌&&◌, ◌||◌, List, [], ◌∷◌, ◌++◌, length, refl, ap, ◌∙◌, arith}
+use Rattle.std.proofs.Common.{◌≡◌, ℕ, suc, ◌-◌, ◌≤◌, ◌<◌, ◌^◌, Bool, true, false, not, ◌||◌, List, [], ◌∷◌, ◌++◌, length, refl, ap, ◌∙◌, arith}
+use Rattle.std.proofs.Math.Bool.{and-false, or-true}
 use Rattle.std.specs.Prelude.{nat_eq, nat_le, nat_lt, drop, take, Some, is_some, slice_index}
 use Rattle.std.specs.Char.{is_digit}
 use Rattle.std.specs.Fmt.{decimal}
@@ -8,7 +9,7 @@ use Rattle.std.specs.Str.Parse.{digits_value, AllDigits}
 use Rattle.std.proofs.Math.Dec.{eqb-suc-zero}
 use Rattle.std.proofs.Math.Seq.{get_or-append_seam, take-append_seam}
 use Rattle.std.proofs.lemmas.List.{length-append}
-use Rattle.std.proofs.lemmas.Bool.{le-leb}
+use Rattle.std.proofs.lemmas.Bool.{le-leb, or_left}
 use Rattle.std.proofs.lemmas.Bool.Decides.{nat_tests}
 use Rattle.std.proofs.lemmas.Fmt.{decimal_injective, decimal_is_IsNumeral, decimal_nonempty, length-decimal-le}
 use Rattle.std.proofs.lemmas.Str.Parse.{tells_digits}
@@ -43,14 +44,10 @@ not_empty : (ds : List ℕ) → 0 < length ds → not (nat_eq (length ds) 0) ≡
 not_empty [] some = absurd (omega (arith, some))
 not_empty (d ∷ ds) some = ap (λ (b : Bool). not b) (eqb-suc-zero (length ds))
 
-and_false : (b : Bool) → (b && false) ≡ false
-and_false true = refl
-and_false false = refl
-
 -- digits have no prefix
 no_prefix : (ds : List ℕ) → AllDigits 10 ds → is_prefixed ds ≡ false
 no_prefix [] h = refl
-no_prefix (d ∷ []) h = and_false (nat_eq 48 d)
+no_prefix (d ∷ []) h = and-false (nat_eq 48 d)
 no_prefix (d ∷ e ∷ ds) h =
     let range = (tells_digits.parts e ds h.1).0 in
     grind (arith, nat_tests, range.0, range.1)
@@ -68,11 +65,6 @@ numeral_sized n small =
     let fits : nat_lt n (2 ^ 64) ≡ true = grind (arith, nat_tests) in
     ap (λ (m : ℕ). sized m) (decimal_is_IsNumeral n small).1 ∙ rw fits refl
 
-or_any : (a b c : Bool) → (a || b || true || c) ≡ true
-or_any true b c = refl
-or_any false true c = refl
-or_any false false c = refl
-
 pub numeral_back : (n : ℕ) → IsSmall n → numeral_in 10 (decimal n) ≡ Number n
 numeral_back n small =
     rw (is_decimal n small) (numeral_sized n small)
@@ -87,7 +79,7 @@ pub number_token : (n : ℕ) → IsSmall n → is_token (decimal n) ≡ true
 number_token n small =
     let plain = no_prefix (decimal n) (decimal_is_IsNumeral n small).0.1 in
     let number : is_number (decimal n) ≡ true = rw plain (is_decimal n small) in
-    rw number (or_any (is_name (decimal n)) (is_word (decimal n)) (is_some (label_name (decimal n))))
+    rw number (or_left _ (is_some (label_name (decimal n))) (or-true (is_name (decimal n) || is_word (decimal n))))
 
 -- a small letter and a number are a name
 pub named : (letter n : ℕ) → is_name_start letter ≡ true → IsSmall n

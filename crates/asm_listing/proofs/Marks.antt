@@ -1,5 +1,6 @@
 -- The positions that instructions jump to, marked one instruction after another.
-use Rattle.std.proofs.Common.{◌≡◌, ◌≢◌, ℕ, ◌+◌, ◌<◌, Bool, true, false, ◌||◌, ◌⊎◌, inl, inr, List, [], ◌∷◌, get_or, take, length, refl, ap, sym, ◌∙◌, arith, set}
+use Rattle.std.proofs.Common.{◌≡◌, ◌≢◌, ℕ, ◌+◌, ◌<◌, Bool, true, false, ◌||◌, ◌⊎◌, inl, inr, List, [], ◌∷◌, get_or, take, length, ap, sym, ◌∙◌, arith, set}
+use Rattle.std.proofs.Math.Bool.{or-false, or-true}
 use Rattle.std.proofs.lemmas.List.{get_or-set_same, get_or-set_other, length-set, take_more}
 use Rattle.std.proofs.lemmas.List.Folds.{list_any-append}
 use Rattle.std.proofs.lemmas.Bool.Decides.{eqb_tells}
@@ -9,21 +10,13 @@ use Rattle.model.specs.declared.instr.Instr.{Instr}
 use Rattle.model.specs.Set.{label_of}
 use Rattle.asm_listing.specs.Listing.{is_position, jumps_to, AreMarks}
 
-or_false : (b : Bool) → (b || false) ≡ b
-or_false true = refl
-or_false false = refl
-
-or_true : (b : Bool) → (b || true) ≡ true
-or_true true = refl
-or_true false = refl
-
 -- an instruction more
 any_more : (p : Instr → Bool) (code : List Instr) (i : ℕ) (d : Instr) → i < length code
     → list_any p (take (i + 1) code) ≡ (list_any p (take i code) || p (get_or code i d))
 any_more p code i d inside =
     ap (λ (xs : List Instr). list_any p xs) (take_more code i d inside)
     ∙ list_any-append p (take i code) (get_or code i d ∷ [])
-    ∙ ap (λ (b : Bool). list_any p (take i code) || b) (or_false (p (get_or code i d)))
+    ∙ ap (λ (b : Bool). list_any p (take i code) || b) (or-false (p (get_or code i d)))
 
 -- one that jumps nowhere leaves the marks
 pub marks_left : (count : ℕ) (code : List Instr) (marks : List Bool) (i : ℕ) (d : Instr)
@@ -37,7 +30,7 @@ marks_left count code marks i d inside h none = record {
       ∙ sym (any_more (jumps_to position) code i d inside
       ∙ ap (λ (o : Option ℕ). list_any (jumps_to position) (take i code) || is_position position o)
       none
-      ∙ or_false (list_any (jumps_to position) (take i code)));
+      ∙ or-false (list_any (jumps_to position) (take i code)));
 }
 
 -- one that jumps to a position marks it
@@ -64,9 +57,9 @@ marks_on count code marks i d label inside there h some = record {
         ap (λ (p : ℕ). get_or (set marks label true) p false) (sym same.1)
         ∙ get_or-set_same marks label true false inside
         ∙ sym (ap (λ (b : Bool). list_any (jumps_to position) (take i code) || b) same.0
-        ∙ or_true (list_any (jumps_to position) (take i code)))
+        ∙ or-true (list_any (jumps_to position) (take i code)))
     by position within (inr other) =
         get_or-set_other marks label position true false (λ is. other.1 (sym is))
         ∙ h.told position within
         ∙ sym (ap (λ (b : Bool). list_any (jumps_to position) (take i code) || b) other.0
-        ∙ or_false (list_any (jumps_to position) (take i code)))
+        ∙ or-false (list_any (jumps_to position) (take i code)))

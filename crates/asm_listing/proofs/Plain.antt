@@ -1,5 +1,6 @@
 -- The words of a listing's lines are tokens of their lines.
-use Rattle.std.proofs.Common.{◌≡◌, ℕ, ◌<◌, ◌≤◌, ◌^◌, Bool, true, false, ◌||◌, List, [], ◌∷◌, ◌++◌, length, Option, Some, None, IfSome, refl, ap, ◌∙◌, arith}
+use Rattle.std.proofs.Common.{◌≡◌, ℕ, ◌<◌, ◌≤◌, ◌^◌, true, ◌||◌, List, [], ◌∷◌, ◌++◌, length, Option, Some, None, IfSome, refl, ap, ◌∙◌, arith}
+use Rattle.std.proofs.Math.Bool.{or-true}
 use Rattle.std.specs.Prelude.{is_some}
 use Rattle.std.specs.Fmt.{decimal}
 use Rattle.std.specs.List.{list_all}
@@ -51,12 +52,6 @@ decimal_plain n small = record {
   token = number_token n small;
 }
 
-any_last : (a b c : Bool) → (a || b || c || true) ≡ true
-any_last true b c = refl
-any_last false true c = refl
-any_last false false true = refl
-any_last false false false = refl
-
 -- a label before its instruction
 pub label_plain : (position : Option ℕ) → IfSome position IsSmall
     → ArePlain (label_words position)
@@ -67,7 +62,7 @@ label_plain (Some n) small =
       plain_word 97 (decimal n ++ 58 ∷ [])
           (list_all-append is_solid (label n) (58 ∷ []) ∙ rw (decimal_solid n small) refl)
           (ap (λ o. is_name t || is_word t || is_number t || is_some o) name
-          ∙ any_last (is_name t) (is_word t) (is_number t)),
+          ∙ or-true (is_name t || is_word t || is_number t)),
       tt,
     )
 

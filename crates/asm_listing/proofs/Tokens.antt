@@ -1,6 +1,7 @@
 -- Words with one space between them are read back as the tokens of their line, and lines with an LF
 -- behind each as the lines of their text.
 use Rattle.std.proofs.Common.{◌≡◌, ℕ, Bool, true, false, not, ◌&&◌, List, [], ◌∷◌, ◌++◌, length, refl, ap, sym, ◌∙◌, append_assoc, append-nil, arith}
+use Rattle.std.proofs.lemmas.Bool.{and_parts, not-true}
 use Rattle.std.specs.Prelude.{⊤, nat_eq, nat_lt, Option, None}
 use Rattle.std.specs.List.{list_all, position_or_len}
 use Rattle.std.proofs.lemmas.Bool.Decides.{nat_tests}
@@ -29,20 +30,12 @@ abbrev pub ArePlain : List (List ℕ) → Type 0
 ArePlain [] = ⊤
 ArePlain (word ∷ words) = IsPlain word × ArePlain words
 
-both : (a b : Bool) → (a && b) ≡ true → (a ≡ true) × (b ≡ true)
-both true b h = (refl, h)
-both false b h = cc
-
-off : (b : Bool) → not b ≡ true → b ≡ false
-off true h = cc
-off false h = refl
-
 -- what one test implies, of each element
 implied : (p q : ℕ → Bool) → ((b : ℕ) → p b ≡ true → q b ≡ true) → (bs : List ℕ)
     → list_all p bs ≡ true → list_all q bs ≡ true
 implied p q each [] h = refl
 implied p q each (b ∷ bs) h =
-    let parts = both (p b) (list_all p bs) h in
+    let parts = and_parts (p b) (list_all p bs) h in
     rw (each b parts.0) (implied p q each bs parts.1)
 
 -- a word without a blank is read on
@@ -50,8 +43,8 @@ parts_on : (held word rest : List ℕ) → list_all is_solid word ≡ true
     → parts_from held (word ++ rest) ≡ parts_from (held ++ word) rest
 parts_on held [] rest h = rw (append-nil held) refl
 parts_on held (b ∷ bs) rest h =
-    let parts = both (is_solid b) (list_all is_solid bs) h in
-    let solid = off (is_blank b) (both (is_clear b) (not (is_blank b)) parts.0).1 in
+    let parts = and_parts (is_solid b) (list_all is_solid bs) h in
+    let solid = not-true (is_blank b) (and_parts (is_clear b) (not (is_blank b)) parts.0).1 in
     let next : (held ++ b ∷ []) ++ bs ≡ held ++ b ∷ bs = append_assoc held (b ∷ []) bs in
     rw solid
     (parts_on (held ++ b ∷ []) bs rest parts.1
@@ -78,7 +71,7 @@ joined_parts (word ∷ words) h =
     ∙ ap (λ (ts : List (List ℕ)). ts ++ words) (closed_some word h.0.some)
 
 solid_clear : (b : ℕ) → is_solid b ≡ true → is_clear b ≡ true
-solid_clear b h = (both (is_clear b) (not (is_blank b)) h).0
+solid_clear b h = (and_parts (is_clear b) (not (is_blank b)) h).0
 
 word_clear : (word rest : List ℕ) → list_all is_solid word ≡ true → list_all is_clear rest ≡ true
     → list_all is_clear (word ++ rest) ≡ true
@@ -98,24 +91,24 @@ joined_clear (word ∷ words) h =
 
 clear_written : (b : ℕ) → is_clear b ≡ true → is_written b ≡ true
 clear_written b h =
-    (both (is_written b) (not (nat_eq b 59))
-    (both (is_written b && not (nat_eq b 59)) (not (nat_eq b 10)) h).0).0
+    (and_parts (is_written b) (not (nat_eq b 59))
+    (and_parts (is_written b && not (nat_eq b 59)) (not (nat_eq b 10)) h).0).0
 
 clear_code : (b : ℕ) → is_clear b ≡ true → nat_eq b 59 ≡ false
 clear_code b h =
-    off (nat_eq b 59) (both (is_written b) (not (nat_eq b 59))
-    (both (is_written b && not (nat_eq b 59)) (not (nat_eq b 10)) h).0).1
+    not-true (nat_eq b 59) (and_parts (is_written b) (not (nat_eq b 59))
+    (and_parts (is_written b && not (nat_eq b 59)) (not (nat_eq b 10)) h).0).1
 
 clear_same : (b : ℕ) → is_clear b ≡ true → nat_eq b 10 ≡ false
 clear_same b h =
-    off (nat_eq b 10) (both (is_written b && not (nat_eq b 59)) (not (nat_eq b 10)) h).1
+    not-true (nat_eq b 10) (and_parts (is_written b && not (nat_eq b 59)) (not (nat_eq b 10)) h).1
 
 -- no comment begins
 no_comment : (bs : List ℕ) → list_all is_clear bs ≡ true
     → position_or_len (λ b. nat_eq b 59) bs ≡ length bs
 no_comment [] h = refl
 no_comment (b ∷ bs) h =
-    let parts = both (is_clear b) (list_all is_clear bs) h in
+    let parts = and_parts (is_clear b) (list_all is_clear bs) h in
     let rest = no_comment bs parts.1 in
     rw (clear_code b parts.0) (omega (arith, rest))
 
@@ -145,7 +138,7 @@ lines_on : (held line rest : List ℕ) → list_all is_clear line ≡ true
     → lines_from held (line ++ rest) ≡ lines_from (held ++ line) rest
 lines_on held [] rest h = rw (append-nil held) refl
 lines_on held (b ∷ bs) rest h =
-    let parts = both (is_clear b) (list_all is_clear bs) h in
+    let parts = and_parts (is_clear b) (list_all is_clear bs) h in
     let next : (held ++ b ∷ []) ++ bs ≡ held ++ b ∷ bs = append_assoc held (b ∷ []) bs in
     rw (clear_same b parts.0)
     (lines_on (held ++ b ∷ []) bs rest parts.1

@@ -5,26 +5,6 @@ use Rattle.image.specs.declared.fault.ImageFault.{ImageFault}
 use Rattle.image.specs.declared.fault.ImageFault.TheVariants.{Magic, Truncated, Trailing, BadOpcode, OverLimit, Memory}
 use Rattle.image.specs.Reading.{◌>>=◌, Fails, Read, all_at}
 
--- a fault that was read is the answer's
-pub fails_is : {A : Type 0} (fault : ImageFault) (said : Result A ImageFault) → said ≡ Err fault
-    → Fails fault said
-fails_is Magic said e = e
-fails_is Truncated said e = e
-fails_is Trailing said e = e
-fails_is BadOpcode said e = e
-fails_is OverLimit said e = e
-fails_is Memory said e = tt
-
--- what fails makes what follows from it fail
-pub fails_then : {A B : Type 0} (fault : ImageFault) (said : Result A ImageFault)
-    (f : A → Result B ImageFault) → Fails fault said → Fails fault (said >>= f)
-fails_then Magic said f e = ap (λ r. r >>= f) e
-fails_then Truncated said f e = ap (λ r. r >>= f) e
-fails_then Trailing said f e = ap (λ r. r >>= f) e
-fails_then BadOpcode said f e = ap (λ r. r >>= f) e
-fails_then OverLimit said f e = ap (λ r. r >>= f) e
-fails_then Memory said f e = tt
-
 pub fails_as : {A B : Type 0} (fault : ImageFault) (said : Result A ImageFault)
     (other : Result B ImageFault) → ((f : ImageFault) → said ≡ Err f → other ≡ Err f)
     → Fails fault said → Fails fault other

@@ -144,10 +144,6 @@ status_inverse n a e =
 pub zero_test : (n : ℕ) → eqb n 0 ≡ true → n ≡ 0
 zero_test n e = eqb-true n 0 e
 
-pub both_true : (a b : Bool) → cond a b false ≡ true → (a ≡ true) × (b ≡ true)
-both_true true b e = (refl, e)
-both_true false b e = absurd cc
-
 -- ---- a number that was spelled is read again
 
 pub below_again : (count n : ℕ) → n < count → below count n ≡ Ok n

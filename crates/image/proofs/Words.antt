@@ -1,5 +1,6 @@
 -- The instruction that is read of a word is spelled by that word.
 use Rattle.std.proofs.Common.{◌≡◌, ℕ, ◌&&◌, ◌||◌, Bool, true, false, cond, nat_eq, Result, Ok, Err, refl, subst, ◌∙◌}
+use Rattle.std.proofs.lemmas.Bool.{and_parts}
 use Rattle.image.specs.declared.fault.ImageFault.{ImageFault}
 use Rattle.image.specs.declared.fault.ImageFault.TheVariants.{BadOpcode}
 use Rattle.image.specs.declared.reading.Counts.{Counts}
@@ -27,21 +28,17 @@ used_ok used wide w said a e = decided (leaves used wide w) said a e
     decided true said a e = (refl, e)
     decided false said a e = absurd cc
 
-all_true : (a b c d : Bool) → (a && b && c && d) ≡ true
-    → (a ≡ true) × (b ≡ true) × (c ≡ true) × (d ≡ true)
-all_true true true true true e = (refl, refl, refl, refl)
-all_true false b c d e = absurd cc
-all_true true false c d e = absurd cc
-all_true true true false d e = absurd cc
-all_true true true true false e = absurd cc
-
 -- what is unused is zero
 leaves_ok : (used : ℕ) (wide : Bool) (w : Word) → leaves used wide w ≡ true
     → (is_zero_from used 0 w.first ≡ true) × (is_zero_from used 1 w.second ≡ true)
     × (is_zero_from used 2 w.third ≡ true) × ((wide || nat_eq w.last 0) ≡ true)
 leaves_ok used wide w e =
-    all_true (is_zero_from used 0 w.first) (is_zero_from used 1 w.second)
-    (is_zero_from used 2 w.third) (wide || nat_eq w.last 0) e
+    let a = is_zero_from used 0 w.first in
+    let b = is_zero_from used 1 w.second in
+    let c = is_zero_from used 2 w.third in
+    let last = and_parts (a && b && c) (wide || nat_eq w.last 0) e in
+    let third = and_parts (a && b) c last.0 in
+    let both = and_parts a b third.0 in (both.0, both.1, third.1, last.1)
 
 none_leaves : (w : Word) → leaves 0 false w ≡ true → (w.first ≡ 0) × (w.second ≡ 0) × (w.third ≡ 0) × (w.last ≡ 0)
 none_leaves w e = let t = leaves_ok 0 false w e in (zero_test w.first t.0, zero_test w.second t.1, zero_test w.third t.2, zero_test w.last t.3)

@@ -1,6 +1,6 @@
 -- What a text lists is within the limits of a schedule.
-use Rattle.std.proofs.Common.{◌≡◌, ℕ, ◌+◌, ◌≤◌, nat_le, true, false, Bool, List, [], ◌∷◌, ◌++◌, length, replicate, Option, Some, None, Result, Ok, Err, IfOk, IfSome, ◌&&◌, bytes_eq, codes, refl, if◌then◌else◌, arith, length-append}
-use Rattle.std.proofs.lemmas.Bool.{and_parts, leb-true}
+use Rattle.std.proofs.Common.{◌≡◌, ℕ, ◌+◌, ◌≤◌, nat_le, true, Bool, List, [], ◌∷◌, ◌++◌, length, replicate, Option, Some, None, Result, Ok, Err, IfOk, IfSome, ◌&&◌, bytes_eq, codes, refl, if◌then◌else◌, arith, length-append}
+use Rattle.std.proofs.lemmas.Bool.{and_parts, leb-true, cond_both}
 use Rattle.std.proofs.lemmas.List.{length-replicate}
 use Rattle.model.specs.declared.event.Event.{Event}
 use Rattle.text.specs.Class.{is_number}
@@ -16,24 +16,20 @@ use Rattle.interleave.specs.declared.schedule.ScheduleFault.{ScheduleFault}
 use Rattle.interleave.specs.declared.schedule.ScheduleKind.{ScheduleKind}
 use Rattle.interleave.specs.declared.schedule.ScheduleKind.TheVariants.{UnknownWord, TooLong}
 
--- a fact of each branch
-if_some : {A : Type 0} (P : A → Type 0) (b : Bool) (a : A) → (b ≡ true → P a)
-    → IfSome (if b then Some a else None) P
-if_some P true a here = here refl
-if_some P false a here = tt
-
+-- a fact of a result, where the test holds
 if_ok : {A E : Type 0} (P : A → Type 0) (b : Bool) (r : Result A E) (e : E) → (b ≡ true → IfOk r P)
     → IfOk (if b then r else Err e) P
-if_ok P true r e here = here refl
-if_ok P false r e here = tt
+if_ok P b r e here = cond_both b r (Err e) (λ r. IfOk r P) here (λ other. tt)
 
 -- a number that was read is within its range
 within_bounds : (least most : ℕ) (n : Numeral)
     → IfSome (within least most n) (λ m. (least ≤ m) × (m ≤ most))
 within_bounds least most (Number n) =
-    if_some (λ m. (least ≤ m) × (m ≤ most)) (nat_le least n && nat_le n most) n
+    cond_both (nat_le least n && nat_le n most) (Some n) None
+    (λ o. IfSome o (λ m. (least ≤ m) × (m ≤ most)))
     (λ both. let parts = and_parts (nat_le least n) (nat_le n most) both
     in (leb-true least n parts.0, leb-true n most parts.1))
+    (λ other. tt)
 within_bounds least most TooLarge = tt
 within_bounds least most Other = tt
 

@@ -1,7 +1,7 @@
 -- One step of cutting, at an index of the text.
-use Rattle.std.proofs.Common.{◌≡◌, ◌≢◌, ℕ, ◌+◌, ◌-◌, ◌<◌, ◌≤◌, Bool, true, false, nat_eq, if◌then◌else◌, suc, List, [], ◌∷◌, ◌++◌, length, get_or, take, drop, refl, sym, arith, length-append, length-drop, length-take, get_or-drop}
+use Rattle.std.proofs.Common.{◌≡◌, ◌≢◌, ℕ, ◌+◌, ◌-◌, ◌<◌, ◌≤◌, Bool, true, false, nat_eq, suc, List, [], ◌∷◌, ◌++◌, length, get_or, take, drop, refl, sym, arith, length-append, length-drop, length-take, get_or-drop}
 use Rattle.std.proofs.lemmas.List.{drop_more, drop_all, take_all, take_more}
-use Rattle.std.proofs.lemmas.Bool.{ne_eqb}
+use Rattle.std.proofs.lemmas.Bool.{ne_eqb, cond_both}
 use Rattle.std.specs.Prelude.{Some, None, nat_lt}
 use Rattle.std.specs.List.{position_or_len}
 use Rattle.std.proofs.lemmas.Bool.Decides.{nat_tests}
@@ -48,32 +48,20 @@ pub line_end : (bytes : List ℕ) (i : ℕ) → length bytes ≤ i
 line_end bytes i ended = rw (take_all i bytes ended, drop_all i bytes ended) refl
 
 -- a text has no more lines than bytes
-one_of : (t : Bool) (a b : List (List ℕ)) (n : ℕ) → length a ≤ n → length b ≤ n
-    → length (if t then a else b) ≤ n
-one_of true a b n first second = first
-one_of false a b n first second = second
-
 few_from : (held bytes : List ℕ) → length (lines_from held bytes) ≤ length held + length bytes
 few_from [] [] = omega arith
 few_from (h ∷ held) [] = omega arith
 few_from held (b ∷ bs) =
     let cut = few_from [] bs in
     let on = few_from (held ++ b ∷ []) bs in
-    one_of (nat_eq b 10) (held ∷ lines_from [] bs) (lines_from (held ++ b ∷ []) bs)
-    (length held + length (b ∷ bs)) (omega (arith, cut))
-    (omega (arith, on, length-append held (b ∷ [])))
+    cond_both (nat_eq b 10) (held ∷ lines_from [] bs) (lines_from (held ++ b ∷ []) bs)
+    (λ lines. length lines ≤ length held + length (b ∷ bs)) (λ is. omega (arith, cut))
+    (λ other. omega (arith, on, length-append held (b ∷ [])))
 
 pub lines_few : (bytes : List ℕ) → length (lines_of bytes) ≤ length bytes
 lines_few bytes = let few = few_from [] bytes in omega (arith, few)
 
 -- what stands before a comment, byte by byte
-code_at : (b : ℕ) (bs : List ℕ) → b ≡ 59 → code_of (b ∷ bs) ≡ []
-code_at b bs is =
-    let none : position_or_len (λ b. nat_eq b 59) (b ∷ bs) ≡ 0 = rw is refl in
-    let some : nat_lt 0 (length (b ∷ bs)) ≡ true = grind (arith, nat_tests) in
-    let at : comment_at (b ∷ bs) ≡ Some 0 = rw (none, some) refl in
-    rw at refl
-
 code_by : (b : ℕ) (bs : List ℕ) (t : Bool) → nat_eq b 59 ≡ false
     → nat_lt (position_or_len (λ b. nat_eq b 59) bs) (length bs) ≡ t
     → code_of (b ∷ bs) ≡ b ∷ code_of bs
@@ -116,7 +104,7 @@ closed_some : (held : List ℕ) → 0 < length held → closed held ≡ held ∷
 closed_some [] h = let never : ⊥ = omega (arith, h) in absurd never
 closed_some (b ∷ bs) h = refl
 
--- a turn of the loop over a line that finds no token yet: at a blank, at a comment, at another byte
+-- a turn of the loop over a line that finds no token yet: at a blank, at another byte
 pub token_cut : (bytes : List ℕ) (s i : ℕ) (tokens : List (List ℕ)) → s < i → i < length bytes
     → is_blank (get_or bytes i 0) ≡ true
     → parts_from (held_at bytes s i) (code_of (drop i bytes)) ≡ tokens
@@ -138,14 +126,6 @@ token_none bytes i tokens inside blank before =
     let code = code_on b (drop (i + 1) bytes) (blank_is_code b blank) in
     let now = rw (drop_more bytes i 0 inside, code, blank) at held in
     rw (held_none bytes (i + 1)) now
-
-pub token_comment : (bytes : List ℕ) (s i : ℕ) (tokens : List (List ℕ)) → i < length bytes
-    → get_or bytes i 0 ≡ 59
-    → parts_from (held_at bytes s i) (code_of (drop i bytes)) ≡ tokens
-    → closed (held_at bytes s i) ≡ tokens
-token_comment bytes s i tokens inside comment before =
-    let code = code_at (get_or bytes i 0) (drop (i + 1) bytes) comment in
-    let now = rw (drop_more bytes i 0 inside, code) at before in now
 
 pub token_on : (bytes : List ℕ) (s i : ℕ) (tokens : List (List ℕ)) → s ≤ i → i < length bytes
     → is_blank (get_or bytes i 0) ≡ false → get_or bytes i 0 ≢ 59

@@ -1,9 +1,9 @@
 -- A line without a fault keeps what was read within the limits.
-use Rattle.std.proofs.Common.{◌≡◌, ℕ, ◌<◌, ◌≤◌, Bool, true, false, not, List, [], ◌∷◌, ◌++◌, length, Option, Some, None, get_or, refl, sym, ◌∙◌, ap, subst, arith, length-append, append-nil}
+use Rattle.std.proofs.Common.{◌≡◌, ℕ, ◌<◌, ◌≤◌, true, false, List, [], ◌∷◌, ◌++◌, length, Option, Some, None, get_or, refl, sym, ◌∙◌, ap, subst, arith, length-append, append-nil}
 use Rattle.std.specs.Prelude.{All, map, option_to_list, option_map}
 use Rattle.std.proofs.lemmas.List.Elements.{All-push, All-append, All-nil}
 use Rattle.std.proofs.lemmas.List.{length_push, map_push}
-use Rattle.std.proofs.lemmas.Bool.{ltb-true}
+use Rattle.std.proofs.lemmas.Bool.{ltb-true, not-false}
 use Rattle.model.specs.Sound.{DriverFits, DevicesFit, IsSpinLock, OperandFits, queue_named, IsSound}
 use Rattle.model.specs.declared.status.Major.{Major}
 use Rattle.model.specs.declared.status.Major.TheVariants.{Read, Write, Control}
@@ -21,7 +21,7 @@ use Rattle.asm_line.specs.declared.line.Body.TheVariants.{Blank, OpenDriver, Clo
 use Rattle.asm_line.specs.declared.line.Line.{Line}
 use Rattle.asm_line.specs.declared.line.UsedNames.{UsedNames}
 use Rattle.asm_line.specs.Line.{BodyFits, IsNoted, QueueNoted}
-use Rattle.asm.specs.Outline.{Outline, label_added, use_place, resolved, used_at, nothing_read, stands, is_out_of_range, is_stack_size, has_room, noted, finished_driver, missed, missed_in_driver, missed_queue, missed_routine, queue_added, earliest, driver_opened, driver_closed, handled, routine_opened, routine_closed, open_drivers, open_routines, open_sort, device_added, stepped, ClosedFits, IsFitting, IsOrderly, IsUse, QueueUsed}
+use Rattle.asm.specs.Outline.{Outline, label_added, use_place, resolved, used_at, stands, is_out_of_range, is_stack_size, has_room, noted, finished_driver, missed, missed_in_driver, missed_queue, missed_routine, queue_added, earliest, driver_opened, driver_closed, handled, routine_opened, routine_closed, open_drivers, open_routines, open_sort, device_added, stepped, ClosedFits, IsFitting, IsOrderly, IsUse, QueueUsed}
 use Rattle.asm.proofs.Fitting.{only_outside, only_in_driver, only_in_routine}
 use Rattle.asm.proofs.Added.{with_entries, added_step}
 use Rattle.asm.proofs.Orderly.Names.{neither, none_before}
@@ -344,10 +344,6 @@ stepped_orderly o n label instr used place room operand noting h =
           closed_stays old new (get_or o.routines i d) longer (h.routines_fit i d inside);
     }
 
-not_false : (b : Bool) → not b ≡ false → b ≡ true
-not_false true h = refl
-not_false false h = cc
-
 orderly_with : (o : Outline) (n : ℕ) (label : Option (List ℕ)) (body : Body)
     → stands o.place body ≡ true → is_out_of_range body ≡ false → has_room o body ≡ true
     → BodyFits body
@@ -373,7 +369,7 @@ orderly_with o n label (OpenRoutine name sort) place size room operand h =
 orderly_with o n label CloseRoutine place size room operand h = routine_closed_orderly o place h
 orderly_with o n label (AddDevice name driver stack lower) place size room operand h =
     device_added_orderly o name (record { line = n; name = driver }) stack (used_at n lower)
-    (not_false (is_stack_size stack) size) (ltb-true (length o.device_names) MAX_DEVICES room) h
+    (not-false (is_stack_size stack) size) (ltb-true (length o.device_names) MAX_DEVICES room) h
 orderly_with o n label (TakeStep (Some instr) used) place size room operand h =
     stepped_orderly o n label instr used place (ltb-true (length o.steps) MAX_INSTRUCTIONS room)
     operand.0 operand.1 h
@@ -397,24 +393,3 @@ sound o h closed known =
       drivers = h.drivers_fit known;
       devices = subst (λ (n : ℕ). DevicesFit n 0 o.devices) same devices.fit;
     }
-
-pub nothing_orderly : IsOrderly nothing_read
-nothing_orderly = record {
-  few_drivers = omega arith;
-  few_devices = omega arith;
-  few_routines = omega arith;
-  few_queues = omega arith;
-  few_steps = omega arith;
-  idle = λ none. refl;
-  positions_fit = All-nil (λ p. p < 0);
-  operands_fit = All-nil (λ (step : Step). OperandFits step.instr);
-  queues_used = All-nil (λ (step : Step). QueueUsed 0 step.instr step.queue);
-  guards_fit = All-nil GuardIs;
-  queue_count = refl;
-  driver_count = refl;
-  routine_count = refl;
-  sorts_known = refl;
-  drivers_fit = λ known. All-nil DriverFits;
-  devices_known = λ known. record { count = refl; fit = tt };
-  routines_fit = All-nil (ClosedFits 0);
-}
