@@ -13,8 +13,8 @@ use Rattle.model.specs.Trace.{Actor, Entry}
 use Rattle.model.specs.World.{Shared, packet_of}
 use Rattle.run_laws.specs.PastTells.{PastTells, TellsOfPacket}
 use Rattle.irql_locks.specs.Owns.{owns, owns_any, OwningTells, OwnsSome}
-use Rattle.checked.specs.declared.frame.Runner.{Runner}
-use Rattle.checked.specs.Step.{is_gone, is_held, is_armed, is_full, is_raised}
+use Rattle.checked_parts.specs.declared.ran.Runner.{Runner}
+use Rattle.checked_parts.specs.Left.{is_gone, is_held, is_armed, is_full, is_raised}
 
 -- who runs, of who acts
 abbrev pub runs : Actor → Runner

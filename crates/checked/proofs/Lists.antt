@@ -1,18 +1,11 @@
 -- Lists that are written, at a place or as a whole.
-use Rattle.std.proofs.Common.{◌≡◌, ◌<◌, ◌-◌, ℕ, zero, suc, List, [], ◌∷◌, ◌++◌, Some, length, take, get_or, ap, sym, ◌∙◌, refl, arith}
+use Rattle.std.proofs.Common.{◌≡◌, ◌<◌, ◌-◌, ℕ, List, [], ◌∷◌, ◌++◌, Some, length, take, get_or, ap, sym, ◌∙◌, refl, arith}
 use Rattle.std.specs.Prelude.{slice_get, slice_set}
 use Rattle.std.specs.List.{refill}
 use Rattle.std.proofs.Math.Seq.{take-append_seam}
 use Rattle.std.proofs.lemmas.List.{length_push}
 use Rattle.std.proofs.lemmas.Option.{slice_get-get_or}
 use Rattle.run_laws.proofs.Lists.{before_last, last_split}
-
--- what stands there, written there, changes nothing
-pub set_back : {A : Type 0} (xs : List A) (i : ℕ) (x : A) → slice_get xs i ≡ Some x
-    → slice_set xs i x ≡ xs
-set_back [] i x h = refl
-set_back (z ∷ xs) zero x h = let same : z ≡ x = cc in rw same refl
-set_back {A = A} (z ∷ xs) (suc i) x h = ap (λ (ys : List A). z ∷ ys) (set_back xs i x h)
 
 -- what is read at the last place
 pub found_last : {A : Type 0} (xs : List A) (i : ℕ) (x : A) → i ≡ length xs - 1 → i < length xs

@@ -13,9 +13,10 @@ use Rattle.model.specs.Set.{Set}
 use Rattle.model.specs.World.{Shared}
 use Rattle.model.specs.declared.event.Reply.TheVariants.{Stepped}
 use Rattle.model.specs.declared.status.Status.{Status}
-use Rattle.checked.specs.Step.{Left, Moved, stays, frame_now, moved_by, runner, thread_now}
-use Rattle.checked.specs.Frames.{told_frame}
-use Rattle.checked.proofs.Lists.{refill_all, set_back, set_last}
+use Rattle.checked.specs.Step.{Moved, moved_by, runner, thread_now, told_frame}
+use Rattle.checked_parts.specs.Left.{Left, stays, frame_now}
+use Rattle.checked.proofs.Lists.{refill_all, set_last}
+use Rattle.checked_parts.proofs.Lists.{set_back}
 use Rattle.run_laws.proofs.Lists.{before_last, last_of}
 
 -- a thread with frames has not finished, and keeps its level

@@ -1,3 +1,2 @@
-pub mod Frames
-pub mod Ran
+pub mod Instruction
 pub mod Step

@@ -2,12 +2,10 @@
 //! first bug check or wrong operand.
 #![tactic(auto)]
 
-mod activation;
 mod frame;
 mod local;
 pub mod machine;
 mod routine;
-mod shared;
 mod state;
 mod system;
 mod thread;

@@ -2,36 +2,15 @@
 
 ghost use Rattle.std.specs.Prelude.{◌≡◌, ◌<◌};
 ghost use Rattle.model.specs.declared.limits.TheConstants.{MAX_INSTRUCTIONS};
-ghost use Rattle.checked.specs.Ran.{LeavesShared};
+ghost use Rattle.checked.specs.Instruction.{LeavesShared};
 ghost use Rattle.model.specs.Effect.{number_effect, jump_effect, loop_effect, end_effect, sum_of, difference_of, is_zero_at, is_less_at};
-ghost use Rattle.model.specs.World.{next, at_label, with_register, innermost, number_in as number_in_of, status_in as status_in_of};
+ghost use Rattle.model.specs.World.{next, at_label, with_register, innermost};
 
-use crate::frame::{Ran, wrong_at};
+use checked_parts::{Ran, number_in, wrong_at};
 use driver_set::{Register, Turns};
 use model::event::Reply;
 use model::limits::MAX_LOOPS;
-use model::status::Status;
 use model::world::{Activation, OpenLoop, Value};
-
-/// The number that a value is.
-pub fn number_in(value: Value) -> Option<u64>
-    ensures { result ≡ number_in_of value }
-{
-    match value {
-        Value::Num(number) => Some(number),
-        _ => None,
-    }
-}
-
-/// The status that a value is.
-pub fn status_in(value: Value) -> Option<Status>
-    ensures { result ≡ status_in_of value }
-{
-    match value {
-        Value::Status(status) => Some(status),
-        _ => None,
-    }
-}
 
 /// The register becomes this value.
 pub fn set(r: Register, value: Value, a: &mut Activation) -> Ran

@@ -2,16 +2,16 @@
 
 ghost use Rattle.std.specs.Prelude.{◌≡◌, ◌<◌};
 ghost use Rattle.model.specs.declared.limits.TheConstants.{MAX_INSTRUCTIONS};
-ghost use Rattle.checked.specs.Ran.{left_of, instruction_now, LeavesOver};
-ghost use Rattle.checked.specs.Step.{frame_now};
+ghost use Rattle.checked.specs.Instruction.{instruction_now};
+ghost use Rattle.checked_parts.specs.Left.{frame_now};
+ghost use Rattle.checked_parts.specs.Ran.{left_of, LeavesOver};
 ghost use Rattle.model.specs.declared.world.Frame.TheVariants.{Routine as RoutineFrame};
 ghost use Rattle.model.specs.Effect.{return_effect, top_of};
 ghost use Rattle.model.specs.Set.{sort_of};
 
-use crate::frame::{Frame, Ran, Runner, wrong_at};
 use crate::local;
-use crate::shared::Shared;
-use crate::shared::locks::spin_lock;
+use checked_parts::shared::locks::spin_lock;
+use checked_parts::{Frame, Ran, Runner, Shared, status_in, wrong_at};
 use driver_set::{DriverSet, Instr, Return, Sort};
 use model::event::{Lock, Reply};
 use model::world::{Activation, Value};
@@ -24,7 +24,7 @@ fn leave(set: &DriverSet, shared: &mut Shared, below: &[Frame], a: &Activation, 
 {
     match (set.sort(a.driver, a.routine), form) {
         (Sort::Dispatch, Return::WithStatus(status)) => Ran::Returned(status),
-        (Sort::Dispatch, Return::Lower(r)) => match local::status_in(a.registers[r.index()]) {
+        (Sort::Dispatch, Return::Lower(r)) => match status_in(a.registers[r.index()]) {
             Some(status) => Ran::Returned(status),
             None => Ran::Stays(wrong_at(a)),
         },

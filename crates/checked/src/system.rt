@@ -7,10 +7,9 @@ ghost use Rattle.model.specs.Events.{cancel_on, irql_of};
 ghost use Rattle.model.specs.View.{due_at, packet_at, thread_at};
 ghost use Rattle.model.specs.World.{opening};
 
-use crate::activation::{driver_of, entered};
-use crate::frame::{Frame, cancelling};
-use crate::shared::Shared;
 use crate::thread::Thread;
+use checked_parts::activation::{driver_of, entered};
+use checked_parts::{Frame, Shared, cancelling};
 use driver_set::{Device, DriverSet};
 use model::event::{Event, Reply};
 use model::status::Major;

@@ -5,9 +5,9 @@ ghost use Rattle.checked.specs.Step.{thread_now};
 ghost use Rattle.model.specs.Effect.{told_to};
 ghost use Rattle.model.specs.Events.{is_idle, with_stack, finished_or};
 
-use crate::frame::{Frame, Ran, Runner};
-use crate::shared::Shared;
+use crate::frame;
 use arrayvec::ArrayVec;
+use checked_parts::{Frame, Ran, Runner, Shared};
 use driver_set::DriverSet;
 use model::event::Reply;
 use model::limits::MAX_FRAMES;
@@ -38,7 +38,7 @@ fn tell(set: &DriverSet, frames: &mut ArrayVec<Frame, MAX_FRAMES>, status: Statu
 {
     let top = frames.len().saturating_sub(1);
     if let Some(caller) = frames.get_mut(top) {
-        caller.tell(set, status);
+        frame::tell(caller, set, status);
     }
 }
 
@@ -124,7 +124,7 @@ impl Thread {
         let Some((top, below)) = self.frames.as_mut_slice().split_last_mut() else {
             return Reply::Idle;
         };
-        match top.step(set, shared, runner, below) {
+        match frame::step(top, set, shared, runner, below) {
             Ran::Stays(reply) => reply,
             Ran::Under(over) => {
                 self.frames.push(Frame::over(over));

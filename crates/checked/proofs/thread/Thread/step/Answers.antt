@@ -12,7 +12,7 @@ returns-in-Stays c =
     rw c.as_mut_slice.ensures.value at c.in-Some.ensures.cases in
     rw (← c.self.view_is)
     (moved_stays c.args.set.now c.args.shared.now c.args.number thread c.in-Some.below.now
-    c.in-Some.top.now split c.step.new.shared c.step.new.self c.in-Stays.reply
+    c.in-Some.top.now split c.step.new.shared c.step.new.frame c.in-Stays.reply
     c.in-Stays.ensures)
 
 pub returns-in-Under : goal.returns-in-Under
@@ -22,7 +22,7 @@ returns-in-Under c =
     rw c.as_mut_slice.ensures.value at c.in-Some.ensures.cases in
     rw (← c.self.view_is)
     (moved_under c.args.set.now c.args.shared.now c.args.number thread c.in-Some.below.now
-    c.in-Some.top.now split c.step.new.shared c.step.new.self c.over.result
+    c.in-Some.top.now split c.step.new.shared c.step.new.frame c.over.result
     c.push.new.self.items (rw (← c.over.ensures) at c.in-Under.ensures) c.push.ensures.items)
 
 pub returns-in-Becomes : goal.returns-in-Becomes
@@ -47,7 +47,7 @@ returns-in-Stopped c =
       c.pop-in-Stopped-2.ensures,
       c.pop-in-Stopped.ensures,
       popped c.args.set.now c.args.shared.now c.args.number thread c.in-Some.below.now
-          c.in-Some.top.now split c.step.new.self,
+          c.in-Some.top.now split c.step.new.frame,
     )
     (moved_stopped c.args.set.now c.args.shared.now c.args.number thread c.in-Some.below.now
     c.in-Some.top.now split c.step.new.shared c.in-Stopped.ensures)
@@ -63,7 +63,7 @@ returns-in-Gone c =
       c.finish.ensures.reply,
       c.pop.ensures,
       popped c.args.set.now c.args.shared.now c.args.number thread c.in-Some.below.now
-          c.in-Some.top.now split c.step.new.self,
+          c.in-Some.top.now split c.step.new.frame,
     )
     (moved_gone c.args.set.now c.args.shared.now c.args.number thread c.in-Some.below.now
     c.in-Some.top.now split c.step.new.shared c.in-Gone.reply None c.in-Gone.ensures)
@@ -76,7 +76,7 @@ returns-in-Returned c =
     let lower : c.self-in-Returned.inside.frames.items ≡ c.in-Some.below.now =
     ap (λ (t : Thread). t.frames.items) (c.self-in-Returned.view_is ∙ c.pop-in-Returned.ensures)
     ∙ popped c.args.set.now c.args.shared.now c.args.number thread c.in-Some.below.now
-    c.in-Some.top.now split c.step.new.self in
+    c.in-Some.top.now split c.step.new.frame in
     let root : c.self-in-Returned.inside.root ≡ c.self.inside.root =
     ap (λ (t : Thread). t.root) (c.self-in-Returned.view_is ∙ c.pop-in-Returned.ensures) in
     rw (

@@ -4,13 +4,13 @@ ghost use Rattle.std.specs.Prelude.{◌≡◌, ◌<◌};
 ghost use Rattle.model.specs.declared.limits.TheConstants.{MAX_INSTRUCTIONS};
 
 use super::Shared;
-use crate::frame::{Ran, packet_bug, wrong_at};
+use crate::ran::{Ran, packet_bug, wrong_at};
 use driver_set::Register;
 use model::event::{BugCheck, Reply};
 use model::world::{Activation, Value};
 
 impl Shared {
-    ghost use Rattle.checked.specs.Ran.{Leaves};
+    ghost use Rattle.checked_parts.specs.Ran.{Leaves};
     ghost use Rattle.model.specs.Effect.{start_effect, take_effect, begin_effect, next_effect};
     ghost use Rattle.model.specs.World.{packet_in, start_of, register};
 

@@ -3,12 +3,13 @@
 ghost use Rattle.std.specs.Prelude.{◌≡◌, ◌<◌, is_some, option_and_then};
 ghost use Rattle.model.specs.declared.limits.TheConstants.{MAX_INSTRUCTIONS};
 ghost use Rattle.model.specs.Effect.{top_of};
-ghost use Rattle.checked.specs.declared.frame.Runner.{Runner};
+ghost use Rattle.checked_parts.specs.declared.ran.Runner.{Runner};
 ghost use Rattle.model.specs.declared.world.Frame.TheVariants.{Walk as WalkFrame};
 
 use super::Shared;
 use crate::activation::{self, driver_of};
-use crate::frame::{Frame, Managing, Over, Ran, is_last, packet_bug, wrong_at};
+use crate::frame::{Frame, Managing, is_last};
+use crate::ran::{Over, Ran, packet_bug, wrong_at};
 use driver_set::{DriverSet, Register, Sort};
 use iomgr::WalkStep;
 use model::event::{BugCheck, Reply};
@@ -16,8 +17,8 @@ use model::status::Status;
 use model::world::{Activation, Completion};
 
 impl Shared {
-    ghost use Rattle.checked.specs.Ran.{left_of, LeavesOver};
-    ghost use Rattle.checked.specs.Step.{bounded, judged, frame_now};
+    ghost use Rattle.checked_parts.specs.Ran.{left_of, LeavesOver};
+    ghost use Rattle.checked_parts.specs.Left.{bounded, judged, frame_now};
     ghost use Rattle.iomgr.specs.Walk.{lent_if};
     ghost use Rattle.model.specs.Effect.{complete_effect, continued, let_on, stopped, sort_of_completion};
     ghost use Rattle.model.specs.World.{packet_in, packet_of, register, current_location, completion_of};

@@ -1,6 +1,6 @@
 use Rattle.std.proofs.Common.{◌≡◌, [], replicate}
 use Rattle.model.specs.declared.limits.TheConstants.{MAX_QUEUES}
-use Rattle.checked.proofs.shared.empty_queues.Given as goal
+use Rattle.checked_parts.proofs.shared.empty_queues.Given as goal
 
 abbrev pub invariant-loop-device : goal.invariant-loop-device
 invariant-loop-device l = l.queues.items ≡ replicate l._device (replicate MAX_QUEUES [])

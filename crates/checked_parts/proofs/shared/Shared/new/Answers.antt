@@ -1,5 +1,5 @@
 use Rattle.std.proofs.Common.{refl, rules}
-use Rattle.checked.proofs.shared.Shared.new.Goals as goal
+use Rattle.checked_parts.proofs.shared.Shared.new.Goals as goal
 
 pub returns : goal.returns
 returns c =

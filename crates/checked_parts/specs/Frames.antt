@@ -1,14 +1,11 @@
 -- The machine's frames, as the definitions see them.
 use Rattle.std.specs.Prelude.{ℕ, Option, None, Some}
-use Rattle.model.specs.declared.status.Status.{Status}
 use Rattle.model.specs.declared.world.Activation.{Activation}
 use Rattle.model.specs.declared.world.CancelStep.{CancelStep}
 use Rattle.model.specs.declared.world.Frame.{Frame}
 use Rattle.model.specs.declared.world.Frame.TheVariants.{Routine, Walk, Cancel}
-use Rattle.model.specs.Effect.{answered}
-use Rattle.model.specs.Set.{Set}
-use Rattle.checked.specs.declared.frame.Managing.{Managing}
-use Rattle.checked.specs.declared.frame.Managing.TheVariants.{Completes, Cancels}
+use Rattle.checked_parts.specs.declared.frame.Managing.{Managing}
+use Rattle.checked_parts.specs.declared.frame.Managing.TheVariants.{Completes, Cancels}
 
 -- the I/O manager's frame, of what it does
 abbrev pub manager_frame : Managing → Frame
@@ -24,14 +21,14 @@ shown None a = Routine a
 abbrev pub cancels_next : ℕ → CancelStep → Frame
 cancels_next n step = Cancel (record { packet = n; next = step })
 
+-- what the I/O manager does in a frame, where that is its
+abbrev pub manager_of : Frame → Option Managing
+manager_of (Walk n) = Some (Completes n)
+manager_of (Routine a) = None
+manager_of (Cancel c) = Some (Cancels c)
+
 -- the packet that a frame completes
 abbrev pub walked_packet : Frame → Option ℕ
 walked_packet (Walk n) = Some n
 walked_packet (Routine a) = None
 walked_packet (Cancel c) = None
-
--- a frame that is told a status
-abbrev pub told_frame : Set → Status → Frame → Frame
-told_frame set status (Walk n) = Walk n
-told_frame set status (Routine a) = Routine (answered set a status)
-told_frame set status (Cancel c) = Cancel c

@@ -6,12 +6,12 @@ use Rattle.model.specs.declared.world.Frame.{Frame}
 use Rattle.model.specs.declared.world.Frame.TheVariants.{Cancel}
 use Rattle.model.specs.Set.{Set}
 use Rattle.model.specs.World.{Shared}
-use Rattle.checked.specs.declared.frame.Ran.{Ran}
-use Rattle.checked.specs.declared.frame.Runner.{Runner}
-use Rattle.checked.specs.Frames.{cancels_next}
-use Rattle.checked.specs.Ran.{left_of}
-use Rattle.checked.specs.Step.{frame_now}
-use Rattle.checked.proofs.shared.Shared.cancel.Goals as goal
+use Rattle.checked_parts.specs.declared.ran.Ran.{Ran}
+use Rattle.checked_parts.specs.declared.ran.Runner.{Runner}
+use Rattle.checked_parts.specs.Frames.{cancels_next}
+use Rattle.checked_parts.specs.Ran.{left_of}
+use Rattle.checked_parts.specs.Left.{frame_now}
+use Rattle.checked_parts.proofs.shared.Shared.cancel.Goals as goal
 
 -- a step of a frame that does this next
 abbrev Steps : Set → Shared → Runner → Shared → Frame → Ran → List Frame → Type 0

@@ -7,17 +7,15 @@ use Rattle.model.specs.declared.world.Activation.{Activation}
 use Rattle.model.specs.declared.world.Frame.{Frame}
 use Rattle.model.specs.declared.world.Frame.TheVariants.{Routine}
 use Rattle.model.specs.declared.world.Value.TheVariants.{Ref}
-use Rattle.model.specs.declared.instr.Instr.{Instr}
-use Rattle.model.specs.Effect.{Outcome, instruction_effect, top_of}
-use Rattle.model.specs.Set.{Set}
+use Rattle.model.specs.Effect.{Outcome}
 use Rattle.model.specs.World.{Shared, entered}
-use Rattle.checked.specs.declared.frame.Over.{Over}
-use Rattle.checked.specs.declared.frame.Over.TheVariants.{Manager, Routine as RoutineOver}
-use Rattle.checked.specs.declared.frame.Ran.{Ran}
-use Rattle.checked.specs.declared.frame.Ran.TheVariants.{Stays, Under, Becomes, Gone, Stopped, Returned}
-use Rattle.checked.specs.declared.frame.Runner.{Runner}
-use Rattle.checked.specs.Frames.{manager_frame}
-use Rattle.checked.specs.Step.{Left, judged, bounded, stays}
+use Rattle.checked_parts.specs.declared.ran.Over.{Over}
+use Rattle.checked_parts.specs.declared.ran.Over.TheVariants.{Manager, Routine as RoutineOver}
+use Rattle.checked_parts.specs.declared.ran.Ran.{Ran}
+use Rattle.checked_parts.specs.declared.ran.Ran.TheVariants.{Stays, Under, Becomes, Gone, Stopped, Returned}
+use Rattle.checked_parts.specs.declared.ran.Runner.{Runner}
+use Rattle.checked_parts.specs.Frames.{manager_frame}
+use Rattle.checked_parts.specs.Left.{Left, judged, bounded, stays}
 
 -- a frame that is put over another, or into its place
 abbrev pub frame_over : Over → Frame
@@ -52,12 +50,6 @@ left_of s f Stopped =
 left_of s f (Returned status) =
     record { shared = s; frames = []; reply = Stepped; taken_below = false; told = Some status }
 
--- what an instruction of a thread's activation has to leave, over these frames
-abbrev pub instruction_now : Set → Shared → Runner → List Frame → Activation → Instr → Left
-instruction_now set s r below a i =
-    bounded below s (Routine a)
-    (judged s r (Routine a) (instruction_effect set s r.thread (top_of below) a i))
-
 -- an instruction with this outcome has left that, on a thread
 abbrev pub LeavesOn : Runner → Shared → Activation → Outcome → Shared → Activation → Ran → Type 0
 LeavesOn r s a o after b ran = left_of after (Routine b) ran ≡ judged s r (Routine a) o
@@ -65,10 +57,6 @@ LeavesOn r s a o after b ran = left_of after (Routine b) ran ≡ judged s r (Rou
 -- on any thread
 abbrev pub Leaves : Shared → Activation → Outcome → Shared → Activation → Ran → Type 0
 Leaves s a o after b ran = (r : Runner) → LeavesOn r s a o after b ran
-
--- on any thread, whatever is shared: that stays
-abbrev pub LeavesShared : Activation → (Shared → Outcome) → Activation → Ran → Type 0
-LeavesShared a o b ran = (s : Shared) → Leaves s a (o s) s b ran
 
 -- on any thread, over these frames
 abbrev pub LeavesOver : List Frame → Shared → Activation → Outcome → Shared → Activation → Ran

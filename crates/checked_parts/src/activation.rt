@@ -1,18 +1,18 @@
-//! Routines that begin, and what they are told.
+//! Routines that begin.
 
 ghost use Rattle.std.specs.Prelude.{◌≡◌, Some, option_map, slice_get};
-ghost use Rattle.checked.specs.Ran.{frame_over};
+ghost use Rattle.checked_parts.specs.Ran.{frame_over};
 ghost use Rattle.model.specs.declared.world.Frame.TheVariants.{Routine as RoutineFrame};
 ghost use Rattle.model.specs.declared.world.Value.TheVariants.{Ref};
 ghost use Rattle.model.specs.Set.{cancel_routine_named};
 ghost use Rattle.model.specs.World.{entered as entered_of};
-ghost use Rattle.model.specs.Effect.{serving_for as serving_for_of, dispatched as dispatched_of, completes_with, routine_of_device, operand_of, answered_in, answered};
+ghost use Rattle.model.specs.Effect.{serving_for as serving_for_of, dispatched as dispatched_of, completes_with, routine_of_device};
 
-use crate::frame::Over;
+use crate::ran::Over;
 use arrayvec::ArrayVec;
-use driver_set::{DriverSet, Instr};
+use driver_set::DriverSet;
 use model::limits::{DEFAULT_ROUTINE, REGISTERS};
-use model::status::{Major, Status};
+use model::status::Major;
 use model::world::{Activation, Armer, Completion, Value};
 
 /// A routine that begins, with what it is handed in its first register.
@@ -103,25 +103,4 @@ pub fn cancelled_by(set: &DriverSet, armer: Armer, packet: u64) -> Option<Over>
         device: armer.device,
         packet,
     })
-}
-
-/// The register of a `pass` or a `call` becomes the status that the lower driver returned.
-fn answer_to(instruction: Instr, a: &mut Activation, status: Status)
-    ensures { a.new ≡ answered_in a.old status (operand_of (Some instruction)) }
-{
-    match instruction {
-        Instr::Pass(r) => a.registers[r.index()] = Value::Status(status),
-        Instr::Call(r, _) => a.registers[r.index()] = Value::Status(status),
-        _ => {}
-    }
-}
-
-/// A routine that waits for a lower driver is told what that returned.
-pub fn answer(set: &DriverSet, a: &mut Activation, status: Status)
-    ensures { a.new ≡ answered set.now a.old status }
-{
-    let before = a.position.saturating_sub(1);
-    if let Some(instruction) = set.instruction(a.driver, a.routine, before) {
-        answer_to(instruction, a, status);
-    }
 }

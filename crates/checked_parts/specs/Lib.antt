@@ -1,0 +1,4 @@
+pub mod Frames
+pub mod Left
+pub mod Ran
+pub mod Lending
