@@ -85,7 +85,8 @@ step_back None i fits =
     ∙ ap (λ (o : Option Body). option_map unlabelled o)
     (instruction_back i fits.1)
 step_back (Some n) i fits =
-    ap (λ (o : Option (List ℕ)). line_with (words_of (line.Step (Some n) i)) o (instruction_words i))
+    ap (λ (o : Option (List ℕ)). line_with (words_of (line.Step (Some n) i)) o
+    (instruction_words i))
     (digits.label_back (label n) (named 97 n refl fits.0))
     ∙ ap (λ (o : Option Body). option_and_then (labelled (label n)) o) (instruction_back i fits.1)
 
@@ -100,17 +101,20 @@ words_back (line.Driver n) fits =
     (name_back 100 n [] start refl fits))
 words_back (line.Queue n q) fits =
     let cancel = optional routine q.cancel in
-    bodied _ _ (ap (λ (r : Reading (List ℕ)). then_read r (λ n rest. then_read (reads.spin_lock rest)
+    bodied _ _ (ap (λ (r : Reading (List ℕ)). then_read r
+    (λ n rest. then_read (reads.spin_lock rest)
     (λ lock rest. one (AddQueue n (if_in_range rest.in_range lock)) reads.optional_name rest)))
     (name_back 113 n (spin_lock q.guard ∷ cancel) start refl fits.0)
     ∙ ap (λ (r : Reading ℕ). then_read r
     (λ lock rest. one (AddQueue (queue n) (if_in_range rest.in_range lock)) reads.optional_name
     rest)) (spin_lock_back q.guard cancel start fits.1.0)
-    ∙ one_read (λ c. AddQueue (queue n) (Some q.guard) c) reads.optional_name (at cancel start) start
+    ∙ one_read (λ c. AddQueue (queue n) (Some q.guard) c) reads.optional_name
+    (at cancel start) start
     (option_map routine q.cancel) (optional_back 102 q.cancel start refl fits.1.1))
 words_back (line.Handler major n) fits =
     bodied _ _ (two_read Handle reads.major reads.name
-    (at (major_text major ∷ routine n ∷ []) start) (at (routine n ∷ []) start) start major (routine n)
+    (at (major_text major ∷ routine n ∷ []) start) (at (routine n ∷ []) start) start
+    major (routine n)
     (major_back major (routine n ∷ []) start) (name_back 102 n [] start refl fits))
 words_back (line.StartIo n) fits =
     bodied _ _ (one_read (λ n. HandleStartIo n) reads.name (at (routine n ∷ []) start) start

@@ -79,7 +79,8 @@ pub number_token : (n : ℕ) → IsSmall n → is_token (decimal n) ≡ true
 number_token n small =
     let plain = no_prefix (decimal n) (decimal_is_IsNumeral n small).0.1 in
     let number : is_number (decimal n) ≡ true = rw plain (is_decimal n small) in
-    rw number (or_left _ (is_some (label_name (decimal n))) (or-true (is_name (decimal n) || is_word (decimal n))))
+    rw number (or_left _ (is_some (label_name (decimal n)))
+    (or-true (is_name (decimal n) || is_word (decimal n))))
 
 -- a small letter and a number are a name
 pub named : (letter n : ℕ) → is_name_start letter ≡ true → IsSmall n

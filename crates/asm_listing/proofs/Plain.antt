@@ -134,19 +134,37 @@ returned_plain Void fits = (plain_word _ _ refl refl, tt)
 
 pub instruction_plain : (i : Instr) → InstrFits i → ArePlain (instruction_words i)
 instruction_plain (Const r n) small =
-    let fits = small.operands in (plain_word _ _ refl refl, (register_plain r fits.0, (constant_plain n fits.1, tt)))
+    let fits = small.operands in (
+      plain_word _ _ refl refl,
+      (register_plain r fits.0, (constant_plain n fits.1, tt)),
+    )
 instruction_plain (Move r s) small =
-    let fits = small.operands in (plain_word _ _ refl refl, (register_plain r fits.0, (register_plain s fits.1, tt)))
+    let fits = small.operands in (
+      plain_word _ _ refl refl,
+      (register_plain r fits.0, (register_plain s fits.1, tt)),
+    )
 instruction_plain (Clear r) small =
     let fits = small.operands in (plain_word _ _ refl refl, (register_plain r fits, tt))
 instruction_plain (Add r s) small =
-    let fits = small.operands in (plain_word _ _ refl refl, (register_plain r fits.0, (register_plain s fits.1, tt)))
+    let fits = small.operands in (
+      plain_word _ _ refl refl,
+      (register_plain r fits.0, (register_plain s fits.1, tt)),
+    )
 instruction_plain (Subtract r s) small =
-    let fits = small.operands in (plain_word _ _ refl refl, (register_plain r fits.0, (register_plain s fits.1, tt)))
+    let fits = small.operands in (
+      plain_word _ _ refl refl,
+      (register_plain r fits.0, (register_plain s fits.1, tt)),
+    )
 instruction_plain (JumpIfZero r to) small =
-    let fits = small.operands in (plain_word _ _ refl refl, (register_plain r fits, (target_plain to small.label, tt)))
+    let fits = small.operands in (
+      plain_word _ _ refl refl,
+      (register_plain r fits, (target_plain to small.label, tt)),
+    )
 instruction_plain (JumpIfLess r s to) small =
-    let fits = small.operands in (plain_word _ _ refl refl, (register_plain r fits.0, (register_plain s fits.1, (target_plain to small.label, tt))))
+    let fits = small.operands in (
+      plain_word _ _ refl refl,
+      (register_plain r fits.0, (register_plain s fits.1, (target_plain to small.label, tt))),
+    )
 instruction_plain (Jump to) small =
     (plain_word _ _ refl refl, (target_plain to small.label, tt))
 instruction_plain (Loop turns) small =
@@ -154,17 +172,35 @@ instruction_plain (Loop turns) small =
 instruction_plain End small =
     (plain_word _ _ refl refl, tt)
 instruction_plain (Load r n) small =
-    let fits = small.operands in (plain_word _ _ refl refl, (register_plain r fits.0, (cell_plain n fits.1, tt)))
+    let fits = small.operands in (
+      plain_word _ _ refl refl,
+      (register_plain r fits.0, (cell_plain n fits.1, tt)),
+    )
 instruction_plain (Store n r) small =
-    let fits = small.operands in (plain_word _ _ refl refl, (cell_plain n fits.0, (register_plain r fits.1, tt)))
+    let fits = small.operands in (
+      plain_word _ _ refl refl,
+      (cell_plain n fits.0, (register_plain r fits.1, tt)),
+    )
 instruction_plain (LoadPaged r n) small =
-    let fits = small.operands in (plain_word _ _ refl refl, (register_plain r fits.0, (paged_cell_plain n fits.1, tt)))
+    let fits = small.operands in (
+      plain_word _ _ refl refl,
+      (register_plain r fits.0, (paged_cell_plain n fits.1, tt)),
+    )
 instruction_plain (StorePaged n r) small =
-    let fits = small.operands in (plain_word _ _ refl refl, (paged_cell_plain n fits.0, (register_plain r fits.1, tt)))
+    let fits = small.operands in (
+      plain_word _ _ refl refl,
+      (paged_cell_plain n fits.0, (register_plain r fits.1, tt)),
+    )
 instruction_plain (Get r s f) small =
-    let fits = small.operands in (plain_word _ _ refl refl, (register_plain r fits.0, (register_plain s fits.1, (field_plain f, tt))))
+    let fits = small.operands in (
+      plain_word _ _ refl refl,
+      (register_plain r fits.0, (register_plain s fits.1, (field_plain f, tt))),
+    )
 instruction_plain (Put s r) small =
-    let fits = small.operands in (plain_word _ _ refl refl, (register_plain s fits.0, (register_plain r fits.1, tt)))
+    let fits = small.operands in (
+      plain_word _ _ refl refl,
+      (register_plain s fits.0, (register_plain r fits.1, tt)),
+    )
 instruction_plain (Mark r) small =
     let fits = small.operands in (plain_word _ _ refl refl, (register_plain r fits, tt))
 instruction_plain (Acquire l) small =
@@ -176,21 +212,42 @@ instruction_plain AcquireCancel small =
 instruction_plain ReleaseCancel small =
     (plain_word _ _ refl refl, tt)
 instruction_plain (Insert r q) small =
-    let fits = small.operands in (plain_word _ _ refl refl, (register_plain r fits, (queue_plain q small.queue, tt)))
+    let fits = small.operands in (
+      plain_word _ _ refl refl,
+      (register_plain r fits, (queue_plain q small.queue, tt)),
+    )
 instruction_plain (Remove r q to) small =
-    let fits = small.operands in (plain_word _ _ refl refl, (register_plain r fits, (queue_plain q small.queue, (target_plain to small.label, tt))))
+    let fits = small.operands in (
+      plain_word _ _ refl refl,
+      (register_plain r fits, (queue_plain q small.queue, (target_plain to small.label, tt))),
+    )
 instruction_plain (Unlink r q) small =
-    let fits = small.operands in (plain_word _ _ refl refl, (register_plain r fits, (queue_plain q small.queue, tt)))
+    let fits = small.operands in (
+      plain_word _ _ refl refl,
+      (register_plain r fits, (queue_plain q small.queue, tt)),
+    )
 instruction_plain (Arm r q) small =
-    let fits = small.operands in (plain_word _ _ refl refl, (register_plain r fits, (queue_plain q small.queue, tt)))
+    let fits = small.operands in (
+      plain_word _ _ refl refl,
+      (register_plain r fits, (queue_plain q small.queue, tt)),
+    )
 instruction_plain (Disarm r to) small =
-    let fits = small.operands in (plain_word _ _ refl refl, (register_plain r fits, (target_plain to small.label, tt)))
+    let fits = small.operands in (
+      plain_word _ _ refl refl,
+      (register_plain r fits, (target_plain to small.label, tt)),
+    )
 instruction_plain (IfCancel r to) small =
-    let fits = small.operands in (plain_word _ _ refl refl, (register_plain r fits, (target_plain to small.label, tt)))
+    let fits = small.operands in (
+      plain_word _ _ refl refl,
+      (register_plain r fits, (target_plain to small.label, tt)),
+    )
 instruction_plain (Start r) small =
     let fits = small.operands in (plain_word _ _ refl refl, (register_plain r fits, tt))
 instruction_plain (Take r to) small =
-    let fits = small.operands in (plain_word _ _ refl refl, (register_plain r fits, (target_plain to small.label, tt)))
+    let fits = small.operands in (
+      plain_word _ _ refl refl,
+      (register_plain r fits, (target_plain to small.label, tt)),
+    )
 instruction_plain (Begin r) small =
     let fits = small.operands in (plain_word _ _ refl refl, (register_plain r fits, tt))
 instruction_plain Next small =
@@ -198,10 +255,19 @@ instruction_plain Next small =
 instruction_plain (Pass r) small =
     let fits = small.operands in (plain_word _ _ refl refl, (register_plain r fits, tt))
 instruction_plain (Call r f) small =
-    let fits = small.operands in (plain_word _ _ refl refl, (register_plain r fits, called_plain f small.routine))
+    let fits = small.operands in (
+      plain_word _ _ refl refl,
+      (register_plain r fits, called_plain f small.routine),
+    )
 instruction_plain (Complete r s) small =
-    let fits = small.operands in (plain_word _ _ refl refl, (register_plain r fits, (status_plain s, tt)))
+    let fits = small.operands in (
+      plain_word _ _ refl refl,
+      (register_plain r fits, (status_plain s, tt)),
+    )
 instruction_plain (IfPending r to) small =
-    let fits = small.operands in (plain_word _ _ refl refl, (register_plain r fits, (target_plain to small.label, tt)))
+    let fits = small.operands in (
+      plain_word _ _ refl refl,
+      (register_plain r fits, (target_plain to small.label, tt)),
+    )
 instruction_plain (Ret form) small =
     let fits = small.operands in (plain_word _ _ refl refl, returned_plain form fits)

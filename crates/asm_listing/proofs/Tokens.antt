@@ -84,7 +84,8 @@ rest_clear [] h = refl
 rest_clear (word ∷ words) h =
     word_clear word (rest_joined words) h.0.solid (rest_clear words h.1)
 
-pub joined_clear : (words : List (List ℕ)) → ArePlain words → list_all is_clear (joined words) ≡ true
+pub joined_clear : (words : List (List ℕ)) → ArePlain words
+    → list_all is_clear (joined words) ≡ true
 joined_clear [] h = refl
 joined_clear (word ∷ words) h =
     word_clear word (rest_joined words) h.0.solid (rest_clear words h.1)

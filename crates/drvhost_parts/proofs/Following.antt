@@ -80,7 +80,8 @@ module _ {M : Type 0} (set_of : M → Set) (ShowsRun : M → ℕ → List Event 
     },
   )
 
-  -- a run that is followed: the lines that were added so far, and the replies that are still to come
+  -- a run that is followed: the lines that were added so far, and the replies that are still to
+  -- come
   pub record Followed (set : Set) (threads : ℕ) (all : List Reply) (m : M) (number : ℕ)
       (rest : List Event) (b n : Option (List ℕ)) (left : List ℕ) : Type 0 where
     pub text : List ℕ
@@ -91,7 +92,8 @@ module _ {M : Type 0} (set_of : M → Set) (ShowsRun : M → ℕ → List Event 
     pub adds : Adds b n [] left text
 
   pub followed_first : (m : M) (threads : ℕ) (events : List Event) (b : Option (List ℕ))
-      → ShowsRun m threads [] → Followed (set_of m) threads (replies (set_of m) (begun (set_of m) threads) events) m 0
+      → ShowsRun m threads [] → Followed (set_of m) threads
+      (replies (set_of m) (begun (set_of m) threads) events) m 0
       events b b []
   followed_first m threads events b shows =
       record {
@@ -122,7 +124,8 @@ module _ {M : Type 0} (set_of : M → Set) (ShowsRun : M → ℕ → List Event 
   -- one event more, with its line
   pub followed_next : (set : Set) (threads : ℕ) (all : List Reply) (m o : M) (number : ℕ)
       (upcoming rest : List Event) (e : Event) (b n : Option (List ℕ)) (l : List ℕ) (reply : Reply)
-      → Followed set threads all m number upcoming b n l → upcoming ≡ e ∷ rest → AppliesBy set_of ShowsRun m e o reply
+      → Followed set threads all m number upcoming b n l → upcoming ≡ e ∷ rest
+      → AppliesBy set_of ShowsRun m e o reply
       → is_last reply ≡ false
       → Followed set threads all o (number + 1) rest b n (l ++ reply_line number reply)
   followed_next set threads all m o number upcoming rest e b n l reply f next applies goes_on =
@@ -144,7 +147,8 @@ module _ {M : Type 0} (set_of : M → Set) (ShowsRun : M → ℕ → List Event 
   -- the last event
   pub followed_last : (set : Set) (threads : ℕ) (all : List Reply) (m o : M) (number : ℕ)
       (upcoming rest : List Event) (e : Event) (b n : Option (List ℕ)) (l : List ℕ) (reply : Reply)
-      → Followed set threads all m number upcoming b n l → upcoming ≡ e ∷ rest → AppliesBy set_of ShowsRun m e o reply
+      → Followed set threads all m number upcoming b n l → upcoming ≡ e ∷ rest
+      → AppliesBy set_of ShowsRun m e o reply
       → is_last reply ≡ true
       → Goes (IsTraceOfAll all) b n [] (l ++ reply_line number reply) (Ok Stopped)
   followed_last set threads all m o number upcoming rest e b n l reply f next applies ends =

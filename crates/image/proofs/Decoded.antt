@@ -46,7 +46,8 @@ is_read bytes set (Err fault) sound spells (inr said) =
 pub bytes_spell_one : BytesSpellOne
 bytes_spell_one bytes set other sound sound_too spells spells_too =
     let first : set_in bytes ≡ Ok set = ap set_in spells ∙ read_of_spelling set sound in
-    let second : set_in bytes ≡ Ok other = ap set_in spells_too ∙ read_of_spelling other sound_too in
+    let second : set_in bytes ≡ Ok other = ap set_in spells_too
+    ∙ read_of_spelling other sound_too in
     ok_is set other (sym first ∙ second)
 
 pub no_image_begins_another : NoImageBeginsAnother

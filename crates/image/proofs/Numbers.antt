@@ -46,7 +46,8 @@ row_is n k x y a e this other = decided (eqb n k) x y a e (λ t. this (eqb-true 
     decided false x y a e this other = other e
 
 -- a test that was passed
-pub passed : {A : Type 0} (b : Bool) (fault : ImageFault) (x y : A) → cond b (Ok x) (Err fault) ≡ Ok y
+pub passed : {A : Type 0} (b : Bool) (fault : ImageFault) (x y : A)
+    → cond b (Ok x) (Err fault) ≡ Ok y
     → (b ≡ true) × (x ≡ y)
 passed true fault x y e = (refl, ok_is x y e)
 passed false fault x y e = absurd cc

@@ -39,7 +39,11 @@ count_again : (n : ℕ) (rest : List ℕ) → n ≤ MAX_INSTRUCTIONS
     → count_at (to_le_bytes w16 n ++ rest) ≡ Ok (n, rest)
 count_again n rest few =
     rw (field_again 2 (to_le_bytes w16 n) rest refl)
-    (rw (from_le_bytes-to_le_bytes_2 n (omega (arith, few)), at_most_again MAX_INSTRUCTIONS n few) refl)
+    (rw (
+      from_le_bytes-to_le_bytes_2 n (omega (arith, few)),
+      at_most_again
+          MAX_INSTRUCTIONS n few,
+    ) refl)
 
 word_again : (w : Word) (rest : List ℕ) → w.last < 2 ^ 32
     → word_at (word_bytes w ++ rest) ≡ Ok (w, rest)
@@ -147,7 +151,8 @@ both_fit routines (queue ∷ queues) g c = ((g.0, c.0), both_fit routines queues
 
 -- ---- each thing is read again
 
-read_again : (counts : Counts) → counts.routines ≤ MAX_ROUTINES → counts.positions ≤ MAX_INSTRUCTIONS
+read_again : (counts : Counts) → counts.routines ≤ MAX_ROUTINES
+    → counts.positions ≤ MAX_INSTRUCTIONS
     → EachAgain (λ _. instruction_at counts) instruction_bytes (λ _. InRange counts)
 read_again counts few short number i rest h =
     rw (word_again (word_of i) rest (last_fits counts short i h))

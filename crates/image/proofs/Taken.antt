@@ -31,7 +31,8 @@ IsBytes-take : (n : ℕ) (bytes : List ℕ) → IsBytes bytes → IsBytes (take 
 IsBytes-take n bytes h i =
     elim (cases_lt i n) [
       | inl lt ↦ rw (get_or-take n bytes i 0 lt) (h i)
-      | inr le ↦ rw (get_or_past (take n bytes) i 0 (omega (arith, length-take n bytes))) (omega arith)
+      | inr le ↦ rw (get_or_past (take n bytes) i 0
+          (omega (arith, length-take n bytes))) (omega arith)
     ]
 
 IsBytes-rest : (b : ℕ) (bytes : List ℕ) → IsBytes (b ∷ bytes) → IsBytes bytes
@@ -51,7 +52,8 @@ then_takes a x b y c p q =
     }
 
 -- a field of one byte
-byte_takes : {A : Type 0} {reads : ℕ → Result A ImageFault} {by : A → ℕ} (inverse : IsInverse reads by)
+byte_takes : {A : Type 0} {reads : ℕ → Result A ImageFault} {by : A → ℕ}
+    (inverse : IsInverse reads by)
     (bytes : List ℕ) (x : A × List ℕ) → IsBytes bytes → byte_at reads bytes ≡ Ok x
     → Takes bytes (by x.0 ∷ []) x.1
 byte_takes inverse [] x fits e = absurd cc
@@ -100,13 +102,15 @@ count_takes bytes x fits e =
     (record { parts = field.parts ∙ ap (λ t. t ++ a.0.1) (sym back); behind = field.behind })
 
 -- a word is spelled by its bytes
-word_again : (field : List ℕ) → length field ≡ 8 → IsBytes field → word_bytes (word_in field) ≡ field
+word_again : (field : List ℕ) → length field ≡ 8 → IsBytes field
+    → word_bytes (word_in field) ≡ field
 word_again [] size fits = absurd cc
 word_again (a ∷ []) size fits = absurd cc
 word_again (a ∷ b ∷ []) size fits = absurd cc
 word_again (a ∷ b ∷ c ∷ []) size fits = absurd cc
 word_again (a ∷ b ∷ c ∷ d ∷ last) size fits =
-    let back = le_bytes_4 last (from_le_bytes w32 last) (omega arith) (λ i. fits (suc (suc (suc (suc i))))) refl in
+    let back = le_bytes_4 last (from_le_bytes w32 last) (omega arith)
+    (λ i. fits (suc (suc (suc (suc i))))) refl in
     ap (λ t. a ∷ b ∷ c ∷ d ∷ t) back
 
 word_takes : (bytes : List ℕ) (x : Word × List ℕ) → IsBytes bytes → word_at bytes ≡ Ok x
@@ -207,7 +211,8 @@ routine_rest routines queues sort bytes behind x front fits e =
     subst (λ y. Takes bytes (routine_bytes y.0) y.1) (ok_is _ x e_last)
     (record {
       parts = rw long (front ∙ ap (λ t. sort_number sort ∷ 0 ∷ t)
-          (back ∙ sym (append_assoc (to_le_bytes w16 c.0.0) (flat_map instruction_bytes code) rest)));
+          (back ∙ sym (append_assoc (to_le_bytes w16 c.0.0)
+          (flat_map instruction_bytes code) rest)));
       behind = last;
     }))
 
@@ -261,7 +266,8 @@ driver_rest : (routines queues : ℕ) (read write control startio dpc : Option �
 driver_rest routines queues read write control startio dpc bytes behind x front fits e =
     all_then (λ _. queue_at routines) queue_bytes (queue_takes routines) 0 queues behind _ x fits e
     (λ listed r0 p0 l0 f0 e0.
-    all_then (λ _. routine_at routines queues) routine_bytes (routine_takes routines queues) 0 routines r0 _ x f0 e0
+    all_then (λ _. routine_at routines queues) routine_bytes (routine_takes routines queues) 0
+    routines r0 _ x f0 e0
     (λ coded r1 p1 l1 f1 e1.
     let back : behind ≡ flat_map queue_bytes listed ++ (flat_map routine_bytes coded ++ r1) =
     p0 ∙ ap (λ t. flat_map queue_bytes listed ++ t) p1 in

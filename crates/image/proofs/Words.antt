@@ -40,14 +40,18 @@ leaves_ok used wide w e =
     let third = and_parts (a && b) c last.0 in
     let both = and_parts a b third.0 in (both.0, both.1, third.1, last.1)
 
-none_leaves : (w : Word) → leaves 0 false w ≡ true → (w.first ≡ 0) × (w.second ≡ 0) × (w.third ≡ 0) × (w.last ≡ 0)
-none_leaves w e = let t = leaves_ok 0 false w e in (zero_test w.first t.0, zero_test w.second t.1, zero_test w.third t.2, zero_test w.last t.3)
+none_leaves : (w : Word) → leaves 0 false w ≡ true
+    → (w.first ≡ 0) × (w.second ≡ 0) × (w.third ≡ 0) × (w.last ≡ 0)
+none_leaves w e = let t = leaves_ok 0 false w e in
+    (zero_test w.first t.0, zero_test w.second t.1, zero_test w.third t.2, zero_test w.last t.3)
 
 last_leaves : (w : Word) → leaves 0 true w ≡ true → (w.first ≡ 0) × (w.second ≡ 0) × (w.third ≡ 0)
-last_leaves w e = let t = leaves_ok 0 true w e in (zero_test w.first t.0, zero_test w.second t.1, zero_test w.third t.2)
+last_leaves w e = let t = leaves_ok 0 true w e in
+    (zero_test w.first t.0, zero_test w.second t.1, zero_test w.third t.2)
 
 first_leaves : (w : Word) → leaves 1 false w ≡ true → (w.second ≡ 0) × (w.third ≡ 0) × (w.last ≡ 0)
-first_leaves w e = let t = leaves_ok 1 false w e in (zero_test w.second t.1, zero_test w.third t.2, zero_test w.last t.3)
+first_leaves w e = let t = leaves_ok 1 false w e in
+    (zero_test w.second t.1, zero_test w.third t.2, zero_test w.last t.3)
 
 wide_leaves : (w : Word) → leaves 1 true w ≡ true → (w.second ≡ 0) × (w.third ≡ 0)
 wide_leaves w e = let t = leaves_ok 1 true w e in (zero_test w.second t.1, zero_test w.third t.2)
@@ -71,7 +75,8 @@ none_row instr number w i spelled is e =
     subst (λ x. word_of x ≡ w) (ok_is instr i u.1)
     (spelled ∙ word_is w number 0 0 0 0 is z.0 z.1 z.2 z.3)
 
-first_row : {A : Type 0} {reads : ℕ → Result A ImageFault} {by : A → ℕ} (inverse : IsInverse reads by)
+first_row : {A : Type 0} {reads : ℕ → Result A ImageFault} {by : A → ℕ}
+    (inverse : IsInverse reads by)
     (make : A → Instr) (number : ℕ) (w : Word) (i : Instr)
     → ((a : A) → word_of (make a) ≡ word number (by a) 0 0 0) → w.number ≡ number
     → using 1 false w (one make (reads w.first)) ≡ Ok i → word_of i ≡ w
@@ -82,7 +87,8 @@ first_row {A} {reads} {by} inverse make number w i spelled is e =
     subst (λ x. word_of x ≡ w) a.2
     (spelled a.0 ∙ word_is w number (by a.0) 0 0 0 is (inverse w.first a.0 a.1) z.0 z.1 z.2)
 
-last_row : {A : Type 0} {reads : ℕ → Result A ImageFault} {by : A → ℕ} (inverse : IsInverse reads by)
+last_row : {A : Type 0} {reads : ℕ → Result A ImageFault} {by : A → ℕ}
+    (inverse : IsInverse reads by)
     (make : A → Instr) (number : ℕ) (w : Word) (i : Instr)
     → ((a : A) → word_of (make a) ≡ word number 0 0 0 (by a)) → w.number ≡ number
     → using 0 true w (one make (reads w.last)) ≡ Ok i → word_of i ≡ w
@@ -102,7 +108,8 @@ const_row w i is e =
     subst (λ x. word_of x ≡ w) a.2
     (word_is w 1 a.0 0 0 w.last is (below_inverse REGISTERS w.first a.0 a.1) z.0 z.1 refl)
 
-two_ok : {A B X : Type 0} (f : A → B → X) (r : Result A ImageFault) (s : Result B ImageFault) (x : X)
+two_ok : {A B X : Type 0} (f : A → B → X) (r : Result A ImageFault)
+    (s : Result B ImageFault) (x : X)
     → two f r s ≡ Ok x → (a : A) × (b : B) × (r ≡ Ok a) × (s ≡ Ok b) × (f a b ≡ x)
 two_ok f r s x e =
     let a = bind_ok r (λ a. one (f a) s) x e in
@@ -131,7 +138,8 @@ wide_row : {A B : Type 0} {reads : ℕ → Result A ImageFault} {by : A → ℕ}
     → ((a : A) (b : B) → word_of (make a b) ≡ word number (by a) 0 0 (by_too b))
     → w.number ≡ number
     → using 1 true w (two make (reads w.first) (reads_too w.last)) ≡ Ok i → word_of i ≡ w
-wide_row {A} {B} {reads} {by} {reads_too} {by_too} inverse inverse_too make number w i spelled is e =
+wide_row {A} {B} {reads} {by} {reads_too} {by_too} inverse inverse_too make number w
+    i spelled is e =
     let u = used_ok 1 true w (two make (reads w.first) (reads_too w.last)) i e in
     let z = wide_leaves w u.0 in
     let a = two_ok make (reads w.first) (reads_too w.last) i u.1 in
@@ -157,7 +165,8 @@ two_wide_row : {A B C : Type 0} {reads : ℕ → Result A ImageFault} {by : A �
     → w.number ≡ number
     → using 2 true w (three make (reads w.first) (reads_too w.second) (reads_last w.last)) ≡ Ok i
     → word_of i ≡ w
-two_wide_row {A} {B} {C} {reads} {by} {reads_too} {by_too} {reads_last} {by_last} inverse inverse_too
+two_wide_row {A} {B} {C} {reads} {by} {reads_too} {by_too} {reads_last} {by_last}
+    inverse inverse_too
     inverse_last make number w i spelled is e =
     let u = used_ok 2 true w
     (three make (reads w.first) (reads_too w.second) (reads_last w.last)) i e in
@@ -188,7 +197,8 @@ three_row {A} {B} {C} {reads} {by} {reads_too} {by_too} {reads_last} {by_last} i
     (inverse w.first a.0 a.3) (inverse_too w.second a.1 a.4) (inverse_last w.third a.2 a.5) z)
 
 -- `ret` in one of its forms, with an operand and without
-operand_row : {A : Type 0} {reads : ℕ → Result A ImageFault} {by : A → ℕ} (inverse : IsInverse reads by)
+operand_row : {A : Type 0} {reads : ℕ → Result A ImageFault} {by : A → ℕ}
+    (inverse : IsInverse reads by)
     (make : A → Instr) (form : ℕ) (w : Word) (i : Instr)
     → ((a : A) → word_of (make a) ≡ word 36 form (by a) 0 0) → w.number ≡ 36 → w.first ≡ form
     → using 2 false w (one make (reads w.second)) ≡ Ok i → word_of i ≡ w
@@ -210,10 +220,12 @@ bare_row instr form w i spelled is formed e =
 returned_takes : (w : Word) (i : Instr) → w.number ≡ 36 → returned w ≡ Ok i → word_of i ≡ w
 returned_takes w i is e =
     row_is w.first 0 _ _ i e
-    (λ form said. operand_row status_inverse (λ s. Ret (WithStatus s)) 0 w i (λ a. refl) is form said)
+    (λ form said. operand_row status_inverse (λ s. Ret (WithStatus s)) 0 w i
+    (λ a. refl) is form said)
     (λ e1.
     row_is w.first 1 _ _ i e1
-    (λ form said. operand_row (below_inverse REGISTERS) (λ r. Ret (Lower r)) 1 w i (λ a. refl) is form
+    (λ form said. operand_row (below_inverse REGISTERS) (λ r. Ret (Lower r)) 1 w i
+    (λ a. refl) is form
     said)
     (λ e2.
     row_is w.first 2 _ _ i e2 (λ form said. bare_row (Ret Continue) 2 w i refl is form said)
@@ -223,16 +235,19 @@ returned_takes w i is e =
     row_is w.first 4 _ _ i e4 (λ form said. bare_row (Ret Void) 4 w i refl is form said)
     (λ e5. absurd cc)))))
 
-packets_takes : (counts : Counts) (w : Word) (i : Instr) → on_packets counts w ≡ Ok i → word_of i ≡ w
+packets_takes : (counts : Counts) (w : Word) (i : Instr) → on_packets counts w ≡ Ok i
+    → word_of i ≡ w
 packets_takes counts w i e =
     row_is w.number 27 _ _ i e
-    (λ is said. wide_row (below_inverse REGISTERS) (below_inverse counts.positions) IfCancel 27 w i (λ a b. refl) is said)
+    (λ is said. wide_row (below_inverse REGISTERS) (below_inverse counts.positions) IfCancel 27 w i
+    (λ a b. refl) is said)
     (λ e27.
     row_is w.number 28 _ _ i e27
     (λ is said. first_row (below_inverse REGISTERS) Start 28 w i (λ a. refl) is said)
     (λ e28.
     row_is w.number 29 _ _ i e28
-    (λ is said. wide_row (below_inverse REGISTERS) (below_inverse counts.positions) Take 29 w i (λ a b. refl) is said)
+    (λ is said. wide_row (below_inverse REGISTERS) (below_inverse counts.positions) Take 29 w i
+    (λ a b. refl) is said)
     (λ e29.
     row_is w.number 30 _ _ i e29
     (λ is said. first_row (below_inverse REGISTERS) Begin 30 w i (λ a. refl) is said)
@@ -244,13 +259,16 @@ packets_takes counts w i e =
     (λ is said. first_row (below_inverse REGISTERS) Pass 32 w i (λ a. refl) is said)
     (λ e32.
     row_is w.number 33 _ _ i e32
-    (λ is said. two_row (below_inverse REGISTERS) (none_or_below_inverse counts.routines) Call 33 w i (λ a b. refl) is said)
+    (λ is said. two_row (below_inverse REGISTERS) (none_or_below_inverse counts.routines) Call 33 w
+    i (λ a b. refl) is said)
     (λ e33.
     row_is w.number 34 _ _ i e33
-    (λ is said. two_row (below_inverse REGISTERS) status_inverse Complete 34 w i (λ a b. refl) is said)
+    (λ is said. two_row (below_inverse REGISTERS) status_inverse Complete 34 w i
+    (λ a b. refl) is said)
     (λ e34.
     row_is w.number 35 _ _ i e34
-    (λ is said. wide_row (below_inverse REGISTERS) (below_inverse counts.positions) IfPending 35 w i (λ a b. refl) is said)
+    (λ is said. wide_row (below_inverse REGISTERS) (below_inverse counts.positions) IfPending 35 w
+    i (λ a b. refl) is said)
     (λ e35.
     row_is w.number 36 _ _ i e35
     (λ is said. returned_takes w i is said)
@@ -271,19 +289,24 @@ queues_takes counts w i e =
     (λ is said. none_row ReleaseCancel 21 w i refl is said)
     (λ e21.
     row_is w.number 22 _ _ i e21
-    (λ is said. two_row (below_inverse REGISTERS) (below_inverse counts.queues) Insert 22 w i (λ a b. refl) is said)
+    (λ is said. two_row (below_inverse REGISTERS) (below_inverse counts.queues) Insert 22 w i
+    (λ a b. refl) is said)
     (λ e22.
     row_is w.number 23 _ _ i e22
-    (λ is said. two_wide_row (below_inverse REGISTERS) (below_inverse counts.queues) (below_inverse counts.positions) Remove 23 w i (λ a b c. refl) is said)
+    (λ is said. two_wide_row (below_inverse REGISTERS) (below_inverse counts.queues)
+    (below_inverse counts.positions) Remove 23 w i (λ a b c. refl) is said)
     (λ e23.
     row_is w.number 24 _ _ i e23
-    (λ is said. two_row (below_inverse REGISTERS) (below_inverse counts.queues) Unlink 24 w i (λ a b. refl) is said)
+    (λ is said. two_row (below_inverse REGISTERS) (below_inverse counts.queues) Unlink 24 w i
+    (λ a b. refl) is said)
     (λ e24.
     row_is w.number 25 _ _ i e24
-    (λ is said. two_row (below_inverse REGISTERS) (below_inverse counts.queues) Arm 25 w i (λ a b. refl) is said)
+    (λ is said. two_row (below_inverse REGISTERS) (below_inverse counts.queues) Arm 25 w i
+    (λ a b. refl) is said)
     (λ e25.
     row_is w.number 26 _ _ i e25
-    (λ is said. wide_row (below_inverse REGISTERS) (below_inverse counts.positions) Disarm 26 w i (λ a b. refl) is said)
+    (λ is said. wide_row (below_inverse REGISTERS) (below_inverse counts.positions) Disarm 26 w i
+    (λ a b. refl) is said)
     (λ e26.
     packets_takes counts w i e26)))))))))
 
@@ -293,50 +316,62 @@ cells_takes counts w i e =
     (λ is said. none_row End 10 w i refl is said)
     (λ e10.
     row_is w.number 11 _ _ i e10
-    (λ is said. two_row (below_inverse REGISTERS) (below_inverse CELLS) Load 11 w i (λ a b. refl) is said)
+    (λ is said. two_row (below_inverse REGISTERS) (below_inverse CELLS) Load 11 w i
+    (λ a b. refl) is said)
     (λ e11.
     row_is w.number 12 _ _ i e11
-    (λ is said. two_row (below_inverse CELLS) (below_inverse REGISTERS) Store 12 w i (λ a b. refl) is said)
+    (λ is said. two_row (below_inverse CELLS) (below_inverse REGISTERS) Store 12 w i
+    (λ a b. refl) is said)
     (λ e12.
     row_is w.number 13 _ _ i e12
-    (λ is said. two_row (below_inverse REGISTERS) (below_inverse CELLS) LoadPaged 13 w i (λ a b. refl) is said)
+    (λ is said. two_row (below_inverse REGISTERS) (below_inverse CELLS) LoadPaged 13 w i
+    (λ a b. refl) is said)
     (λ e13.
     row_is w.number 14 _ _ i e13
-    (λ is said. two_row (below_inverse CELLS) (below_inverse REGISTERS) StorePaged 14 w i (λ a b. refl) is said)
+    (λ is said. two_row (below_inverse CELLS) (below_inverse REGISTERS) StorePaged 14 w i
+    (λ a b. refl) is said)
     (λ e14.
     row_is w.number 15 _ _ i e14
-    (λ is said. three_row (below_inverse REGISTERS) (below_inverse REGISTERS) field_inverse Get 15 w i (λ a b c. refl) is said)
+    (λ is said. three_row (below_inverse REGISTERS) (below_inverse REGISTERS) field_inverse Get 15
+    w i (λ a b c. refl) is said)
     (λ e15.
     row_is w.number 16 _ _ i e15
-    (λ is said. two_row (below_inverse REGISTERS) (below_inverse REGISTERS) Put 16 w i (λ a b. refl) is said)
+    (λ is said. two_row (below_inverse REGISTERS) (below_inverse REGISTERS) Put 16 w i
+    (λ a b. refl) is said)
     (λ e16.
     row_is w.number 17 _ _ i e16
     (λ is said. first_row (below_inverse REGISTERS) Mark 17 w i (λ a. refl) is said)
     (λ e17.
     queues_takes counts w i e17))))))))
 
-pub instruction_takes : (counts : Counts) (w : Word) (i : Instr) → instruction_in counts w ≡ Ok i → word_of i ≡ w
+pub instruction_takes : (counts : Counts) (w : Word) (i : Instr) → instruction_in counts w ≡ Ok i
+    → word_of i ≡ w
 instruction_takes counts w i e =
     row_is w.number 1 _ _ i e
     (λ is said. const_row w i is said)
     (λ e1.
     row_is w.number 2 _ _ i e1
-    (λ is said. two_row (below_inverse REGISTERS) (below_inverse REGISTERS) Move 2 w i (λ a b. refl) is said)
+    (λ is said. two_row (below_inverse REGISTERS) (below_inverse REGISTERS) Move 2 w i
+    (λ a b. refl) is said)
     (λ e2.
     row_is w.number 3 _ _ i e2
     (λ is said. first_row (below_inverse REGISTERS) Clear 3 w i (λ a. refl) is said)
     (λ e3.
     row_is w.number 4 _ _ i e3
-    (λ is said. two_row (below_inverse REGISTERS) (below_inverse REGISTERS) Add 4 w i (λ a b. refl) is said)
+    (λ is said. two_row (below_inverse REGISTERS) (below_inverse REGISTERS) Add 4 w i
+    (λ a b. refl) is said)
     (λ e4.
     row_is w.number 5 _ _ i e4
-    (λ is said. two_row (below_inverse REGISTERS) (below_inverse REGISTERS) Subtract 5 w i (λ a b. refl) is said)
+    (λ is said. two_row (below_inverse REGISTERS) (below_inverse REGISTERS) Subtract 5 w i
+    (λ a b. refl) is said)
     (λ e5.
     row_is w.number 6 _ _ i e5
-    (λ is said. wide_row (below_inverse REGISTERS) (below_inverse counts.positions) JumpIfZero 6 w i (λ a b. refl) is said)
+    (λ is said. wide_row (below_inverse REGISTERS) (below_inverse counts.positions) JumpIfZero 6 w
+    i (λ a b. refl) is said)
     (λ e6.
     row_is w.number 7 _ _ i e6
-    (λ is said. two_wide_row (below_inverse REGISTERS) (below_inverse REGISTERS) (below_inverse counts.positions) JumpIfLess 7 w i (λ a b c. refl) is said)
+    (λ is said. two_wide_row (below_inverse REGISTERS) (below_inverse REGISTERS)
+    (below_inverse counts.positions) JumpIfLess 7 w i (λ a b c. refl) is said)
     (λ e7.
     row_is w.number 8 _ _ i e7
     (λ is said. last_row (below_inverse counts.positions) Jump 8 w i (λ a. refl) is said)

@@ -28,7 +28,8 @@ use Rattle.model.specs.Sound.{IsSound}
 
 -- one thing, and then what follows from it, up to the first fault
 infixl 10 ◌>>=◌
-abbrev pub ◌>>=◌ : {A B : Type 0} → Result A ImageFault → (A → Result B ImageFault) → Result B ImageFault
+abbrev pub ◌>>=◌ : {A B : Type 0} → Result A ImageFault → (A → Result B ImageFault)
+    → Result B ImageFault
 (Ok x) >>= f = f x
 (Err fault) >>= f = Err fault
 

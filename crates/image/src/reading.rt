@@ -474,7 +474,8 @@ fn code_of<'a>(
     counts: &Counts,
     bytes: &'a [u8],
 ) -> Result<(Items<Instr>, &'a [u8]), ImageFault>
-    ensures { Gives (λ x. (x.0, x.1.now)) result (all_at (λ _. instruction_at counts.now) 0 counts.now.positions bytes.now) }
+    ensures { Gives (λ x. (x.0, x.1.now)) result
+        (all_at (λ _. instruction_at counts.now) 0 counts.now.positions bytes.now) }
 {
     let mut all = Vec::new(alloc);
     let mut rest = bytes;
@@ -496,7 +497,8 @@ fn queues_of(
     count: u8,
     bytes: &[u8],
 ) -> Result<(Items<Queue>, &[u8]), ImageFault>
-    ensures { Gives (λ x. (x.0, x.1.now)) result (all_at (λ _. queue_at routines) 0 count bytes.now) }
+    ensures { Gives (λ x. (x.0, x.1.now)) result
+        (all_at (λ _. queue_at routines) 0 count bytes.now) }
 {
     let mut all = Vec::new(alloc);
     let mut rest = bytes;
@@ -540,7 +542,8 @@ fn routines_of(
     queues: u8,
     bytes: &[u8],
 ) -> Result<(Items<Routine>, &[u8]), ImageFault>
-    ensures { Gives (λ x. (x.0, x.1.now)) result (all_at (λ _. routine_at routines queues) 0 routines bytes.now) }
+    ensures { Gives (λ x. (x.0, x.1.now)) result
+        (all_at (λ _. routine_at routines queues) 0 routines bytes.now) }
 {
     let mut all = Vec::new(alloc);
     let mut rest = bytes;
@@ -606,7 +609,8 @@ fn devices_of(
     count: u8,
     bytes: &[u8],
 ) -> Result<(Vec<Device>, &[u8]), ImageFault>
-    ensures { Gives (λ x. (x.0.items, x.1.now)) result (all_at (device_at drivers) 0 count bytes.now) }
+    ensures { Gives (λ x. (x.0.items, x.1.now)) result
+        (all_at (device_at drivers) 0 count bytes.now) }
 {
     let mut all = Vec::new(alloc);
     let mut rest = bytes;

@@ -1,6 +1,6 @@
--- What a step of a thread's top frame does: the shared part of the world and the frames after it, the
--- actions that make it up, and the reply. It tells what is idle, waited for or wrong. It looks for no
--- bug check: those are found from the actions (the module Fault).
+-- What a step of a thread's top frame does: the shared part of the world and the frames after it,
+-- the actions that make it up, and the reply. It tells what is idle, waited for or wrong. It looks
+-- for no bug check: those are found from the actions (the module Fault).
 use Rattle.std.specs.Prelude.{ℕ, ◌+◌, ◌-◌, ◌%◌, ◌^◌, not, is_none, option_and_then, option_map, slice_index_or, Bool, true, false, List, [], ◌∷◌, ◌++◌, length, Option, None, Some, nat_eq, nat_lt, take, slice_get, slice_set, if◌then◌else◌}
 use Rattle.model.specs.declared.world.Activation.{Activation}
 use Rattle.model.specs.declared.world.Frame.{Frame}
@@ -585,9 +585,9 @@ walk_packet set s n (Some p) =
     walk_from set s n (left_location p) (completion_of (current_location p))
 
 -- a step of the I/O manager, which cancels a packet (Driver Kit, IoCancelIrp): it acquires the
--- system cancel spin lock; sets the packet's cancel flag; and exchanges its cancel routine with none.
--- Where one was set, that runs in its place with the lock held; else it releases the lock. Where the
--- packet has topped out it releases the lock too
+-- system cancel spin lock; sets the packet's cancel flag; and exchanges its cancel routine with
+-- none. Where one was set, that runs in its place with the lock held; else it releases the lock.
+-- Where the packet has topped out it releases the lock too
 abbrev pub goes_on_cancelling : ℕ → CancelStep → List Frame
 goes_on_cancelling n step = CancelFrame (record { packet = n; next = step }) ∷ []
 

@@ -1,5 +1,5 @@
--- What an event does to a world: the world after it, the actions that make it up, and the reply. What
--- a step of a thread's top frame does is in the module Effect.
+-- What an event does to a world: the world after it, the actions that make it up, and the reply.
+-- What a step of a thread's top frame does is in the module Effect.
 use Rattle.std.specs.Prelude.{ℕ, ◌+◌, ◌-◌, ◌&&◌, ◌||◌, not, Bool, true, false, List, [], ◌∷◌, ◌++◌, length, Option, None, Some, nat_eq, nat_lt, take, slice_get, slice_set, if◌then◌else◌}
 use Rattle.model.specs.declared.world.Activation.{Activation}
 use Rattle.model.specs.declared.world.Frame.{Frame}

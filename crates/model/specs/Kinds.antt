@@ -192,8 +192,8 @@ left_behind (Taken name) = Blank
 left_behind (Cancelling name) = Blank
 left_behind View = Blank
 
--- a packet that is put into a queue with a cancel routine stays the routine's own while it holds the
--- guard; one that is taken off may be cancelled until its cancel routine is exchanged
+-- a packet that is put into a queue with a cancel routine stays the routine's own while it holds
+-- the guard; one that is taken off may be cancelled until its cancel routine is exchanged
 abbrev pub kind_inserted : Option ℕ → ℕ → Kind
 kind_inserted None q = Blank
 kind_inserted (Some cancel) q = Listed (Declared q)

@@ -31,8 +31,8 @@ use Rattle.model.specs.Set.{Set, Member, Flow, Onward, Branches, Jumps, Opens, C
 
 -- the state in which a routine is entered, if it may be: a dispatch routine may do anything with
 -- the packet in its first register, a completion routine that lets the completion go on may look at
--- it, one that may hold it is lent it, a StartIo routine owns it and has the token of its device, and
--- a DPC routine is handed none. No lock is held, but in a cancel routine
+-- it, one that may hold it is lent it, a StartIo routine owns it and has the token of its device,
+-- and a DPC routine is handed none. No lock is held, but in a cancel routine
 abbrev pub entered_with : Kind → Duty → Settled → Bool → Abs
 entered_with first duty carried token =
     record {
@@ -130,8 +130,8 @@ pub record Wanted : Type 0 where
 
 -- a packet of a wanted kind has to be there. Where there is none the kind is wrong; a packet that
 -- was marked where an unmarked one is wanted, or the other way round, breaks the rule on pending
--- marks; one that stands in a list, or might be cancelled, the rule on cancellation; any other breaks
--- the rule on completion
+-- marks; one that stands in a list, or might be cancelled, the rule on cancellation; any other
+-- breaks the rule on completion
 abbrev pub demanded : Wanted → Kind → Option Rule
 demanded wanted Blank = Some WrongKind
 demanded wanted Num = Some WrongKind
@@ -337,8 +337,8 @@ is_settled Open = false
 is_settled NeedMark = false
 is_settled SettledMark = true
 
--- one that was lent the packet lets its completion go on where it has done nothing with it, and stops
--- it where it has taken the packet back
+-- one that was lent the packet lets its completion go on where it has done nothing with it, and
+-- stops it where it has taken the packet back
 abbrev pub is_fresh : Duty → Bool
 is_fresh Fresh = true
 is_fresh Pending = false
@@ -575,7 +575,8 @@ handed set driver s (Release lock) = released s set driver lock
 handed set driver s AcquireCancel = with_cancel s true
 handed set driver s ReleaseCancel = with_cancel s false
 handed set driver s (Insert r q) = with_kind s r (kind_inserted (cancel_routine_of set driver q) q)
-handed set driver s (Remove r q label) = with_kind s r (kind_removed (cancel_routine_of set driver q) q)
+handed set driver s (Remove r q label) = with_kind s r
+    (kind_removed (cancel_routine_of set driver q) q)
 handed set driver s (Unlink r q) = with_kind s r Own
 handed set driver s (Arm r q) = with_kind s r (Armed (Declared q))
 handed set driver s (Disarm r label) = with_kind s r (kind_disarmed (kind_of s r))

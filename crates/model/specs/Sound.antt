@@ -244,8 +244,8 @@ abbrev pub GuardFits : Queue → Type 0
 GuardFits queue = IsSpinLock queue.guard
 
 -- a driver has at most 32 routines, each of which fits, and its handlers, its StartIo and its DPC
--- routine, the routines of its calls and the cancel routines of its queues are among them; it has at
--- most 4 queues, and the queues that its instructions name are among them
+-- routine, the routines of its calls and the cancel routines of its queues are among them; it has
+-- at most 4 queues, and the queues that its instructions name are among them
 pub record DriverFits (driver : Driver) : Type 0 where
   pub few : length driver.routines ≤ MAX_ROUTINES
   pub routines : All RoutineFits driver.routines

@@ -17,7 +17,8 @@ pub enum Kind {
     New,
     /// It holds a packet that the routine has marked pending and owns.
     Own,
-    /// It holds a packet that the routine owns and has put into the list, with no cancel routine set.
+    /// It holds a packet that the routine owns and has put into the list, with no cancel routine
+    /// set.
     Listed(QueueName),
     /// It holds a packet in the list whose cancel routine the routine has set: IoCancelIrp may have
     /// called that since.

@@ -21,8 +21,8 @@ pub enum Sort {
     /// A completion routine that may hold the packet: it is lent it, and takes it back
     /// (STATUS_MORE_PROCESSING_REQUIRED) or lets the completion go on.
     Hold,
-    /// A cancel routine of a queue: IoCancelIrp calls it for a packet of that queue, with the system
-    /// cancel spin lock held.
+    /// A cancel routine of a queue: IoCancelIrp calls it for a packet of that queue, with the
+    /// system cancel spin lock held.
     Cancel,
 }
 

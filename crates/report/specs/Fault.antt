@@ -59,7 +59,8 @@ image_fault_name image_fault.Memory = codes "Memory"
 abbrev pub image_fault_line : ImageFault → List ℕ
 image_fault_line fault =
     line_of
-    (codes "image" ∷ codes "fault" ∷ decimal (image_fault_number fault) ∷ image_fault_name fault ∷ [])
+    (codes "image" ∷ codes "fault" ∷ decimal (image_fault_number fault)
+    ∷ image_fault_name fault ∷ [])
 
 -- what follows the name of the input: number and name of the kind of fault, and its line
 abbrev pub fault_line : ℕ → List ℕ → ℕ → List ℕ

@@ -1,5 +1,5 @@
-//! Images: the bytes of known sets, their beginnings, and all their changes by one byte. The digests
-//! are those of what an independent program answers.
+//! Images: the bytes of known sets, their beginnings, and all their changes by one byte. The
+//! digests are those of what an independent program answers.
 
 use asm::assemble;
 use image::{ImageFault, decode, encode};

@@ -250,7 +250,8 @@ right_more m at i arrivals new_arrivals s next places table new sums sum right w
           (subst (λ (x : Instr). IsKept (flow_of x) at s (handed_at_label s x) table new) same
           kept))
           (subst (λ (x : Abs). IsArrived (flow_of passed.instr)
-          (handed m.set m.driver x passed.instr) (slice_index_or new (at + 1) Nothing) (seen_of new_arrivals next)) state
+          (handed m.set m.driver x passed.instr) (slice_index_or new (at + 1) Nothing)
+          (seen_of new_arrivals next)) state
           (subst (λ (x : Instr). IsArrived (flow_of x) (handed m.set m.driver s x)
           (slice_index_or new (at + 1) Nothing) (seen_of new_arrivals next)) same arrives));
       summed = sums_more m.routine.code sums at sum right.summed within told short;

@@ -140,7 +140,8 @@ jump_found : (code : List Instr) (o : Option ℕ) → length code ≤ 1024 → I
 jump_found code None few h = tt
 jump_found code (Some k) few h =
     let inside = h.inside in
-    rw (label_found code 0 code k (omega (arith, few)) (omega arith) (omega (arith, inside)) h.jumped)
+    rw (label_found code 0 code k (omega (arith, few)) (omega arith)
+    (omega (arith, inside)) h.jumped)
     refl
 
 call_found : (d : Driver) (f : Option ℕ) → length d.routines ≤ 32
@@ -153,7 +154,8 @@ queue_found : (d : Driver) (o : Option ℕ) → length d.queues ≤ 4
     → IfSome o (λ q. q < length d.queues)
     → IfSome o (λ k. queue_number (has_of d) (option_map queue o) ≡ k)
 queue_found d None few h = tt
-queue_found d (Some q) few h = rw (numbered_as 113 (length d.queues) q (omega (arith, few, h)) h) refl
+queue_found d (Some q) few h = rw (numbered_as 113 (length d.queues) q
+    (omega (arith, few, h)) h) refl
 
 instruction_found : (d : Driver) (code : List Instr) (i : Instr) → length code ≤ 1024
     → length d.routines ≤ 32 → length d.queues ≤ 4 → InstrKnown d code i
@@ -208,7 +210,8 @@ codes_found d k (r ∷ rs) rest routines queues fits calls uses =
     let known = all_known d r one (All-head (CallsFit d.routines) r rs calls)
     (All-head (QueuesFit (length d.queues)) r rs uses) in
     ap (λ ls. routine_codes has ls)
-    (before_append (routine_lines k r) (listed routine_lines (k + 1) rs) (meant line.EndDriver ∷ rest))
+    (before_append (routine_lines k r) (listed routine_lines (k + 1) rs)
+    (meant line.EndDriver ∷ rest))
     ∙ ap (λ ls. routine_code has ls ∷ routine_codes has ls)
     (before_append steps (line.EndRoutine ∷ []) later)
     ∙ ap (λ c. c ∷ routine_codes has (before steps (meant line.EndRoutine ∷ later)))
@@ -267,7 +270,8 @@ drivers_found : (k : ℕ) (ds : List Driver) (rest : List Line) → All DriverFi
 drivers_found k [] rest h = refl
 drivers_found k (d ∷ ds) rest h =
     let later = before (listed driver_lines (k + 1) ds) rest in
-    ap (λ ls. driver_codes ls) (before_append (driver_lines k d) (listed driver_lines (k + 1) ds) rest)
+    ap (λ ls. driver_codes ls) (before_append (driver_lines k d)
+    (listed driver_lines (k + 1) ds) rest)
     ∙ ap (λ c. c ∷ driver_codes (before (driver_rest d) later))
     (driver_code_found d later (All-head DriverFits d ds h))
     ∙ ap (λ cs. codes_of d.routines ∷ cs)

@@ -42,7 +42,8 @@ line_silent s e ls known rest n =
     known n (unknown_from (scope_after s (body_meant e) ls) (n + 1) ls) ∙ rest (n + 1)
 
 -- so many drivers are opened; the rest is of the driver before
-abbrev between : ℕ → List (List ℕ) → List (List ℕ) → List Sort → List (List ℕ) → List (List ℕ) → Scope
+abbrev between : ℕ → List (List ℕ) → List (List ℕ) → List Sort → List (List ℕ) → List (List ℕ)
+    → Scope
 between opened devices routines sorts queues labels = record {
   drivers = names_from 100 0 opened;
   devices = devices;
@@ -91,7 +92,8 @@ handler_silent k d labels rest major (Some r) few h silent =
     (served IsDispatch Handler is_handler d.routines (Some r) h) in
     line_silent (within k d labels) (line.Handler major r) rest (λ m after. rw known refl) silent
 
-startio_silent : (k : ℕ) (d : Driver) (labels : List (List ℕ)) (rest : List Line) (number : Option ℕ)
+startio_silent : (k : ℕ) (d : Driver) (labels : List (List ℕ)) (rest : List Line)
+    (number : Option ℕ)
     → length d.routines ≤ 32 → IfSome number (λ r. HasSort IsStartIo (slice_get d.routines r))
     → IsSilent (within k d labels) rest
     → IsSilent (within k d labels) (before (naming line.StartIo number) rest)
@@ -128,7 +130,8 @@ table_silent k d labels rest fits silent =
     let two = handler_silent k d labels (before control (before startio (before dpc rest))) Write
     d.write few fits.write three in
     let one = handler_silent k d labels
-    (before write (before control (before startio (before dpc rest)))) Read d.read few fits.read two in
+    (before write (before control (before startio (before dpc rest)))) Read d.read few
+    fits.read two in
     let split : before (table_lines d) rest
     ≡ before read (before write (before control (before startio (before dpc rest)))) =
     before_append read (write ++ (control ++ (startio ++ dpc))) rest

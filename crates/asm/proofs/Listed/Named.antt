@@ -128,11 +128,13 @@ routines_fit d k (r ∷ rs) h room each calls uses =
       append_fits (listed (step_lines r.code) 0 r.code ++ line.EndRoutine ∷ [])
           (listed routine_lines (k + 1) rs)
           (append_fits (listed (step_lines r.code) 0 r.code) (line.EndRoutine ∷ [])
-          (steps_fit r.code 0 r.code (omega (arith, few)) (λ k e inside. instr_fits d r k e inside h one
+          (steps_fit r.code 0 r.code (omega (arith, few))
+          (λ k e inside. instr_fits d r k e inside h one
           (All-head (CallsFit d.routines) r rs calls)
           (All-head (QueuesFit (length d.queues)) r rs uses))) (tt, tt))
           (routines_fit d (k + 1) rs h (omega (arith, room)) (All-tail RoutineFits r rs each)
-          (All-tail (CallsFit d.routines) r rs calls) (All-tail (QueuesFit (length d.queues)) r rs uses)),
+          (All-tail (CallsFit d.routines) r rs calls)
+          (All-tail (QueuesFit (length d.queues)) r rs uses)),
     )
 
 drivers_fit : (k : ℕ) (ds : List Driver) → k + length ds ≤ 8 → All DriverFits ds
@@ -147,10 +149,12 @@ drivers_fit k (d ∷ ds) room h =
     append_fits (driver_lines k d) (listed driver_lines (k + 1) ds) (
       omega (arith, room),
       append_fits queues (table_lines d ++ (routines ++ line.EndDriver ∷ []))
-          (queues_fit d.routines 0 d.queues few (omega (arith, room_queues)) fits.guards fits.cancels)
+          (queues_fit d.routines 0 d.queues few (omega (arith, room_queues))
+          fits.guards fits.cancels)
           (append_fits (table_lines d) (routines ++ line.EndDriver ∷ []) (table_fit d fits)
           (append_fits routines (line.EndDriver ∷ [])
-          (routines_fit d 0 d.routines fits (omega (arith, few)) fits.routines fits.calls fits.queues)
+          (routines_fit d 0 d.routines fits (omega (arith, few)) fits.routines
+          fits.calls fits.queues)
           (tt, tt))),
     )
     (drivers_fit (k + 1) ds (omega (arith, room)) (All-tail DriverFits d ds h))

@@ -43,7 +43,8 @@ pub fresh : (letter j c p : ℕ) → IsSmall p → j + c ≤ p
     → is_among (names_from letter j c) (numbered letter p) ≡ false
 fresh letter j zero p small past = refl
 fresh letter j (suc c) p small past =
-    rw (differ letter p j small (omega (arith, small, past)) (λ is. absurd (omega (arith, is, past))))
+    rw (differ letter p j small (omega (arith, small, past))
+    (λ is. absurd (omega (arith, is, past))))
     (fresh letter (j + 1) c p small (omega (arith, past)))
 
 place : (letter j c i p : ℕ) → IsSmall p → p ≡ j + i → i < c
@@ -71,7 +72,8 @@ among letter j zero i p small is inside = absurd (omega (arith, inside))
 among letter j (suc c) zero p small is inside =
     let same : p ≡ j = omega (arith, is) in rw (same, same_bytes (numbered letter j)) refl
 among letter j (suc c) (suc i) p small is inside =
-    rw (differ letter p j small (omega (arith, small, is)) (λ same. absurd (omega (arith, same, is))))
+    rw (differ letter p j small (omega (arith, small, is))
+    (λ same. absurd (omega (arith, same, is))))
     (among letter (j + 1) c i p small (omega (arith, is)) (omega (arith, inside)))
 
 pub is_known_name : (letter c p : ℕ) → IsSmall p → p < c

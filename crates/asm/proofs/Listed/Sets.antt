@@ -53,7 +53,8 @@ pub served : (P : Sort → Type 0) (role : Role) → ((s : Sort) → P s → ser
 served P role each rs None h = tt
 served P role each rs (Some n) h = by (slice_get rs n) refl h
   where
-    by : (r : Option Routine) → slice_get rs n ≡ r → HasSort P r → Served role (sorts_of rs) (Some n)
+    by : (r : Option Routine) → slice_get rs n ≡ r → HasSort P r
+        → Served role (sorts_of rs) (Some n)
     by None is h = absurd h
     by (Some r) is h = (
       r.sort,
@@ -117,7 +118,8 @@ driver_walk o n opened ds d h few fits =
     let routines = listed routine_lines 0 d.routines in
     let tabled = record (shape_of d) { sorts = [] } in
     then_reaches o n (line.Driver opened ∷ [])
-    (queues ++ (table_lines d ++ (routines ++ line.EndDriver ∷ []))) (inside now ds no_shape []) last
+    (queues ++ (table_lines d ++ (routines ++ line.EndDriver ∷ [])))
+    (inside now ds no_shape []) last
     (driver_turn o n (outside opened ds []) h refl few)
     (λ o1 n1 h1. then_reaches o1 n1 queues (table_lines d ++ (routines ++ line.EndDriver ∷ []))
     (inside now ds (record no_shape { queues = d.queues }) []) last
@@ -127,9 +129,11 @@ driver_walk o n opened ds d h few fits =
     (inside now ds tabled []) last (table_walk o2 n2 now ds d.queues d h2)
     (λ o3 n3 h3. then_reaches o3 n3 routines (line.EndDriver ∷ [])
     (inside now ds (shape_of d) (sorts_of d.routines)) last
-    (routines_walk o3 n3 now ds tabled [] 0 d.routines (sorts_of d.routines) (sorts_of d.routines) h3
+    (routines_walk o3 n3 now ds tabled [] 0 d.routines (sorts_of d.routines)
+    (sorts_of d.routines) h3
     refl (let f = fits.few in omega (arith, f)) fits.routines refl refl)
-    (λ o4 n4 h4. end_driver_turn o4 n4 (inside now ds (shape_of d) (sorts_of d.routines)) h4 refl refl
+    (λ o4 n4 h4. end_driver_turn o4 n4 (inside now ds (shape_of d)
+    (sorts_of d.routines)) h4 refl refl
     (shape_fits d fits)))))
 
 drivers_walk : (o : Outline) (n opened : ℕ) (ds : List Shape) (drivers : List Driver) (end : ℕ)
@@ -191,9 +195,11 @@ set_walk set h =
     let shapes = map shape_of set.drivers in
     let few = h.few_drivers in
     let room = h.few_devices in
-    then_reaches nothing_read 1 (listed driver_lines 0 set.drivers) (listed device_lines 0 set.devices)
+    then_reaches nothing_read 1 (listed driver_lines 0 set.drivers)
+    (listed device_lines 0 set.devices)
     (outside count shapes []) (outside count shapes set.devices)
-    (drivers_walk nothing_read 1 0 [] set.drivers count shapes at_first (omega (arith, few)) h.drivers
+    (drivers_walk nothing_read 1 0 [] set.drivers count shapes at_first
+    (omega (arith, few)) h.drivers
     (omega arith) refl)
     (λ mid m at. devices_walk mid m count shapes [] 0 set.devices set.devices at few refl
     (omega (arith, room)) h.devices refl)

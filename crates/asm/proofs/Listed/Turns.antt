@@ -34,7 +34,8 @@ is_new names letter c few h =
     ap (λ ns. is_among ns (numbered letter c)) h
     ∙ fresh letter 0 c c (omega (arith, few)) (omega arith)
 
-pub has_place : (names : List (List ℕ)) (letter c most : ℕ) → c < most → names ≡ names_from letter 0 c
+pub has_place : (names : List (List ℕ)) (letter c most : ℕ) → c < most
+    → names ≡ names_from letter 0 c
     → nat_lt (length names) most ≡ true
 has_place names letter c most few h =
     let long : length names ≡ c = ap (λ ns. length ns) h ∙ length_names letter 0 c in
@@ -52,7 +53,10 @@ driver_turn o n s h out few =
     (has_place o.driver_names 100 s.opened 8 few h.drivers.named))
     (record {
       place = refl;
-      drivers = record { named = more o.driver_names 100 s.opened h.drivers.named; shaped = h.drivers.shaped };
+      drivers = record {
+        named = more o.driver_names 100 s.opened h.drivers.named;
+        shaped = h.drivers.shaped;
+      };
       devices = h.devices;
       routines = h.routines;
       queues = h.queues;
@@ -75,7 +79,8 @@ pub more_of : {A : Type 0} (names : List (List ℕ)) (letter : ℕ) (xs : List A
 more_of names letter xs x h =
     more names letter (length xs) h ∙ ap (λ c. names_from letter 0 c) (sym (longer xs x))
 
-used_name : (n : ℕ) (name : Option (List ℕ)) → option_map (λ (u : Use). u.name) (used_at n name) ≡ name
+used_name : (n : ℕ) (name : Option (List ℕ)) → option_map (λ (u : Use). u.name) (used_at n name)
+    ≡ name
 used_name n None = refl
 used_name n (Some name) = refl
 
@@ -104,7 +109,10 @@ queue_turn o n s q h inside few =
       drivers = h.drivers;
       devices = h.devices;
       routines = h.routines;
-      queues = record { named = more_of o.queue_names 113 s.current.queues q h.queues.named; same = same };
+      queues = record {
+        named = more_of o.queue_names 113 s.current.queues q h.queues.named;
+        same = same;
+      };
       read = h.read;
       write = h.write;
       control = h.control;
@@ -150,7 +158,8 @@ pub read_turn : (o : Outline) (n : ℕ) (s : Stage) (r : ℕ) → IsAt s o → s
 read_turn o n s r h inside none =
     let e = line.Handler Read r in
     one_reaches o n e (record s { current = record s.current { read = Some r } })
-    (no_misfit o e (rw (h.place, inside) refl) (none_named o.read s.current.read h.read none) refl refl)
+    (no_misfit o e (rw (h.place, inside) refl)
+    (none_named o.read s.current.read h.read none) refl refl)
     (entries_at s o _ o.write o.control o.startio o.dpc (record s.current { read = Some r }) h
     refl refl refl h.write h.control h.startio h.dpc)
 
@@ -160,7 +169,8 @@ pub write_turn : (o : Outline) (n : ℕ) (s : Stage) (r : ℕ) → IsAt s o → 
 write_turn o n s r h inside none =
     let e = line.Handler Write r in
     one_reaches o n e (record s { current = record s.current { write = Some r } })
-    (no_misfit o e (rw (h.place, inside) refl) (none_named o.write s.current.write h.write none) refl refl)
+    (no_misfit o e (rw (h.place, inside) refl)
+    (none_named o.write s.current.write h.write none) refl refl)
     (entries_at s o o.read _ o.control o.startio o.dpc (record s.current { write = Some r }) h
     refl refl h.read refl h.control h.startio h.dpc)
 
@@ -170,7 +180,8 @@ pub control_turn : (o : Outline) (n : ℕ) (s : Stage) (r : ℕ) → IsAt s o �
 control_turn o n s r h inside none =
     let e = line.Handler Control r in
     one_reaches o n e (record s { current = record s.current { control = Some r } })
-    (no_misfit o e (rw (h.place, inside) refl) (none_named o.control s.current.control h.control none) refl refl)
+    (no_misfit o e (rw (h.place, inside) refl)
+    (none_named o.control s.current.control h.control none) refl refl)
     (entries_at s o o.read o.write _ o.startio o.dpc (record s.current { control = Some r }) h
     refl refl h.read h.write refl h.startio h.dpc)
 
@@ -180,7 +191,8 @@ pub startio_turn : (o : Outline) (n : ℕ) (s : Stage) (r : ℕ) → IsAt s o �
 startio_turn o n s r h inside none =
     let e = line.StartIo r in
     one_reaches o n e (record s { current = record s.current { startio = Some r } })
-    (no_misfit o e (rw (h.place, inside) refl) (none_named o.startio s.current.startio h.startio none) refl refl)
+    (no_misfit o e (rw (h.place, inside) refl)
+    (none_named o.startio s.current.startio h.startio none) refl refl)
     (entries_at s o o.read o.write o.control _ o.dpc (record s.current { startio = Some r }) h
     refl refl h.read h.write h.control refl h.dpc)
 
@@ -190,7 +202,8 @@ pub dpc_turn : (o : Outline) (n : ℕ) (s : Stage) (r : ℕ) → IsAt s o → s.
 dpc_turn o n s r h inside none =
     let e = line.Dpc r in
     one_reaches o n e (record s { current = record s.current { dpc = Some r } })
-    (no_misfit o e (rw (h.place, inside) refl) (none_named o.dpc s.current.dpc h.dpc none) refl refl)
+    (no_misfit o e (rw (h.place, inside) refl)
+    (none_named o.dpc s.current.dpc h.dpc none) refl refl)
     (entries_at s o o.read o.write o.control o.startio _ (record s.current { dpc = Some r }) h
     refl refl h.read h.write h.control h.startio refl)
 
@@ -244,7 +257,8 @@ label_new : (labels : List (List ℕ)) (at : Option ℕ) (position : ℕ) → Ow
     → ((p : ℕ) → IsSmall p → position ≤ p → is_among labels (label p) ≡ false)
     → is_known_label labels (option_map label at) ≡ false
 label_new labels None position own few new = refl
-label_new labels (Some p) position own few new = new p (omega (arith, own, few)) (omega (arith, own))
+label_new labels (Some p) position own few new =
+    new p (omega (arith, own, few)) (omega (arith, own))
 
 labels_on : (labels : List (List ℕ)) (at : Option ℕ) (position : ℕ) → OwnLabel at position
     → position < 1024

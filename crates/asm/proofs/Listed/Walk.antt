@@ -100,7 +100,8 @@ steps_walk o n s code p (i ∷ more) end h at is few whole =
     (omega (arith, few)) (omega (arith, whole)))
 
 -- a routine
-pub routine_walk : (o : Outline) (n : ℕ) (opened : ℕ) (ds : List Shape) (c : Shape) (closed : List Sort)
+pub routine_walk : (o : Outline) (n : ℕ) (opened : ℕ) (ds : List Shape) (c : Shape)
+    (closed : List Sort)
     (k : ℕ) (r : Routine) → IsAt (inside opened ds c closed) o → k ≡ length c.sorts
     → length c.sorts < 32 → length r.code ≤ 1024
     → Reaches o n (routine_lines k r)

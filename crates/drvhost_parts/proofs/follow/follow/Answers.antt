@@ -5,7 +5,8 @@ use Rattle.drvhost_parts.proofs.follow.follow.Goals as goal
 
 pub loop-event-init : goal.loop-event-init
 loop-event-init g c =
-    let first = followed_first g.M.Machine.set_of g.M.Machine.shows c.args.machine.now c.args.schedule.now.threads
+    let first = followed_first g.M.Machine.set_of g.M.Machine.shows c.args.machine.now
+    c.args.schedule.now.threads
     c.args.schedule.now.events (g.O.Sink.contents c.args.out.now) c.requires.begun in
     record {
       numbered = rw (c.first-number.ensures, c.upcoming-upcoming.ensures) (omega arith);

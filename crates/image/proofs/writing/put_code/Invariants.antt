@@ -4,4 +4,5 @@ use Rattle.image.specs.Spelling.{instruction_bytes}
 use Rattle.image.proofs.writing.put_code.Given as goal
 
 abbrev pub invariant-loop-instr : goal.invariant-loop-instr
-invariant-loop-instr l = l.out.items ≡ l.fn.out.items ++ flat_map instruction_bytes (take l.instr-index l.code)
+invariant-loop-instr l = l.out.items ≡ l.fn.out.items
+    ++ flat_map instruction_bytes (take l.instr-index l.code)

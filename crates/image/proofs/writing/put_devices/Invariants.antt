@@ -4,4 +4,5 @@ use Rattle.image.specs.Spelling.{device_bytes}
 use Rattle.image.proofs.writing.put_devices.Given as goal
 
 abbrev pub invariant-loop-device : goal.invariant-loop-device
-invariant-loop-device l = l.out.items ≡ l.fn.out.items ++ flat_map device_bytes (take l.device-index l.devices)
+invariant-loop-device l = l.out.items ≡ l.fn.out.items
+    ++ flat_map device_bytes (take l.device-index l.devices)

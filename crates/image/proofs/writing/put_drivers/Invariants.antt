@@ -4,4 +4,5 @@ use Rattle.image.specs.Spelling.{driver_bytes}
 use Rattle.image.proofs.writing.put_drivers.Given as goal
 
 abbrev pub invariant-loop-driver : goal.invariant-loop-driver
-invariant-loop-driver l = l.out.items ≡ l.fn.out.items ++ flat_map driver_bytes (take l.driver-index l.drivers)
+invariant-loop-driver l = l.out.items ≡ l.fn.out.items
+    ++ flat_map driver_bytes (take l.driver-index l.drivers)
