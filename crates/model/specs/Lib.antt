@@ -20,3 +20,4 @@ pub mod Certificate
 pub mod Shown
 pub mod Machine
 pub mod View
+pub mod History

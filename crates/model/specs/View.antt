@@ -69,3 +69,11 @@ packet_at w n = packet_view w.shared n
 
 abbrev pub due_at : World → ℕ → Bool × Bool
 due_at w d = due_view w.shared d
+
+-- whether a thread has frames
+abbrev pub has_frames : Option ThreadView → Bool
+has_frames None = false
+has_frames (Some thread) = nat_lt 0 thread.frames
+
+abbrev pub busy_at : World → ℕ → Bool
+busy_at w t = has_frames (thread_at w t)

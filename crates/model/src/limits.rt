@@ -34,6 +34,10 @@ pub const MAX_ENTRIES: usize = 1_024;
 pub const MAX_THREADS: usize = 32;
 /// Packets ever issued in a run, at most.
 pub const MAX_ISSUED: u64 = 18_446_744_073_709_551_615;
+/// Entries of a history, at most.
+pub const MAX_HISTORY: usize = 1_000_000;
+/// Names of one submitter's commands, at most.
+pub const MAX_NAMES: u64 = 18_446_744_073_709_551_615;
 
 /// The number of the routine that serves a major function for which a driver names none: it
 /// completes the packet with STATUS_INVALID_DEVICE_REQUEST and returns that.
