@@ -17,3 +17,4 @@ pub mod Depth
 pub mod Live
 pub mod Accepted
 pub mod Alike
+pub mod History

@@ -14,3 +14,5 @@ pub mod PastTells
 pub mod Lifetime
 pub mod NothingSkipped
 pub mod AlikeRuns
+pub mod Waits
+pub mod ToldTops

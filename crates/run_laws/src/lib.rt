@@ -18,7 +18,9 @@ ghost use Rattle.run_laws.specs.PastTells.{PastTellsOfTheWorld};
 ghost use Rattle.run_laws.specs.PendingReturns.{AcceptedRunsAgreeOnPending};
 ghost use Rattle.run_laws.specs.Rules.{AcceptedRunsKeepTheRules};
 ghost use Rattle.run_laws.specs.SharedMark.{SharedByBoth};
+ghost use Rattle.run_laws.specs.ToldTops.{TopOutsAreTold};
 ghost use Rattle.run_laws.specs.TopsOnce.{PacketsTopOutOnce};
+ghost use Rattle.run_laws.specs.Waits.{WaitingChangesNothing};
 
 /// Of any set, accepted or not, until its run stops: a packet has topped out exactly where it was
 /// issued and isn't live, the live packets are as the trace says, a thread holds a lock exactly
@@ -98,6 +100,17 @@ pub fn pending_returns_agree()
 /// topped out.
 pub fn alike_runs_go_on_alike()
     ensures { AlikeRunsGoOnAlike }
+{}
+
+/// Of any set: an event that waits, finds nothing to do or is refused leaves the world as it was.
+pub fn waiting_changes_nothing()
+    ensures { WaitingChangesNothing }
+{}
+
+/// Of any set: the packet that a request started is live exactly while no reply of the history
+/// tells that it topped out.
+pub fn top_outs_are_told()
+    ensures { TopOutsAreTold }
 {}
 
 /// A worked run in which a mark is carried up, as a check of the definitions: both locations are

@@ -57,6 +57,14 @@ lt_false a b l =
       | inr h ↦ h.0
     ]
 
+-- a number that isn't the last one is below the next exactly where it is below the last
+pub lt_more : (m n : ℕ) → n ≢ m → nat_lt m (n + 1) ≡ nat_lt m n
+lt_more m n h =
+    elim (cases_lt m n) [
+      | inl l ↦ lt_true m (n + 1) (omega arith) ∙ sym (lt_true m n l)
+      | inr l ↦ lt_false m (n + 1) (omega arith) ∙ sym (lt_false m n l)
+    ]
+
 -- the packet that a value refers to was issued
 pub named : (s : Shared) (v : Value) (n : ℕ) → packet_in s v ≡ Some n → n < s.issued
 named s (Ref k) n h =
@@ -267,13 +275,6 @@ module _ (s : Shared) (past : List Entry) (tells : Tells s past) where
       (λ m other apart. rw other (told_of s past tells m))
 
   -- a packet is issued
-  lt_more : (m n : ℕ) → n ≢ m → nat_lt m (n + 1) ≡ nat_lt m n
-  lt_more m n h =
-      elim (cases_lt m n) [
-        | inl l ↦ lt_true m (n + 1) (omega arith) ∙ sym (lt_true m n l)
-        | inr l ↦ lt_false m (n + 1) (omega arith) ∙ sym (lt_false m n l)
-      ]
-
   pub tells_issue : (d : ℕ) (major : Major) (argument stack : ℕ) → 1 ≤ stack
       → Told (s.packets ++ new_packet s.issued d major argument stack ∷ []) (s.issued + 1)
       (topped past)

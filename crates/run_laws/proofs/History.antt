@@ -1,0 +1,2 @@
+pub mod Waits
+pub mod ToldTops
