@@ -1,0 +1,12 @@
+//! The core that threads share under one lock: the world of an accepted set beside the history of
+//! what was done to it, the seats from which threads step it, and the tickets of commands.
+#![tactic(auto)]
+
+pub mod host_core;
+mod log;
+pub mod seat;
+pub mod ticket;
+
+pub use host_core::{Core, LogFull};
+pub use seat::Seat;
+pub use ticket::{Desk, Queued, Taken, Ticket};
