@@ -1,0 +1,9 @@
+pub mod Beginning
+pub mod Cutting
+pub mod Hands
+pub mod Joining
+pub mod Keeping
+pub mod Knowing
+pub mod Lists
+pub mod Putting
+pub mod Taking

@@ -1,0 +1,4 @@
+pub mod Ends
+pub mod Kept
+pub mod Lists
+pub mod Rule

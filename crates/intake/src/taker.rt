@@ -1,0 +1,74 @@
+//! Those that take commands.
+
+ghost use Rattle.std.specs.Prelude.{◌≡◌, ◌++◌, ◌∷◌, [], IfNone, IfSome};
+ghost use Rattle.intake.specs.Kept.{IsAtHome, known};
+ghost use Rattle.intake.specs.Lists.{IsInOrder};
+ghost use Rattle.intake.specs.Rule.{IsUnused};
+
+use crate::rule::{Known, Takes};
+use crate::shared::Intake;
+use hostcore::Taken;
+use std::marker::Model;
+use std::sync::Wait;
+
+/// Takes commands from one queue. Contracts see which queue it is, the share of it, and the
+/// commands that it took, in order, each with its name.
+#[derive(Drop)]
+pub struct Taker {
+    pass: Known,
+}
+
+impl Model for Taker {
+    ghost use Rattle.intake.specs.Ends.{TakerState};
+    ghost use Rattle.intake.specs.Kept.{KeepsTaker, known};
+
+    ghost Value = { TakerState };
+
+    ghost view = { λ t. record {
+      queue = t.pass.table_id;
+      share = (known t.pass).shares;
+      taken = (known t.pass).taken;
+    } };
+
+    ghost invariant = { λ t. KeepsTaker t.pass };
+}
+
+impl Taker {
+    /// A taker that has taken nothing.
+    pub(crate) fn begin(pass: Known) -> Taker
+        requires unused { IsUnused (known pass) }
+        requires home { IsAtHome pass }
+        ensures { result ≡ record {
+          queue = pass.table_id;
+          share = (known pass).shares;
+          taken = [];
+        } }
+    {
+        Taker { pass }
+    }
+
+    /// Its pass.
+    pub(crate) fn into_pass(self) -> Known
+        ensures home { IsAtHome result }
+        ensures queue { result.table_id ≡ self.queue }
+        ensures share { (known result).shares ≡ self.share }
+        ensures put { (known result).put ≡ [] }
+        ensures taken { (known result).taken ≡ self.taken }
+        ensures order { IsInOrder self.taken }
+    {
+        let Taker { pass } = self;
+        pass
+    }
+
+    /// Takes the command at the front of the queue. None where the queue was empty at a moment.
+    pub fn take<R: Wait>(&mut self, rt: &R, intake: &Intake) -> Option<Taken>
+        requires queue { self.old.queue ≡ intake.now }
+        ensures taken { IfSome result (λ taken. self.new
+            ≡ record self.old { taken = self.old.taken ++ taken ∷ [] }) }
+        ensures none { IfNone result (self.new ≡ self.old) }
+        ensures order { IsInOrder self.new.taken }
+    {
+        let queued = intake.line.pop_as::<Takes, R>(rt, &mut self.pass)?;
+        Some(queued.taken())
+    }
+}
