@@ -1,13 +1,13 @@
 -- A set was read of a file: by what the image that the file is says, or the text.
-use Rattle.std.proofs.Common.{◌≡◌, ℕ, true, false, List, Option, Result, Ok, Err}
+use Rattle.std.proofs.Common.{◌≡◌, ℕ, true, false, List, Result, Ok, Err}
 use Rattle.model.specs.Set.{Set}
 use Rattle.drvhost_parts.specs.declared.fault.Fault.{Fault}
 use Rattle.drvhost_parts.specs.declared.fault.Fault.TheVariants.{Read, Write, Memory, Text, Image, Schedule as OfSchedule}
 use Rattle.drvhost_parts.specs.Answer.{is_image}
-use Rattle.drvhost_parts.specs.Device.{Holds}
+use Rattle.drvhost_parts.specs.Device.{Holds, Supply}
 use Rattle.drvhost_parts.specs.Fault.{ReadsSet, SaysImage, SaysText}
 
-pub image_read : (held : Option (List ℕ)) (bytes : List ℕ) (said : Result Set Fault)
+pub image_read : (held : Supply) (bytes : List ℕ) (said : Result Set Fault)
     → Holds held bytes → is_image bytes ≡ true → SaysImage bytes said → ReadsSet held said
 image_read held bytes (Ok set) holds is says = (bytes, holds, rw is says)
 image_read held bytes (Err (Image fault)) holds is says = (bytes, holds, rw is says)
@@ -16,13 +16,3 @@ image_read held bytes (Err Read) holds is says = absurd says
 image_read held bytes (Err Write) holds is says = absurd says
 image_read held bytes (Err (Text fault)) holds is says = absurd says
 image_read held bytes (Err (OfSchedule fault)) holds is says = absurd says
-
-pub text_read : (held : Option (List ℕ)) (bytes : List ℕ) (said : Result Set Fault)
-    → Holds held bytes → is_image bytes ≡ false → SaysText bytes said → ReadsSet held said
-text_read held bytes (Ok set) holds is says = (bytes, holds, rw is says)
-text_read held bytes (Err (Text fault)) holds is says = (bytes, holds, rw is says)
-text_read held bytes (Err Memory) holds is says = says
-text_read held bytes (Err Read) holds is says = absurd says
-text_read held bytes (Err Write) holds is says = absurd says
-text_read held bytes (Err (Image fault)) holds is says = absurd says
-text_read held bytes (Err (OfSchedule fault)) holds is says = absurd says

@@ -2,26 +2,23 @@
 use Rattle.std.proofs.Common.{◌≡◌, ◌∙◌, ◌≢◌, ℕ, List, [], ◌++◌, ◌⊎◌, inl, inr, Option, Result, Ok, Err, IfOk, IfErr, refl, sym, ap, subst}
 use Rattle.std.proofs.lemmas.List.{append-nil}
 use Rattle.std.specs.Io.KnownBytes.{Appends}
-use Rattle.interleave.specs.declared.schedule.Schedule.{Schedule}
-use Rattle.interleave.specs.declared.schedule.ScheduleFault.{ScheduleFault}
-use Rattle.interleave.specs.Listing.{schedule_in}
 use Rattle.model.specs.declared.abs.Refusal.{Refusal}
 use Rattle.model.specs.declared.abs.Rule.TheVariants as Rule
 use Rattle.model.specs.Set.{Set}
 use Rattle.model.specs.Typable.{IsFirstFault, at_start}
 use Rattle.report.specs.Verdict.{refusal_line}
-use Rattle.report.specs.Fault.{image_fault_line, schedule_fault_line, text_fault_line}
+use Rattle.report.specs.Fault.{image_fault_line, text_fault_line}
 use Rattle.drvhost_parts.specs.declared.fault.End.{End}
 use Rattle.drvhost_parts.specs.declared.fault.End.TheVariants.{Stopped}
 use Rattle.drvhost_parts.specs.declared.fault.Fault.{Fault}
 use Rattle.drvhost_parts.specs.declared.fault.Fault.TheVariants.{Read, Write, Memory, Text, Image, Schedule as OfSchedule}
-use Rattle.drvhost_parts.specs.declared.job.Verification.{Verification}
-use Rattle.drvhost_parts.specs.declared.job.Verification.TheVariants.{Required, Skipped}
-use Rattle.drvhost_parts.specs.Answer.{Answer, FileSays, IsRefused, IsTraced, IsVerdict, ended, faulty, ran}
-use Rattle.drvhost_parts.specs.Device.{Holds, TakesBeginning}
+use Rattle.drvhost_parts.specs.declared.verification.Verification.{Verification}
+use Rattle.drvhost_parts.specs.declared.verification.Verification.TheVariants.{Required, Skipped}
+use Rattle.drvhost_parts.specs.Answer.{Answer, IsRefused, IsTraced, IsVerdict, ended, faulty}
+use Rattle.drvhost_parts.specs.Device.{Supply, TakesBeginning}
 use Rattle.drvhost_parts.specs.Ends.{Ends, IsCheckOf, IsRunOf, IsTraceOf, IsTraceOfSet, Rightly, ReadFailed, WriteFailed, OutOfMemory}
-use Rattle.drvhost_parts.specs.Fault.{Goes, ReadsSchedule, ReadsSet, reads_failed, status_of, told_of, writes_failed}
-use Rattle.drvhost_parts.proofs.Writing.{adds_all, adds_breaks, appends_none, held_text, keeps_same}
+use Rattle.drvhost_parts.specs.Fault.{Goes, ReadsSet, reads_failed, status_of, told_of, writes_failed}
+use Rattle.drvhost_parts.proofs.Writing.{adds_all, adds_breaks, appends_none, keeps_same}
 
 -- where more answers are right
 pub goes_rightly : (R Q : Answer → Type 0) (b n : Option (List ℕ)) (g l : List ℕ)
@@ -57,30 +54,19 @@ goes_broken R b m n l end h p =
     let P : List ℕ → Type 0 = TakesBeginning b n in
     (ended end h.0, h.1, subst P (append-nil h.0) broken)
 
--- an answer for the set that a text names
-pub judged_on : (held : Option (List ℕ)) (set : Set) → ReadsSet held (Ok set) → (answer : Answer)
+-- an answer for the set that a source has
+pub judged_on : (held : Supply) (set : Set) → ReadsSet held (Ok set) → (answer : Answer)
     → IsVerdict set answer → IsCheckOf held answer
 judged_on held set (bytes, holds, says) answer right = (bytes, holds, (Ok set, says, right))
 
-traced_as : (v : Verification) (held scheduled : Option (List ℕ)) (set : Set) (schedule : List ℕ)
-    (answer : Answer) → ReadsSet held (Ok set) → Holds scheduled schedule
-    → IsTraced v (Ok set) (schedule_in schedule) answer → IsTraceOf v held scheduled answer
-traced_as v held scheduled set schedule answer (bytes, holds, says) there right =
-    (bytes, schedule, holds, there, (Ok set, says, right))
-
-pub traced_on : (v : Verification) (held scheduled : Option (List ℕ)) (set : Set)
+pub traced_on : (v : Verification) (held scheduled : Supply) (set : Set)
     → ReadsSet held (Ok set) → (answer : Answer) → IsTraceOfSet v set scheduled answer
     → IsTraceOf v held scheduled answer
-traced_on Required held scheduled set read answer (inl (typable, (schedule, there, right))) =
-    traced_as Required held scheduled set schedule answer read there (inl (typable, right))
-traced_on Required held scheduled set read answer (inr refused) =
-    let some = held_text scheduled in
-    traced_as Required held scheduled set some.0 answer read some.1 (inr refused)
-traced_on Skipped held scheduled set read answer (schedule, there, right) =
-    traced_as Skipped held scheduled set schedule answer read there right
+traced_on v held scheduled set (bytes, holds, says) answer right =
+    (bytes, holds, (Ok set, says, right))
 
 -- the set can't be read
-pub check_unread : (held b : Option (List ℕ)) (g l : List ℕ) (fault : Fault)
+pub check_unread : (held : Supply) (b : Option (List ℕ)) (g l : List ℕ) (fault : Fault)
     → ReadsSet held (Err fault) → Goes (IsCheckOf held) b b g l (Err fault)
 check_unread held b g l Read h = keeps_same b
 check_unread held b g l Write h = absurd h
@@ -91,55 +77,27 @@ check_unread held b g l (Image fault) (bytes, holds, says) =
     ((bytes, holds, (Err (image_fault_line fault), says, refl)), keeps_same b)
 check_unread held b g l (OfSchedule fault) h = absurd h
 
-traced_faulty : (v : Verification) (line : List ℕ) (schedule : Result Schedule ScheduleFault)
-    → IsTraced v (Err line) schedule (faulty line)
-traced_faulty Required line schedule = refl
-traced_faulty Skipped line schedule = refl
-
 -- an input is faulty, whatever the schedule
-unread_line : (v : Verification) (held scheduled b : Option (List ℕ)) (line bytes : List ℕ)
-    → Holds held bytes → FileSays bytes (Err line)
-    → IsTraceOf v held scheduled (faulty line)
-unread_line v held scheduled b line bytes holds says =
-    let some = held_text scheduled in (
-      bytes,
-      some.0,
-      holds,
-      some.1,
-      (Err line, says, traced_faulty v line (schedule_in some.0)),
-    )
+traced_faulty : (v : Verification) (line : List ℕ) (IsRun : Set → Answer → Type 0)
+    → IsTraced v (Err line) IsRun (faulty line)
+traced_faulty Required line IsRun = refl
+traced_faulty Skipped line IsRun = refl
 
-pub trace_unread : (v : Verification) (held scheduled b : Option (List ℕ)) (g l : List ℕ)
-    (fault : Fault) → ReadsSet held (Err fault)
+pub trace_unread : (v : Verification) (held scheduled : Supply) (b : Option (List ℕ))
+    (g l : List ℕ) (fault : Fault) → ReadsSet held (Err fault)
     → Goes (IsTraceOf v held scheduled) b b g l (Err fault)
 trace_unread v held scheduled b g l Read h = keeps_same b
 trace_unread v held scheduled b g l Write h = absurd h
 trace_unread v held scheduled b g l Memory h = keeps_same b
-trace_unread v held scheduled b g l (Text fault) (bytes, holds, says) =
-    (unread_line v held scheduled b (text_fault_line fault) bytes holds says, keeps_same b)
-trace_unread v held scheduled b g l (Image fault) (bytes, holds, says) =
-    (unread_line v held scheduled b (image_fault_line fault) bytes holds says, keeps_same b)
+trace_unread v held scheduled b g l (Text fault) (bytes, holds, says) = (
+  (bytes, holds, (Err (text_fault_line fault), says, traced_faulty v _ (IsRunOf scheduled))),
+  keeps_same b,
+)
+trace_unread v held scheduled b g l (Image fault) (bytes, holds, says) = (
+  (bytes, holds, (Err (image_fault_line fault), says, traced_faulty v _ (IsRunOf scheduled))),
+  keeps_same b,
+)
 trace_unread v held scheduled b g l (OfSchedule fault) h = absurd h
-
--- the schedule can't be read
-pub run_unread : (set : Set) (scheduled b : Option (List ℕ)) (g l : List ℕ) (fault : Fault)
-    → ReadsSchedule scheduled (Err fault) → Goes (IsRunOf set scheduled) b b g l (Err fault)
-run_unread set scheduled b g l Read h = keeps_same b
-run_unread set scheduled b g l Write h = absurd h
-run_unread set scheduled b g l Memory h = keeps_same b
-run_unread set scheduled b g l (Text fault) h = absurd h
-run_unread set scheduled b g l (Image fault) h = absurd h
-run_unread set scheduled b g l (OfSchedule fault) (text, holds, first) =
-    let P : Result Schedule ScheduleFault → Type 0 =
-    λ r. faulty (schedule_fault_line fault) ≡ ran set r in
-    ((text, holds, subst P (sym first) refl), keeps_same b)
-
-pub run_on : (set : Set) (scheduled : Option (List ℕ)) (schedule : Schedule)
-    → ReadsSchedule scheduled (Ok schedule) → (answer : Answer) → answer ≡ ran set (Ok schedule)
-    → IsRunOf set scheduled answer
-run_on set scheduled schedule (text, holds, lists) answer right =
-    let P : Result Schedule ScheduleFault → Type 0 = λ r. answer ≡ ran set r in
-    (text, holds, subst P (sym lists) right)
 
 -- the line of a refusal is added, unless there was no memory for a verdict
 pub goes_refused : (set : Set) (refusal : Refusal) (b : Option (List ℕ)) (l : List ℕ)

@@ -19,9 +19,6 @@ pub record Certified (all later : List ℕ) (b n : Option (List ℕ)) (gathered 
     pub whole : all ≡ text ++ later
     pub adds : Adds b n gathered left text
 
-pub certified_first : (all : List ℕ) (b : Option (List ℕ)) (l : List ℕ) → Certified all all b b l l
-certified_first all b l = record { text = []; whole = refl; adds = adds_none b l }
-
 -- some of the lines are written
 pub certified_room : (all later : List ℕ) (b m n : Option (List ℕ)) (g l k : List ℕ)
     → Certified all later b m g l → Adds m n l k [] → Certified all later b n g k
@@ -55,13 +52,6 @@ certified_more all later lines after b m n g l k h e a =
       whole = h.whole ∙ ap (λ x. h.text ++ x) e ∙ sym (append_assoc h.text lines after);
       adds = adds_more b m n g l k h.text lines h.adds a;
     }
-
--- all lines
-pub certified_all : (all : List ℕ) (b n : Option (List ℕ)) (g l : List ℕ) → Certified all [] b n g l
-    → Adds b n g l all
-certified_all all b n g l h =
-    let P : List ℕ → Type 0 = Adds b n g l in
-    subst P (sym (h.whole ∙ append-nil h.text)) h.adds
 
 -- a write fails
 pub certified_broken : (all later : List ℕ) (b m n : Option (List ℕ)) (g l : List ℕ)

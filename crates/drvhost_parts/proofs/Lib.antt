@@ -1,4 +1,3 @@
-pub mod Flag
 pub mod Writing
 pub mod Jobs
 pub mod Following

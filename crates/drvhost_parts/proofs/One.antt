@@ -2,18 +2,18 @@
 use Rattle.std.proofs.Common.{◌≡◌, ◌∙◌, ℕ, Bool, true, false, List, Result, Ok, Err, inl, inr, ap, sym, subst}
 use Rattle.asm.specs.declared.fault.AsmFault.{AsmFault}
 use Rattle.image.specs.Laws.{BytesSpellOne, FaultIsOne, ImagesAreFaultless}
-use Rattle.interleave.specs.declared.schedule.Schedule.{Schedule}
-use Rattle.interleave.specs.declared.schedule.ScheduleFault.{ScheduleFault}
 use Rattle.model.specs.Set.{Set}
 use Rattle.report.specs.Verdict.{refusal_line}
 use Rattle.verifier.specs.FirstFault.{OneIsFirst, TypableHasNone}
 use Rattle.drvhost_parts.specs.declared.fault.End.TheVariants.{Stopped}
-use Rattle.drvhost_parts.specs.declared.job.Verification.{Verification}
-use Rattle.drvhost_parts.specs.declared.job.Verification.TheVariants.{Required, Skipped}
+use Rattle.drvhost_parts.specs.declared.verification.Verification.{Verification}
+use Rattle.drvhost_parts.specs.declared.verification.Verification.TheVariants.{Required, Skipped}
 use Rattle.asm.specs.Reading.{set_in}
 use Rattle.interleave.specs.Listing.{schedule_in}
 use Rattle.report.specs.Fault.{image_fault_line, text_fault_line}
-use Rattle.drvhost_parts.specs.Answer.{Answer, ImageSays, IsCheck, IsJudged, IsRefused, IsTrace, IsTraced, SaysAs, TextSays, ended, is_image}
+use Rattle.drvhost_parts.specs.Answer.{Answer, FileSays, ImageSays, IsCheck, IsJudged, IsRefused, IsTraced, SaysAs, TextSays, ended, is_image, ran}
+use Rattle.drvhost_parts.specs.Device.{Bytes}
+use Rattle.drvhost_parts.specs.Ends.{IsRunOf, IsTrace}
 
 refused_once : OneIsFirst → (set : Set) (one other : Answer) → IsRefused set one
     → IsRefused set other → one ≡ other
@@ -30,21 +30,28 @@ judged_once alone none (Ok set) one other (inr a) (inl b) = absurd (none set a.r
 judged_once alone none (Ok set) one other (inr a) (inr b) = refused_once alone set one other a b
 judged_once alone none (Err line) one other a b = a ∙ sym b
 
--- what `trace` answers for it
+-- what `trace` answers for it, where a run of the set has one answer
 traced_once : OneIsFirst → TypableHasNone
-    → (v : Verification) (set : Result Set (List ℕ)) (schedule : Result Schedule ScheduleFault)
-    (one other : Answer)
-    → IsTraced v set schedule one → IsTraced v set schedule other → one ≡ other
-traced_once alone none Required (Ok set) schedule one other (inl a) (inl b) = a.1 ∙ sym b.1
-traced_once alone none Required (Ok set) schedule one other (inl a) (inr b) =
+    → (v : Verification) (set : Result Set (List ℕ)) (IsRun : Set → Answer → Type 0)
+    → ((run : Set) (one other : Answer) → IsRun run one → IsRun run other → one ≡ other)
+    → (one other : Answer) → IsTraced v set IsRun one → IsTraced v set IsRun other → one ≡ other
+traced_once alone none Required (Ok set) IsRun once one other (inl a) (inl b) =
+    once set one other a.1 b.1
+traced_once alone none Required (Ok set) IsRun once one other (inl a) (inr b) =
     absurd (none set b.refusal b.first a.0)
-traced_once alone none Required (Ok set) schedule one other (inr a) (inl b) =
+traced_once alone none Required (Ok set) IsRun once one other (inr a) (inl b) =
     absurd (none set a.refusal a.first b.0)
-traced_once alone none Required (Ok set) schedule one other (inr a) (inr b) =
+traced_once alone none Required (Ok set) IsRun once one other (inr a) (inr b) =
     refused_once alone set one other a b
-traced_once alone none Required (Err line) schedule one other a b = a ∙ sym b
-traced_once alone none Skipped (Ok set) schedule one other a b = a ∙ sym b
-traced_once alone none Skipped (Err line) schedule one other a b = a ∙ sym b
+traced_once alone none Required (Err line) IsRun once one other a b = a ∙ sym b
+traced_once alone none Skipped (Ok set) IsRun once one other a b = once set one other a b
+traced_once alone none Skipped (Err line) IsRun once one other a b = a ∙ sym b
+
+-- a run by a schedule has one answer
+run_once : (schedule : List ℕ) (set : Set) (one other : Answer) → IsRunOf (Bytes schedule) set one
+    → IsRunOf (Bytes schedule) set other → one ≡ other
+run_once schedule set one other (text, is, a) (other_text, other_is, b) =
+    a ∙ ap (λ x. ran set (schedule_in x)) (is ∙ sym other_is) ∙ sym b
 
 -- a file says one thing
 error_of : {A : Type 0} (r : Result A AsmFault) (one other : AsmFault) → r ≡ Err one → r ≡ Err other
@@ -88,6 +95,8 @@ module _ (spell : BytesSpellOne) (faultless : ImagesAreFaultless) (single : Faul
   pub trace_once : OneIsFirst → TypableHasNone → (v : Verification) (set schedule : List ℕ)
       (one other : Answer) → IsTrace v set schedule one → IsTrace v set schedule other → one ≡ other
   trace_once alone none v set schedule one other a b =
-      traced_once alone none v b.0 (schedule_in schedule) one other
-      (subst (λ (said : Result Set (List ℕ)). IsTraced v said (schedule_in schedule) one)
-      (says_once (is_image set) set a.0 b.0 a.1 b.1) a.2) b.2
+      traced_once alone none v b.2.0 (IsRunOf (Bytes schedule)) (run_once schedule) one other
+      (subst (λ (x : Result Set (List ℕ)). IsTraced v x (IsRunOf (Bytes schedule)) one)
+      (says_once (is_image b.0) b.0 a.2.0 b.2.0
+      (subst (λ (x : List ℕ). FileSays x a.2.0) (a.1 ∙ sym b.1) a.2.1) b.2.1) a.2.2)
+      b.2.2

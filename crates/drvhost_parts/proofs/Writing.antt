@@ -1,8 +1,8 @@
 -- What a source gave and a sink took, call after call.
 use Rattle.std.proofs.Common.{◌∙◌, ℕ, List, [], ◌++◌, Option, Some, None, refl, sym, ap, append_assoc}
 use Rattle.std.proofs.lemmas.List.{append-nil}
-use Rattle.std.specs.Io.KnownBytes.{Appends, Consumes, IsAtEnd, Keeps}
-use Rattle.drvhost_parts.specs.Device.{Adds, Holds, TakesBeginning}
+use Rattle.std.specs.Io.KnownBytes.{Appends, Keeps}
+use Rattle.drvhost_parts.specs.Device.{Adds, TakesBeginning}
 
 pub keeps_same : (a : Option (List ℕ)) → Keeps a a
 keeps_same None = tt
@@ -19,29 +19,6 @@ appends_more None b c xs ys p q = tt
 appends_more (Some l) None c xs ys p q = absurd p
 appends_more (Some l) (Some m) None xs ys p q = q
 appends_more (Some l) (Some m) (Some n) xs ys p q = q ∙ ap (λ t. t ++ ys) p ∙ append_assoc l xs ys
-
-pub consumes_none : (a : Option (List ℕ)) → Consumes a a []
-consumes_none None = tt
-consumes_none (Some xs) = refl
-
-pub consumes_more : (a b c : Option (List ℕ)) (xs ys : List ℕ) → Consumes a b xs → Consumes b c ys
-    → Consumes a c (xs ++ ys)
-consumes_more None b c xs ys p q = tt
-consumes_more (Some l) None c xs ys p q = absurd p
-consumes_more (Some l) (Some m) None xs ys p q = q
-consumes_more (Some l) (Some m) (Some n) xs ys p q = p ∙ ap (λ t. xs ++ t) q
-    ∙ sym (append_assoc xs ys n)
-
--- what was read to the end is what the source held
-pub holds_all : (a b : Option (List ℕ)) (xs : List ℕ) → Consumes a b xs → IsAtEnd b → Holds a xs
-holds_all None b xs p h = tt
-holds_all (Some l) None xs p h = absurd p
-holds_all (Some l) (Some m) xs p h = sym (p ∙ ap (λ t. xs ++ t) h ∙ append-nil xs)
-
--- every source may hold something
-pub held_text : (a : Option (List ℕ)) → (text : List ℕ) × Holds a text
-held_text None = ([], tt)
-held_text (Some xs) = (xs, refl)
 
 -- lines that gather
 pub adds_none : (b : Option (List ℕ)) (l : List ℕ) → Adds b b l l []

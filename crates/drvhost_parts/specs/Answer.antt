@@ -1,5 +1,5 @@
 -- What `check` and `trace` answer for the bytes of their files.
-use Rattle.std.specs.Prelude.{ℕ, nat_eq, ◌≡◌, ◌+◌, ◌⊎◌, ◌++◌, Bool, true, false, if◌then◌else◌, List, [], ◌∷◌, Result, Ok, Err}
+use Rattle.std.specs.Prelude.{ℕ, ⊤, nat_eq, ◌≡◌, ◌+◌, ◌⊎◌, ◌++◌, Bool, true, false, if◌then◌else◌, List, [], ◌∷◌, Result, Ok, Err}
 use Rattle.std.specs.List.{list_any, starts_with}
 use Rattle.asm.specs.declared.fault.AsmFault.{AsmFault}
 use Rattle.asm.specs.Reading.{set_in}
@@ -8,7 +8,6 @@ use Rattle.image.specs.Reading.{IsFaultOf}
 use Rattle.image.specs.Spelling.{Spells}
 use Rattle.interleave.specs.declared.schedule.Schedule.{Schedule}
 use Rattle.interleave.specs.declared.schedule.ScheduleFault.{ScheduleFault}
-use Rattle.interleave.specs.Listing.{schedule_in}
 use Rattle.model.specs.declared.abs.Refusal.{Refusal}
 use Rattle.model.specs.declared.event.Event.{Event}
 use Rattle.model.specs.declared.event.Reply.{Reply}
@@ -25,8 +24,8 @@ use Rattle.report.specs.Reply.{reply_line}
 use Rattle.report.specs.Verdict.{accepted_line, certificate_line, refusal_line}
 use Rattle.drvhost_parts.specs.declared.fault.End.{End}
 use Rattle.drvhost_parts.specs.declared.fault.End.TheVariants.{Complete, Stopped}
-use Rattle.drvhost_parts.specs.declared.job.Verification.{Verification}
-use Rattle.drvhost_parts.specs.declared.job.Verification.TheVariants.{Required, Skipped}
+use Rattle.drvhost_parts.specs.declared.verification.Verification.{Verification}
+use Rattle.drvhost_parts.specs.declared.verification.Verification.TheVariants.{Required, Skipped}
 
 -- an answer: the exit status, the standard output and the error output
 pub record Answer : Type 0 where
@@ -137,21 +136,20 @@ abbrev pub IsJudged : Result Set (List ℕ) → Answer → Type 0
 IsJudged (Ok set) answer = IsVerdict set answer
 IsJudged (Err line) answer = answer ≡ faulty line
 
--- what `trace` answers for it: a set that has to be accepted, and isn't, is not run
-abbrev pub IsTraced : Verification → Result Set (List ℕ) → Result Schedule ScheduleFault → Answer
-    → Type 0
-IsTraced Required (Ok set) schedule answer =
-    (IsTypable set × (answer ≡ ran set schedule)) ⊎ IsRefused set answer
-IsTraced Skipped (Ok set) schedule answer = answer ≡ ran set schedule
-IsTraced Required (Err line) schedule answer = answer ≡ faulty line
-IsTraced Skipped (Err line) schedule answer = answer ≡ faulty line
+-- what `trace` answers for it, where these are the answers of a run of the set: one that has to be
+-- accepted, and isn't, is not run
+abbrev pub IsTraced : Verification → Result Set (List ℕ) → (Set → Answer → Type 0) → Answer → Type 0
+IsTraced Required (Ok set) IsRun answer =
+    (IsTypable set × IsRun set answer) ⊎ IsRefused set answer
+IsTraced Skipped (Ok set) IsRun answer = IsRun set answer
+IsTraced Required (Err line) IsRun answer = answer ≡ faulty line
+IsTraced Skipped (Err line) IsRun answer = answer ≡ faulty line
+
+-- a set is run: it needn't be accepted, or is
+abbrev pub IsToRun : Verification → Set → Type 0
+IsToRun Required set = IsTypable set
+IsToRun Skipped set = ⊤
 
 -- what `check` answers for the bytes of its file
 abbrev pub IsCheck : List ℕ → Answer → Type 0
 IsCheck set answer = (said : Result Set (List ℕ)) × FileSays set said × IsJudged said answer
-
--- what `trace` answers for the bytes of its files
-abbrev pub IsTrace : Verification → List ℕ → List ℕ → Answer → Type 0
-IsTrace verification set schedule answer =
-    (said : Result Set (List ℕ)) × FileSays set said
-    × IsTraced verification said (schedule_in schedule) answer

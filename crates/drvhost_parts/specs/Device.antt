@@ -1,6 +1,6 @@
 -- Devices: how often they have failed, what a source still gives, and what a sink has taken.
-use Rattle.std.specs.Prelude.{ℕ, ⊤, ◌≡◌, ◌+◌, ◌++◌, ◌^◌, ◌<◌, ◌⊎◌, List, Option, Some, None, Result, MatchResult}
-use Rattle.std.specs.Io.KnownBytes.{Appends}
+use Rattle.std.specs.Prelude.{ℕ, ⊤, ◌≡◌, ◌+◌, ◌++◌, ◌^◌, ◌<◌, ◌⊎◌, List, Option, Some, None, IsErr, Result, MatchResult}
+use Rattle.std.specs.Io.KnownBytes.{Appends, ReadConsumes}
 
 -- there is room to count one failure more
 abbrev pub CanCount : ℕ → Type 0
@@ -10,10 +10,36 @@ CanCount failures = failures + 1 < 2 ^ 64
 abbrev pub Counts : {T E : Type 0} → ℕ → Result T E → ℕ → Type 0
 Counts before result after = MatchResult result (λ _. after ≡ before) (λ _. after ≡ before + 1)
 
--- what a source gives to its end is these bytes, where that is known
-abbrev pub Holds : Option (List ℕ) → List ℕ → Type 0
-Holds None bytes = ⊤
-Holds (Some held) bytes = bytes ≡ held
+-- what a source has to give from here on: nothing is known of it, it is closed, so that each read
+-- fails, or it has these bytes
+pub data Supply : Type 0 where
+  Unknown : Supply
+  Closed : Supply
+  Bytes : List ℕ → Supply
+
+-- what a source gives to its end may be these bytes
+abbrev pub Holds : Supply → List ℕ → Type 0
+Holds Unknown bytes = ⊤
+Holds Closed bytes = ⊥
+Holds (Bytes held) bytes = bytes ≡ held
+
+-- the bytes, where they are known
+abbrev pub known_bytes : Supply → Option (List ℕ)
+known_bytes Unknown = None
+known_bytes Closed = None
+known_bytes (Bytes held) = Some held
+
+-- a read of a source: it gives the bytes that come next, and one of a closed source fails
+pub record Reads {E : Type 0} (before after : Supply) (result : Result ℕ E) (into : List ℕ) : Type 0
+  where
+    pub bytes : ReadConsumes (known_bytes before) (known_bytes after) result into
+    pub closed : before ≡ Closed → IsErr result × (after ≡ Closed)
+
+-- where something is known of a supply, it is this one
+abbrev pub IsSuppliedAs : Supply → Supply → Type 0
+IsSuppliedAs Unknown supply = ⊤
+IsSuppliedAs Closed supply = supply ≡ Closed
+IsSuppliedAs (Bytes held) supply = supply ≡ Bytes held
 
 -- a sink has taken a beginning of the bytes
 pub record TakesBeginning (before after : Option (List ℕ)) (bytes : List ℕ) : Type 0 where
@@ -41,7 +67,11 @@ pub record Adds (before after : Option (List ℕ)) (gathered left text : List �
   pub appended : Appends before after written
   pub whole : gathered ++ text ≡ written ++ left
 
--- what a reader still gives, where there is one
-abbrev pub held_by : {R : Type 0} → (R → Option (List ℕ)) → Option R → Option (List ℕ)
-held_by remaining None = None
-held_by remaining (Some reader) = remaining reader
+-- what a reader still gives, where that is known; with no reader there is nothing to read from
+abbrev pub supply_known : Option (List ℕ) → Supply
+supply_known None = Unknown
+supply_known (Some held) = Bytes held
+
+abbrev pub supply_of : {R : Type 0} → (R → Option (List ℕ)) → Option R → Supply
+supply_of remaining None = Closed
+supply_of remaining (Some reader) = supply_known (remaining reader)

@@ -1,38 +1,43 @@
 -- How a command ends, for what its devices hold.
-use Rattle.std.specs.Prelude.{ℕ, ◌≡◌, ◌+◌, ◌⊎◌, List, codes, Option}
+use Rattle.std.specs.Prelude.{ℕ, ◌≡◌, ◌+◌, List, codes, Ok, Option, Result}
 use Rattle.std.specs.Io.KnownBytes.{Appends, Keeps}
-use Rattle.drvhost_parts.specs.declared.job.Verification.{Verification}
-use Rattle.drvhost_parts.specs.declared.job.Verification.TheVariants.{Required, Skipped}
+use Rattle.drvhost_parts.specs.declared.verification.Verification.{Verification}
 use Rattle.interleave.specs.Listing.{schedule_in}
 use Rattle.model.specs.Set.{Set}
-use Rattle.model.specs.Typable.{IsTypable}
-use Rattle.drvhost_parts.specs.Answer.{Answer, IsCheck, IsRefused, IsTrace, ran}
-use Rattle.drvhost_parts.specs.Device.{Holds, TakesBeginning}
+use Rattle.drvhost_parts.specs.Answer.{Answer, FileSays, IsCheck, IsToRun, IsTraced, ran}
+use Rattle.drvhost_parts.specs.Device.{Bytes, Holds, Supply, TakesBeginning}
 
--- what `check` answers for what its source holds
-abbrev pub IsCheckOf : Option (List ℕ) → Answer → Type 0
-IsCheckOf held answer = (set : List ℕ) × Holds held set × IsCheck set answer
+-- what `check` answers for what its source has
+abbrev pub IsCheckOf : Supply → Answer → Type 0
+IsCheckOf supply answer = (set : List ℕ) × Holds supply set × IsCheck set answer
 
--- what `trace` answers for what its sources hold
-abbrev pub IsTraceOf : Verification → Option (List ℕ) → Option (List ℕ) → Answer → Type 0
-IsTraceOf verification held scheduled answer =
-    (set : List ℕ) × (schedule : List ℕ) × Holds held set × Holds scheduled schedule
-    × IsTrace verification set schedule answer
+-- what a run of a set by the schedule that a source has answers
+abbrev pub IsRunOf : Supply → Set → Answer → Type 0
+IsRunOf supply set answer =
+    (schedule : List ℕ) × Holds supply schedule × (answer ≡ ran set (schedule_in schedule))
 
--- what a run of a set by the schedule that a source holds answers
-abbrev pub IsRunOf : Set → Option (List ℕ) → Answer → Type 0
-IsRunOf set scheduled answer =
-    (schedule : List ℕ) × Holds scheduled schedule × (answer ≡ ran set (schedule_in schedule))
+-- what `trace` answers for a set, by the schedule that a source has
+abbrev pub IsTraceOfSet : Verification → Set → Supply → Answer → Type 0
+IsTraceOfSet verification set schedule answer =
+    IsTraced verification (Ok set) (IsRunOf schedule) answer
 
--- what `trace` answers for a set, where it has to be accepted
-abbrev pub IsVerifiedRunOf : Set → Option (List ℕ) → Answer → Type 0
-IsVerifiedRunOf set scheduled answer =
-    (IsTypable set × IsRunOf set scheduled answer) ⊎ IsRefused set answer
+-- what `trace` answers for what its sources have: it reads the schedule's for a run alone
+abbrev pub IsTraceOf : Verification → Supply → Supply → Answer → Type 0
+IsTraceOf verification supply schedule answer =
+    (set : List ℕ) × Holds supply set
+    × ((said : Result Set (List ℕ)) × FileSays set said
+    × IsTraced verification said (IsRunOf schedule) answer)
 
--- what `trace` answers for a set
-abbrev pub IsTraceOfSet : Verification → Set → Option (List ℕ) → Answer → Type 0
-IsTraceOfSet Required set scheduled answer = IsVerifiedRunOf set scheduled answer
-IsTraceOfSet Skipped set scheduled answer = IsRunOf set scheduled answer
+-- what `trace` answers for the bytes of its files
+abbrev pub IsTrace : Verification → List ℕ → List ℕ → Answer → Type 0
+IsTrace verification set schedule answer =
+    IsTraceOf verification (Bytes set) (Bytes schedule) answer
+
+-- a source has a set that `trace` runs
+abbrev pub HoldsRun : Verification → Supply → Type 0
+HoldsRun verification supply =
+    (bytes : List ℕ) × Holds supply bytes
+    × ((set : Set) × FileSays bytes (Ok set) × IsToRun verification set)
 
 -- how a command ends, where these answers are right: by its exit status, what it tells, what went
 -- out, and how many reads and writes failed

@@ -17,7 +17,7 @@ use Rattle.drvhost_parts.specs.declared.fault.End.{End}
 use Rattle.drvhost_parts.specs.declared.fault.Fault.{Fault}
 use Rattle.drvhost_parts.specs.declared.fault.Fault.TheVariants.{Read, Write, Memory, Text, Image, Schedule as OfSchedule}
 use Rattle.drvhost_parts.specs.Answer.{Answer, FileSays, ImageSays, TextSays, end_status, ended, faulty}
-use Rattle.drvhost_parts.specs.Device.{Adds, Holds, TakesBeginning}
+use Rattle.drvhost_parts.specs.Device.{Adds, Holds, Supply, TakesBeginning}
 
 -- how many reads failed
 abbrev pub failed_reads : Fault → ℕ
@@ -126,7 +126,7 @@ SaysText bytes (Err (Image fault)) = ⊥
 SaysText bytes (Err (OfSchedule fault)) = ⊥
 
 -- a set was read: it is the one that the bytes of a source name, or their first fault is told
-abbrev pub ReadsSet : Option (List ℕ) → Result Set Fault → Type 0
+abbrev pub ReadsSet : Supply → Result Set Fault → Type 0
 ReadsSet held (Ok set) = (bytes : List ℕ) × Holds held bytes × FileSays bytes (Ok set)
 ReadsSet held (Err (Text fault)) =
     (bytes : List ℕ) × Holds held bytes × FileSays bytes (Err (text_fault_line fault))
@@ -138,7 +138,7 @@ ReadsSet held (Err Write) = ⊥
 ReadsSet held (Err (OfSchedule fault)) = ⊥
 
 -- a schedule was read likewise
-abbrev pub ReadsSchedule : Option (List ℕ) → Result Schedule Fault → Type 0
+abbrev pub ReadsSchedule : Supply → Result Schedule Fault → Type 0
 ReadsSchedule held (Ok schedule) =
     (text : List ℕ) × Holds held text × (schedule_in text ≡ Ok schedule)
 ReadsSchedule held (Err (OfSchedule fault)) =

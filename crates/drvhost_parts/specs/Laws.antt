@@ -1,7 +1,8 @@
 -- The answer for the bytes of the files is one.
 use Rattle.std.specs.Prelude.{ℕ, ◌≡◌, List}
-use Rattle.drvhost_parts.specs.declared.job.Verification.{Verification}
-use Rattle.drvhost_parts.specs.Answer.{Answer, IsCheck, IsTrace}
+use Rattle.drvhost_parts.specs.declared.verification.Verification.{Verification}
+use Rattle.drvhost_parts.specs.Answer.{Answer, IsCheck}
+use Rattle.drvhost_parts.specs.Ends.{IsTrace}
 
 -- two answers of `check` for the same bytes are equal
 abbrev pub CheckIsOne : Type 0

@@ -1,4 +1,3 @@
-pub mod CommandLine
 pub mod Device
 pub mod Answer
 pub mod Fault

@@ -32,7 +32,7 @@ pub fn check<S: Source, O: Sink, E: Sink>(
     requires set { CanCount (S.failures set.old) }
     requires out { CanCount (O.failures out.old) }
     requires err { CanCount (E.failures err.old) }
-    ensures { Answers (IsCheckOf (S.remaining set.old))
+    ensures { Answers (IsCheckOf (S.supply set.old))
         (S.failures set.old) (S.failures set.new) (O.failures out.old) (O.failures out.new)
         (O.contents out.old) (O.contents out.new)
         (Says (E.failures err.old) (E.failures err.new) (E.contents err.old) (E.contents err.new))
@@ -57,7 +57,7 @@ fn check_set<S: Source, O: Sink>(
     requires set { CanCount (S.failures set.old) }
     requires out { CanCount (O.failures out.old) }
     requires empty { lines.old ≡ [] }
-    ensures goes { Goes (IsCheckOf (S.remaining set.old)) (O.contents out.old) (O.contents out.new)
+    ensures goes { Goes (IsCheckOf (S.supply set.old)) (O.contents out.old) (O.contents out.new)
         [] [] result }
     ensures reads { S.failures set.new ≡ S.failures set.old + reads_failed result }
     ensures writes { O.failures out.new ≡ O.failures out.old + writes_failed result }

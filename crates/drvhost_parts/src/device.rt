@@ -1,8 +1,8 @@
 //! What the program reads from and writes to.
 
 ghost use Rattle.std.specs.Prelude.{◌≡◌, ◌≤◌, ◌<◌, ℕ, IfOk, List, Option, length};
-ghost use Rattle.std.specs.Io.KnownBytes.{ReadConsumes, WriteAppends};
-ghost use Rattle.drvhost_parts.specs.Device.{CanCount, Counts, held_by};
+ghost use Rattle.std.specs.Io.KnownBytes.{WriteAppends};
+ghost use Rattle.drvhost_parts.specs.Device.{CanCount, Counts, Reads, Supply, supply_of};
 
 use std::io::{Read, Write};
 
@@ -14,19 +14,20 @@ pub struct Failed;
 pub trait Source {
     ghost failures: { Self → ℕ };
 
-    // The bytes that reads give from here on, where they are known.
-    ghost remaining: { Self → Option (List ℕ) };
+    // What reads give from here on.
+    ghost supply: { Self → Supply };
 
     /// How often a read of it has failed so far.
     fn failures(&self) -> u64
         ensures { result ≡ failures self.now };
 
-    /// Reads some bytes into the front of `into`, and says how many: 0 at the end.
+    /// Reads some bytes into the front of `into`, and says how many: 0 at the end. Each read of a
+    /// source that is closed fails.
     fn read(&mut self, into: &mut [u8]) -> Result<usize, Failed>
         requires { CanCount (failures self.old) }
         ensures within { IfOk result (λ count. count ≤ length into.old) }
         ensures counted { Counts (failures self.old) result (failures self.new) }
-        ensures bytes { ReadConsumes (remaining self.old) (remaining self.new) result into.new };
+        ensures bytes { Reads (supply self.old) (supply self.new) result into.new };
 }
 
 /// Something to write bytes to.
@@ -62,7 +63,7 @@ impl<R: Read> Reader<R> {
     /// fails.
     pub fn new(reader: Option<R>) -> Reader<R>
         ensures failures { ⟦<Reader<R> as Source>⟧.failures result ≡ 0 }
-        ensures remaining { ⟦<Reader<R> as Source>⟧.remaining result ≡ held_by R.remaining reader }
+        ensures supply { ⟦<Reader<R> as Source>⟧.supply result ≡ supply_of R.remaining reader }
     {
         Reader {
             reader,
@@ -74,7 +75,7 @@ impl<R: Read> Reader<R> {
 impl<R: Read> Source for Reader<R> {
     ghost failures = { λ source. source.failures };
 
-    ghost remaining = { λ source. held_by R.remaining source.reader };
+    ghost supply = { λ source. supply_of R.remaining source.reader };
 
     fn failures(&self) -> u64 {
         self.failures
@@ -110,9 +111,9 @@ impl<W: Write> Writer<W> {
         }
     }
 
-    /// The writer again.
+    /// The writer again, with what was written to it.
     pub fn into_inner(self) -> W
-        ensures { result ≡ self.writer }
+        ensures { W.contents result ≡ ⟦<Writer<W> as Sink>⟧.contents self }
     {
         self.writer
     }

@@ -173,7 +173,7 @@ pub(crate) fn no_memory<E: Sink>(err: &mut E) -> u8
 }
 
 /// Writes to the error writer; there is no one left to tell where that fails.
-pub(crate) fn say<E: Sink>(err: &mut E, text: &[u8])
+pub fn say<E: Sink>(err: &mut E, text: &[u8])
     requires { CanCount (E.failures err.old) }
     ensures { Says (E.failures err.old) (E.failures err.new) (E.contents err.old)
         (E.contents err.new) text.now }

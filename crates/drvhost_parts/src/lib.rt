@@ -1,13 +1,12 @@
-//! What the program does, over any devices: its command line, and the verdict and the trace of a
-//! driver set.
+//! What the program does, over any devices: the verdict and the trace of a driver set.
 #![tactic(auto)]
 
 pub mod check;
 pub mod device;
 pub mod fault;
 mod follow;
-pub mod job;
 pub mod laws;
 mod reading;
 pub mod trace;
 mod transfer;
+pub mod verification;

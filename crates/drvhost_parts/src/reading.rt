@@ -14,7 +14,7 @@ use std::alloc::Global;
 /// The set that the bytes of a source name: those of an image, or of a text.
 pub(crate) fn read_set<S: Source>(alloc: Global, source: &mut S) -> Result<DriverSet, Fault>
     requires { CanCount (S.failures source.old) }
-    ensures set { ReadsSet (S.remaining source.old) result }
+    ensures set { ReadsSet (S.supply source.old) result }
     ensures reads { S.failures source.new ≡ S.failures source.old + reads_failed result }
 {
     let bytes = read_whole(alloc, source)?;

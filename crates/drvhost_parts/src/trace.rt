@@ -1,16 +1,18 @@
 //! The trace of a run.
 
-ghost use Rattle.std.specs.Prelude.{◌≡◌, ◌+◌, [], IfOk};
+ghost use Rattle.std.specs.Prelude.{◌≡◌, ◌+◌, ◌⊎◌, [], IfOk};
 ghost use Rattle.interleave.specs.Listing.{IsWithinLimits};
 ghost use Rattle.drvhost_parts.specs.Device.{CanCount, Says};
-ghost use Rattle.drvhost_parts.specs.Ends.{Answers, IsRunOf, IsTraceOf, IsTraceOfSet, IsVerifiedRunOf};
+ghost use Rattle.model.specs.Typable.{IsTypable};
+ghost use Rattle.drvhost_parts.specs.Answer.{IsToRun};
+ghost use Rattle.drvhost_parts.specs.Ends.{Answers, HoldsRun, IsRunOf, IsTraceOf, IsTraceOfSet};
 ghost use Rattle.drvhost_parts.specs.Fault.{Goes, ReadsSchedule, reads_failed, writes_failed};
 
 use crate::check::refuse;
 use crate::device::{Sink, Source};
 use crate::fault::{End, Fault, finish, no_memory, of_schedule};
 use crate::follow::follow;
-use crate::job::Verification;
+use crate::verification::Verification;
 use crate::reading::read_set;
 use crate::transfer::{read_whole, write_lines};
 use checked::Checked;
@@ -27,7 +29,7 @@ use verifier::{Accepted, verify};
 /// the line of its refusal. The answer is the exit status: 0 where the run came to the end of its
 /// schedule, 1 where the set was refused or the run stopped, 2 where an input is faulty or a read
 /// or a write failed, 3 where memory ran out. Faults are told on the error writer: those of the set
-/// before a refusal, and a refusal before those of the schedule.
+/// before a refusal, and a refusal before those of the schedule, which is read for a run alone.
 pub fn trace<S: Source, P: Source, O: Sink, E: Sink>(
     alloc: Global,
     set: &mut S,
@@ -40,7 +42,8 @@ pub fn trace<S: Source, P: Source, O: Sink, E: Sink>(
     requires schedule { CanCount (P.failures schedule.old) }
     requires out { CanCount (O.failures out.old) }
     requires err { CanCount (E.failures err.old) }
-    ensures { Answers (IsTraceOf verification (S.remaining set.old) (P.remaining schedule.old))
+    ensures unread { (schedule.new ≡ schedule.old) ⊎ HoldsRun verification (S.supply set.old) }
+    ensures answers { Answers (IsTraceOf verification (S.supply set.old) (P.supply schedule.old))
         (S.failures set.old + P.failures schedule.old)
         (S.failures set.new + P.failures schedule.new)
         (O.failures out.old) (O.failures out.new) (O.contents out.old) (O.contents out.new)
@@ -68,7 +71,8 @@ fn trace_set<S: Source, P: Source, O: Sink>(
     requires schedule { CanCount (P.failures schedule.old) }
     requires out { CanCount (O.failures out.old) }
     requires empty { lines.old ≡ [] }
-    ensures goes { Goes (IsTraceOf verification (S.remaining set.old) (P.remaining schedule.old))
+    ensures unread { (schedule.new ≡ schedule.old) ⊎ HoldsRun verification (S.supply set.old) }
+    ensures goes { Goes (IsTraceOf verification (S.supply set.old) (P.supply schedule.old))
         (O.contents out.old) (O.contents out.new) [] [] result }
     ensures reads { S.failures set.new + P.failures schedule.new ≡ S.failures set.old + P.failures
         schedule.old + reads_failed result }
@@ -92,7 +96,8 @@ fn trace_as<P: Source, O: Sink>(
     requires schedule { CanCount (P.failures schedule.old) }
     requires out { CanCount (O.failures out.old) }
     requires empty { lines.old ≡ [] }
-    ensures goes { Goes (IsTraceOfSet verification set (P.remaining schedule.old))
+    ensures unread { (schedule.new ≡ schedule.old) ⊎ IsToRun verification set }
+    ensures goes { Goes (IsTraceOfSet verification set (P.supply schedule.old))
         (O.contents out.old) (O.contents out.new) [] lines.new result }
     ensures reads { P.failures schedule.new ≡ P.failures schedule.old + reads_failed result }
     ensures writes { O.failures out.new ≡ O.failures out.old + writes_failed result }
@@ -114,8 +119,9 @@ fn trace_verified<P: Source, O: Sink>(
     requires schedule { CanCount (P.failures schedule.old) }
     requires out { CanCount (O.failures out.old) }
     requires empty { lines.old ≡ [] }
-    ensures goes { Goes (IsVerifiedRunOf set (P.remaining schedule.old)) (O.contents out.old)
-        (O.contents out.new) [] lines.new result }
+    ensures unread { (schedule.new ≡ schedule.old) ⊎ IsTypable set }
+    ensures goes { Goes (IsTraceOfSet Verification.Required set (P.supply schedule.old))
+        (O.contents out.old) (O.contents out.new) [] lines.new result }
     ensures reads { P.failures schedule.new ≡ P.failures schedule.old + reads_failed result }
     ensures writes { O.failures out.new ≡ O.failures out.old + writes_failed result }
 {
@@ -136,7 +142,7 @@ fn trace_accepted<P: Source, O: Sink>(
     requires schedule { CanCount (P.failures schedule.old) }
     requires out { CanCount (O.failures out.old) }
     requires empty { lines.old ≡ [] }
-    ensures goes { Goes (IsRunOf accepted (P.remaining schedule.old)) (O.contents out.old)
+    ensures goes { Goes (IsRunOf (P.supply schedule.old) accepted) (O.contents out.old)
         (O.contents out.new) [] lines.new result }
     ensures reads { P.failures schedule.new ≡ P.failures schedule.old + reads_failed result }
     ensures writes { O.failures out.new ≡ O.failures out.old + writes_failed result }
@@ -159,7 +165,7 @@ fn trace_unverified<P: Source, O: Sink>(
     requires schedule { CanCount (P.failures schedule.old) }
     requires out { CanCount (O.failures out.old) }
     requires empty { lines.old ≡ [] }
-    ensures goes { Goes (IsRunOf set (P.remaining schedule.old)) (O.contents out.old)
+    ensures goes { Goes (IsRunOf (P.supply schedule.old) set) (O.contents out.old)
         (O.contents out.new) [] lines.new result }
     ensures reads { P.failures schedule.new ≡ P.failures schedule.old + reads_failed result }
     ensures writes { O.failures out.new ≡ O.failures out.old + writes_failed result }
@@ -174,7 +180,7 @@ fn trace_unverified<P: Source, O: Sink>(
 /// The schedule that the text of a source lists.
 fn read_schedule<P: Source>(alloc: Global, source: &mut P) -> Result<Schedule, Fault>
     requires { CanCount (P.failures source.old) }
-    ensures schedule { ReadsSchedule (P.remaining source.old) result }
+    ensures schedule { ReadsSchedule (P.supply source.old) result }
     ensures reads { P.failures source.new ≡ P.failures source.old + reads_failed result }
     ensures limits { IfOk result IsWithinLimits }
 {

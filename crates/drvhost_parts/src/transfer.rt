@@ -16,7 +16,7 @@ const BLOCK: usize = 65_536;
 /// The bytes of a source, up to its end.
 pub(crate) fn read_whole<S: Source>(alloc: Global, source: &mut S) -> Result<Vec<u8>, Fault>
     requires { CanCount (S.failures source.old) }
-    ensures bytes { IfOk result (λ bytes. Holds (S.remaining source.old) bytes.items) }
+    ensures bytes { IfOk result (λ bytes. Holds (S.supply source.old) bytes.items) }
     ensures fault { IfErr result (λ fault. (fault ≡ Fault.Read) ⊎ (fault ≡ Fault.Memory)) }
     ensures reads { S.failures source.new ≡ S.failures source.old + reads_failed result }
 {

@@ -1,7 +1,7 @@
 //! The steps of queues with a cancel routine and of their packets, unchecked.
 
 use crate::case::runs_so;
-use drvhost_parts::job::Verification;
+use drvhost_parts::verification::Verification;
 use std::test::Fail;
 
 /// The code of a dispatch routine beside a queue with a cancel routine and a plain one, that of the

@@ -1,7 +1,7 @@
 //! Cancellation: verdicts on sets with cancel routines, and traces.
 
 use crate::case::{Case, is_met, runs_so};
-use drvhost_parts::job::Verification;
+use drvhost_parts::verification::Verification;
 use std::alloc::{AllocError, Global};
 use std::test::Fail;
 

@@ -2,8 +2,8 @@
 
 use drvhost_parts::check::check;
 use drvhost_parts::device::{Reader, Sink, Source, Writer};
-use drvhost_parts::job::Verification;
 use drvhost_parts::trace::trace;
+use drvhost_parts::verification::Verification;
 use std::alloc::Global;
 
 /// One run of the library.

@@ -1,9 +1,9 @@
 //! What the words of a command line name.
 
+use command_line::job::{Job, JobFault, refuse_words};
 use drvhost_parts::device::Writer;
-use drvhost_parts::job::{Job, JobFault, Verification, refuse_words};
+use drvhost_parts::verification::Verification;
 use std::alloc::Global;
-use std::io::ErrorKind;
 use std::test::Fail;
 
 #[test]
@@ -68,15 +68,6 @@ fn wrong_words(rt: HostRuntime) {
     assert!(rt; is_refused(alloc, &["trace", "a", "b", "c"]));
     assert!(rt; is_refused(alloc, &["trace", "a", "b", "--checked"]));
     assert!(rt; is_refused(alloc, &["trace", "a", "b", "--unchecked", "--unchecked"]));
-}
-
-#[test]
-fn words_that_are_no_text(rt: HostRuntime) {
-    let alloc = rt.alloc();
-    let lost = JobFault::of_lost_words(alloc, ErrorKind::InvalidData);
-    assert!(rt; is_for_the_user(alloc, &lost));
-    let lost = JobFault::of_lost_words(alloc, ErrorKind::OutOfMemory);
-    assert!(rt; matches!(lost, JobFault::Memory));
 }
 
 #[test]

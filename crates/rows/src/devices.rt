@@ -1,6 +1,8 @@
-//! Devices that move few bytes a call, or fail at a chosen call.
+//! Devices that move few bytes a call, or fail at a chosen call, once: where it is tried again, they
+//! go on as if nothing had happened.
 
-ghost use Rattle.std.specs.Prelude.{◌≡◌, None, Some};
+ghost use Rattle.std.specs.Prelude.{◌≡◌, Some};
+ghost use Rattle.drvhost_parts.specs.Device.{Unknown};
 
 use drvhost_parts::device::{Failed, Sink, Source};
 use std::alloc::Global;
@@ -32,7 +34,7 @@ impl<'a> Slow<'a> {
 impl Source for Slow<'_> {
     ghost failures = { λ source. source.failures };
 
-    ghost remaining = { λ _. None };
+    ghost supply = { λ _. Unknown };
 
     fn failures(&self) -> u64 {
         self.failures
@@ -98,7 +100,10 @@ impl Sink for Narrow {
 pub(crate) fn is_failing(good: &mut Option<usize>) -> bool {
     match *good {
         None => false,
-        Some(0) => true,
+        Some(0) => {
+            *good = None;
+            true
+        }
         Some(left) => {
             *good = Some(left - 1);
             false

@@ -1,7 +1,7 @@
 //! DPC routines and interrupts: verdicts on sets that have them, and traces.
 
 use crate::case::{Case, is_met};
-use drvhost_parts::job::Verification;
+use drvhost_parts::verification::Verification;
 
 /// A driver whose DPC routine reads and writes cells under a lock.
 const COUNTS: &str =

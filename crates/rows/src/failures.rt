@@ -7,8 +7,8 @@ use crate::devices::{Narrow, Slow};
 use crate::images::{EMPTY, ONE_READ};
 use drvhost_parts::check::check;
 use drvhost_parts::device::{Reader, Sink, Source};
-use drvhost_parts::job::Verification;
 use drvhost_parts::trace::trace;
+use drvhost_parts::verification::Verification;
 use std::alloc::Global;
 
 /// The set of `ONE_READ`.

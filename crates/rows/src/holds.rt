@@ -1,7 +1,7 @@
 //! Completion routines that may hold their packet: verdicts on sets that have them, and traces.
 
 use crate::case::{Case, is_met};
-use drvhost_parts::job::Verification;
+use drvhost_parts::verification::Verification;
 
 /// A driver whose completion routine holds the packet for its DPC routine, over one that completes
 /// it.

@@ -3,6 +3,8 @@
 #![tactic(auto)]
 
 #[cfg(test)]
+mod answers;
+#[cfg(test)]
 mod cancel_rules;
 #[cfg(test)]
 mod cancel_steps;

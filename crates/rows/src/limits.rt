@@ -4,8 +4,8 @@
 use crate::case::is_judged_so;
 use drvhost_parts::check::check;
 use drvhost_parts::device::{Reader, Writer};
-use drvhost_parts::job::Verification;
 use drvhost_parts::trace::trace;
+use drvhost_parts::verification::Verification;
 use md5::{Digest, Md5};
 use std::alloc::{AllocError, Global};
 use std::test::Fail;

@@ -2,7 +2,7 @@
 //! traces.
 
 use crate::case::{is_judged_so, runs_so};
-use drvhost_parts::job::Verification;
+use drvhost_parts::verification::Verification;
 use std::alloc::{AllocError, Global};
 
 /// The one routine of a driver with one device of stack size 1.

@@ -1,7 +1,7 @@
 //! Schedules: the line that tells their first fault, and one without events.
 
 use crate::case::runs_so;
-use drvhost_parts::job::Verification;
+use drvhost_parts::verification::Verification;
 
 const SET: &str =
     "driver d\ndispatch READ f\nroutine f dispatch\ncomplete r0 SUCCESS\nret SUCCESS\nendr\nendd\n\

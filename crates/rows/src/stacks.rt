@@ -1,7 +1,7 @@
 //! Stacked devices: what a driver passes or calls down, and what completion carries up.
 
 use crate::case::{Case, is_met};
-use drvhost_parts::job::Verification;
+use drvhost_parts::verification::Verification;
 
 const ONE_REQUEST: &str = "threads 1\nissue 0 1 READ 0\nstep 0 10\n";
 

@@ -1,7 +1,7 @@
 //! Driver texts: sets without devices, as much as a set may have, and names in all their forms.
 
 use crate::case::{is_judged_so, runs_so};
-use drvhost_parts::job::Verification;
+use drvhost_parts::verification::Verification;
 use std::alloc::{AllocError, Global};
 use std::test::Fail;
 

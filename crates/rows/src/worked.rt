@@ -1,7 +1,7 @@
 //! Worked sets: what `check` and `trace` write, and their exit statuses.
 
 use crate::case::{Case, is_met};
-use drvhost_parts::job::Verification;
+use drvhost_parts::verification::Verification;
 
 const COMPLETES: &str =
     "driver d\ndispatch READ f\nroutine f dispatch\ncomplete r0 SUCCESS\nret SUCCESS\nendr\nendd\n\

@@ -17,7 +17,7 @@ returns-in-Ok g c =
       writes_are = c.check_set-end.ensures.writes;
       tells = c.finish.ensures.told;
       ends = rw c.finish.ensures.status
-          (ends_of (IsCheckOf (g.S.Source.remaining c.args.set.now)) _ _ end
+          (ends_of (IsCheckOf (g.S.Source.supply c.args.set.now)) _ _ end
           c.check_set-end.ensures.goes);
     }
 

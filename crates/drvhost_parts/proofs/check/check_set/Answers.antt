@@ -8,7 +8,7 @@ use Rattle.drvhost_parts.proofs.check.check_set.Goals as goal
 pub returns-in_err-set-clause-goes : goal.returns-in_err-set-clause-goes
 returns-in_err-set-clause-goes g c =
     let p = err_from_is_err_and c.from_residual.result c.from_residual.ensures.1 in
-    let held = g.S.Source.remaining c.args.set.now in
+    let held = g.S.Source.supply c.args.set.now in
     rw (p.1, p.2)
     (check_unread held (g.O.Sink.contents c.args.out.now) [] [] c.in_err-set.field-0.0
     c.in_err-set.ensures.set)
@@ -17,7 +17,7 @@ pub returns-in_err-end-clause-goes : goal.returns-in_err-end-clause-goes
 returns-in_err-end-clause-goes g c =
     let p = err_from_is_err_and c.from_residual-in_err-end.result
     c.from_residual-in_err-end.ensures.1 in
-    let held = g.S.Source.remaining c.args.set.now in
+    let held = g.S.Source.supply c.args.set.now in
     let set = c.in_ok-set.set in
     let before = g.O.Sink.contents c.args.out.now in
     let after = g.O.Sink.contents c.judge.new.out in
@@ -31,7 +31,7 @@ pub returns-in_err-write_lines-clause-goes : goal.returns-in_err-write_lines-cla
 returns-in_err-write_lines-clause-goes g c =
     let p = err_from_is_err_and c.from_residual-in_err-write_lines.result
     c.from_residual-in_err-write_lines.ensures.1 in
-    let held = g.S.Source.remaining c.args.set.now in
+    let held = g.S.Source.supply c.args.set.now in
     let set = c.in_ok-set.set in
     let before = g.O.Sink.contents c.args.out.now in
     let between = g.O.Sink.contents c.judge.new.out in
@@ -45,7 +45,7 @@ returns-in_err-write_lines-clause-goes g c =
 
 pub returns-clause-goes : goal.returns-clause-goes
 returns-clause-goes g c =
-    let held = g.S.Source.remaining c.args.set.now in
+    let held = g.S.Source.supply c.args.set.now in
     let set = c.in_ok-set.set in
     let before = g.O.Sink.contents c.args.out.now in
     let between = g.O.Sink.contents c.judge.new.out in

@@ -5,7 +5,7 @@ use Rattle.drvhost_parts.proofs.reading.read_set.Goals as goal
 
 pub returns-then-begins_image-clause-set : goal.returns-then-begins_image-clause-set
 returns-then-begins_image-clause-set g c =
-    let held = g.S.Source.remaining c.args.source.now in
+    let held = g.S.Source.supply c.args.source.now in
     image_read held c.as_slice-bytes.result.now c.set_of_image.result
     (subst (λ (bytes : List ℕ). Holds held bytes) (sym c.as_slice-bytes.ensures.value)
     c.in_ok-bytes.ensures.bytes)

@@ -6,8 +6,8 @@ use Rattle.drvhost_parts.proofs.Jobs.{ends_of}
 use Rattle.drvhost_parts.proofs.Writing.{keeps_same}
 use Rattle.drvhost_parts.proofs.trace.trace.Goals as goal
 
-pub returns-in-Ok : goal.returns-in-Ok
-returns-in-Ok g c =
+pub returns-in-Ok-clause-answers : goal.returns-in-Ok-clause-answers
+returns-in-Ok-clause-answers g c =
     let end = c.trace_set-end.result in
     record {
       reads = reads_failed end;
@@ -17,12 +17,12 @@ returns-in-Ok g c =
       writes_are = c.trace_set-end.ensures.writes;
       tells = c.finish.ensures.told;
       ends = rw c.finish.ensures.status
-          (ends_of (IsTraceOf c.args.verification (g.S.Source.remaining c.args.set.now)
-          (g.P.Source.remaining c.args.schedule.now)) _ _ end c.trace_set-end.ensures.goes);
+          (ends_of (IsTraceOf c.args.verification (g.S.Source.supply c.args.set.now)
+          (g.P.Source.supply c.args.schedule.now)) _ _ end c.trace_set-end.ensures.goes);
     }
 
-pub returns-in-Err : goal.returns-in-Err
-returns-in-Err g c =
+pub returns-in-Err-clause-answers : goal.returns-in-Err-clause-answers
+returns-in-Err-clause-answers g c =
     record {
       reads = 0;
       writes = 0;

@@ -8,8 +8,8 @@ pub returns-in_err-set-clause-goes : goal.returns-in_err-set-clause-goes
 returns-in_err-set-clause-goes g c =
     let p = err_from_is_err_and c.from_residual.result c.from_residual.ensures.1 in
     let v = c.args.verification in
-    let held = g.S.Source.remaining c.args.set.now in
-    let scheduled = g.P.Source.remaining c.args.schedule.now in
+    let held = g.S.Source.supply c.args.set.now in
+    let scheduled = g.P.Source.supply c.args.schedule.now in
     rw (p.1, p.2)
     (trace_unread v held scheduled (g.O.Sink.contents c.args.out.now) [] []
     c.in_err-set.field-0.0 c.in_err-set.ensures.set)
@@ -19,8 +19,8 @@ returns-in_err-end-clause-goes g c =
     let p = err_from_is_err_and c.from_residual-in_err-end.result
     c.from_residual-in_err-end.ensures.1 in
     let v = c.args.verification in
-    let held = g.S.Source.remaining c.args.set.now in
-    let scheduled = g.P.Source.remaining c.args.schedule.now in
+    let held = g.S.Source.supply c.args.set.now in
+    let scheduled = g.P.Source.supply c.args.schedule.now in
     let set = c.in_ok-set.set in
     let before = g.O.Sink.contents c.args.out.now in
     let after = g.O.Sink.contents c.trace_as.new.out in
@@ -35,8 +35,8 @@ returns-in_err-write_lines-clause-goes g c =
     let p = err_from_is_err_and c.from_residual-in_err-write_lines.result
     c.from_residual-in_err-write_lines.ensures.1 in
     let v = c.args.verification in
-    let held = g.S.Source.remaining c.args.set.now in
-    let scheduled = g.P.Source.remaining c.args.schedule.now in
+    let held = g.S.Source.supply c.args.set.now in
+    let scheduled = g.P.Source.supply c.args.schedule.now in
     let set = c.in_ok-set.set in
     let before = g.O.Sink.contents c.args.out.now in
     let between = g.O.Sink.contents c.trace_as.new.out in
@@ -52,8 +52,8 @@ returns-in_err-write_lines-clause-goes g c =
 pub returns-clause-goes : goal.returns-clause-goes
 returns-clause-goes g c =
     let v = c.args.verification in
-    let held = g.S.Source.remaining c.args.set.now in
-    let scheduled = g.P.Source.remaining c.args.schedule.now in
+    let held = g.S.Source.supply c.args.set.now in
+    let scheduled = g.P.Source.supply c.args.schedule.now in
     let set = c.in_ok-set.set in
     let before = g.O.Sink.contents c.args.out.now in
     let between = g.O.Sink.contents c.trace_as.new.out in

@@ -1,11 +1,11 @@
 use Rattle.std.proofs.Common.{◌≡◌, ◌∙◌, ap, sym, refl, List, Result, Ok, Err, IfErr, IsErrAnd, true}
 use Rattle.clap.proofs.OnLiterals.{clap_on_literals}
 use Rattle.clap.specs.Words.{App, Text, app_of, fault_of, is_simple_and_free, takes}
-use Rattle.drvhost_parts.specs.declared.job.Job.{Job}
-use Rattle.drvhost_parts.specs.declared.job.JobFault.{JobFault}
-use Rattle.drvhost_parts.specs.declared.job.JobFault.TheVariants.{Memory}
-use Rattle.drvhost_parts.specs.CommandLine.{program}
-use Rattle.drvhost_parts.proofs.job.Job.of.Goals as goal
+use Rattle.command_line.specs.declared.job.Job.{Job}
+use Rattle.command_line.specs.declared.job.JobFault.{JobFault}
+use Rattle.command_line.specs.declared.job.JobFault.TheVariants.{Memory}
+use Rattle.command_line.specs.CommandLine.{program}
+use Rattle.command_line.proofs.job.Job.of.Goals as goal
 
 -- `clap` says exactly which words the command line takes
 is_exact : is_simple_and_free program ≡ true
@@ -27,7 +27,7 @@ of_memory (Ok job) A B h = tt
 of_memory (Err fault) A B h = λ _ _ _. h
 
 pub returns-in-Some-clause-taken : goal.returns-in-Some-clause-taken
-returns-in-Some-clause-taken c =
+returns-in-Some-clause-taken g c =
     let app = c.in_ok-program.ensures in
     let exact : is_simple_and_free (app_of c.in_ok-program.program) ≡ true =
     ap is_simple_and_free app ∙ is_exact in
@@ -35,10 +35,10 @@ returns-in-Some-clause-taken c =
 
 pub returns-in_err-render_usage-in-None-clause-refused
     : goal.returns-in_err-render_usage-in-None-clause-refused
-returns-in_err-render_usage-in-None-clause-refused c =
+returns-in_err-render_usage-in-None-clause-refused g c =
     of_memory _ _ _ c.from_residual-in_err-render_usage-in-None.ensures.1
 
 pub returns-clause-refused : goal.returns-clause-refused
-returns-clause-refused c =
+returns-clause-refused g c =
     λ taken job names. c.refused.ensures
     (c.in-Err.ensures.passes (same_taken _ _ c.in_ok-program.ensures ∙ taken))

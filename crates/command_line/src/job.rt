@@ -1,32 +1,27 @@
 //! The program's command line.
 
 ghost use Rattle.std.specs.Prelude.{◌≡◌, List, ℕ, false, true, codes, map, IfErr, IfNone, IfOk, IfSome, OnOk, option_map, []};
-ghost use Rattle.clap.specs.Words.{app_of, fault_of, first_of, found_of, kind_of, one_of, rows_of, rule_of, subcommand_of, subcommand_rows_of, takes};
+ghost use Rattle.clap.specs.Words.{app_of, fault_of, first_of, found_of, kind_of, rows_of, rule_of, subcommand_of, subcommand_rows_of, takes};
 ghost use Rattle.clap.specs.declared.builder.command.Command.TheViews.{out-Command as fields_of};
-ghost use Rattle.drvhost_parts.specs.CommandLine.{check_command, file_argument, job_fault_status, program, trace_command, unchecked_flag, IsFlag, Names, NamesTask};
-ghost use Rattle.drvhost_parts.specs.Device.{CanCount};
+ghost use Rattle.drvhost_parts.specs.Device.{CanCount, Says};
+ghost use Rattle.command_line.specs.CommandLine.{check_command, file_argument, job_fault_status, job_fault_told, program, text_told, trace_command, unchecked_flag, usage, IsFlag, Names, NamesTask};
 
-use crate::device::Sink;
-use crate::fault::say;
 use clap::error::ErrorKind;
 use clap::{Arg, ArgAction, ArgMatches, Command};
+use drvhost_parts::device::Sink;
+use drvhost_parts::fault::say;
+use drvhost_parts::verification::Verification;
 use report::fault::OUT_OF_MEMORY;
 use std::alloc::{AllocError, Global};
+use std::convert::AsStr;
 use std::fmt;
-use std::io::ErrorKind as ReadKind;
 use thiserror::Error;
 
 /// The program's name, in the texts of usage and help.
 const NAME: &str = "drvhost";
 
-/// Whether a set has to be accepted before it runs.
-#[derive(Clone, Copy, Debug, PartialEq, Eq)]
-pub enum Verification {
-    /// A refused set isn't run.
-    Required,
-    /// Any set is run.
-    Skipped,
-}
+/// How the program is used, where there is nothing better to say.
+const USAGE: &str = "Usage: drvhost <COMMAND>";
 
 /// A task for the program, with the names of its files.
 #[derive(Clone, Copy)]
@@ -55,7 +50,7 @@ pub enum JobFault {
 }
 
 impl From<AllocError> for JobFault {
-    ghost use Rattle.drvhost_parts.specs.declared.job.JobFault.TheVariants.{Memory};
+    ghost use Rattle.command_line.specs.declared.job.JobFault.TheVariants.{Memory};
 
     ghost from_gives = { λ _ fault. fault ≡ Memory };
 
@@ -65,17 +60,24 @@ impl From<AllocError> for JobFault {
 }
 
 impl JobFault {
-    /// Why there is no task where the words of a command line can't be had: memory ran out, or they
-    /// aren't text, and no task has such words.
-    pub fn of_lost_words(alloc: Global, kind: ReadKind) -> JobFault
-        ensures { kind ≡ ReadKind.OutOfMemory → result ≡ JobFault.Memory }
+    /// The text for the user, which isn't empty.
+    fn told(&self) -> &str
+        ensures { result.now ≡ job_fault_told self.now }
     {
-        if kind == ReadKind::OutOfMemory {
-            return JobFault::Memory;
+        match self {
+            JobFault::Usage(text) if text.is_empty() => USAGE,
+            JobFault::Usage(text) => text.as_str(),
+            JobFault::Memory => OUT_OF_MEMORY,
         }
-        match usage(alloc) {
-            Ok(text) => JobFault::Usage(text),
-            Err(AllocError) => JobFault::Memory,
+    }
+
+    /// The exit status.
+    fn status(&self) -> u8
+        ensures { result ≡ job_fault_status self.now }
+    {
+        match self {
+            JobFault::Usage(_) => 2,
+            JobFault::Memory => 3,
         }
     }
 }
@@ -86,15 +88,13 @@ impl<'a> Job<'a> {
     /// # Errors
     ///
     /// `Usage` where they name none or ask for help, `Memory` when memory runs out.
-    pub fn of(alloc: Global, words: &'a [&'a str]) -> Result<Job<'a>, JobFault>
+    pub fn of<S: AsStr>(alloc: Global, words: &'a [S]) -> Result<Job<'a>, JobFault>
         ensures task { IfOk result
-            (Names (subcommand_of program (map (λ word. word.now) words.entry.now))) }
-        ensures taken { OnOk result
-            (fault_of program (map (λ word. word.now) words.entry.now) ≡ []) }
+            (Names (subcommand_of program (map S.text words.entry.now))) }
+        ensures taken { OnOk result (fault_of program (map S.text words.entry.now) ≡ []) }
         ensures refused { IfErr result (λ fault.
-            takes program (map (λ word. word.now) words.entry.now) ≡ true
-            → (job : Job)
-            → Names (subcommand_of program (map (λ word. word.now) words.entry.now)) job
+            takes program (map S.text words.entry.now) ≡ true
+            → (job : Job) → Names (subcommand_of program (map S.text words.entry.now)) job
             → fault ≡ JobFault.Memory) }
     {
         let mut program = program(alloc)?;
@@ -108,18 +108,27 @@ impl<'a> Job<'a> {
     }
 }
 
-/// Answers words that name no task: writes the text for the user, and gives the exit status, 2 for
-/// a wrong command line and 3 where memory ran out.
+/// Answers words that name no task: writes the text for the user, which isn't empty, and gives the
+/// exit status, 2 for a wrong command line and 3 where memory ran out.
 pub fn refuse_words<E: Sink>(fault: &JobFault, err: &mut E) -> u8
     requires { CanCount (E.failures err.old) }
-    ensures { result ≡ job_fault_status fault.now }
+    ensures status { result ≡ job_fault_status fault.now }
+    ensures told { Says (E.failures err.old) (E.failures err.new) (E.contents err.old)
+        (E.contents err.new) (job_fault_told fault.now) }
 {
-    let (text, status) = match fault {
-        JobFault::Usage(text) => (text.as_str(), 2),
-        JobFault::Memory => (OUT_OF_MEMORY, 3),
-    };
-    say(err, text.as_bytes());
-    status
+    say(err, fault.told().as_bytes());
+    fault.status()
+}
+
+/// Answers words of which nothing is known, since some of them aren't text, as wrong ones.
+pub(crate) fn refuse_unknown_words<E: Sink>(err: &mut E) -> u8
+    requires { CanCount (E.failures err.old) }
+    ensures status { result ≡ 2 }
+    ensures told { Says (E.failures err.old) (E.failures err.new) (E.contents err.old)
+        (E.contents err.new) usage }
+{
+    say(err, USAGE.as_bytes());
+    2
 }
 
 /// What a refused command line is answered with.
@@ -133,12 +142,6 @@ fn refused(alloc: Global, error: &clap::Error) -> JobFault
         Ok(text) => JobFault::Usage(text),
         Err(_) => JobFault::Memory,
     }
-}
-
-/// How the program is used, for the user.
-fn usage(alloc: Global) -> Result<String, AllocError> {
-    let mut program = program(alloc)?;
-    program.render_usage()
 }
 
 /// The program's command line.
@@ -242,12 +245,12 @@ fn argument<'a>(matches: &ArgMatches<'a>, id: &str) -> Option<&'a str>
     matches.get_str(id)
 }
 
+/// Whether the flag is given.
 fn flagged(matches: &ArgMatches<'_>) -> Verification
-    ensures { IsFlag (one_of (codes "unchecked") (rows_of (found_of matches.now))) result }
+    ensures { IsFlag (first_of (codes "unchecked") (rows_of (found_of matches.now))) result }
 {
-    if matches.get_flag("unchecked") {
-        Verification::Skipped
-    } else {
-        Verification::Required
+    match argument(matches, "unchecked") {
+        Some("true") => Verification::Skipped,
+        _ => Verification::Required,
     }
 }

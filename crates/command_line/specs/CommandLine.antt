@@ -1,13 +1,13 @@
 -- The program's command line in the terms of `clap`, and which task its matches name.
-use Rattle.std.specs.Prelude.{◌≡◌, ℕ, List, Option, None, Some, true, codes}
-use Rattle.clap.specs.Words.{App, Row, Rule, Text, first_of, new_app, new_rule, one_of, with_rule, with_subcommand}
+use Rattle.std.specs.Prelude.{◌≡◌, ◌≢◌, ℕ, List, [], ◌∷◌, Option, None, Some, true, codes, string_bytes}
+use Rattle.clap.specs.Words.{App, Row, Rule, Text, first_of, new_app, new_rule, with_rule, with_subcommand}
 use Rattle.clap.specs.declared.builder.ArgAction.TheVariants.{Set, SetTrue}
-use Rattle.drvhost_parts.specs.declared.job.Job.{Job}
-use Rattle.drvhost_parts.specs.declared.job.Job.TheVariants.{Check, Trace}
-use Rattle.drvhost_parts.specs.declared.job.JobFault.{JobFault}
-use Rattle.drvhost_parts.specs.declared.job.JobFault.TheVariants.{Usage, Memory}
-use Rattle.drvhost_parts.specs.declared.job.Verification.{Verification}
-use Rattle.drvhost_parts.specs.declared.job.Verification.TheVariants.{Required, Skipped}
+use Rattle.command_line.specs.declared.job.Job.{Job}
+use Rattle.command_line.specs.declared.job.Job.TheVariants.{Check, Trace}
+use Rattle.command_line.specs.declared.job.JobFault.{JobFault}
+use Rattle.command_line.specs.declared.job.JobFault.TheVariants.{Usage, Memory}
+use Rattle.drvhost_parts.specs.declared.verification.Verification.{Verification}
+use Rattle.drvhost_parts.specs.declared.verification.Verification.TheVariants.{Required, Skipped}
 
 -- the name of a file, which has to be there
 abbrev pub file_argument : Text → Rule
@@ -42,9 +42,8 @@ program = with_subcommand (with_subcommand bare_program check_command.top) trace
 
 -- what the flag's value says
 pub record IsFlag (value : Option Text) (verification : Verification) : Type 0 where
-  pub none : value ≡ None → verification ≡ Required
-  pub unset : value ≡ Some (codes "false") → verification ≡ Required
   pub set : value ≡ Some (codes "true") → verification ≡ Skipped
+  pub other : value ≢ Some (codes "true") → verification ≡ Required
 
 -- a subcommand with its matches names a task
 abbrev pub NamesTask : Text × List Row → Job → Type 0
@@ -53,14 +52,26 @@ NamesTask found (Check set) = (found.0 ≡ codes "check")
 NamesTask found (Trace set schedule verification) =
     (found.0 ≡ codes "trace") × (first_of (codes "FILE") found.1 ≡ Some set.now)
     × (first_of (codes "SCHEDULE") found.1 ≡ Some schedule.now)
-    × IsFlag (one_of (codes "unchecked") found.1) verification
+    × IsFlag (first_of (codes "unchecked") found.1) verification
 
 -- the matches name a task
 abbrev pub Names : Option (Text × List Row) → Job → Type 0
 Names None job = ⊥
 Names (Some found) job = NamesTask found job
 
--- the exit status for words that name no task
+-- how the program is used, where its words can't be had
+abbrev pub usage : List ℕ
+usage = codes "Usage: drvhost <COMMAND>"
+
+-- the exit status for words that name no task, and what is told of them
 abbrev pub job_fault_status : JobFault → ℕ
 job_fault_status (Usage text) = 2
 job_fault_status Memory = 3
+
+abbrev pub text_told : List ℕ → List ℕ
+text_told [] = usage
+text_told (byte ∷ text) = byte ∷ text
+
+abbrev pub job_fault_told : JobFault → List ℕ
+job_fault_told (Usage text) = text_told (string_bytes text)
+job_fault_told Memory = codes "out of memory\n"

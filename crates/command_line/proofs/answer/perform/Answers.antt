@@ -1,0 +1,11 @@
+use Rattle.command_line.proofs.answer.perform.Goals as goal
+
+pub returns-in-Check-clause-answers : goal.returns-in-Check-clause-answers
+returns-in-Check-clause-answers g c =
+    rw (c.in-Check.is, c.in-Check.set-is) c.check_file.ensures.answers
+
+pub returns-in-Trace-clause-answers : goal.returns-in-Trace-clause-answers
+returns-in-Trace-clause-answers g c = rw c.in-Trace.is c.trace_files.ensures.answers
+
+pub returns-in-Trace-clause-opened : goal.returns-in-Trace-clause-opened
+returns-in-Trace-clause-opened g c = rw c.in-Trace.is c.trace_files.ensures.opened

@@ -1,0 +1,3 @@
+pub mod CommandLine
+pub mod Files
+pub mod Program

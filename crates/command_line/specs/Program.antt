@@ -1,0 +1,70 @@
+-- What the program answers for the words of its command line, and which files it opens.
+use Rattle.std.specs.Prelude.{ℕ, ◌≡◌, ◌≢◌, ◌⊎◌, List, [], map, true, Result, Ok, Err, String, drop, string_bytes}
+use Rattle.std.specs.Global.{Global, Vec}
+use Rattle.std.specs.declared.io.ErrorKind.{ErrorKind}
+use Rattle.std.specs.declared.io.ErrorKind.TheVariants.{OutOfMemory}
+use Rattle.clap.specs.Words.{Text, fault_of, subcommand_of, takes}
+use Rattle.drvhost_parts.specs.Answer.{Answer}
+use Rattle.drvhost_parts.specs.Device.{Supply}
+use Rattle.drvhost_parts.specs.declared.verification.Verification.{Verification}
+use Rattle.drvhost_parts.specs.Ends.{HoldsRun, IsCheckOf, IsTraceOf}
+use Rattle.command_line.specs.declared.job.Job.{Job}
+use Rattle.command_line.specs.declared.job.Job.TheVariants.{Check, Trace}
+use Rattle.command_line.specs.CommandLine.{Names, program, usage}
+
+-- what is right for a job, where the files of these names have this to give
+abbrev pub IsJobOf : (List ℕ → Supply) → Job → Answer → Type 0
+IsJobOf supply (Check set) answer = IsCheckOf (supply set.now) answer
+IsJobOf supply (Trace set schedule verification) answer =
+    IsTraceOf verification (supply set.now) (supply schedule.now) answer
+
+-- how many files `trace` opens: that of the schedule for a run alone
+abbrev pub OpensToTrace : Verification → Supply → ℕ → Type 0
+OpensToTrace verification set count =
+    (count ≡ 1) ⊎ ((count ≡ 2) × HoldsRun verification set)
+
+-- how many files a job opens
+abbrev pub Opens : (List ℕ → Supply) → Job → ℕ → Type 0
+Opens supply (Check set) count = count ≡ 1
+Opens supply (Trace set schedule verification) count =
+    OpensToTrace verification (supply set.now) count
+
+-- words name a job: the command line takes them, and their matches name it
+pub record NamesJob (words : List Text) (job : Job) : Type 0 where
+  pub taken : fault_of program words ≡ []
+  pub named : Names (subcommand_of program words) job
+
+-- words that name no job are answered with a text on how the program is used
+pub record IsUsage (words : List Text) (answer : Answer) : Type 0 where
+  pub none : takes program words ≡ true → (job : Job) → Names (subcommand_of program words) job → ⊥
+  pub status : answer.status ≡ 2
+  pub output : answer.output ≡ []
+  pub told : answer.told ≢ []
+
+-- what is right for the words of a command line
+abbrev pub IsAnswerTo : (List ℕ → Supply) → List Text → Answer → Type 0
+IsAnswerTo supply words answer =
+    ((job : Job) × NamesJob words job × IsJobOf supply job answer) ⊎ IsUsage words answer
+
+-- what is right where the words can't be had, since some of them aren't text
+abbrev pub IsAnswerToLost : ErrorKind → Answer → Type 0
+IsAnswerToLost kind answer =
+    (kind ≢ OutOfMemory) × (answer ≡ record { status = 2; output = []; told = usage })
+
+-- the words after the program's name
+abbrev pub arguments : Vec (String Global) → List Text
+arguments words = map string_bytes (drop 1 words.items)
+
+-- what is right for all words of a command line, the program's name first
+abbrev pub IsProgram : (List ℕ → Supply) → Result (Vec (String Global)) ErrorKind → Answer → Type 0
+IsProgram supply (Ok words) answer = IsAnswerTo supply (arguments words) answer
+IsProgram supply (Err kind) answer = IsAnswerToLost kind answer
+
+-- how many files the program opens for these words: none, or those of a job that they name
+abbrev pub OpensFor : (List ℕ → Supply) → List Text → ℕ → Type 0
+OpensFor supply words count =
+    (count ≡ 0) ⊎ ((job : Job) × NamesJob words job × Opens supply job count)
+
+abbrev pub ProgramOpens : (List ℕ → Supply) → Result (Vec (String Global)) ErrorKind → ℕ → Type 0
+ProgramOpens supply (Ok words) count = OpensFor supply (arguments words) count
+ProgramOpens supply (Err kind) count = count ≡ 0

@@ -1,0 +1,247 @@
+//! What the program answers for the words of its command line, over files in memory.
+
+ghost use Rattle.std.specs.Prelude.{◌≡◌};
+ghost use Rattle.drvhost_parts.specs.Device.{Unknown};
+
+use crate::failures::{LINES, SCHEDULE, TEXT};
+use command_line::answer::answer;
+use command_line::files::Files;
+use drvhost_parts::device::{Reader, Sink, Source, Writer};
+use std::alloc::{AllocError, Global};
+use std::io::ErrorKind;
+
+/// A file in memory.
+struct InMemory {
+    name: &'static str,
+    bytes: &'static [u8],
+}
+
+const TWICE: &[u8] =
+    b"driver d\ndispatch READ f\nroutine f dispatch\ncomplete r0 SUCCESS\ncomplete r0 SUCCESS\n\
+      ret SUCCESS\nendr\nendd\ndevice v d 1\n";
+
+const REFUSED: &[u8] = b"refused V5 DoubleCompletion driver 0 routine 0 at 1\n";
+
+static ALL: [InMemory; 5] = [
+    InMemory {
+        name: "good.drv",
+        bytes: TEXT,
+    },
+    InMemory {
+        name: "twice.drv",
+        bytes: TWICE,
+    },
+    InMemory {
+        name: "open.drv",
+        bytes: b"driver d\n",
+    },
+    InMemory {
+        name: "good.sched",
+        bytes: SCHEDULE,
+    },
+    InMemory {
+        name: "none.sched",
+        bytes: b"threads 0\n",
+    },
+];
+
+/// The files in memory.
+#[derive(Drop)]
+struct Shelf {
+    opened: u64,
+    failures: u64,
+}
+
+impl Files for Shelf {
+    type File = Reader<&'static [u8]>;
+
+    ghost supply = { λ _ _. Unknown };
+
+    ghost opened = { λ shelf. shelf.opened };
+
+    ghost failures = { λ shelf. shelf.failures };
+
+    fn open(&self, name: &str) -> Reader<&'static [u8]> {
+        let file = ALL.iter().find(|file| file.name == name);
+        Reader::new(file.map(|file| file.bytes))
+    }
+
+    fn close(&mut self, file: Reader<&'static [u8]>) {
+        self.opened += 1;
+        self.failures += file.failures();
+    }
+}
+
+/// Words, and what the program answers.
+struct Case {
+    words: &'static [&'static str],
+    status: u8,
+    out: &'static [u8],
+    err: &'static [u8],
+    /// How many files it opens, and how many reads of them fail.
+    opened: u64,
+    failures: u64,
+}
+
+static CASES: [Case; 10] = [
+    Case {
+        words: &["drvhost", "check", "good.drv"],
+        status: 0,
+        out: b"accepted\ndriver 0 routine 0 dispatch certificate 2\n",
+        err: b"",
+        opened: 1,
+        failures: 0,
+    },
+    Case {
+        words: &["drvhost", "check", "twice.drv"],
+        status: 1,
+        out: REFUSED,
+        err: b"",
+        opened: 1,
+        failures: 0,
+    },
+    Case {
+        words: &["drvhost", "check", "no.drv"],
+        status: 2,
+        out: b"",
+        err: b"read failed\n",
+        opened: 1,
+        failures: 1,
+    },
+    Case {
+        words: &["drvhost", "trace", "good.drv", "good.sched"],
+        status: 0,
+        out: LINES,
+        err: b"",
+        opened: 2,
+        failures: 0,
+    },
+    Case {
+        words: &["drvhost", "trace", "twice.drv", "no.sched"],
+        status: 1,
+        out: REFUSED,
+        err: b"",
+        opened: 1,
+        failures: 0,
+    },
+    Case {
+        words: &["drvhost", "trace", "open.drv", "no.sched", "--unchecked"],
+        status: 2,
+        out: b"",
+        err: b"text fault 6 Unclosed line 2\n",
+        opened: 1,
+        failures: 0,
+    },
+    Case {
+        words: &["drvhost", "trace", "--unchecked", "twice.drv", "good.sched"],
+        status: 1,
+        out: b"0 started 0\n1 stepped\n2 topped 0 0x00000000 0\n3 bug 0x44 packet 0\n",
+        err: b"",
+        opened: 2,
+        failures: 0,
+    },
+    Case {
+        words: &["drvhost", "trace", "twice.drv", "none.sched", "--unchecked"],
+        status: 2,
+        out: b"",
+        err: b"schedule fault 3 OutOfRange line 1\n",
+        opened: 2,
+        failures: 0,
+    },
+    Case {
+        words: &["drvhost", "trace", "good.drv", "no.sched"],
+        status: 2,
+        out: b"",
+        err: b"read failed\n",
+        opened: 2,
+        failures: 1,
+    },
+    Case {
+        words: &["drvhost", "trace", "no.drv", "no.sched"],
+        status: 2,
+        out: b"",
+        err: b"read failed\n",
+        opened: 1,
+        failures: 1,
+    },
+];
+
+/// The words as the system gives them.
+fn given(alloc: Global, words: &[&str]) -> Result<Vec<String>, AllocError> {
+    let mut given = Vec::new(alloc);
+    for word in words {
+        given.push(String::from_str(alloc, word)?)?;
+    }
+    Ok(given)
+}
+
+/// Whether the program answers so.
+fn is_answered(alloc: Global, case: &Case) -> bool {
+    let Ok(words) = given(alloc, case.words) else {
+        return false;
+    };
+    let mut files = Shelf {
+        opened: 0,
+        failures: 0,
+    };
+    let mut out = Writer::new(Vec::<u8>::new(alloc));
+    let mut err = Writer::new(Vec::<u8>::new(alloc));
+    let status = answer(alloc, Ok(words), &mut files, &mut out, &mut err);
+    status == case.status
+        && files.opened == case.opened
+        && files.failures == case.failures
+        && out.into_inner().as_slice() == case.out
+        && err.into_inner().as_slice() == case.err
+}
+
+#[test]
+fn jobs(rt: HostRuntime) {
+    for (number, case) in CASES.iter().enumerate() {
+        assert!(rt; is_answered(rt.alloc(), case), "{number}");
+    }
+}
+
+/// What is told where words name no job: the text for the user alone, and status 2.
+fn told_of(alloc: Global, words: Result<Vec<String>, ErrorKind>, status: u8) -> Vec<u8> {
+    let mut files = Shelf {
+        opened: 0,
+        failures: 0,
+    };
+    let mut out = Writer::new(Vec::<u8>::new(alloc));
+    let mut err = Writer::new(Vec::<u8>::new(alloc));
+    let answered = answer(alloc, words, &mut files, &mut out, &mut err);
+    if answered == status && files.opened == 0 && out.into_inner().is_empty() {
+        err.into_inner()
+    } else {
+        Vec::new(alloc)
+    }
+}
+
+#[test]
+fn wrong_words(rt: HostRuntime) {
+    let alloc = rt.alloc();
+    let all: [&[&str]; 6] = [
+        &[],
+        &["drvhost"],
+        &["drvhost", "run", "good.drv"],
+        &["drvhost", "check"],
+        &["drvhost", "check", "good.drv", "good.sched"],
+        &["check", "good.drv"],
+    ];
+    for words in all {
+        let count = words.len();
+        let Ok(words) = given(alloc, words) else {
+            continue;
+        };
+        assert!(rt; !told_of(alloc, Ok(words), 2).is_empty(), "{count}");
+    }
+}
+
+#[test]
+fn lost_words(rt: HostRuntime) {
+    let alloc = rt.alloc();
+    let told = told_of(alloc, Err(ErrorKind::InvalidData), 2);
+    assert!(rt; told.as_slice() == b"Usage: drvhost <COMMAND>".as_slice());
+    let told = told_of(alloc, Err(ErrorKind::OutOfMemory), 3);
+    assert!(rt; told.as_slice() == b"out of memory\n".as_slice());
+}
