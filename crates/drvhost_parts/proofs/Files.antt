@@ -1,11 +1,11 @@
 -- A set was read of a file: by what the image that the file is says, or the text.
-use Rattle.std.proofs.Common.{◌≡◌, ℕ, true, false, List, Result, Ok, Err}
+use Rattle.std.proofs.Common.{◌≡◌, ℕ, true, List, Result, Ok, Err}
 use Rattle.model.specs.Set.{Set}
 use Rattle.drvhost_parts.specs.declared.fault.Fault.{Fault}
 use Rattle.drvhost_parts.specs.declared.fault.Fault.TheVariants.{Read, Write, Memory, Text, Image, Schedule as OfSchedule}
 use Rattle.drvhost_parts.specs.Answer.{is_image}
 use Rattle.drvhost_parts.specs.Device.{Holds, Supply}
-use Rattle.drvhost_parts.specs.Fault.{ReadsSet, SaysImage, SaysText}
+use Rattle.drvhost_parts.specs.Fault.{ReadsSet, SaysImage}
 
 pub image_read : (held : Supply) (bytes : List ℕ) (said : Result Set Fault)
     → Holds held bytes → is_image bytes ≡ true → SaysImage bytes said → ReadsSet held said

@@ -10,7 +10,7 @@ use Rattle.std.specs.Option.{option_and_then}
 use Rattle.report.specs.Verdict.{certificate_line}
 use Rattle.drvhost_parts.specs.Answer.{driver_lines, routine_lines}
 use Rattle.drvhost_parts.specs.Device.{Adds, TakesBeginning}
-use Rattle.drvhost_parts.proofs.Writing.{adds_breaks, adds_line, adds_more, adds_none}
+use Rattle.drvhost_parts.proofs.Writing.{adds_breaks, adds_line, adds_more}
 
 -- of a text, what was added so far and what is still to come
 pub record Certified (all later : List ℕ) (b n : Option (List ℕ)) (gathered left : List ℕ) : Type 0

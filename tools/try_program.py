@@ -1,0 +1,83 @@
+#!/usr/bin/env python3
+"""try_program.py [PROGRAM]: runs the built program (crates/drvhost/out/drvhost, if none is named) on real files and
+streams, for what a proof can't see of them, and compares its exit status and what it writes on both streams. It prints
+each case that is answered otherwise; the last line counts."""
+import os, subprocess, sys, tempfile
+
+TOP = os.path.dirname(os.path.dirname(os.path.abspath(__file__)))
+
+GOOD = b'driver d\ndispatch READ f\nroutine f dispatch\ncomplete r0 SUCCESS\nret SUCCESS\nendr\nendd\ndevice v d 1\n'
+TWICE = GOOD.replace(b'ret SUCCESS', b'complete r0 SUCCESS\nret SUCCESS')
+FILES = {
+    'good.drv': GOOD,
+    'twice.drv': TWICE,
+    'open.drv': b'driver d\n',
+    'short.image': b'DVB1',
+    'good.sched': b'threads 1\nissue 0 0 READ 7\nstep 0 4\n',
+    'none.sched': b'threads 0\n',
+}
+ACCEPTED = b'accepted\ndriver 0 routine 0 dispatch certificate 2\n'
+REFUSED = b'refused V5 DoubleCompletion driver 0 routine 0 at 1\n'
+TRACED = b'0 started 0\n1 stepped\n2 topped 0 0x00000000 0\n3 finished\n4 idle\n'
+STOPPED = b'0 started 0\n1 stepped\n2 topped 0 0x00000000 0\n3 bug 0x44 packet 0\n'
+SOME = object()  # some text, whatever it is
+
+# words, and the exit status, the standard output and the error output
+CASES = [
+    ('check good.drv', 0, ACCEPTED, b''),
+    ('check twice.drv', 1, REFUSED, b''),
+    ('check open.drv', 2, b'', b'text fault 6 Unclosed line 2\n'),
+    ('check short.image', 2, b'', b'image fault 2 Truncated\n'),
+    ('check nothing.drv', 2, b'', b'read failed\n'),
+    ('check .', 2, b'', b'read failed\n'),
+    ('trace good.drv good.sched', 0, TRACED, b''),
+    ('trace good.drv good.sched --unchecked', 0, TRACED, b''),
+    ('trace twice.drv good.sched', 1, REFUSED, b''),
+    ('trace twice.drv none.sched', 1, REFUSED, b''),
+    ('trace twice.drv nothing.sched', 1, REFUSED, b''),
+    ('trace --unchecked twice.drv good.sched', 1, STOPPED, b''),
+    ('trace good.drv none.sched', 2, b'', b'schedule fault 3 OutOfRange line 1\n'),
+    ('trace good.drv nothing.sched', 2, b'', b'read failed\n'),
+    ('trace open.drv nothing.sched', 2, b'', b'text fault 6 Unclosed line 2\n'),
+    ('', 2, b'', SOME),
+    ('run good.drv', 2, b'', SOME),
+    ('check', 2, b'', SOME),
+    ('check good.drv good.sched', 2, b'', SOME),
+    ('check good.drv --unchecked', 2, b'', SOME),
+    ('trace good.drv', 2, b'', SOME),
+    ('--help', 2, b'', SOME),
+]
+
+def is_as(wanted, found):
+    return bool(found) if wanted is SOME else wanted == found
+
+def run(program, words, folder, out=subprocess.PIPE):
+    done = subprocess.run([program, *words], cwd=folder, stdin=subprocess.DEVNULL, stdout=out, stderr=subprocess.PIPE)
+    return done.returncode, done.stdout, done.stderr
+
+def answers(program, folder):
+    """Each case with what is wanted and what was found."""
+    for words, *wanted in CASES:
+        yield words, wanted, run(program, words.split(), folder)
+    # a word that is no text, and an output that takes nothing
+    yield 'check <a byte that is no text>', (2, b'', SOME), run(program, [b'check', b'\xff'], folder)
+    with open('/dev/full', 'wb') as full:
+        status, _, told = run(program, ['check', 'good.drv'], folder, full)
+    yield 'check good.drv > /dev/full', (2, b'', b'write failed\n'), (status, b'', told)
+
+def main():
+    program = os.path.abspath(sys.argv[1] if len(sys.argv) > 1 else os.path.join(TOP, 'crates/drvhost/out/drvhost'))
+    tried = wrong = 0
+    with tempfile.TemporaryDirectory() as folder:
+        for name, content in FILES.items():
+            with open(os.path.join(folder, name), 'wb') as out:
+                out.write(content)
+        for words, wanted, found in answers(program, folder):
+            tried += 1
+            if wanted[0] != found[0] or not all(map(is_as, wanted[1:], found[1:])):
+                wrong += 1
+                print('drvhost %s: wanted %r, found %r' % (words, wanted, found))
+    print('%d answers, %d wrong' % (tried, wrong))
+    sys.exit(bool(wrong))
+
+main()
