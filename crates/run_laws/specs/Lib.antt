@@ -1,5 +1,4 @@
 pub mod NoWrong
-pub mod LockOrder
 pub mod Holder
 pub mod OneToken
 pub mod TopsOnce

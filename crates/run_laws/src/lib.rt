@@ -9,7 +9,6 @@ ghost use Rattle.run_laws.specs.DoubledToken.{TokenDoubled};
 ghost use Rattle.run_laws.specs.HeldPacket.{HeldAndCompleted};
 ghost use Rattle.run_laws.specs.Holder.{PacketsHaveOneHolder};
 ghost use Rattle.run_laws.specs.Lifetime.{ActivationsKeepTheirCertificate};
-ghost use Rattle.run_laws.specs.LockOrder.{LocksAreOrderly};
 ghost use Rattle.run_laws.specs.NeverStops.{AcceptedRunsNeverStop};
 ghost use Rattle.run_laws.specs.NothingSkipped.{NothingIsSkipped};
 ghost use Rattle.run_laws.specs.NoWrong.{AcceptedRunsNeverGoWrong};
@@ -40,12 +39,6 @@ pub fn accepted_runs_never_go_wrong()
 /// its routine.
 pub fn activations_keep_their_certificate()
     ensures { ActivationsKeepTheirCertificate }
-{}
-
-/// No lock is acquired by a thread that owns it, or released by one that doesn't, and no paged cell
-/// is touched at DISPATCH_LEVEL.
-pub fn locks_are_orderly()
-    ensures { LocksAreOrderly }
 {}
 
 /// Each live packet has one holder: a register that has the right to it, the I/O manager's frame

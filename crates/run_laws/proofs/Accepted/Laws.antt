@@ -14,7 +14,6 @@ use Rattle.model.specs.Sound.{IsSound}
 use Rattle.model.specs.Typable.{IsTypable}
 use Rattle.run_laws.specs.Holder.{HasOneHolder, PacketsHaveOneHolder}
 use Rattle.run_laws.specs.Lifetime.{KeepCertificates, ActivationsKeepTheirCertificate}
-use Rattle.run_laws.specs.LockOrder.{LocksAreOrderly}
 use Rattle.run_laws.specs.NeverStops.{LetsGoOn, NeverStops, AcceptedRunsNeverStop}
 use Rattle.run_laws.specs.NothingSkipped.{SkipsNothing, NothingIsSkipped}
 use Rattle.run_laws.specs.NoWrong.{NeverGoesWrong, AcceptedRunsNeverGoWrong}
@@ -162,11 +161,6 @@ accepted_tokens = has_one_token
 
 pub accepted_tops : PacketsTopOutOnce
 accepted_tops = at_most_once
-
--- no bug check at all is about a lock: a law of its own, as its reader asks for it by itself
-pub accepted_locks : LocksAreOrderly
-accepted_locks set typable sound threads events e bug reply =
-    absurd (((never_stops set typable sound threads events).replies e).bug bug reply)
 
 pub accepted_agree : AcceptedRunsAgreeOnPending
 accepted_agree set typable sound threads events =
