@@ -1,6 +1,6 @@
 -- What a core keeps, where an event is added to its history, and where one is left out.
 use Rattle.std.proofs.Common.{◌≡◌, ℕ, ◌+◌, ◌≤◌, ◌<◌, inl, inr, List, [], ◌∷◌, ◌++◌, length, true, false, Option, None, Some, refl, sym, subst, ap, ◌∙◌, arith}
-use Rattle.std.specs.Prelude.{All, IfSome, nat_eq, replicate, slice_get, slice_index_or, slice_set}
+use Rattle.std.specs.Prelude.{All, IfSome, nat_eq, replicate, slice_get, slice_index_or}
 use Rattle.model.specs.declared.limits.TheConstants.{MAX_HISTORY}
 use Rattle.std.proofs.lemmas.Bool.{cases_lt, eqb-false}
 use Rattle.std.proofs.lemmas.List.{length-append, map-append}
@@ -50,20 +50,10 @@ unkept_unchanged Waited h = refl
 unkept_unchanged Idle h = refl
 unkept_unchanged _ h = cc
 
-run_more : (set : Set) (r : Run) (events : List Event) (e : Event)
-    → run_from set r (events ++ e ∷ []) ≡ (step set (run_from set r events) e).run
-run_more set r [] e = refl
-run_more set r (f ∷ events) e = run_more set (step set r f).run events e
-
 -- a count of entries is one of more
 still_counted : (seat : Option ℕ) (n : ℕ) → IfSome seat (λ k. k ≤ n) → IfSome seat (λ k. k ≤ n + 1)
 still_counted None n h = tt
 still_counted (Some k) n h = omega arith
-
-nothing_counted : (seat : Option ℕ) (n : ℕ) → IfSome seat (λ k. k ≤ 0)
-    → IfSome seat (λ k. k ≤ n)
-nothing_counted None n h = tt
-nothing_counted (Some k) n h = omega arith
 
 pub below : (n m : ℕ) → nat_eq n m ≡ false → n ≤ m → n < m
 below n m apart le =
@@ -90,21 +80,6 @@ counts_at seats t n (Some (Some count)) there h =
     subst (λ (seat : Option ℕ). IfSome seat (λ k. k ≤ n)) same few in
     All-set (λ (seat : Option ℕ). IfSome seat (λ k. k ≤ n + 1)) seats t (Some (count + 1))
     (omega arith) (still_all seats n h)
-
--- a seat that is given out, or given back, has counted nothing or tells of nothing
-pub with_seat : (world : Shown) (threads : ℕ) (log : Log) (seats : List (Option ℕ)) (t : ℕ)
-    (seat : Option ℕ) → IsKept world threads log seats
-    → IfSome seat (λ k. k ≤ 0) → IsKept world threads log (slice_set seats t seat)
-with_seat world threads log seats t seat kept none =
-    record {
-      shows = kept.shows;
-      legal = kept.legal;
-      rules = kept.rules;
-      room = kept.room;
-      short = kept.short;
-      counts = All-set (λ (other : Option ℕ). IfSome other (λ k. k ≤ length log.entries)) seats t
-          seat (nothing_counted seat (length log.entries) none) kept.counts;
-    }
 
 module _ (before after : Shown) (threads : ℕ) (log : Log) (seats : List (Option ℕ)) (e : Event)
     (reply : Reply) (kept : IsKept before threads log seats)

@@ -10,7 +10,8 @@ use Rattle.model.specs.Shown.{ShowsWorld, whole}
 use Rattle.model.specs.Sound.{IsSound}
 use Rattle.model.specs.Typable.{IsTypable}
 use Rattle.model.specs.World.{World}
-use Rattle.machine.specs.Runs.{IsRun, StepsThreads}
+use Rattle.machine.specs.Runs.{GoesOn, IsRun, StepsThreads}
+use Rattle.run_laws.specs.NeverStops.{LetsGoOn}
 use Rattle.run_laws.specs.Rules.{AcceptedRunsKeepTheRules}
 use Rattle.run_laws.specs.AlikeRuns.{AlikeRunsGoOnAlike, GoOnAlike, world_after}
 use Rattle.checked.specs.Step.{State, machine_of}
@@ -53,6 +54,13 @@ module _ (law : AlikeRunsGoOnAlike) (set : Set) (typable : IsTypable set) (sound
 
   pub applies_shown : Applies (whole set before.world) e (whole set after.world) reply
   applies_shown = record { set = refl; shows = shown_after; replies = replies_shown }
+
+  -- the reply is neither a bug check nor that something went wrong
+  pub goes_on : AcceptedRunsKeepTheRules → GoesOn (whole set before.world) reply
+  goes_on rules =
+      λ threads events shows.
+      subst (λ (r : Reply). LetsGoOn r) (sym (replies_shown threads events shows))
+      ((rules set typable sound threads events).lasting.replies e)
 
   -- and a step of a thread is not refused
   pub steps_threads : AcceptedRunsKeepTheRules → StepsThreads (whole set before.world) e reply

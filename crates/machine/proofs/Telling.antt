@@ -13,6 +13,7 @@ use Rattle.model.specs.Shown.{ShowsFrame, ShowsFrames, ShowsThread, ShowsThreads
 use Rattle.model.specs.View.{due_at, frame_view, packet_at, thread_at, thread_view, view_of}
 use Rattle.model.specs.World.{Shared, World, packet_of, place_of}
 use Rattle.machine.proofs.Walking.{top_above, top_walk_live}
+use Rattle.run_laws.specs.ArrivingStates.{States}
 use Rattle.run_laws.specs.Holder.{HasOneHolder}
 
 -- the I/O manager's packet, where its frame is on top, is live
@@ -122,12 +123,12 @@ module _ (first second : Shared)
 -- what is told of a world of a run
 module _ (set : Set) (w : World) (threads : ℕ) (events : List Event)
     (shows : ShowsWorld (whole set w) (run set threads events).world) where
-  pub tells_thread : HasOneHolder set threads events → (t : ℕ)
+  pub tells_thread : (states : States) → HasOneHolder set states threads events → (t : ℕ)
       → thread_at w t ≡ thread_at (run set threads events).world t
-  tells_thread holder t =
+  tells_thread states holder t =
       let after : World = (run set threads events).world in
       threads_told set after.shared w.threads after.threads t shows.threads
-      (λ thread there n top. top_walk_live set threads events holder t thread n there top)
+      (λ thread there n top. top_walk_live set states threads events holder t thread n there top)
 
   pub tells_packet : (n : ℕ) → packet_at w n ≡ packet_at (run set threads events).world n
   tells_packet n =

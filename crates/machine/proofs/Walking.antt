@@ -10,6 +10,7 @@ use Rattle.model.specs.Effect.{top_of}
 use Rattle.model.specs.Run.{Run, run}
 use Rattle.model.specs.Set.{Set}
 use Rattle.model.specs.World.{packet_of}
+use Rattle.run_laws.specs.ArrivingStates.{States}
 use Rattle.run_laws.specs.Holder.{HasOneHolder, alive, all_walking, frame_walks, is_live, walking}
 
 -- the top frame of two or more is that of those above the lowest
@@ -56,12 +57,12 @@ counted_live : (b : Bool) (sum other : ℕ) → 1 ≤ sum → sum ≡ (if b then
 counted_live true sum other h is same = same
 counted_live false sum other h is same = let none : sum ≡ 0 = is in absurd (omega arith)
 
-pub top_walk_live : (set : Set) (threads : ℕ) (events : List Event)
-    → HasOneHolder set threads events → (t : ℕ) (thread : Thread) (n : ℕ)
+pub top_walk_live : (set : Set) (states : States) (threads : ℕ) (events : List Event)
+    → HasOneHolder set states threads events → (t : ℕ) (thread : Thread) (n : ℕ)
     → slice_get (run set threads events).world.threads t ≡ Some thread
     → top_of thread.frames.items ≡ Some (Walk n)
     → is_some (packet_of (run set threads events).world.shared n) ≡ true
-top_walk_live set threads events holder t thread n there top =
+top_walk_live set states threads events holder t thread n there top =
     let r : Run = run set threads events in
     let counted : 1 ≤ all_walking set r.world.threads n =
     thread_counted set r.world.threads t thread n there

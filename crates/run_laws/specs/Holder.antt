@@ -1,7 +1,6 @@
 -- Who holds a packet: a register that has the right to it, the I/O manager's frame that completes
 -- it, a queue, what a device has for StartIo, or its cancel word.
 use Rattle.std.specs.Prelude.{ℕ, ◌≡◌, ◌<◌, ◌≤◌, ◌+◌, ◌&&◌, not, Bool, List, [], ◌∷◌, length, Option, None, Some, is_some, nat_eq, nat_lt, slice_get, if◌then◌else◌, false}
-use Rattle.model.specs.declared.abs.Abs.{Abs}
 use Rattle.model.specs.declared.abs.Kind.{Kind}
 use Rattle.model.specs.declared.event.Event.{Event}
 use Rattle.model.specs.declared.limits.TheConstants.{REGISTERS}
@@ -17,13 +16,13 @@ use Rattle.model.specs.Effect.{routine_of_device}
 use Rattle.model.specs.Fault.{topped}
 use Rattle.model.specs.Kinds.{is_right}
 use Rattle.model.specs.LocalRule.{is_hold}
-use Rattle.model.specs.Paths.{Arrives}
 use Rattle.model.specs.Queues.{StartState}
 use Rattle.model.specs.Run.{Run, frames_on, run}
-use Rattle.model.specs.Set.{Set, cancel_routine_of, member, routine_of, sort_of}
+use Rattle.model.specs.Set.{Set, cancel_routine_of, routine_of, sort_of}
 use Rattle.model.specs.Sound.{IsSound}
 use Rattle.model.specs.Typable.{IsTypable}
 use Rattle.model.specs.World.{Shared, packet_of}
+use Rattle.run_laws.specs.ArrivingStates.{States, StatesArrive}
 
 -- 1 where a value refers to a packet, else 0
 abbrev pub names : Value → ℕ → ℕ
@@ -49,7 +48,7 @@ abbrev pub rights : List Kind → List Value → ℕ → ℕ
 rights kinds values n = named_in is_right kinds values n
 
 -- the registers of a frame, by the state at its position, and the I/O manager's frames of a packet
-abbrev pub frame_rights : (ℕ → ℕ → ℕ → Abs) → Frame → ℕ → ℕ
+abbrev pub frame_rights : States → Frame → ℕ → ℕ
 frame_rights states (Routine a) n =
     rights (states a.driver a.routine a.position).kinds a.registers n
 frame_rights states (Walk m) n = 0
@@ -85,7 +84,7 @@ abbrev pub all_walking : Set → List Thread → ℕ → ℕ
 all_walking set [] n = 0
 all_walking set (thread ∷ threads) n = walking set thread.frames.items n + all_walking set threads n
 
-abbrev pub holders : Set → (ℕ → ℕ → ℕ → Abs) → List Thread → ℕ → ℕ
+abbrev pub holders : Set → States → List Thread → ℕ → ℕ
 holders set states threads n =
     thread_sum (λ f. frame_rights states f n) threads + all_walking set threads n
 
@@ -168,28 +167,23 @@ pub record StandsInside (set : Set) (a : Activation) : Type 0 where
 -- a packet of a run that was issued and hasn't topped out has one holder, be it a register, the I/O
 -- manager's frame, a place in a queue without a cancel routine, a start list or a device queue, a
 -- current slot, or its cancel word, is in the list of live packets, and stands at most once in all
--- lists together; any other one has none, isn't there, and stands in none. The states are those
--- that arrive at the positions of the routines, and every routine's frame, on top of its thread or
--- below, stands at one of them
-pub record HasOneHolder (set : Set) (threads : ℕ) (events : List Event) : Type 0 where
-  pub states : ℕ → ℕ → ℕ → Abs
-  pub arrive : (driver number p : ℕ) (routine : RoutineOf)
-      → routine_of set driver number ≡ Some routine
-      → p < length routine.code
-      → Arrives (member set driver number routine) p (states driver number p)
-  pub stand : (t k : ℕ) (a : Activation) → slice_get (frames_on (run set threads events).world t) k
-      ≡ Some (Routine a)
-      → StandsInside set a
-  pub one : (n : ℕ) → holders set states (run set threads events).world.threads n
-      + times_waiting set (run set threads events).world.shared n
-      ≡ (if is_live (run set threads events) n then 1 else 0)
-  pub once : (n : ℕ) → times_listed (run set threads events).world.shared n
-      ≤ (if is_live (run set threads events) n then 1 else 0)
-  pub listed : (n : ℕ) → alive (packet_of (run set threads events).world.shared n)
-      ≡ (if is_live (run set threads events) n then 1 else 0)
+-- lists together; any other one has none, isn't there, and stands in none. Every routine's frame, on
+-- top of its thread or below, stands at a position, whose state tells its registers' rights
+pub record HasOneHolder (set : Set) (states : States) (threads : ℕ) (events : List Event) : Type 0
+  where
+    pub stand : (t k : ℕ) (a : Activation) → slice_get (frames_on (run set threads events).world t) k
+        ≡ Some (Routine a)
+        → StandsInside set a
+    pub one : (n : ℕ) → holders set states (run set threads events).world.threads n
+        + times_waiting set (run set threads events).world.shared n
+        ≡ (if is_live (run set threads events) n then 1 else 0)
+    pub once : (n : ℕ) → times_listed (run set threads events).world.shared n
+        ≤ (if is_live (run set threads events) n then 1 else 0)
+    pub listed : (n : ℕ) → alive (packet_of (run set threads events).world.shared n)
+        ≡ (if is_live (run set threads events) n then 1 else 0)
 
 abbrev pub PacketsHaveOneHolder : Type 0
 PacketsHaveOneHolder =
     (set : Set) → IsTypable set → IsSound set
-    → (threads : ℕ) (events : List Event)
-    → HasOneHolder set threads events
+    → (states : States) × StatesArrive set states
+    × ((threads : ℕ) (events : List Event) → HasOneHolder set states threads events)

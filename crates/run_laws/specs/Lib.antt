@@ -1,4 +1,5 @@
 pub mod NoWrong
+pub mod ArrivingStates
 pub mod Holder
 pub mod OneToken
 pub mod TopsOnce

@@ -1,23 +1,21 @@
 -- The token of a busy device: who has it has to see that the device goes on to its next packet.
-use Rattle.std.specs.Prelude.{ℕ, ◌≡◌, ◌<◌, ◌+◌, ◌&&◌, false, List, [], length, Option, None, Some, nat_eq, if◌then◌else◌}
-use Rattle.model.specs.declared.abs.Abs.{Abs}
+use Rattle.std.specs.Prelude.{ℕ, ◌≡◌, ◌+◌, ◌&&◌, false, List, [], length, Option, None, Some, nat_eq, if◌then◌else◌}
 use Rattle.model.specs.declared.event.Event.{Event}
-use Rattle.model.specs.declared.set.Routine.{Routine as RoutineOf}
 use Rattle.model.specs.declared.world.Frame.{Frame}
 use Rattle.model.specs.declared.world.Frame.TheVariants.{Routine, Walk, Cancel as CancelFrame}
 use Rattle.model.specs.declared.world.Thread.{Thread}
-use Rattle.model.specs.Paths.{Arrives}
 use Rattle.model.specs.Queues.{StartState}
 use Rattle.model.specs.Run.{run}
-use Rattle.model.specs.Set.{Set, member, routine_of}
+use Rattle.model.specs.Set.{Set}
 use Rattle.model.specs.Sound.{IsSound}
 use Rattle.model.specs.Typable.{IsTypable}
 use Rattle.model.specs.World.{start_of}
+use Rattle.run_laws.specs.ArrivingStates.{States, StatesArrive}
 use Rattle.run_laws.specs.Holder.{thread_sum}
 
 -- the tokens of a device that a frame has: one, if it is a routine's for that device, and has it by
 -- the state at its position
-abbrev pub frame_tokens : (ℕ → ℕ → ℕ → Abs) → ℕ → Frame → ℕ
+abbrev pub frame_tokens : States → ℕ → Frame → ℕ
 frame_tokens states d (Routine a) =
     if nat_eq a.device d && (states a.driver a.routine a.position).token then 1 else 0
 frame_tokens states d (Walk n) = 0
@@ -32,19 +30,13 @@ abbrev pub start_tokens : StartState → ℕ
 start_tokens start = length start.start_list + slot_tokens start.slot
 
 -- all of a device
-abbrev pub tokens : (ℕ → ℕ → ℕ → Abs) → List Thread → ℕ → StartState → ℕ
+abbrev pub tokens : States → List Thread → ℕ → StartState → ℕ
 tokens states threads d start =
     thread_sum (λ f. frame_tokens states d f) threads + start_tokens start
 
 -- a busy device has one token: an entry of its start list, a full slot, or a routine's frame; an
--- idle one has none, and no packet waits in its device queue. The states are those that arrive at
--- the positions of the routines
-pub record HasOneToken (set : Set) (threads : ℕ) (events : List Event) : Type 0 where
-  pub states : ℕ → ℕ → ℕ → Abs
-  pub arrive : (driver number p : ℕ) (routine : RoutineOf)
-      → routine_of set driver number ≡ Some routine
-      → p < length routine.code
-      → Arrives (member set driver number routine) p (states driver number p)
+-- idle one has none, and no packet waits in its device queue
+pub record HasOneToken (set : Set) (states : States) (threads : ℕ) (events : List Event) : Type 0 where
   pub one : (d : ℕ) (start : StartState)
       → start_of (run set threads events).world.shared d ≡ Some start
       → tokens states (run set threads events).world.threads d start ≡ (if start.busy then 1 else 0)
@@ -55,5 +47,5 @@ pub record HasOneToken (set : Set) (threads : ℕ) (events : List Event) : Type 
 abbrev pub BusyDevicesHaveOneToken : Type 0
 BusyDevicesHaveOneToken =
     (set : Set) → IsTypable set → IsSound set
-    → (threads : ℕ) (events : List Event)
-    → HasOneToken set threads events
+    → (states : States) × StatesArrive set states
+    × ((threads : ℕ) (events : List Event) → HasOneToken set states threads events)

@@ -8,6 +8,7 @@ use Rattle.model.specs.Set.{Set}
 use Rattle.model.specs.Sound.{IsSound}
 use Rattle.model.specs.Trace.{Entry}
 use Rattle.model.specs.Typable.{IsTypable}
+use Rattle.run_laws.specs.ArrivingStates.{States, StatesArrive}
 use Rattle.run_laws.specs.Holder.{HasOneHolder}
 use Rattle.run_laws.specs.Lifetime.{KeepCertificates}
 use Rattle.run_laws.specs.NeverStops.{NeverStops}
@@ -23,8 +24,9 @@ Faultless (e ∷ past) = (fault_of past e.actor e.action ≡ None) × Faultless 
 
 -- the run of these events: no bug check and no operand of a wrong kind in its trace, so it hasn't
 -- stopped and no step of its threads is refused; each activation is within its certificate, what
--- was returned agrees with the marks, nothing that these two go by is missing, each live packet has
--- one holder, each busy device one token, and no packet tops out twice
+-- was returned agrees with the marks, nothing that these two go by is missing, and no packet tops
+-- out twice; by the states that arrive at the positions of the routines, each live packet has one
+-- holder and each busy device one token
 pub record KeepsTheRules (set : Set) (threads : ℕ) (events : List Event) : Type 0 where
   pub faultless : Faultless (run set threads events).past
   pub right : NeverGoesWrong set threads events
@@ -32,8 +34,10 @@ pub record KeepsTheRules (set : Set) (threads : ℕ) (events : List Event) : Typ
   pub certificates : KeepCertificates set threads events
   pub pending : PendingAgree (run set threads events).past
   pub complete : SkipsNothing set threads events
-  pub holders : HasOneHolder set threads events
-  pub tokens : HasOneToken set threads events
+  pub states : States
+  pub arrive : StatesArrive set states
+  pub holders : HasOneHolder set states threads events
+  pub tokens : HasOneToken set states threads events
   pub topped : (n : ℕ) → times_topped (run set threads events).past n ≤ 1
 
 abbrev pub AcceptedRunsKeepTheRules : Type 0

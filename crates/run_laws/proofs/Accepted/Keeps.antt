@@ -28,7 +28,7 @@ use Rattle.run_laws.proofs.Runs.Events.{Happens}
 use Rattle.run_laws.proofs.Runs.Faultless.{recorded_faultless}
 use Rattle.run_laws.proofs.Runs.Kept.{GoesOnBy, with_queued}
 use Rattle.run_laws.proofs.States.Frames.{IsGood}
-use Rattle.run_laws.proofs.States.Rules.{States}
+use Rattle.run_laws.specs.ArrivingStates.{States}
 use Rattle.run_laws.proofs.States.Standing.{Standing, standing_begun, right_event, standing_kept, standing_queued}
 use Rattle.run_laws.proofs.Steps.Faults.{NoFaults, no_fault}
 use Rattle.run_laws.proofs.Tokens.Runs.{tokens_begun, tokens_kept, tokens_queued}

@@ -15,7 +15,7 @@ use Rattle.run_laws.proofs.Pending.Events.{Attends, attend_event, attends_begun,
 use Rattle.run_laws.proofs.Runs.Events.{stops_run, Happens, Sets, sets_nothing, queues, Concerns, a_thread, no_thread, concerns, set_in, answers_none, past_with, Answers, refuses_stopped, refuses_over, goes_on_with, stops_for, stops_wrong, answers}
 use Rattle.run_laws.proofs.Runs.Kept.{GoesOnBy, kept_run}
 use Rattle.run_laws.proofs.States.Frames.{IsGood}
-use Rattle.run_laws.proofs.States.Rules.{States}
+use Rattle.run_laws.specs.ArrivingStates.{States}
 use Rattle.run_laws.proofs.States.Standing.{right_event}
 
 module _ (set : Set) (states : States) (good : IsGood set states) (threads : ℕ) where

@@ -9,7 +9,7 @@ use Rattle.model.specs.declared.world.Frame.TheVariants.{Walk, Cancel as CancelF
 use Rattle.model.specs.Events.{effect}
 use Rattle.model.specs.Machine.{reply_to}
 use Rattle.model.specs.Run.{Run, Answered, frames_on, tags_on, step, run}
-use Rattle.model.specs.Set.{Set}
+use Rattle.model.specs.Set.{Set, member}
 use Rattle.model.specs.Sound.{IsSound}
 use Rattle.model.specs.Typable.{IsTypable}
 use Rattle.run_laws.specs.Holder.{HasOneHolder, PacketsHaveOneHolder}
@@ -31,10 +31,11 @@ use Rattle.run_laws.proofs.Holders.Runs.{one_holder, live_listed}
 use Rattle.run_laws.proofs.Pending.Entries.{all_say, as_many, has_uses, manager_tag, routine_tag}
 use Rattle.run_laws.proofs.Pending.Returned.{pending_agree}
 use Rattle.run_laws.proofs.Runs.Events.{stops_run, happens_step}
+use Rattle.run_laws.proofs.States.Follows.{alone_at}
 use Rattle.run_laws.proofs.States.Frames.{IsGood}
 use Rattle.run_laws.proofs.States.Inside.{stands_inside}
 use Rattle.run_laws.proofs.States.Known.{led}
-use Rattle.run_laws.proofs.States.Rules.{States}
+use Rattle.run_laws.specs.ArrivingStates.{States, StatesArrive}
 
 -- a reply of a run that goes on
 lets_go : (reply : Reply) → stops_run reply ≡ false → LetsGoOn reply
@@ -44,105 +45,103 @@ lets_go reply right =
       wrong = λ place same. (let no : true ≡ false = sym (ap stops_run same) ∙ right in cc);
     }
 
-module _ (set : Set) (typable : IsTypable set) (sound : IsSound set)
-    (threads : ℕ) (events : List Event) where
+module _ (set : Set) (typable : IsTypable set) (sound : IsSound set) where
   abbrev states : States
   states = (led set typable sound).0
 
   good : IsGood set states
   good = record { sound = sound; led = (led set typable sound).1 }
 
-  abbrev here : Run
-  here = run set threads events
-
-  lasting : Lasts set states good threads here
-  lasting = lasts set states good threads events
-
-  reply_right : (e : Event) → stops_run (reply_to set threads events e) ≡ false
-  reply_right e = right_answer set states good threads here lasting e
-
-  granted : (t : ℕ) → t < threads → reply_to set threads events (Step t) ≢ Refused
-  granted t within same =
-      let on : GoesOn set states good threads here t (effect set here.world (Step t))
-      (step set here (Step t)) =
-      goes_on_at set states good threads here lasting t (Step t) refl
-      (happens_step set here.world t (slice_get here.world.threads t) refl) in
-      let there : t < length here.world.threads = rw lasting.keeps.count within in
-      let no : true ≡ false =
-      sym (ap is_refused same) ∙ ap (λ (a : Answered). is_refused a.reply) on.is
-      ∙ granted_step set here.world t there in
-      cc
-
-  never_stops : NeverStops set threads events
-  never_stops = record {
-    on = lasting.on;
-    replies = λ e. lets_go _ (reply_right e);
-    stepped =
-        granted;
-  }
-
-  never_wrong : NeverGoesWrong set threads events
-  never_wrong =
+  states_arrive : StatesArrive set states
+  states_arrive =
       record {
-        trace = all_right here.past lasting.keeps.right;
-        replies = λ e place. (never_stops.replies e).wrong place;
+        alone = λ driver number p routine there within.
+            alone_at (member set driver number routine) (states driver number)
+            (good.led.known driver number routine there).follows p within;
       }
 
-  keep_certificates : KeepCertificates set threads events
-  keep_certificates =
-      record {
-        kept = all_kept set here lasting.tally;
-        one = all_one set here lasting.tally;
-        standing = stands_within set here lasting.tally;
-      }
+  module _ (threads : ℕ) (events : List Event) where
+    abbrev here : Run
+    here = run set threads events
 
-  has_one_holder : HasOneHolder set threads events
-  has_one_holder =
-      record {
-        states = states;
-        arrive = λ driver number p routine there within.
-            (good.led.known driver number routine there).follows.arrives p within;
-        stand = λ t k a there.
-            stands_inside set states here.world.shared.issued (frames_on here.world t) k a
-            (lasting.keeps.stands.frames t) there;
-        one = λ n. one_holder here lasting.keeps.stands.tells n set states lasting.keeps.held;
-        once = λ n. lists_live set states here lasting.keeps.stands.tells lasting.keeps.held
-            lasting.keeps.claims n;
-        listed = λ n. live_listed here lasting.keeps.stands.tells n;
-      }
+    lasting : Lasts set states good threads here
+    lasting = lasts set states good threads events
 
-  has_one_token : HasOneToken set threads events
-  has_one_token =
-      record {
-        states = states;
-        arrive = λ driver number p routine there within.
-            (good.led.known driver number routine there).follows.arrives p within;
-        one = lasting.keeps.tokens.one;
-        idle = lasting.keeps.tokens.idle;
-      }
+    reply_right : (e : Event) → stops_run (reply_to set threads events e) ≡ false
+    reply_right e = right_answer set states good threads here lasting e
 
-  at_most_once : (n : ℕ) → times_topped here.past n ≤ 1
-  at_most_once n = tops_at_most_once here.past lasting.keeps.once n
+    granted : (t : ℕ) → t < threads → reply_to set threads events (Step t) ≢ Refused
+    granted t within same =
+        let on : GoesOn set states good threads here t (effect set here.world (Step t))
+        (step set here (Step t)) =
+        goes_on_at set states good threads here lasting t (Step t) refl
+        (happens_step set here.world t (slice_get here.world.threads t) refl) in
+        let there : t < length here.world.threads = rw lasting.keeps.count within in
+        let no : true ≡ false =
+        sym (ap is_refused same) ∙ ap (λ (a : Answered). is_refused a.reply) on.is
+        ∙ granted_step set here.world t there in
+        cc
 
-  skips_nothing : SkipsNothing set threads events
-  skips_nothing =
-      record {
-        tagged = λ t. as_many set states here.world here.past None (frames_on here.world t)
-            (tags_on here t)
-            (lasting.attends.serves_all t);
-        routines = λ t k a there. routine_tag set states here.world here.past
-            here.world.shared.issued None
-            (frames_on here.world t) (tags_on here t) k a (lasting.attends.serves_all t)
-            (lasting.keeps.stands.frames t) (λ b first. tt) there;
-        managers = λ t k n there. manager_tag set states here.world here.past None
-            (frames_on here.world t)
-            (tags_on here t) k (Walk n) (λ tag is. is) (lasting.attends.serves_all t) there;
-        cancellers = λ t k c there. manager_tag set states here.world here.past None
-            (frames_on here.world t)
-            (tags_on here t) k (CancelFrame c) (λ tag is. is) (lasting.attends.serves_all t) there;
-        packets = has_uses here.world here.past lasting.keeps.«uses»;
-        entries = all_say here.past lasting.says;
-      }
+    never_stops : NeverStops set threads events
+    never_stops = record {
+      on = lasting.on;
+      replies = λ e. lets_go _ (reply_right e);
+      stepped =
+          granted;
+    }
+
+    never_wrong : NeverGoesWrong set threads events
+    never_wrong =
+        record {
+          trace = all_right here.past lasting.keeps.right;
+          replies = λ e place. (never_stops.replies e).wrong place;
+        }
+
+    keep_certificates : KeepCertificates set threads events
+    keep_certificates =
+        record {
+          kept = all_kept set here lasting.tally;
+          one = all_one set here lasting.tally;
+          standing = stands_within set here lasting.tally;
+        }
+
+    has_one_holder : HasOneHolder set states threads events
+    has_one_holder =
+        record {
+          stand = λ t k a there.
+              stands_inside set states here.world.shared.issued (frames_on here.world t) k a
+              (lasting.keeps.stands.frames t) there;
+          one = λ n. one_holder here lasting.keeps.stands.tells n set states lasting.keeps.held;
+          once = λ n. lists_live set states here lasting.keeps.stands.tells lasting.keeps.held
+              lasting.keeps.claims n;
+          listed = λ n. live_listed here lasting.keeps.stands.tells n;
+        }
+
+    has_one_token : HasOneToken set states threads events
+    has_one_token = record { one = lasting.keeps.tokens.one; idle = lasting.keeps.tokens.idle }
+
+    at_most_once : (n : ℕ) → times_topped here.past n ≤ 1
+    at_most_once n = tops_at_most_once here.past lasting.keeps.once n
+
+    skips_nothing : SkipsNothing set threads events
+    skips_nothing =
+        record {
+          tagged = λ t. as_many set states here.world here.past None (frames_on here.world t)
+              (tags_on here t)
+              (lasting.attends.serves_all t);
+          routines = λ t k a there. routine_tag set states here.world here.past
+              here.world.shared.issued None
+              (frames_on here.world t) (tags_on here t) k a (lasting.attends.serves_all t)
+              (lasting.keeps.stands.frames t) (λ b first. tt) there;
+          managers = λ t k n there. manager_tag set states here.world here.past None
+              (frames_on here.world t)
+              (tags_on here t) k (Walk n) (λ tag is. is) (lasting.attends.serves_all t) there;
+          cancellers = λ t k c there. manager_tag set states here.world here.past None
+              (frames_on here.world t)
+              (tags_on here t) k (CancelFrame c) (λ tag is. is) (lasting.attends.serves_all t) there;
+          packets = has_uses here.world here.past lasting.keeps.«uses»;
+          entries = all_say here.past lasting.says;
+        }
 
 pub accepted_go_on : AcceptedRunsNeverStop
 accepted_go_on = never_stops
@@ -154,17 +153,19 @@ pub accepted_certificates : ActivationsKeepTheirCertificate
 accepted_certificates = keep_certificates
 
 pub accepted_holders : PacketsHaveOneHolder
-accepted_holders = has_one_holder
+accepted_holders set typable sound =
+    (states set typable sound, states_arrive set typable sound, has_one_holder set typable sound)
 
 pub accepted_tokens : BusyDevicesHaveOneToken
-accepted_tokens = has_one_token
+accepted_tokens set typable sound =
+    (states set typable sound, states_arrive set typable sound, has_one_token set typable sound)
 
 pub accepted_tops : PacketsTopOutOnce
 accepted_tops = at_most_once
 
 pub accepted_agree : AcceptedRunsAgreeOnPending
 accepted_agree set typable sound threads events =
-    pending_agree (states set typable sound threads events)
+    pending_agree (states set typable sound)
     (run set threads events).world
     (run set threads events).past
     (lasting set typable sound threads events).attends.agree
@@ -181,6 +182,8 @@ accepted_rules set typable sound threads events =
       certificates = keep_certificates set typable sound threads events;
       pending = accepted_agree set typable sound threads events;
       complete = skips_nothing set typable sound threads events;
+      states = states set typable sound;
+      arrive = states_arrive set typable sound;
       holders = has_one_holder set typable sound threads events;
       tokens = has_one_token set typable sound threads events;
       topped = at_most_once set typable sound threads events;

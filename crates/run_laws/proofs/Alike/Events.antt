@@ -30,7 +30,7 @@ use Rattle.run_laws.proofs.Alike.Worlds.{AlikeChange, AlikeWorld, put_alike, ste
 use Rattle.run_laws.proofs.Past.LivePackets.{Rises, find, find_place, find_push}
 use Rattle.run_laws.proofs.States.Entering.{startio_activation}
 use Rattle.run_laws.proofs.States.Frames.{IsGood}
-use Rattle.run_laws.proofs.States.Rules.{States}
+use Rattle.run_laws.specs.ArrivingStates.{States}
 
 module _ (set : Set) (states : States) where
   same_lengths : (s : Shared) (above : Option Frame) (xs ys : List Frame)

@@ -18,7 +18,7 @@ use Rattle.model.specs.Shown.{told_register}
 use Rattle.model.specs.World.{Shared, packet_of}
 use Rattle.run_laws.proofs.Alike.Registers.{SameRegisters, same_turn, same_told}
 use Rattle.run_laws.proofs.States.Frames.{state_of}
-use Rattle.run_laws.proofs.States.Rules.{States}
+use Rattle.run_laws.specs.ArrivingStates.{States}
 use Rattle.run_laws.proofs.States.Told.{told_frame}
 
 -- the kinds of a frame's registers, of which one waits for a status

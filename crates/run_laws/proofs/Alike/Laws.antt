@@ -14,7 +14,7 @@ use Rattle.run_laws.proofs.Alike.Worlds.{AlikeChange, AlikeWorld}
 use Rattle.run_laws.proofs.Runs.Events.{Concerns, a_thread, answers_none, concerns, no_thread, set_in}
 use Rattle.run_laws.proofs.States.Frames.{IsGood}
 use Rattle.run_laws.proofs.States.Known.{led}
-use Rattle.run_laws.proofs.States.Rules.{States}
+use Rattle.run_laws.specs.ArrivingStates.{States}
 
 module _ (set : Set) (states : States) (good : IsGood set states) where
   -- an event on a run does what it does to its world

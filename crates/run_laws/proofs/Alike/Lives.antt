@@ -23,7 +23,7 @@ use Rattle.run_laws.proofs.Live.Kept.{touches_none}
 use Rattle.run_laws.proofs.Past.Packets.{Tells, found, gone_topped, untopped}
 use Rattle.run_laws.proofs.Runs.Events.{StepsFrame, Happens, steps}
 use Rattle.run_laws.proofs.States.Frames.{IsGood}
-use Rattle.run_laws.proofs.States.Rules.{States}
+use Rattle.run_laws.specs.ArrivingStates.{States}
 use Rattle.run_laws.proofs.States.Standing.{Standing, standing_kept}
 use Rattle.run_laws.proofs.Steps.Faults.{fault_among, is_touch, none_first, none_later}
 

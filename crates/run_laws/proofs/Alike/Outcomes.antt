@@ -24,7 +24,7 @@ use Rattle.run_laws.proofs.States.Frames.{Runs, state_of}
 use Rattle.run_laws.proofs.States.Kinds.{number_kinds, number_wanted}
 use Rattle.run_laws.proofs.States.LoopEnds.{moved_end}
 use Rattle.run_laws.proofs.States.Moves.{has_next, arrives_next, jump_at}
-use Rattle.run_laws.proofs.States.Rules.{States}
+use Rattle.run_laws.specs.ArrivingStates.{States}
 use Rattle.run_laws.proofs.Steps.Words.{keeps_registers, packet_operand, number_operand, second_operand, numbered_by}
 
 -- an outcome without its frames and its actions

@@ -28,7 +28,7 @@ use Rattle.run_laws.proofs.Holders.Sums.{Held, unheld}
 use Rattle.run_laws.proofs.Past.LivePackets.{Rises, find, find_below, find_place}
 use Rattle.run_laws.proofs.States.Frames.{Ready, state_of}
 use Rattle.run_laws.proofs.States.Kinds.{HasKinds, Suits}
-use Rattle.run_laws.proofs.States.Rules.{States}
+use Rattle.run_laws.specs.ArrivingStates.{States}
 use Rattle.run_laws.proofs.States.Stacks.{Stacked, Stands}
 
 -- a right is to the same packet

@@ -36,7 +36,8 @@ use Rattle.run_laws.proofs.Past.Walks.{UnderIssued}
 use Rattle.run_laws.proofs.States.Frames.{Runs, state_of}
 use Rattle.run_laws.proofs.States.Obeyed.{returns_by}
 use Rattle.run_laws.proofs.States.OnTop.{OnTop, runs}
-use Rattle.run_laws.proofs.States.Rules.{States, first_none}
+use Rattle.run_laws.specs.ArrivingStates.{States}
+use Rattle.run_laws.proofs.States.Rules.{first_none}
 use Rattle.run_laws.proofs.Steps.Comes.{Comes, Executing, touches_gone, resumes_gone}
 use Rattle.run_laws.proofs.Steps.Words.{packet_operand, number_operand, second_operand}
 

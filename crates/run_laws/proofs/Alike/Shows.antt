@@ -1,15 +1,10 @@
 -- What shows a world of a run of an accepted set, and shows another one, can't tell them apart; and
 -- the other way round.
-use Rattle.std.proofs.Common.{◌≡◌, ◌≢◌, inl, inr, ℕ, zero, suc, ◌+◌, ◌<◌, Bool, true, false, List, [], ◌∷◌, length, Option, None, Some, refl, sym, ◌∙◌, ap, map, Ok}
-use Rattle.std.specs.Prelude.{slice_get, slice_index_or, slice_set}
+use Rattle.std.proofs.Common.{◌≡◌, ◌≢◌, ℕ, zero, suc, Bool, true, false, List, [], ◌∷◌, length, Option, None, Some, refl, sym, ◌∙◌, ap, map}
+use Rattle.std.specs.Prelude.{slice_index_or, slice_set}
 use Rattle.std.proofs.lemmas.List.{get_or-set_other}
-use Rattle.std.proofs.lemmas.Option.{slice_get_within}
-use Rattle.model.specs.declared.abs.Abs.{Abs}
 use Rattle.model.specs.declared.abs.Kind.{Kind}
 use Rattle.model.specs.declared.abs.Kind.TheVariants.{Blank as BlankKind}
-use Rattle.model.specs.declared.abs.Outs.{Outs}
-use Rattle.model.specs.declared.abs.Rule.{Rule}
-use Rattle.model.specs.declared.instr.Instr.{Instr}
 use Rattle.model.specs.declared.status.Status.{Status}
 use Rattle.model.specs.declared.status.Status.TheVariants.{Success}
 use Rattle.model.specs.declared.world.Activation.{Activation}
@@ -18,49 +13,15 @@ use Rattle.model.specs.declared.world.Value.{Value}
 use Rattle.model.specs.declared.world.Value.TheVariants.{Blank, Num, Ref, Status as StatusValue}
 use Rattle.model.specs.Effect.{answered_in}
 use Rattle.model.specs.Kinds.{is_blank}
-use Rattle.model.specs.LocalRule.{kind_of, outs, refuses, rule_or}
-use Rattle.model.specs.Paths.{Along, HandsOn, LeadsFrom}
-use Rattle.model.specs.Set.{Set, Member, label_of}
+use Rattle.model.specs.LocalRule.{kind_of}
+use Rattle.model.specs.Set.{Set}
 use Rattle.model.specs.Shown.{MayBeTaken, Reads, blank_register, told_register, whole_register}
 use Rattle.model.specs.World.{register}
 use Rattle.run_laws.proofs.Alike.Frames.{waiting_for}
 use Rattle.run_laws.proofs.Alike.Registers.{SameRegisters}
-use Rattle.run_laws.proofs.States.Follows.{Follows}
 use Rattle.run_laws.proofs.States.Frames.{IsGood, Ready, state_of}
 use Rattle.run_laws.proofs.States.Kinds.{Suits, kinds_get}
-use Rattle.run_laws.proofs.States.Rules.{States}
-
--- no other state arrives at a position than that of the table
-hands_out : (o : Option Rule) (one : Outs) (label : Option ℕ) (q p : ℕ) (s : Abs)
-    → HandsOn (rule_or o one) label q p s → HandsOn (Ok one) label q p s
-hands_out None one label q p s h = h
-hands_out (Some rule) one label q p s h = absurd h
-
-module _ (m : Member) (state : ℕ → Abs) (follows : Follows m state) where
-  leads_alone : (q p : ℕ) (before s : Abs) (i : Option Instr) → slice_get m.routine.code q ≡ i
-      → before ≡ state q → LeadsFrom m i q before p s → s ≡ state p
-  leads_alone q p before s None there is h = absurd h
-  leads_alone q p before s (Some i) there is h =
-      let within : q < length m.routine.code = slice_get_within m.routine.code q i there in
-      elim (hands_out (refuses before i m.routine.sort m.set m.driver)
-      (outs m.set m.driver before i) (label_of i) q p s h) [
-        | inl next ↦
-            let here : (q + 1 < length m.routine.code) × (state (q + 1) ≡ s) =
-            follows.next q s within (rw (there, ← is) next.1) in
-            rw next.0 (sym here.1)
-        | inr jump ↦
-            let here : (p < length m.routine.code) × (state p ≡ s) =
-            follows.jump q p s within (rw there jump.0) (rw (there, ← is) jump.1) in
-            sym here.1
-      ]
-
-  pub arrives_alone : (path : List ℕ) (p : ℕ) (s : Abs) → Along m (p ∷ path) s → s ≡ state p
-  arrives_alone [] p s h =
-      let both : Some s ≡ Some (state 0) = sym h.1 ∙ follows.start in
-      let same : s ≡ state 0 = cc in
-      rw h.0 same
-  arrives_alone (q ∷ path) p s h =
-      leads_alone q p h.0 s (slice_get m.routine.code q) refl (arrives_alone path q h.0 h.1) h.2.1
+use Rattle.run_laws.specs.ArrivingStates.{States}
 
 -- a register that is shown whole, and read
 abbrev pub is_value : Value → Bool

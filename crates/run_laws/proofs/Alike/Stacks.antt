@@ -12,7 +12,7 @@ use Rattle.model.specs.World.{Shared}
 use Rattle.run_laws.proofs.Alike.Frames.{AlikeFrame, AlikeFrames, IsLive, above_in}
 use Rattle.run_laws.proofs.Lists.{Each, before_last, last_of}
 use Rattle.run_laws.proofs.Past.Walks.{WalkIssued}
-use Rattle.run_laws.proofs.States.Rules.{States}
+use Rattle.run_laws.specs.ArrivingStates.{States}
 use Rattle.run_laws.proofs.States.Told.{told_frame}
 
 module _ (set : Set) (states : States) where

@@ -19,7 +19,7 @@ use Rattle.run_laws.proofs.Lists.{Each, each_before, each_after, each_push, befo
 use Rattle.run_laws.proofs.Live.Sees.{Seen}
 use Rattle.run_laws.proofs.Past.Walks.{UnderIssued, WalkIssued}
 use Rattle.run_laws.proofs.States.OnTop.{OnTop}
-use Rattle.run_laws.proofs.States.Rules.{States}
+use Rattle.run_laws.specs.ArrivingStates.{States}
 use Rattle.run_laws.proofs.States.Told.{told_frame}
 use Rattle.run_laws.proofs.Steps.Below.{cancel_takes}
 use Rattle.run_laws.proofs.Steps.Comes.{Comes, errs, returns_status, lets_go, lets_walk, resumes_walk, resumes_gone, resumes_none, stops_walk, stops_none, ends_startio, ends_dpc, ends_cancel, walks_gone, walks_to, lends_to, walks_up, carries_up, tops_out, cancels}

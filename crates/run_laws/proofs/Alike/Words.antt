@@ -26,7 +26,7 @@ use Rattle.run_laws.proofs.Alike.Outcomes.{AlikeOutcome, alike_self, stays, wron
 use Rattle.run_laws.proofs.Alike.Registers.{SameRegisters}
 use Rattle.run_laws.proofs.States.Frames.{Runs, state_of}
 use Rattle.run_laws.proofs.States.Moves.{has_next}
-use Rattle.run_laws.proofs.States.Rules.{States}
+use Rattle.run_laws.specs.ArrivingStates.{States}
 use Rattle.run_laws.proofs.Steps.Words.{keeps_registers, numbered_by}
 
 module _ (set : Set) (states : States) (s : Shared) (t : ℕ) (a : Activation) (us : List Value)

@@ -26,7 +26,7 @@ use Rattle.run_laws.proofs.Past.Walks.{WalkIssued, under_issued}
 use Rattle.run_laws.proofs.Runs.Events.{StepsFrame, steps}
 use Rattle.run_laws.proofs.Runs.Threads.{frames_there}
 use Rattle.run_laws.proofs.States.Frames.{IsGood}
-use Rattle.run_laws.proofs.States.Rules.{States}
+use Rattle.run_laws.specs.ArrivingStates.{States}
 use Rattle.run_laws.proofs.States.Stacks.{walks_stand}
 use Rattle.run_laws.proofs.States.Standing.{on_top, stands_there}
 use Rattle.run_laws.proofs.Steps.Walk.{comes}

@@ -25,7 +25,7 @@ use Rattle.run_laws.proofs.Runs.Kept.{with_queued}
 use Rattle.run_laws.proofs.Runs.Threads.{frames_there, frames_put}
 use Rattle.run_laws.proofs.States.Entering.{begins_request, begins_dpc, startio_activation}
 use Rattle.run_laws.proofs.States.Frames.{IsGood}
-use Rattle.run_laws.proofs.States.Rules.{States}
+use Rattle.run_laws.specs.ArrivingStates.{States}
 use Rattle.run_laws.proofs.States.Standing.{Standing, on_top, startio_enters}
 use Rattle.run_laws.proofs.Steps.Below.{stood}
 use Rattle.std.proofs.lemmas.Option.{get_or_from_slice_get}

@@ -39,7 +39,7 @@ use Rattle.run_laws.proofs.Runs.Threads.{frames_there}
 use Rattle.run_laws.proofs.States.Frames.{IsGood, Ready, Serves, state_of}
 use Rattle.run_laws.proofs.States.Known.{IsKnown}
 use Rattle.run_laws.proofs.States.Listed.{AllFit, Guarded, KindFits, arrives_fits, fits_at, guarded_is, guards_in}
-use Rattle.run_laws.proofs.States.Rules.{States}
+use Rattle.run_laws.specs.ArrivingStates.{States}
 use Rattle.run_laws.proofs.States.Stacks.{Stacked, Stands}
 use Rattle.run_laws.proofs.States.Standing.{Standing, stands_there}
 use Rattle.run_laws.proofs.Tests.{not_and}

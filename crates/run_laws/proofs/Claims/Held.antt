@@ -22,7 +22,7 @@ use Rattle.run_laws.proofs.Claims.Sums.{Balanced, frame_names, is_taken, names_o
 use Rattle.run_laws.proofs.Holders.Sums.{Held, unheld, unheld_one}
 use Rattle.run_laws.proofs.Past.LivePackets.{find, find_place}
 use Rattle.run_laws.proofs.States.Frames.{state_of}
-use Rattle.run_laws.proofs.States.Rules.{States}
+use Rattle.run_laws.specs.ArrivingStates.{States}
 
 -- sums over frames, and over threads
 pub stack_most : (few more : Frame → ℕ) → ((f : Frame) → few f ≤ more f) → (frames : List Frame)

@@ -27,7 +27,8 @@ use Rattle.run_laws.proofs.States.Frames.{Runs, state_of}
 use Rattle.run_laws.proofs.States.Kinds.{HasKinds, kinds_get, kinds_set, label_kinds, number_kinds}
 use Rattle.run_laws.proofs.States.Moves.{arrives, arrives_next, has_next}
 use Rattle.run_laws.proofs.States.NoViews.{is_queued}
-use Rattle.run_laws.proofs.States.Rules.{States, first_none, second_none, unbroken}
+use Rattle.run_laws.specs.ArrivingStates.{States}
+use Rattle.run_laws.proofs.States.Rules.{first_none, second_none, unbroken}
 use Rattle.run_laws.proofs.Steps.Comes.{GoesTo, Written, jumping, keeps_all, makes_blank, makes_number, moves_over, onward}
 use Rattle.run_laws.proofs.Steps.Words.{is_giving, keeps_registers, numbered_by, work_of}
 

@@ -16,7 +16,7 @@ use Rattle.run_laws.proofs.Holders.Runs.{live_listed}
 use Rattle.run_laws.proofs.Holders.Sums.{Held, unheld}
 use Rattle.run_laws.proofs.Past.LivePackets.{find, find_place}
 use Rattle.run_laws.proofs.Past.Packets.{Tells}
-use Rattle.run_laws.proofs.States.Rules.{States}
+use Rattle.run_laws.specs.ArrivingStates.{States}
 
 module _ (set : Set) (states : States) (w : World) (kept : Held set states w)
     (claimed : Claimed set states w) (n : ℕ) where

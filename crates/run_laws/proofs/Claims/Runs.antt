@@ -31,7 +31,7 @@ use Rattle.run_laws.proofs.Past.Owners.{Owned}
 use Rattle.run_laws.proofs.Runs.Events.{StepsFrame, Happens, begins, begins_cancel, begins_startio, issues, nothing, steps}
 use Rattle.run_laws.proofs.States.Fine.{StepLeaves, leaves_fine}
 use Rattle.run_laws.proofs.States.Frames.{IsGood}
-use Rattle.run_laws.proofs.States.Rules.{States}
+use Rattle.run_laws.specs.ArrivingStates.{States}
 use Rattle.run_laws.proofs.States.Standing.{Standing, on_top, startio_enters}
 use Rattle.model.specs.declared.world.Packet.{Packet}
 use Rattle.run_laws.proofs.Past.Packets.{found}

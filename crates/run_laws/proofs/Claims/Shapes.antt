@@ -32,7 +32,8 @@ use Rattle.run_laws.proofs.Runs.Events.{StepsFrame}
 use Rattle.run_laws.proofs.States.Fine.{StepLeaves}
 use Rattle.run_laws.proofs.States.Frames.{IsGood, Runs, state_of}
 use Rattle.run_laws.proofs.States.Obeyed.{inserts_right}
-use Rattle.run_laws.proofs.States.Rules.{States, first_none, second_none, unbroken}
+use Rattle.run_laws.specs.ArrivingStates.{States}
+use Rattle.run_laws.proofs.States.Rules.{first_none, second_none, unbroken}
 use Rattle.run_laws.proofs.States.Standing.{Standing}
 use Rattle.run_laws.proofs.Steps.Comes.{Queued, Reads, inserts, puts_in, removes, removes_none, starts_next, starts_packet, takes_none, takes_out, unlinks, Cancels, Comes, Exchanged, GoesTo, arms_for, awaits_cancel, calls_cancel, cancels, disarms, errs, exchanges, exchanges_gone, finds_empty, finds_none, flags_gone, frees_lock, jumping, keeps_all, makes_number, onward, queued_to, retakes_cancel, sets_flag, takes_cancel, tops_out, works_on_queues}
 use Rattle.model.specs.declared.world.Armer.{Armer}

@@ -29,7 +29,7 @@ use Rattle.run_laws.proofs.Runs.Events.{StepsFrame}
 use Rattle.run_laws.proofs.Runs.Threads.{each_frames, frames_there}
 use Rattle.run_laws.proofs.States.Fine.{StepLeaves}
 use Rattle.run_laws.proofs.States.Frames.{IsGood, Ready, state_of}
-use Rattle.run_laws.proofs.States.Rules.{States}
+use Rattle.run_laws.specs.ArrivingStates.{States}
 use Rattle.run_laws.proofs.States.Stacks.{Replaces, Stacked, Stands}
 use Rattle.run_laws.proofs.States.Standing.{Standing, stands_there}
 use Rattle.run_laws.proofs.States.Told.{last_same, told_frame, told_is, told_last}

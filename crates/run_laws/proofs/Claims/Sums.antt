@@ -20,7 +20,7 @@ use Rattle.run_laws.specs.Holder.{named_in, thread_sum, times_in, times_listed}
 use Rattle.run_laws.proofs.Lists.{Each}
 use Rattle.run_laws.proofs.Past.LivePackets.{find}
 use Rattle.run_laws.proofs.States.Frames.{state_of}
-use Rattle.run_laws.proofs.States.Rules.{States}
+use Rattle.run_laws.specs.ArrivingStates.{States}
 
 -- a packet that was taken off a queue, and may be cancelled; off this one, and off any
 abbrev pub is_taken : QueueName → Kind → Bool

@@ -18,7 +18,7 @@ use Rattle.run_laws.proofs.Holders.Sums.{top_le}
 use Rattle.run_laws.proofs.Runs.Events.{StepsFrame}
 use Rattle.run_laws.proofs.States.Frames.{IsGood, state_of}
 use Rattle.run_laws.proofs.States.OnTop.{OnTop}
-use Rattle.run_laws.proofs.States.Rules.{States}
+use Rattle.run_laws.specs.ArrivingStates.{States}
 use Rattle.run_laws.proofs.States.Standing.{Standing, on_top}
 
 module _ (set : Set) (states : States) (w : World) (past : List Entry) (good : IsGood set states)

@@ -33,7 +33,8 @@ use Rattle.run_laws.proofs.Past.LivePackets.{find}
 use Rattle.run_laws.proofs.Runs.Events.{StepsFrame}
 use Rattle.run_laws.proofs.States.Fine.{StepLeaves}
 use Rattle.run_laws.proofs.States.Frames.{IsGood, Runs, state_of}
-use Rattle.run_laws.proofs.States.Rules.{States, first_none}
+use Rattle.run_laws.specs.ArrivingStates.{States}
+use Rattle.run_laws.proofs.States.Rules.{first_none}
 use Rattle.run_laws.proofs.States.Standing.{Standing}
 use Rattle.run_laws.proofs.Steps.Comes.{Reads}
 use Rattle.model.specs.declared.set.QueueName.{QueueName}

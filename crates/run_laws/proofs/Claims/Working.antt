@@ -23,7 +23,7 @@ use Rattle.run_laws.proofs.Claims.Names.{TurnsNames, armed_queues, cancelling_qu
 use Rattle.run_laws.proofs.Claims.Sums.{FrameApart, frame_names, is_cancelable, is_taken, names_on, takes_in, was_taken}
 use Rattle.run_laws.proofs.Holders.Rights.{named_none}
 use Rattle.run_laws.proofs.States.Frames.{Serves, state_of}
-use Rattle.run_laws.proofs.States.Rules.{States}
+use Rattle.run_laws.specs.ArrivingStates.{States}
 use Rattle.run_laws.proofs.Tests.{or_left, or_right}
 
 -- a queue is unlinked from by one that stands there, or that the cancel routine was called for

@@ -21,7 +21,7 @@ use Rattle.run_laws.proofs.Runs.Events.{Happens, nothing, steps, issues, begins,
 use Rattle.run_laws.proofs.Runs.Threads.{frames_there, frames_put, each_frames, idle_frames}
 use Rattle.run_laws.proofs.States.Entering.{begins_dpc, startio_activation}
 use Rattle.run_laws.proofs.States.Frames.{IsGood, Serves}
-use Rattle.run_laws.proofs.States.Rules.{States}
+use Rattle.run_laws.specs.ArrivingStates.{States}
 use Rattle.run_laws.proofs.States.Standing.{Standing, stands_there, on_top, startio_enters}
 use Rattle.run_laws.proofs.Steps.Below.{stood}
 use Rattle.run_laws.proofs.Steps.Comes.{walks_gone, Comes, Cancels, takes_cancel, cancels, works_on_queues}

@@ -14,7 +14,7 @@ use Rattle.run_laws.proofs.Holders.Runs.{top_holding}
 use Rattle.run_laws.proofs.Holders.Sums.{unheld, held, Held, stack_append, stack_le, two_le}
 use Rattle.run_laws.proofs.Past.LivePackets.{find, find_above}
 use Rattle.run_laws.proofs.Runs.Events.{StepsFrame}
-use Rattle.run_laws.proofs.States.Rules.{States}
+use Rattle.run_laws.specs.ArrivingStates.{States}
 use Rattle.run_laws.proofs.States.Standing.{Standing}
 
 -- a packet that a register holds, and a frame that has nothing to do with it

@@ -23,7 +23,7 @@ use Rattle.run_laws.proofs.Past.LivePackets.{Rises, find, find_place, find_above
 use Rattle.run_laws.proofs.Past.Packets.{Tells, found}
 use Rattle.run_laws.proofs.States.Frames.{state_of}
 use Rattle.run_laws.proofs.States.Kinds.{HasKinds}
-use Rattle.run_laws.proofs.States.Rules.{States}
+use Rattle.run_laws.specs.ArrivingStates.{States}
 use Rattle.run_laws.proofs.Steps.Comes.{Reads}
 
 -- where one packet is found otherwise: it counts as before, or for less, or for more

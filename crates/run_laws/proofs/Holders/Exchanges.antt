@@ -26,7 +26,8 @@ use Rattle.run_laws.proofs.Holders.Waits.{rights_lost, rights_missed, rights_won
 use Rattle.run_laws.proofs.Past.LivePackets.{find}
 use Rattle.run_laws.proofs.Past.Packets.{found, numbered}
 use Rattle.run_laws.proofs.States.Frames.{Runs, state_of}
-use Rattle.run_laws.proofs.States.Rules.{States, first_none}
+use Rattle.run_laws.specs.ArrivingStates.{States}
+use Rattle.run_laws.proofs.States.Rules.{first_none}
 use Rattle.run_laws.proofs.Steps.Comes.{Exchanged, GoesTo, Reads, arms_for, disarms, jumping, keeps_all, makes_number, onward}
 use Rattle.run_laws.proofs.Steps.Words.{is_giving, keeps_registers, packet_operand, work_of}
 

@@ -33,7 +33,8 @@ use Rattle.run_laws.proofs.States.Kinds.{Suits}
 use Rattle.run_laws.proofs.States.Lent.{HasNew, lent_new}
 use Rattle.run_laws.proofs.States.Obeyed.{ReturnsBy, returns_by}
 use Rattle.run_laws.proofs.States.OnTop.{value_suits}
-use Rattle.run_laws.proofs.States.Rules.{States, granted}
+use Rattle.run_laws.specs.ArrivingStates.{States}
+use Rattle.run_laws.proofs.States.Rules.{granted}
 use Rattle.run_laws.proofs.Tests.{or_left, or_right, if_none}
 
 -- a completion routine that may hold its packet stands on the I/O manager's frame of that, and what

@@ -26,7 +26,8 @@ use Rattle.run_laws.proofs.States.Frames.{state_of, Runs}
 use Rattle.run_laws.proofs.States.Kinds.{HasKinds, kinds_get, kinds_set, label_kinds, number_kinds}
 use Rattle.run_laws.proofs.States.Moves.{has_next, falls_next, arrives, arrives_next}
 use Rattle.run_laws.proofs.States.NoViews.{is_queued}
-use Rattle.run_laws.proofs.States.Rules.{States, first_none, second_none, unbroken}
+use Rattle.run_laws.specs.ArrivingStates.{States}
+use Rattle.run_laws.proofs.States.Rules.{first_none, second_none, unbroken}
 use Rattle.run_laws.proofs.Steps.Comes.{Written, keeps_all, makes_number, moves_over, makes_blank, GoesTo, onward, jumping}
 use Rattle.run_laws.proofs.Steps.Locking.{LockWord}
 use Rattle.run_laws.proofs.Steps.Words.{is_giving, work_of, keeps_registers, numbered_by}

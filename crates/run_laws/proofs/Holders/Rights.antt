@@ -24,7 +24,7 @@ use Rattle.run_laws.proofs.Lists.{copied}
 use Rattle.run_laws.proofs.States.NoViews.{left_none}
 use Rattle.run_laws.proofs.States.Entering.{first_state, Begins, Enters}
 use Rattle.run_laws.proofs.States.Kinds.{HasKinds, Suits}
-use Rattle.run_laws.proofs.States.Rules.{States}
+use Rattle.run_laws.specs.ArrivingStates.{States}
 use Rattle.run_laws.proofs.Tests.{or_left, or_right, if_none}
 
 pub no_right : (k : Kind) (v : Value) (n : ℕ) → is_right k ≡ false → right k v n ≡ 0

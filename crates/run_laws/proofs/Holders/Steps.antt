@@ -50,7 +50,7 @@ use Rattle.run_laws.proofs.States.LoopEnds.{moved_end}
 use Rattle.run_laws.proofs.States.Moves.{has_next}
 use Rattle.run_laws.proofs.States.Obeyed.{SendsDown, sends_down, completes_one, never_back, returns_by}
 use Rattle.run_laws.proofs.States.OnTop.{OnTop, runs}
-use Rattle.run_laws.proofs.States.Rules.{States}
+use Rattle.run_laws.specs.ArrivingStates.{States}
 use Rattle.run_laws.proofs.Steps.Comes.{Cancels, takes_cancel, retakes_cancel, awaits_cancel, flags_gone, sets_flag, exchanges_gone, finds_empty, finds_none, calls_cancel, Exchanged, queued_to, Queued, GoesTo, Reads, Comes, errs, awaits_lock, computes, opens_loop, turns_loop, pages, touches_gone, looks_at, writes_info, marks_packet, exchanges, takes_lock, retakes_lock, frees_lock, completes_packet, completes_gone, passes_down, calls_down, returns_status, lets_go, lets_walk, resumes_walk, resumes_gone, resumes_none, stops_walk, stops_none, walks_gone, walks_to, lends_to, walks_up, carries_up, tops_out, ends_dpc, ends_cancel, works_on_queues, ends_startio, cancels}
 use Rattle.run_laws.proofs.Steps.Faults.{is_touch, is_completion, fault_among, first_only, topped_faults}
 use Rattle.run_laws.proofs.Steps.Locking.{taken_word, freed_word}

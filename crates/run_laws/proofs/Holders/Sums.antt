@@ -10,7 +10,7 @@ use Rattle.model.specs.Set.{Set}
 use Rattle.model.specs.World.{World}
 use Rattle.run_laws.specs.Holder.{all_walking, times_waiting, frame_rights, stack_sum, thread_sum}
 use Rattle.run_laws.proofs.Past.LivePackets.{find}
-use Rattle.run_laws.proofs.States.Rules.{States}
+use Rattle.run_laws.specs.ArrivingStates.{States}
 use Rattle.run_laws.proofs.States.Told.{told_frame, told_last}
 
 -- a live packet that isn't completing, and one that is

@@ -35,7 +35,8 @@ use Rattle.run_laws.proofs.States.Listed.{KindFits, HasCancel}
 use Rattle.run_laws.proofs.States.Moves.{arrives, arrives_next, has_next}
 use Rattle.run_laws.proofs.States.Obeyed.{inserts_right}
 use Rattle.run_laws.proofs.States.OnTop.{listed_fits}
-use Rattle.run_laws.proofs.States.Rules.{States, first_none, granted, second_none, unbroken}
+use Rattle.run_laws.specs.ArrivingStates.{States}
+use Rattle.run_laws.proofs.States.Rules.{first_none, granted, second_none, unbroken}
 use Rattle.run_laws.proofs.Steps.Comes.{Queued, Reads, inserts, jumping, puts_in, removes, removes_none, starts_next, starts_packet, takes_none, takes_out, unlinks}
 
 -- a routine's frame that has the token of its device finds the current slot empty

@@ -19,7 +19,7 @@ use Rattle.run_laws.proofs.States.Entering.{Begins, IsOfSort}
 use Rattle.run_laws.proofs.States.Stacks.{answered_in_sort}
 use Rattle.run_laws.proofs.States.Told.{last_under, told_frame, told_last, told_is}
 use Rattle.run_laws.proofs.Steps.Comes.{Reads}
-use Rattle.run_laws.proofs.States.Rules.{States}
+use Rattle.run_laws.specs.ArrivingStates.{States}
 use Rattle.run_laws.proofs.States.HandedOver.{hold_get, hold_none, hold_told, HoldOf}
 use Rattle.model.specs.LocalRule.{kind_of}
 use Rattle.model.specs.Kinds.{is_view, is_new}

@@ -31,7 +31,7 @@ use Rattle.run_laws.proofs.Runs.Threads.{frames_there, each_frames, idle_frames}
 use Rattle.run_laws.proofs.States.Entering.{begins_request, begins_dpc, startio_activation}
 use Rattle.run_laws.proofs.States.Frames.{state_of, IsGood}
 use Rattle.run_laws.proofs.States.Roots.{Low}
-use Rattle.run_laws.proofs.States.Rules.{States}
+use Rattle.run_laws.specs.ArrivingStates.{States}
 use Rattle.run_laws.proofs.States.Stacks.{Stands, Stacked}
 use Rattle.run_laws.proofs.States.Standing.{Standing, stands_there, on_top, low_there, startio_enters}
 use Rattle.run_laws.proofs.States.Told.{told_frame, told_last, told_is}

@@ -24,7 +24,8 @@ use Rattle.model.specs.Fault.{is_lock}
 use Rattle.model.specs.LocalRule.{is_held, with_lock, with_cancel, holds_spin_lock, holds_lock, kind_of, marked, given_down, handed, handed_at_label, refuses, released}
 use Rattle.model.specs.Set.{Set}
 use Rattle.model.specs.Sound.{OperandFits}
-use Rattle.run_laws.proofs.States.Rules.{States, first_none, unbroken}
+use Rattle.run_laws.specs.ArrivingStates.{States}
+use Rattle.run_laws.proofs.States.Rules.{first_none, unbroken}
 use Rattle.run_laws.proofs.Steps.Words.{Work, Locking, work_of, lock_taken, lock_freed}
 use Rattle.run_laws.proofs.Tests.{or_left, or_right, and_false, not_false}
 

@@ -39,7 +39,8 @@ use Rattle.run_laws.proofs.States.Moves.{onto, has_next, falls_next, arrives, ar
 use Rattle.run_laws.proofs.States.Obeyed.{sends_down, completes_one, returns_by}
 use Rattle.run_laws.proofs.States.OnTop.{OnTop, runs}
 use Rattle.run_laws.proofs.States.Roots.{Low}
-use Rattle.run_laws.proofs.States.Rules.{States, first_none, second_none, unbroken}
+use Rattle.run_laws.specs.ArrivingStates.{States}
+use Rattle.run_laws.proofs.States.Rules.{first_none, second_none, unbroken}
 use Rattle.run_laws.proofs.Steps.Comes.{Queued, Reads, GoesTo, onward, jumping, Comes, computes, opens_loop, turns_loop, pages, touches_gone, looks_at, writes_info, marks_packet, takes_lock, retakes_lock, frees_lock, completes_packet, completes_gone, passes_down, calls_down, returns_status, lets_go, lets_walk, ends_dpc, walks_to, works_on_queues, ends_startio, exchanges, resumes_walk, resumes_gone, resumes_none, stops_walk, stops_none, ends_cancel, lends_to, cancels, Cancels, takes_cancel, retakes_cancel, awaits_cancel, flags_gone, sets_flag, exchanges_gone, finds_empty, finds_none, calls_cancel}
 use Rattle.run_laws.proofs.Steps.Faults.{is_of_locks, fault_among}
 use Rattle.run_laws.proofs.Steps.Locking.{taken_word, freed_word}

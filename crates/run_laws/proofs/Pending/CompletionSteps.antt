@@ -29,7 +29,8 @@ use Rattle.run_laws.proofs.Pending.Returned.{is_telling, tells_beyond}
 use Rattle.run_laws.proofs.Live.Sees.{IsDeferred, deferred_sort}
 use Rattle.run_laws.proofs.States.Entering.{Begins, IsCompleting, begins_cancelled}
 use Rattle.run_laws.proofs.States.Frames.{state_of}
-use Rattle.run_laws.proofs.States.Rules.{States, first_none, second_none}
+use Rattle.run_laws.specs.ArrivingStates.{States}
+use Rattle.run_laws.proofs.States.Rules.{first_none, second_none}
 use Rattle.run_laws.proofs.Steps.Comes.{Cancels, calls_cancel, cancels, Queued, Comes, Executing, Reads, calls_down, completes_packet, computes, ends_cancel, exchanges, lets_go, lets_walk, looks_at, marks_packet, pages, passes_down, resumes_gone, resumes_none, resumes_walk, returns_status, stops_none, stops_walk, turns_loop, walks_gone, ends_dpc, works_on_queues, ends_startio}
 use Rattle.run_laws.proofs.States.NoViews.{is_deferred, handed_news, none_at, HasNone}
 use Rattle.model.specs.Queues.{StartState}

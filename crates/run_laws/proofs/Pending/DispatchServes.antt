@@ -30,7 +30,7 @@ use Rattle.run_laws.proofs.Pending.Returned.{AllAgree, agree_kept, agree_returne
 use Rattle.run_laws.proofs.Pending.Serving.{AllServe, Current, FrameServes, Says, ServesUse, TagNames, UnderServes, first_served, served}
 use Rattle.run_laws.proofs.Pending.UsesServed.{own_serves, IsHandedOver, owned_current, GivesOwn, called_serves, GoesOnAs, BeginsServing, Called, Completed, GivesDown, Settles, begun_serves, called_current, done_serves, mark_serves, new_serving, passed_serves, plain_serves}
 use Rattle.run_laws.proofs.States.Frames.{state_of}
-use Rattle.run_laws.proofs.States.Rules.{States}
+use Rattle.run_laws.specs.ArrivingStates.{States}
 use Rattle.run_laws.proofs.Uses.Fates.{Agreed, late_marks}
 use Rattle.run_laws.proofs.Uses.Traced.{SameUses, is_about, same_recorded}
 use Rattle.run_laws.proofs.States.HandedOver.{HoldOf}

@@ -48,7 +48,8 @@ use Rattle.run_laws.proofs.States.Lacking.{down}
 use Rattle.run_laws.proofs.States.Moves.{arrives, arrives_next, falls_next, has_next, onto}
 use Rattle.run_laws.proofs.States.Obeyed.{ReturnsBy, completes_one, nothing_kept, returns_by}
 use Rattle.run_laws.proofs.Steps.Locking.{LockWord, freed_word, taken_word}
-use Rattle.run_laws.proofs.States.Rules.{States, first_none, second_none, unbroken}
+use Rattle.run_laws.specs.ArrivingStates.{States}
+use Rattle.run_laws.proofs.States.Rules.{first_none, second_none, unbroken}
 use Rattle.run_laws.proofs.Steps.Comes.{Exchanged, arms_for, disarms, exchanges, resumes_walk, resumes_gone, resumes_none, stops_walk, stops_none, ends_cancel, unlinks, removes_none, removes, inserts, puts_in, starts_next, starts_packet, takes_none, takes_out, Queued, Reads, Comes, Executing, GoesTo, Lacks, Written, awaits_lock, calls_down, completes_gone, completes_packet, computes, errs, frees_lock, jumping, lets_go, lets_walk, looks_at, keeps_all, makes_blank, makes_number, marks_packet, moves_over, onward, opens_loop, pages, passes_down, retakes_lock, returns_status, takes_lock, touches_gone, turns_loop, writes_info, ends_dpc, works_on_queues, ends_startio}
 use Rattle.run_laws.proofs.Steps.Onward.{goes_same, turned_same, turned_registers}
 use Rattle.run_laws.proofs.Steps.Words.{goes_next, is_giving, keeps_registers, status_returned, work_of}

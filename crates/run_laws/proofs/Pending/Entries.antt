@@ -26,7 +26,7 @@ use Rattle.run_laws.proofs.Runs.Threads.{frames_there}
 use Rattle.model.specs.LocalRule.{is_completion}
 use Rattle.run_laws.proofs.States.Entering.{IsCompleting}
 use Rattle.run_laws.proofs.States.NoViews.{is_deferred}
-use Rattle.run_laws.proofs.States.Rules.{States}
+use Rattle.run_laws.specs.ArrivingStates.{States}
 use Rattle.run_laws.proofs.States.Stacks.{Stacked, Stands}
 use Rattle.run_laws.proofs.States.Told.{last_under}
 use Rattle.run_laws.proofs.Steps.Comes.{Cancels, awaits_cancel, finds_empty, finds_none, sets_flag, cancels, Comes, awaits_lock, calls_down, carries_up, computes, ends_cancel, errs, exchanges, lends_to, lets_go, marks_packet, opens_loop, resumes_gone, resumes_none, resumes_walk, returns_status, stops_none, stops_walk, tops_out, turns_loop, walks_gone, walks_to, walks_up, ends_dpc, works_on_queues, ends_startio}

@@ -25,7 +25,7 @@ use Rattle.run_laws.proofs.Pending.Threads.{SameOver}
 use Rattle.run_laws.proofs.Pending.TopDispatch.{steps_dispatch}
 use Rattle.run_laws.proofs.Pending.UsesServed.{Settles}
 use Rattle.run_laws.proofs.States.OnTop.{runs}
-use Rattle.run_laws.proofs.States.Rules.{States}
+use Rattle.run_laws.specs.ArrivingStates.{States}
 use Rattle.run_laws.proofs.Steps.Comes.{Comes}
 use Rattle.run_laws.proofs.Live.Sees.{IsDeferred, RefersTo, reads_to, reads_view, Seen}
 use Rattle.run_laws.proofs.States.NoViews.{handed_news, is_deferred}

@@ -12,7 +12,7 @@ use Rattle.model.specs.PendingAgreement.{statuses_returned, PendingAgree, serves
 use Rattle.model.specs.Trace.{Actor, Activated, Entry, Serving, Tag, entry, recorded}
 use Rattle.model.specs.World.{World}
 use Rattle.run_laws.proofs.Pending.Serving.{KeepsAgreed, served}
-use Rattle.run_laws.proofs.States.Rules.{States}
+use Rattle.run_laws.specs.ArrivingStates.{States}
 use Rattle.run_laws.proofs.Tests.{and_left, and_right, or_left, or_right}
 use Rattle.run_laws.proofs.Uses.Fates.{Agreed}
 use Rattle.run_laws.proofs.Uses.Traced.{SameUses, is_about, same_recorded}

@@ -19,7 +19,7 @@ use Rattle.model.specs.World.{World}
 use Rattle.run_laws.specs.Holder.{frame_rights, stack_sum}
 use Rattle.run_laws.proofs.Pending.LowerStatuses.{Lowers}
 use Rattle.run_laws.proofs.States.Frames.{state_of}
-use Rattle.run_laws.proofs.States.Rules.{States}
+use Rattle.run_laws.specs.ArrivingStates.{States}
 use Rattle.run_laws.proofs.States.Told.{told_frame}
 use Rattle.run_laws.proofs.Uses.Fates.{Agreed, Linked}
 use Rattle.run_laws.proofs.Uses.Traced.{SameUses}

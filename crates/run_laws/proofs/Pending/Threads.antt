@@ -11,7 +11,7 @@ use Rattle.model.specs.Trace.{Entry, Managing, Serving, Tag}
 use Rattle.model.specs.World.{World}
 use Rattle.run_laws.specs.Holder.{frame_rights, stack_sum}
 use Rattle.run_laws.proofs.Pending.Serving.{Agreeing, AllServe, FrameServes, IsFollowed, KeepsAgreed, first_served, frame_kept, frame_told, served}
-use Rattle.run_laws.proofs.States.Rules.{States}
+use Rattle.run_laws.specs.ArrivingStates.{States}
 use Rattle.run_laws.proofs.States.Told.{last_under, told_frame, told_last}
 use Rattle.run_laws.proofs.Uses.Traced.{SameUses}
 

@@ -23,7 +23,7 @@ use Rattle.run_laws.proofs.States.Fine.{answered_is}
 use Rattle.run_laws.proofs.States.Frames.{state_of}
 use Rattle.run_laws.proofs.States.Lacking.{never_lacks}
 use Rattle.run_laws.proofs.States.OnTop.{runs}
-use Rattle.run_laws.proofs.States.Rules.{States}
+use Rattle.run_laws.specs.ArrivingStates.{States}
 use Rattle.run_laws.proofs.Steps.Words.{Forwarding, packet_operand, work_of}
 use Rattle.run_laws.proofs.Pending.DispatchSteps.{StepsDispatch}
 use Rattle.run_laws.proofs.Uses.TopFrames.{KnownTop, known, sort_is, stays, steps_routine, unseen}

@@ -27,7 +27,7 @@ use Rattle.run_laws.proofs.Past.LivePackets.{find}
 use Rattle.run_laws.proofs.Pending.LowerStatuses.{Lowers}
 use Rattle.run_laws.proofs.Pending.Serving.{Handed, Current, IsFollowed, KeepsAgreed, Says, ServesUse, current_same}
 use Rattle.run_laws.proofs.States.Frames.{state_of}
-use Rattle.run_laws.proofs.States.Rules.{States}
+use Rattle.run_laws.specs.ArrivingStates.{States}
 use Rattle.run_laws.proofs.Uses.Fates.{Agreed, Linked, late_marks}
 use Rattle.run_laws.proofs.Uses.Traced.{SameUses}
 use Rattle.run_laws.proofs.States.HandedOver.{HoldOf}

@@ -47,7 +47,8 @@ use Rattle.run_laws.proofs.States.Frames.{IsGood, Runs, state_of}
 use Rattle.run_laws.proofs.States.Lacking.{down, lower_device}
 use Rattle.run_laws.proofs.States.Moves.{arrives_next}
 use Rattle.run_laws.proofs.States.Obeyed.{SendsDown, locations_wanted}
-use Rattle.run_laws.proofs.States.Rules.{States, first_none, second_none, unbroken}
+use Rattle.run_laws.specs.ArrivingStates.{States}
+use Rattle.run_laws.proofs.States.Rules.{first_none, second_none, unbroken}
 use Rattle.run_laws.proofs.Steps.Comes.{Reads}
 use Rattle.run_laws.proofs.Steps.Words.{Forwarding, packet_operand, work_of}
 use Rattle.run_laws.proofs.Tests.{not_at_most}

@@ -17,7 +17,7 @@ use Rattle.run_laws.proofs.Past.LivePackets.{Rises, find, find_remove, find_set}
 use Rattle.run_laws.proofs.Past.Packets.{found, numbered}
 use Rattle.run_laws.proofs.Room.Waiting.{Keeps, SameWaiting}
 use Rattle.run_laws.proofs.Room.Ways.{Stays, WayUp, stays_same}
-use Rattle.run_laws.proofs.States.Rules.{States}
+use Rattle.run_laws.specs.ArrivingStates.{States}
 
 abbrev pub AllKeep : Shared → Shared → Type 0
 AllKeep s after = (n : ℕ) → Keeps s after n

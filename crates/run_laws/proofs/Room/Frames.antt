@@ -30,7 +30,7 @@ use Rattle.run_laws.proofs.States.Entering.{Begins, Enters, first_state}
 use Rattle.run_laws.proofs.States.Frames.{Runs, state_of}
 use Rattle.run_laws.proofs.States.HandedOver.{HoldOf}
 use Rattle.run_laws.proofs.States.Moves.{has_next}
-use Rattle.run_laws.proofs.States.Rules.{States}
+use Rattle.run_laws.specs.ArrivingStates.{States}
 use Rattle.run_laws.proofs.States.Told.{told_frame}
 use Rattle.run_laws.proofs.Steps.Comes.{GoesTo}
 use Rattle.run_laws.proofs.Steps.Onward.{goes_device}

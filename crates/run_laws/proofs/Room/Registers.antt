@@ -28,7 +28,8 @@ use Rattle.run_laws.proofs.States.HandedOver.{HoldOf}
 use Rattle.run_laws.proofs.States.Kinds.{number_kinds}
 use Rattle.run_laws.proofs.States.Moves.{arrives, arrives_next, has_next}
 use Rattle.run_laws.proofs.States.Obeyed.{inserts_right}
-use Rattle.run_laws.proofs.States.Rules.{States, first_none}
+use Rattle.run_laws.specs.ArrivingStates.{States}
+use Rattle.run_laws.proofs.States.Rules.{first_none}
 use Rattle.run_laws.proofs.Steps.Comes.{GoesTo, Written, jumping, keeps_all, makes_blank, makes_number, moves_over, onward}
 use Rattle.run_laws.proofs.Steps.Words.{is_giving, is_touching, keeps_registers, packet_operand, work_of}
 

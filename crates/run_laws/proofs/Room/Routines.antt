@@ -36,7 +36,8 @@ use Rattle.run_laws.proofs.States.Lacking.{down}
 use Rattle.run_laws.proofs.States.LoopEnds.{moved_end, moved_loop}
 use Rattle.run_laws.proofs.States.Moves.{falls_next}
 use Rattle.run_laws.proofs.States.OnTop.{OnTop, runs}
-use Rattle.run_laws.proofs.States.Rules.{States, first_none}
+use Rattle.run_laws.specs.ArrivingStates.{States}
+use Rattle.run_laws.proofs.States.Rules.{first_none}
 use Rattle.run_laws.proofs.Steps.Comes.{Comes, Exchanged, Executing, Reads, arms_for, awaits_lock, calls_down, completes_gone, completes_packet, computes, disarms, errs, exchanges, frees_lock, looks_at, marks_packet, opens_loop, pages, passes_down, resumes_walk, retakes_lock, takes_lock, touches_gone, turns_loop, works_on_queues, writes_info, GoesTo}
 use Rattle.run_laws.proofs.Steps.Locking.{LockWord, freed_word, taken_word}
 use Rattle.run_laws.proofs.Steps.Onward.{turned_device, turned_registers}

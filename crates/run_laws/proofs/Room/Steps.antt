@@ -27,7 +27,7 @@ use Rattle.run_laws.proofs.Room.Ways.{Stays, WayUp, back_room, stays_marked, sta
 use Rattle.run_laws.proofs.States.Entering.{begins_back as back_begins, begins_cancelled, begins_lent}
 use Rattle.run_laws.proofs.States.Fits.{word_leads, ArmerLeads}
 use Rattle.run_laws.proofs.States.OnTop.{OnTop, runs}
-use Rattle.run_laws.proofs.States.Rules.{States}
+use Rattle.run_laws.specs.ArrivingStates.{States}
 use Rattle.run_laws.proofs.Steps.Comes.{Cancels, Comes, awaits_cancel, calls_cancel, calls_down, cancels, carries_up, exchanges_gone, finds_empty, finds_none, flags_gone, lends_to, retakes_cancel, sets_flag, takes_cancel, tops_out, walks_gone, walks_to, walks_up, works_on_queues}
 use Rattle.run_laws.proofs.Steps.Faults.{fault_among, is_call}
 use Rattle.run_laws.proofs.Steps.Queues.{queued_touches}

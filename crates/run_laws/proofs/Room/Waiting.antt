@@ -39,7 +39,8 @@ use Rattle.run_laws.proofs.States.HandedOver.{HoldOf}
 use Rattle.run_laws.proofs.States.Moves.{arrives_next}
 use Rattle.run_laws.proofs.States.Obeyed.{inserts_right}
 use Rattle.run_laws.proofs.States.Queueing.{queue_moves}
-use Rattle.run_laws.proofs.States.Rules.{States, first_none}
+use Rattle.run_laws.specs.ArrivingStates.{States}
+use Rattle.run_laws.proofs.States.Rules.{first_none}
 use Rattle.run_laws.proofs.Steps.Comes.{Queued, Reads, inserts, jumping, puts_in, removes, removes_none, starts_next, starts_packet, takes_none, takes_out, unlinks}
 
 -- the locations that a packet has left, its current one among them, are as many as a device's stack

@@ -25,7 +25,7 @@ use Rattle.run_laws.proofs.Past.LivePackets.{find, find_place}
 use Rattle.run_laws.proofs.Room.Routines.{NamesDevice}
 use Rattle.run_laws.proofs.Runs.Events.{StepsFrame}
 use Rattle.run_laws.proofs.States.Frames.{IsGood, state_of}
-use Rattle.run_laws.proofs.States.Rules.{States}
+use Rattle.run_laws.specs.ArrivingStates.{States}
 use Rattle.run_laws.proofs.States.Standing.{Standing}
 use Rattle.run_laws.proofs.Steps.Comes.{Reads}
 

@@ -11,7 +11,7 @@ use Rattle.model.specs.World.{Shared, entered, packet_of}
 use Rattle.run_laws.proofs.States.Entering.{Begins, begins_cancelled}
 use Rattle.run_laws.proofs.States.Fits.{ArmerLeads, Fits, word_leads}
 use Rattle.run_laws.proofs.States.Frames.{IsGood}
-use Rattle.run_laws.proofs.States.Rules.{States}
+use Rattle.run_laws.specs.ArrivingStates.{States}
 
 pub begins_called : (set : Set) (states : States) (s : Shared) → IsGood set states → Fits set s
     → (n : ℕ) (p : Packet) (armer : Armer) (number : ℕ) → n < s.issued → packet_of s n ≡ Some p

@@ -42,7 +42,7 @@ use Rattle.run_laws.proofs.States.Frames.{IsGood, Ready, Serves, state_of, due, 
 use Rattle.run_laws.proofs.States.Kinds.{HasKinds}
 use Rattle.run_laws.proofs.States.Known.{IsKnown, routine_found}
 use Rattle.run_laws.proofs.States.Remaining.{rest, certified}
-use Rattle.run_laws.proofs.States.Rules.{States}
+use Rattle.run_laws.specs.ArrivingStates.{States}
 use Rattle.run_laws.proofs.Tests.{or_left, or_right, not_and}
 
 -- a routine of a sort

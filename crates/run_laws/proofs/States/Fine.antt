@@ -47,7 +47,7 @@ use Rattle.run_laws.proofs.States.LoopEnds.{moved_loop, moved_end}
 use Rattle.run_laws.proofs.States.Moves.{moved_on, falls_next, moved, moved_next, arrives_next}
 use Rattle.run_laws.proofs.States.Obeyed.{SendsDown, CompletesOne, completes_one}
 use Rattle.run_laws.proofs.States.OnTop.{OnTop, at_routine, runs}
-use Rattle.run_laws.proofs.States.Rules.{States}
+use Rattle.run_laws.specs.ArrivingStates.{States}
 use Rattle.run_laws.proofs.States.Stacks.{Stands, Replaces}
 use Rattle.run_laws.proofs.States.Told.{told_frame}
 use Rattle.run_laws.proofs.Steps.Comes.{Comes, errs, awaits_lock, computes, opens_loop, turns_loop, pages, touches_gone, looks_at, writes_info, marks_packet, takes_lock, retakes_lock, frees_lock, completes_packet, completes_gone, passes_down, calls_down, returns_status, lets_go, lets_walk, ends_dpc, walks_gone, walks_to, walks_up, carries_up, tops_out, works_on_queues, ends_startio, exchanges, resumes_walk, resumes_gone, resumes_none, stops_walk, stops_none, ends_cancel, lends_to, cancels, Cancels, Exchanged, takes_cancel, arms_for, disarms, retakes_cancel, awaits_cancel, flags_gone, sets_flag, exchanges_gone, finds_empty, finds_none, calls_cancel}

@@ -3,14 +3,16 @@
 use Rattle.std.proofs.Common.{◌≡◌, ◌≢◌, ℕ, zero, suc, ◌+◌, ◌<◌, ◌≤◌, ◌⊎◌, inl, inr, Bool, true, false, List, [], ◌∷◌, length, Option, None, Some, Ok, refl, arith, sym, subst, ◌∙◌, ap, nat_eq, eq-eqb}
 use Rattle.std.specs.Prelude.{slice_get, ◌&&◌}
 use Rattle.std.proofs.lemmas.Bool.{cases_lt}
+use Rattle.std.proofs.lemmas.Option.{slice_get_within}
 use Rattle.model.specs.declared.abs.Abs.{Abs}
 use Rattle.model.specs.declared.abs.Duty.TheVariants.{Finished, Fresh, NoDuty}
 use Rattle.model.specs.declared.abs.Kind.TheVariants.{Blank, New}
+use Rattle.model.specs.declared.abs.Outs.{Outs}
 use Rattle.model.specs.declared.abs.Rule.{Rule}
 use Rattle.model.specs.declared.abs.Settled.TheVariants.{Open, Settled as SettledMark}
 use Rattle.model.specs.declared.instr.Instr.{Instr}
 use Rattle.model.specs.declared.instr.Instr.TheVariants.{End}
-use Rattle.model.specs.LocalRule.{entered_with, entry_state, outs, outs_by, rule_or, with_kind}
+use Rattle.model.specs.LocalRule.{entered_with, entry_state, outs, outs_by, refuses, rule_or, with_kind}
 use Rattle.model.specs.Loops.{open_at}
 use Rattle.model.specs.Paths.{HandsOn, LeadsFrom, Along, Arrives, is_malformed, is_misplaced, is_misplaced_by, goes_forward, goes_on_by, isnt_return}
 use Rattle.model.specs.Set.{Set, Member, member, Flow, Branches, Jumps, Leaves, flow_of, label_in, label_of, default_number, default_routine, default_code}
@@ -299,3 +301,42 @@ module _ (set : Set) (driver : ℕ) where
       closes = λ p q h here open_there. absurd (default_ends p h here);
     },
   )
+
+-- no other state arrives at a position than that of the table
+hands_out : (o : Option Rule) (one : Outs) (label : Option ℕ) (q p : ℕ) (s : Abs)
+    → HandsOn (rule_or o one) label q p s → HandsOn (Ok one) label q p s
+hands_out None one label q p s h = h
+hands_out (Some rule) one label q p s h = absurd h
+
+module _ (m : Member) (state : ℕ → Abs) (follows : Follows m state) where
+  leads_alone : (q p : ℕ) (before s : Abs) (i : Option Instr) → slice_get m.routine.code q ≡ i
+      → before ≡ state q → LeadsFrom m i q before p s → s ≡ state p
+  leads_alone q p before s None there is h = absurd h
+  leads_alone q p before s (Some i) there is h =
+      let within : q < length m.routine.code = slice_get_within m.routine.code q i there in
+      elim (hands_out (refuses before i m.routine.sort m.set m.driver)
+      (outs m.set m.driver before i) (label_of i) q p s h) [
+        | inl next ↦
+            let here : (q + 1 < length m.routine.code) × (state (q + 1) ≡ s) =
+            follows.next q s within (rw (there, ← is) next.1) in
+            rw next.0 (sym here.1)
+        | inr jump ↦
+            let here : (p < length m.routine.code) × (state p ≡ s) =
+            follows.jump q p s within (rw there jump.0) (rw (there, ← is) jump.1) in
+            sym here.1
+      ]
+
+  pub arrives_alone : (path : List ℕ) (p : ℕ) (s : Abs) → Along m (p ∷ path) s → s ≡ state p
+  arrives_alone [] p s h =
+      let both : Some s ≡ Some (state 0) = sym h.1 ∙ follows.start in
+      let same : s ≡ state 0 = cc in
+      rw h.0 same
+  arrives_alone (q ∷ path) p s h =
+      leads_alone q p h.0 s (slice_get m.routine.code q) refl (arrives_alone path q h.0 h.1) h.2.1
+
+  pub alone_at : (p : ℕ) → p < length m.routine.code → ArrivesAlone m p (state p)
+  alone_at p within =
+      record {
+        arrives = follows.arrives p within;
+        alone = λ s other. arrives_alone other.0 p s other.1;
+      }

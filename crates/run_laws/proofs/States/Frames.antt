@@ -19,7 +19,7 @@ use Rattle.run_laws.proofs.States.Fits.{Fits}
 use Rattle.run_laws.proofs.States.Kinds.{HasKinds}
 use Rattle.run_laws.proofs.States.Known.{IsKnown, IsLed}
 use Rattle.run_laws.proofs.States.Remaining.{rest, summed}
-use Rattle.run_laws.proofs.States.Rules.{States}
+use Rattle.run_laws.specs.ArrivingStates.{States}
 
 -- an activation's open loops are those of these positions, the innermost of which is the last
 abbrev pub Nested : List OpenLoop → List ℕ → Type 0

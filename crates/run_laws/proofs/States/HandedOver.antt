@@ -23,7 +23,7 @@ use Rattle.run_laws.proofs.States.Frames.{Runs, state_of}
 use Rattle.run_laws.proofs.States.Kinds.{number_kinds}
 use Rattle.run_laws.proofs.States.Moves.{arrives, arrives_next, has_next}
 use Rattle.run_laws.proofs.States.NoViews.{IsHanded, handed_inserted, handed_removed, left_none}
-use Rattle.run_laws.proofs.States.Rules.{States}
+use Rattle.run_laws.specs.ArrivingStates.{States}
 use Rattle.run_laws.proofs.Steps.Comes.{GoesTo, Queued, Written, inserts, jumping, keeps_all, makes_blank, makes_number, moves_over, onward, puts_in, removes, removes_none, starts_next, starts_packet, takes_none, takes_out, unlinks}
 use Rattle.run_laws.proofs.Steps.Words.{is_touching, keeps_registers, work_of}
 use Rattle.run_laws.proofs.Tests.{or_left, or_right}

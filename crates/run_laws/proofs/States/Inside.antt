@@ -16,7 +16,7 @@ use Rattle.model.specs.Set.{Set, instruction_at}
 use Rattle.run_laws.specs.Holder.{StandsInside}
 use Rattle.run_laws.proofs.States.Frames.{Ready, state_of}
 use Rattle.run_laws.proofs.States.Kinds.{HasKinds}
-use Rattle.run_laws.proofs.States.Rules.{States}
+use Rattle.run_laws.specs.ArrivingStates.{States}
 use Rattle.run_laws.proofs.States.Stacks.{Stands, Stacked}
 
 pub kinds_long : (issued : ℕ) (kinds : List Kind) (values : List Value)

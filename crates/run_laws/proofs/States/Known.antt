@@ -21,7 +21,7 @@ use Rattle.model.specs.Typable.{IsTypableRoutine, IsTypableDriver, IsTypable}
 use Rattle.run_laws.proofs.Lists.{all_at}
 use Rattle.run_laws.proofs.States.Follows.{Follows, Typed, LoopsBefore, typed, default_typed}
 use Rattle.run_laws.proofs.States.Remaining.{Chain, chain}
-use Rattle.run_laws.proofs.States.Rules.{States}
+use Rattle.run_laws.specs.ArrivingStates.{States}
 
 -- the innermost loop at a position is one of the routine's
 innermost_within : (code : List Instr) (p q : ℕ) (loops : List ℕ) → Chain code p loops

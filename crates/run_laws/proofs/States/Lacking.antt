@@ -29,7 +29,8 @@ use Rattle.run_laws.proofs.States.Kinds.{status_there}
 use Rattle.run_laws.proofs.States.LoopEnds.{room_for_loop, some_loop}
 use Rattle.run_laws.proofs.States.Obeyed.{SendsDown, sends_down, returns_by}
 use Rattle.run_laws.proofs.States.OnTop.{OnTop, at_routine, runs, value_suits, packet_there, number_found, listed_fits}
-use Rattle.run_laws.proofs.States.Rules.{States, first_none}
+use Rattle.run_laws.specs.ArrivingStates.{States}
+use Rattle.run_laws.proofs.States.Rules.{first_none}
 use Rattle.run_laws.proofs.Steps.Comes.{Lacks, no_instruction, no_number, no_packet, no_room, no_loop, no_cells, none_taken, none_freed, no_queue, no_start, no_cancel, no_lower, no_status, no_form}
 use Rattle.run_laws.proofs.Steps.Words.{Forwarding, work_of, packet_operand, lock_taken, lock_freed, status_returned, is_form_of}
 use Rattle.run_laws.proofs.States.StartsFit.{start_there}

@@ -18,7 +18,7 @@ use Rattle.run_laws.proofs.States.Follows.{next_state, placed}
 use Rattle.run_laws.proofs.States.Frames.{Nested, nested_length, extra, extra_more, state_of, Moved, Runs}
 use Rattle.run_laws.proofs.States.Moves.{goes, next_at, open_next, rest_here, turns_of_known}
 use Rattle.run_laws.proofs.States.Remaining.{rest, rest_by, IsFormed, IsOpening, IsLoop, IsInside, Chain, chain, round_open, summed, summed_same}
-use Rattle.run_laws.proofs.States.Rules.{States}
+use Rattle.run_laws.specs.ArrivingStates.{States}
 use Rattle.run_laws.proofs.Tests.{or_right}
 
 -- into a loop

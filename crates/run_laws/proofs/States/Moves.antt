@@ -23,7 +23,7 @@ use Rattle.run_laws.proofs.States.Frames.{Nested, extra, due_in, due, due_is, st
 use Rattle.run_laws.proofs.States.Kinds.{HasKinds, written_kinds, handed_long, handed_locks, label_suits, label_long, label_locks}
 use Rattle.run_laws.proofs.States.Known.{RoutineOperandsFit}
 use Rattle.run_laws.proofs.States.Remaining.{rest, rest_by, IsFormed, HasTurns, round_open, summed, summed_same, forward_le}
-use Rattle.run_laws.proofs.States.Rules.{States}
+use Rattle.run_laws.specs.ArrivingStates.{States}
 use Rattle.run_laws.proofs.Steps.Comes.{GoesTo, keeps_all, onward, jumping}
 use Rattle.run_laws.proofs.Steps.Words.{work_of, is_forwarding, falls_through, goes_next, keeps_registers}
 use Rattle.run_laws.proofs.Tests.{and_left, and_right}

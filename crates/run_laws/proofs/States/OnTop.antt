@@ -19,7 +19,7 @@ use Rattle.run_laws.proofs.States.Frames.{state_of, Stays, IsGood, Runs}
 use Rattle.run_laws.proofs.States.Kinds.{Suits, kinds_get, number_there, packet_ref, packet_wanted, number_wanted}
 use Rattle.run_laws.proofs.States.Known.{IsKnown}
 use Rattle.run_laws.proofs.States.Listed.{KindFits, arrives_fits, fits_at}
-use Rattle.run_laws.proofs.States.Rules.{States}
+use Rattle.run_laws.specs.ArrivingStates.{States}
 use Rattle.run_laws.proofs.States.Stacks.{Stands}
 use Rattle.run_laws.proofs.Steps.Comes.{Executing}
 use Rattle.run_laws.proofs.Steps.Words.{packet_operand, number_operand, second_operand}

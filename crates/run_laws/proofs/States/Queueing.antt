@@ -20,7 +20,7 @@ use Rattle.run_laws.proofs.States.Fits.{AllQueuesFit, queue_issued, queue_put_fi
 use Rattle.run_laws.proofs.States.Frames.{Moved, Runs, state_of}
 use Rattle.run_laws.proofs.States.Kinds.{kinds_set, removed_suits}
 use Rattle.run_laws.proofs.States.Moves.{moved_label, moved_next, moved_on, onto}
-use Rattle.run_laws.proofs.States.Rules.{States}
+use Rattle.run_laws.specs.ArrivingStates.{States}
 use Rattle.run_laws.proofs.States.StartsFit.{AllStartsFit, SlotFits, StartFits, WereIssued, next_started_fits, slot_put_fits, start_issued, start_put_fits, started_fits}
 use Rattle.run_laws.proofs.Steps.Comes.{Queued, inserts, removes, removes_none, puts_in, starts_next, starts_packet, takes_none, takes_out, unlinks}
 

@@ -1,13 +1,8 @@
 -- What follows where an instruction breaks no rule: each of its conditions holds.
-use Rattle.std.proofs.Common.{◌≡◌, ℕ, Bool, true, false, Option, None, Some, refl, cond}
+use Rattle.std.proofs.Common.{◌≡◌, Bool, true, false, Option, None, Some, refl, cond}
 use Rattle.std.specs.Prelude.{nat_le}
-use Rattle.model.specs.declared.abs.Abs.{Abs}
 use Rattle.model.specs.declared.abs.Rule.{Rule}
 use Rattle.model.specs.LocalRule.{broken_if, least_of, rule_number, unless}
-
--- a state for every position of every routine of a set
-abbrev pub States : Type 0
-States = ℕ → ℕ → ℕ → Abs
 
 -- one of two broken rules is broken
 either_rule : (b : Bool) (one other : Rule) → cond {A = Option Rule} b (Some one) (Some other)

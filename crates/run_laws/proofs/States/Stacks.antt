@@ -16,7 +16,7 @@ use Rattle.run_laws.proofs.Past.Walks.{WalkIssued}
 use Rattle.run_laws.proofs.States.Entering.{IsOfSort, IsCompleting}
 use Rattle.run_laws.proofs.States.Frames.{Ready, state_of}
 use Rattle.run_laws.proofs.States.Kinds.{kinds_later}
-use Rattle.run_laws.proofs.States.Rules.{States}
+use Rattle.run_laws.specs.ArrivingStates.{States}
 use Rattle.run_laws.proofs.States.Told.{told_frame, told_last, told_is}
 
 -- a frame that is told is still of its routine

@@ -36,7 +36,7 @@ use Rattle.run_laws.proofs.States.Fits.{queues_later, PacketLeads, Fits, new_lea
 use Rattle.run_laws.proofs.States.Frames.{IsGood}
 use Rattle.run_laws.proofs.States.OnTop.{OnTop}
 use Rattle.run_laws.proofs.States.Roots.{Low, last_low, step_low, low_over}
-use Rattle.run_laws.proofs.States.Rules.{States}
+use Rattle.run_laws.specs.ArrivingStates.{States}
 use Rattle.run_laws.proofs.States.StartsFit.{StartFits, begun_fits, first_low, start_issued, start_put_fits, starts_later}
 use Rattle.run_laws.proofs.States.Stacks.{Stacked, top_stands, replaced, stacked_later, walks_stand, walk_taken}
 use Rattle.run_laws.proofs.States.Told.{told_last, told_is}

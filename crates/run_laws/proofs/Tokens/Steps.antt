@@ -34,7 +34,8 @@ use Rattle.run_laws.proofs.States.Frames.{Moved, Runs, state_of}
 use Rattle.run_laws.proofs.States.LoopEnds.{moved_end}
 use Rattle.run_laws.proofs.States.Moves.{arrives, arrives_next, falls_next, has_next, onto}
 use Rattle.run_laws.proofs.States.OnTop.{OnTop, runs}
-use Rattle.run_laws.proofs.States.Rules.{States, first_none, granted, second_none, unbroken}
+use Rattle.run_laws.specs.ArrivingStates.{States}
+use Rattle.run_laws.proofs.States.Rules.{first_none, granted, second_none, unbroken}
 use Rattle.run_laws.proofs.States.Told.{told_frame}
 use Rattle.run_laws.proofs.Steps.Comes.{Comes, GoesTo, Queued, Reads, awaits_lock, calls_down, carries_up, completes_gone, completes_packet, computes, cancels, ends_cancel, ends_dpc, ends_startio, errs, exchanges, frees_lock, inserts, jumping, lends_to, lets_go, lets_walk, looks_at, marks_packet, opens_loop, pages, passes_down, puts_in, removes, removes_none, resumes_gone, resumes_none, resumes_walk, retakes_lock, returns_status, starts_next, starts_packet, stops_none, stops_walk, takes_lock, takes_none, takes_out, tops_out, touches_gone, turns_loop, unlinks, walks_gone, walks_to, walks_up, works_on_queues, writes_info, Cancels, calls_cancel}
 use Rattle.run_laws.proofs.Steps.Locking.{LockWord, freed_word, taken_word}

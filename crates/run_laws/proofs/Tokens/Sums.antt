@@ -14,7 +14,7 @@ use Rattle.run_laws.specs.OneToken.{frame_tokens, slot_tokens, start_tokens, tok
 use Rattle.run_laws.proofs.Holders.Sums.{top_le}
 use Rattle.run_laws.proofs.Runs.Events.{StepsFrame}
 use Rattle.run_laws.proofs.States.Frames.{state_of}
-use Rattle.run_laws.proofs.States.Rules.{States}
+use Rattle.run_laws.specs.ArrivingStates.{States}
 use Rattle.run_laws.proofs.Tests.{if_one}
 
 pub record OneTokenEach (states : States) (w : World) : Type 0 where

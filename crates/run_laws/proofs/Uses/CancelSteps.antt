@@ -16,7 +16,7 @@ use Rattle.model.specs.Set.{Set}
 use Rattle.model.specs.Trace.{Actor, Entry}
 use Rattle.model.specs.World.{Shared, cancelled, entered, packet_of, with_armer, with_packet}
 use Rattle.run_laws.proofs.Past.LivePackets.{find}
-use Rattle.run_laws.proofs.States.Rules.{States}
+use Rattle.run_laws.specs.ArrivingStates.{States}
 use Rattle.run_laws.proofs.Steps.Comes.{Cancels, awaits_cancel, calls_cancel, exchanges_gone, finds_empty, finds_none, flags_gone, retakes_cancel, sets_flag, takes_cancel}
 use Rattle.run_laws.proofs.Uses.Fates.{late_in}
 use Rattle.run_laws.proofs.Uses.Steps.{UseStep, apart_at, written_step}

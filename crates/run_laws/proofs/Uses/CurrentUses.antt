@@ -13,7 +13,7 @@ use Rattle.model.specs.World.{World, current_location, is_marked}
 use Rattle.run_laws.proofs.Tests.{or_second}
 use Rattle.run_laws.proofs.Uses.Fates.{nth_use, Agreed, Falls, Linked, PacketUses, Unleft, UsesTell, WaitsAbove, fate, fate_in, late_marks}
 use Rattle.run_laws.proofs.Uses.FateFacts.{fate_head, fate_rest}
-use Rattle.run_laws.proofs.States.Rules.{States}
+use Rattle.run_laws.specs.ArrivingStates.{States}
 use Rattle.run_laws.proofs.Lists.{all_at}
 use Rattle.run_laws.proofs.Past.LivePackets.{find}
 

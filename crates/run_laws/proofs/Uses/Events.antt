@@ -25,7 +25,7 @@ use Rattle.run_laws.proofs.Runs.Events.{Happens, IssuesPacket, StepsFrame, issue
 use Rattle.run_laws.proofs.Runs.Threads.{frames_there}
 use Rattle.run_laws.proofs.States.Frames.{IsGood, Ready, state_of}
 use Rattle.run_laws.proofs.States.Entering.{startio_activation}
-use Rattle.run_laws.proofs.States.Rules.{States}
+use Rattle.run_laws.specs.ArrivingStates.{States}
 use Rattle.run_laws.proofs.States.Stacks.{Stacked, Stands}
 use Rattle.run_laws.proofs.States.Standing.{Standing, on_top, stands_there}
 use Rattle.run_laws.proofs.States.Told.{last_under}

@@ -13,7 +13,7 @@ use Rattle.model.specs.Fault.{depth, stack_size}
 use Rattle.model.specs.PendingAgreement.{marks_left, was_marked}
 use Rattle.model.specs.Trace.{Entry, Serving, uses, uses_opened}
 use Rattle.model.specs.World.{World, completion_of, is_marked}
-use Rattle.run_laws.proofs.States.Rules.{States}
+use Rattle.run_laws.specs.ArrivingStates.{States}
 use Rattle.run_laws.proofs.Past.LivePackets.{find}
 
 -- the mark that a use of one of these locations will have: its location's, or one from below; the

@@ -4,7 +4,7 @@
 use Rattle.run_laws.specs.Holder.{all_walking, frame_walks, is_lent, walking}
 use Rattle.run_laws.proofs.Holders.Sums.{Held, held}
 use Rattle.run_laws.proofs.Past.LivePackets.{find}
-use Rattle.run_laws.proofs.States.Rules.{States}
+use Rattle.run_laws.specs.ArrivingStates.{States}
 use Rattle.run_laws.proofs.States.Told.{last_under, told_frame, told_is, told_last}
 use Rattle.run_laws.proofs.Tests.{if_none}
 use Rattle.run_laws.proofs.Uses.Fates.{late_in, late_mark, late_marks, late_on}

@@ -45,7 +45,7 @@ use Rattle.run_laws.proofs.States.Lacking.{down}
 use Rattle.run_laws.proofs.States.Obeyed.{returns_by}
 use Rattle.run_laws.proofs.Steps.Locking.{LockWord, freed_word, taken_word}
 use Rattle.run_laws.proofs.States.Entering.{IsCompleting, IsOfSort}
-use Rattle.run_laws.proofs.States.Rules.{States}
+use Rattle.run_laws.specs.ArrivingStates.{States}
 use Rattle.run_laws.proofs.Uses.HoldRoutines.{given_settled}
 use Rattle.run_laws.proofs.Steps.Comes.{Queued, Comes, Executing, GoesTo, Reads, awaits_lock, calls_down, completes_gone, completes_packet, computes, ends_cancel, errs, exchanges, frees_lock, lets_go, lets_walk, looks_at, marks_packet, opens_loop, pages, passes_down, resumes_gone, resumes_none, resumes_walk, retakes_lock, returns_status, stops_none, stops_walk, takes_lock, touches_gone, turns_loop, writes_info, ends_dpc, works_on_queues, ends_startio}
 use Rattle.run_laws.proofs.Steps.Faults.{none_first, none_later}

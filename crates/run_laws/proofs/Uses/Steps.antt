@@ -15,7 +15,7 @@ use Rattle.model.specs.World.{Shared, completion_of, is_marked, packet_of, place
 use Rattle.run_laws.proofs.Holders.Sums.{held}
 use Rattle.run_laws.proofs.Past.LivePackets.{find, find_set}
 use Rattle.run_laws.proofs.Past.Packets.{found, numbered}
-use Rattle.run_laws.proofs.States.Rules.{States}
+use Rattle.run_laws.specs.ArrivingStates.{States}
 use Rattle.run_laws.proofs.Uses.Becomes.{Becomes, Turns, keeps_marks, never_live}
 use Rattle.run_laws.proofs.Uses.Fates.{late_in, late_on}
 use Rattle.run_laws.proofs.Uses.Traced.{SameUses, is_about, noted_recorded, opened_recorded, same_recorded}

@@ -23,7 +23,7 @@ use Rattle.model.specs.World.{Shared, completion_of, current_location, is_marked
 use Rattle.run_laws.proofs.Past.LivePackets.{Rises, find, find_remove}
 use Rattle.run_laws.proofs.Past.Packets.{found, numbered}
 use Rattle.run_laws.proofs.States.Frames.{state_of}
-use Rattle.run_laws.proofs.States.Rules.{States}
+use Rattle.run_laws.specs.ArrivingStates.{States}
 use Rattle.run_laws.proofs.Steps.Comes.{Comes, carries_up, lends_to, tops_out, walks_gone, walks_to, walks_up}
 use Rattle.run_laws.proofs.Uses.Becomes.{gets_marked, goes_out, goes_up}
 use Rattle.run_laws.proofs.Uses.Fates.{late_in, late_on}

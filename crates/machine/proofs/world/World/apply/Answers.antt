@@ -1,10 +1,10 @@
-use Rattle.std.proofs.Common.{subst}
+use Rattle.std.proofs.Common.{[], ◌∷◌, ◌++◌, subst}
 use Rattle.checked.specs.Step.{machine_of}
 use Rattle.model.specs.Machine.{Applies, AppliesWhole}
 use Rattle.model.specs.Set.{Set}
 use Rattle.model.specs.Shown.{Shown, whole}
-use Rattle.machine.proofs.Applying.{applies_shown, steps_threads}
-use Rattle.machine.specs.Runs.{StepsThreads}
+use Rattle.machine.proofs.Applying.{applies_shown, goes_on, steps_threads}
+use Rattle.machine.specs.Runs.{GoesOn, RulesKept, StepsThreads}
 use Rattle.machine.proofs.world.World.apply.Goals as goal
 
 -- the machine that is kept whole applies the event
@@ -22,6 +22,19 @@ returns-clause-applies c =
     (applies_shown c.alike_runs_go_on_alike.ensures c.self.inside.accepted
     c.self.invariant.0 c.self.invariant.1.0 c.self.inside.state c.apply.new.self c.args.event.now
     c.apply.result c.self.invariant.1.1 (applied c))
+
+pub returns-clause-rules : goal.returns-clause-rules
+returns-clause-rules c =
+    subst (λ (m : Shown). RulesKept m c.args.event.now) c.self.view_is
+    (λ threads events shows. c.accepted_runs_keep_the_rules.ensures c.self.inside.accepted
+    c.self.invariant.0 c.self.invariant.1.0 threads (events ++ c.args.event.now ∷ []))
+
+pub returns-clause-goes_on : goal.returns-clause-goes_on
+returns-clause-goes_on c =
+    subst (λ (m : Shown). GoesOn m c.apply.result) c.self.view_is
+    (goes_on c.alike_runs_go_on_alike.ensures c.self.inside.accepted
+    c.self.invariant.0 c.self.invariant.1.0 c.self.inside.state c.apply.new.self c.args.event.now
+    c.apply.result c.self.invariant.1.1 (applied c) c.accepted_runs_keep_the_rules.ensures)
 
 pub returns-clause-steps : goal.returns-clause-steps
 returns-clause-steps c =

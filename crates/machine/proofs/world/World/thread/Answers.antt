@@ -13,7 +13,7 @@ returns c =
       shown = run_shown c.self.inside.accepted c.self.inside.state c.self.invariant.1.1;
       tells = λ threads events shows.
           c.thread.ensures
-          ∙ tells_thread c.self.inside.accepted c.self.inside.state.world threads events shows
+          ∙ tells_thread c.self.inside.accepted c.self.inside.state.world threads events shows _
           (c.accepted_runs_keep_the_rules.ensures c.self.inside.accepted c.self.invariant.0
           c.self.invariant.1.0 threads events).holders c.args.number;
     })
