@@ -1,4 +1,5 @@
 pub mod Trace
 pub mod Keeps
 pub mod Lasts
+pub mod Kinds
 pub mod Laws

@@ -2,3 +2,4 @@ pub mod Sees
 pub mod Steps
 pub mod Kept
 pub mod Claimed
+pub mod Named

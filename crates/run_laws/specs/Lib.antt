@@ -1,6 +1,7 @@
 pub mod NoWrong
 pub mod ArrivingStates
 pub mod Holder
+pub mod KindsAgree
 pub mod OneToken
 pub mod TopsOnce
 pub mod NeverStops

@@ -10,6 +10,7 @@ use Rattle.model.specs.Trace.{Entry}
 use Rattle.model.specs.Typable.{IsTypable}
 use Rattle.run_laws.specs.ArrivingStates.{States, StatesArrive}
 use Rattle.run_laws.specs.Holder.{HasOneHolder}
+use Rattle.run_laws.specs.KindsAgree.{RegistersAreOfTheirKinds}
 use Rattle.run_laws.specs.Lifetime.{KeepCertificates}
 use Rattle.run_laws.specs.NeverStops.{NeverStops}
 use Rattle.run_laws.specs.NothingSkipped.{SkipsNothing}
@@ -26,7 +27,7 @@ Faultless (e ∷ past) = (fault_of past e.actor e.action ≡ None) × Faultless 
 -- stopped and no step of its threads is refused; each activation is within its certificate, what
 -- was returned agrees with the marks, nothing that these two go by is missing, and no packet tops
 -- out twice; by the states that arrive at the positions of the routines, each live packet has one
--- holder and each busy device one token
+-- holder, each busy device one token, and each register is of its kind
 pub record KeepsTheRules (set : Set) (threads : ℕ) (events : List Event) : Type 0 where
   pub faultless : Faultless (run set threads events).past
   pub right : NeverGoesWrong set threads events
@@ -38,6 +39,7 @@ pub record KeepsTheRules (set : Set) (threads : ℕ) (events : List Event) : Typ
   pub arrive : StatesArrive set states
   pub holders : HasOneHolder set states threads events
   pub tokens : HasOneToken set states threads events
+  pub kinds : RegistersAreOfTheirKinds set threads events
   pub topped : (n : ℕ) → times_topped (run set threads events).past n ≤ 1
 
 abbrev pub AcceptedRunsKeepTheRules : Type 0

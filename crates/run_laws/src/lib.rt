@@ -8,6 +8,7 @@ ghost use Rattle.run_laws.specs.CarriedMark.{CarriedUp};
 ghost use Rattle.run_laws.specs.DoubledToken.{TokenDoubled};
 ghost use Rattle.run_laws.specs.HeldPacket.{HeldAndCompleted};
 ghost use Rattle.run_laws.specs.Holder.{PacketsHaveOneHolder};
+ghost use Rattle.run_laws.specs.KindsAgree.{AcceptedRunsKeepKinds};
 ghost use Rattle.run_laws.specs.Lifetime.{ActivationsKeepTheirCertificate};
 ghost use Rattle.run_laws.specs.NeverStops.{AcceptedRunsNeverStop};
 ghost use Rattle.run_laws.specs.NothingSkipped.{NothingIsSkipped};
@@ -54,6 +55,13 @@ pub fn packets_have_one_holder()
 /// and no packet waits in its device queue.
 pub fn busy_devices_have_one_token()
     ensures { BusyDevicesHaveOneToken }
+{}
+
+/// Each register from which an instruction may take something, in every routine's frame, on top of
+/// its thread or below, is of the kind that the verifier gave it: a number, a status, or a packet
+/// that is live.
+pub fn registers_are_of_their_kinds()
+    ensures { AcceptedRunsKeepKinds }
 {}
 
 /// No run of an accepted set stops: there is no bug check of any kind, nothing goes wrong, and no

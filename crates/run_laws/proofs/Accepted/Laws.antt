@@ -13,6 +13,7 @@ use Rattle.model.specs.Set.{Set, member}
 use Rattle.model.specs.Sound.{IsSound}
 use Rattle.model.specs.Typable.{IsTypable}
 use Rattle.run_laws.specs.Holder.{HasOneHolder, PacketsHaveOneHolder}
+use Rattle.run_laws.specs.KindsAgree.{AcceptedRunsKeepKinds, RegistersAreOfTheirKinds}
 use Rattle.run_laws.specs.Lifetime.{KeepCertificates, ActivationsKeepTheirCertificate}
 use Rattle.run_laws.specs.NeverStops.{LetsGoOn, NeverStops, AcceptedRunsNeverStop}
 use Rattle.run_laws.specs.NothingSkipped.{SkipsNothing, NothingIsSkipped}
@@ -21,6 +22,7 @@ use Rattle.run_laws.specs.OneToken.{BusyDevicesHaveOneToken, HasOneToken}
 use Rattle.run_laws.specs.PendingReturns.{AcceptedRunsAgreeOnPending}
 use Rattle.run_laws.specs.Rules.{AcceptedRunsKeepTheRules}
 use Rattle.run_laws.specs.TopsOnce.{times_topped, PacketsTopOutOnce}
+use Rattle.run_laws.proofs.Accepted.Kinds.{kinds_agree}
 use Rattle.run_laws.proofs.Accepted.Lasts.{Lasts, GoesOn, goes_on_at, right_answer, lasts}
 use Rattle.run_laws.proofs.Accepted.Trace.{all_right}
 use Rattle.run_laws.proofs.Certificates.Kept.{all_kept, all_one, stands_within}
@@ -120,6 +122,12 @@ module _ (set : Set) (typable : IsTypable set) (sound : IsSound set) where
     has_one_token : HasOneToken set states threads events
     has_one_token = record { one = lasting.keeps.tokens.one; idle = lasting.keeps.tokens.idle }
 
+    kinds_kept : RegistersAreOfTheirKinds set threads events
+    kinds_kept =
+        record {
+          each = kinds_agree set states threads here.world here.past good lasting.keeps;
+        }
+
     at_most_once : (n : ℕ) → times_topped here.past n ≤ 1
     at_most_once n = tops_at_most_once here.past lasting.keeps.once n
 
@@ -138,7 +146,8 @@ module _ (set : Set) (typable : IsTypable set) (sound : IsSound set) where
               (tags_on here t) k (Walk n) (λ tag is. is) (lasting.attends.serves_all t) there;
           cancellers = λ t k c there. manager_tag set states here.world here.past None
               (frames_on here.world t)
-              (tags_on here t) k (CancelFrame c) (λ tag is. is) (lasting.attends.serves_all t) there;
+              (tags_on here t) k (CancelFrame c) (λ tag is. is) (lasting.attends.serves_all t)
+              there;
           packets = has_uses here.world here.past lasting.keeps.«uses»;
           entries = all_say here.past lasting.says;
         }
@@ -159,6 +168,9 @@ accepted_holders set typable sound =
 pub accepted_tokens : BusyDevicesHaveOneToken
 accepted_tokens set typable sound =
     (states set typable sound, states_arrive set typable sound, has_one_token set typable sound)
+
+pub accepted_kinds : AcceptedRunsKeepKinds
+accepted_kinds = kinds_kept
 
 pub accepted_tops : PacketsTopOutOnce
 accepted_tops = at_most_once
@@ -186,5 +198,6 @@ accepted_rules set typable sound threads events =
       arrive = states_arrive set typable sound;
       holders = has_one_holder set typable sound threads events;
       tokens = has_one_token set typable sound threads events;
+      kinds = kinds_kept set typable sound threads events;
       topped = at_most_once set typable sound threads events;
     }

@@ -18,7 +18,7 @@ use Rattle.model.specs.declared.world.Value.TheVariants.{Ref, Status as StatusVa
 use Rattle.model.specs.Effect.{answered_in}
 use Rattle.model.specs.Kinds.{is_blank, is_right}
 use Rattle.model.specs.Set.{Set}
-use Rattle.model.specs.Shown.{ShownPacket, shown_packet, told_register}
+use Rattle.model.specs.Shown.{ShownPacket, shown_packet}
 use Rattle.model.specs.World.{Shared, World, packet_of}
 use Rattle.run_laws.specs.Holder.{frame_rights, named_as, rights, stack_sum, thread_sum, times_named, times_waiting}
 use Rattle.run_laws.proofs.Alike.Frames.{AlikeFrame, AlikeFrames, waiting_for}
@@ -27,6 +27,7 @@ use Rattle.run_laws.proofs.Alike.Stacks.{AlikeThreads}
 use Rattle.run_laws.proofs.Holders.Sums.{Held, unheld}
 use Rattle.run_laws.proofs.Past.LivePackets.{Rises, find, find_below, find_place}
 use Rattle.run_laws.proofs.States.Frames.{Ready, state_of}
+use Rattle.run_laws.proofs.States.Inside.{Waits, waits_under}
 use Rattle.run_laws.proofs.States.Kinds.{HasKinds, Suits}
 use Rattle.run_laws.specs.ArrivingStates.{States}
 use Rattle.run_laws.proofs.States.Stacks.{Stacked, Stands}
@@ -91,23 +92,6 @@ told_free issued (k ∷ kinds) [] zero status h = absurd h
 told_free issued (k ∷ kinds) [] (suc r) status h = absurd h
 told_free issued (k ∷ kinds) (v ∷ vs) zero status h = status_free issued k status h.0
 told_free issued (k ∷ kinds) (v ∷ vs) (suc r) status h = told_free issued kinds vs r status h.1
-
--- the register of a frame in which it is told a status, if one stands on it that tells it
-pub record Waits (set : Set) (states : States) (issued : ℕ) (above : Option Frame) (a : Activation)
-    : Type 0 where
-  pub register : Option ℕ
-  pub told : told_register set above a ≡ register
-  pub ready : Ready set states issued (answered_in a Success register)
-
-pub waits_under : (set : Set) (states : States) (issued : ℕ) (above : Option Frame)
-    (a : Activation) → Stands set states issued above (Routine a)
-    → Waits set states issued above a
-waits_under set states issued None a h = record { register = None; told = refl; ready = h }
-waits_under set states issued (Some (Walk n)) a h =
-    record { register = None; told = refl; ready = h.0 }
-waits_under set states issued (Some (Routine b)) a h =
-    record { register = _; told = refl; ready = h.2 Success }
-waits_under set states issued (Some (CancelFrame c)) a h = absurd h
 
 module _ (set : Set) (states : States) (s : Shared) (issued n : ℕ) where
   abbrev count : Frame → ℕ

@@ -22,7 +22,7 @@ use Rattle.model.specs.Trace.{Entry}
 use Rattle.model.specs.World.{Shared, World, register}
 use Rattle.run_laws.proofs.Accepted.Keeps.{Keeps}
 use Rattle.run_laws.proofs.Alike.Frames.{AlikeActivation, AlikeFrame, AlikeFrames, waiting_for}
-use Rattle.run_laws.proofs.Alike.Packets.{Waits, packets_alike, waits_under}
+use Rattle.run_laws.proofs.Alike.Packets.{packets_alike}
 use Rattle.run_laws.proofs.Alike.Registers.{SameRegisters, same_get}
 use Rattle.run_laws.proofs.Alike.Shows.{may_be_taken, reads_same, reads_self, same_all, value_there, whole_get}
 use Rattle.run_laws.proofs.States.Follows.{arrives_alone}
@@ -30,7 +30,7 @@ use Rattle.run_laws.proofs.Alike.Stacks.{AlikeThreads}
 use Rattle.run_laws.proofs.Alike.Worlds.{AlikeWorld}
 use Rattle.run_laws.proofs.Runs.Threads.{frames_there}
 use Rattle.run_laws.proofs.States.Frames.{IsGood, Ready, state_of}
-use Rattle.run_laws.proofs.States.Inside.{kinds_long}
+use Rattle.run_laws.proofs.States.Inside.{Waits, kinds_long, waits_under}
 use Rattle.run_laws.specs.ArrivingStates.{States}
 use Rattle.run_laws.proofs.States.Stacks.{Stacked, Stands}
 

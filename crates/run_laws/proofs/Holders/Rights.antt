@@ -132,6 +132,24 @@ module _ (f : Kind → Bool) where
       named_le issued kinds values r n h.1 in
       omega arith
 
+  -- also where there needn't be as many registers as kinds
+  pub named_among : f BlankKind ≡ false → (kinds : List Kind) (values : List Value) (r n : ℕ)
+      → named_as f (slice_index_or kinds r BlankKind) (slice_index_or values r Blank) n
+      ≤ named_in f kinds values n
+  named_among blank [] values r n =
+      let none : named_as f BlankKind (slice_index_or values r Blank) n ≡ 0 =
+      named_none f BlankKind (slice_index_or values r Blank) n blank in
+      omega arith
+  named_among blank (j ∷ kinds) [] r n =
+      let none : named_as f (slice_index_or (j ∷ kinds) r BlankKind) Blank n ≡ 0 =
+      no_name (slice_index_or (j ∷ kinds) r BlankKind) n in
+      omega arith
+  named_among blank (j ∷ kinds) (w ∷ values) zero n = omega arith
+  named_among blank (j ∷ kinds) (w ∷ values) (suc r) n =
+      let others : named_as f (slice_index_or kinds r BlankKind) (slice_index_or values r Blank) n
+      ≤ named_in f kinds values n = named_among blank kinds values r n in
+      omega arith
+
   pub named_nowhere : (kinds : List Kind) (values : List Value) (n : ℕ)
       → list_any f kinds ≡ false → named_in f kinds values n ≡ 0
   named_nowhere [] values n h = refl

@@ -6,9 +6,11 @@ use Rattle.model.specs.declared.status.Status.{Status}
 use Rattle.model.specs.declared.world.Frame.{Frame}
 use Rattle.model.specs.declared.world.Packet.{Packet}
 use Rattle.model.specs.declared.world.Thread.{Thread}
+use Rattle.model.specs.Run.{frames_of, frames_on}
 use Rattle.model.specs.Set.{Set}
 use Rattle.model.specs.World.{World}
 use Rattle.run_laws.specs.Holder.{all_walking, times_waiting, frame_rights, stack_sum, thread_sum}
+use Rattle.run_laws.proofs.Lists.{sum_le}
 use Rattle.run_laws.proofs.Past.LivePackets.{find}
 use Rattle.run_laws.specs.ArrivingStates.{States}
 use Rattle.run_laws.proofs.States.Told.{told_frame, told_last}
@@ -98,6 +100,23 @@ top_le count threads t thread below f found frames =
     ap (stack_sum count) frames ∙ stack_append count below (f ∷ [])
     in
     omega arith
+
+-- one frame of a thread, on top or below, is counted among all
+frame_in : (count : Frame → ℕ) (threads : List Thread) (t k : ℕ) (f : Frame) (o : Option Thread)
+    → slice_get threads t ≡ o → slice_get (frames_of o) k ≡ Some f
+    → count f ≤ thread_sum count threads
+frame_in count threads t k f None found there = cc
+frame_in count threads t k f (Some thread) found there =
+    let here : count f ≤ stack_sum count thread.frames.items =
+    sum_le count (stack_sum count) (λ g frames. refl) thread.frames.items k f there in
+    let all : stack_sum count thread.frames.items ≤ thread_sum count threads =
+    stack_le count threads t thread found in
+    omega arith
+
+pub frame_le : (count : Frame → ℕ) (w : World) (t k : ℕ) (f : Frame)
+    → slice_get (frames_on w t) k ≡ Some f → count f ≤ thread_sum count w.threads
+frame_le count w t k f there =
+    frame_in count w.threads t k f (slice_get w.threads t) refl there
 
 -- at most one right to a packet, and none where the I/O manager has it
 free_one : (b : Bool) → (if b then 0 else 1) ≤ 1

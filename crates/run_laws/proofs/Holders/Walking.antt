@@ -1,15 +1,18 @@
 -- Sums of the I/O manager's frames that aren't lent to the completion routine on them: over the
 -- frames of a thread, and over all threads. Only the last of the frames below looks at those above.
-use Rattle.std.proofs.Common.{◌≡◌, ℕ, zero, suc, ◌+◌, ◌-◌, ◌≤◌, List, [], ◌∷◌, ◌++◌, length, Option, None, Some, Bool, refl, ap, sym, ◌∙◌, arith}
+use Rattle.std.proofs.Common.{◌≡◌, ℕ, zero, suc, ◌+◌, ◌-◌, ◌≤◌, List, [], ◌∷◌, ◌++◌, length, Option, None, Some, Bool, false, refl, ap, sym, ◌∙◌, arith}
 use Rattle.std.specs.Prelude.{slice_get, slice_set, replicate, if◌then◌else◌}
+use Rattle.std.proofs.lemmas.Bool.{eq-eqb}
 use Rattle.model.specs.declared.status.Status.{Status}
 use Rattle.model.specs.declared.world.Activation.{Activation}
 use Rattle.model.specs.declared.world.Frame.{Frame}
 use Rattle.model.specs.declared.world.Frame.TheVariants.{Routine, Walk, Cancel as CancelFrame}
 use Rattle.model.specs.declared.world.Thread.{Thread}
 use Rattle.model.specs.Effect.{answered_in, operand_of, top_of}
-use Rattle.model.specs.Set.{Set, instruction_at}
-use Rattle.model.specs.World.{idle_thread}
+use Rattle.model.specs.LocalRule.{is_hold}
+use Rattle.model.specs.Run.{frames_of, frames_on}
+use Rattle.model.specs.Set.{Set, instruction_at, sort_of}
+use Rattle.model.specs.World.{World, idle_thread}
 use Rattle.run_laws.specs.Holder.{all_walking, frame_walks, is_lent, walking}
 use Rattle.run_laws.proofs.States.Told.{told_frame, told_last}
 use Rattle.run_laws.proofs.Tests.{if_none}
@@ -177,3 +180,43 @@ none_walking set (suc threads) n =
     let others : all_walking set (replicate threads idle_thread) n ≡ 0 =
     none_walking set threads n in
     omega arith
+
+-- the frame under the one at a place, where frames stand on another one or on none
+abbrev pub under_at : Option Frame → List Frame → ℕ → Option Frame
+under_at under [] k = None
+under_at under (f ∷ frames) zero = under
+under_at under (f ∷ frames) (suc k) = under_at (Some f) frames k
+
+-- the I/O manager's frame under a routine that isn't lent its packet is counted
+walking_at : (set : Set) (under : Option Frame) (frames : List Frame) (k n : ℕ) (a : Activation)
+    → slice_get frames k ≡ Some (Routine a) → under_at under frames k ≡ Some (Walk n)
+    → is_hold (sort_of set a.driver a.routine) ≡ false → 1 ≤ walking_from set under frames n
+walking_at set under [] k n a there is free = cc
+walking_at set under (f ∷ frames) zero n a there is free =
+    let same : f ≡ Routine a = cc in rw (same, free, is, eq-eqb n n refl) (omega arith)
+walking_at set under (f ∷ frames) (suc k) n a there is free =
+    let others : 1 ≤ walking_from set (Some f) frames n =
+    walking_at set (Some f) frames k n a there is free in
+    omega arith
+
+walking_in : (set : Set) (threads : List Thread) (t k n : ℕ) (a : Activation) (o : Option Thread)
+    → slice_get threads t ≡ o → slice_get (frames_of o) k ≡ Some (Routine a)
+    → under_at None (frames_of o) k ≡ Some (Walk n)
+    → is_hold (sort_of set a.driver a.routine) ≡ false → 1 ≤ all_walking set threads n
+walking_in set threads t k n a None found there is free = cc
+walking_in set threads t k n a (Some thread) found there is free =
+    let frames : List Frame = thread.frames.items in
+    let here : 1 ≤ walking_from set None frames n =
+    walking_at set None frames k n a there is free in
+    let none : (if is_lent set frames then 0 else walks_under None n) ≡ 0 =
+    if_none (is_lent set frames) in
+    let all : walking set frames n ≤ all_walking set threads n =
+    walking_le set threads t thread n found in
+    omega arith
+
+pub walking_there : (set : Set) (w : World) (t k n : ℕ) (a : Activation)
+    → slice_get (frames_on w t) k ≡ Some (Routine a)
+    → under_at None (frames_on w t) k ≡ Some (Walk n)
+    → is_hold (sort_of set a.driver a.routine) ≡ false → 1 ≤ all_walking set w.threads n
+walking_there set w t k n a there is free =
+    walking_in set w.threads t k n a (slice_get w.threads t) refl there is free

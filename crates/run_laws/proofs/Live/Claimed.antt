@@ -34,7 +34,7 @@ none_some (Some routine) h = cc
 module _ (set : Set) (states : States) (w : World) (past : List Entry) (good : IsGood set states)
     (stands : Standing set states w past) (held : Held set states w)
     (claimed : Claimed set states w) where
-  backed_lives : (d q n : ℕ)
+  pub backed_lives : (d q n : ℕ)
       → 1 ≤ names_on states (is_armed (Declared q)) d n w.threads
       + names_on states (is_taken (Declared q)) d n w.threads
       → 1 ≤ unheld (find w.shared.packets n)

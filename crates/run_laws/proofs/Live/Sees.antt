@@ -1,8 +1,8 @@
 -- Which packets the frames of a thread see: a completion routine's registers refer to the packet of
 -- the I/O manager's frame below it, where they refer to one on its way up, and every other routine
 -- is a dispatch routine, or a deferred one: a DPC, a StartIo or a cancel routine.
-use Rattle.std.proofs.Common.{true, ap, ◌≡◌, ◌⊎◌, ℕ, ◌-◌, List, [], ◌∷◌, ◌++◌, Option, None, Some, inl, inr, refl, sym, subst, ◌∙◌}
-use Rattle.std.specs.Prelude.{⊤, nat_lt, replicate}
+use Rattle.std.proofs.Common.{true, ap, ◌≡◌, ◌⊎◌, ℕ, zero, suc, ◌-◌, List, [], ◌∷◌, ◌++◌, Option, None, Some, inl, inr, refl, sym, subst, ◌∙◌}
+use Rattle.std.specs.Prelude.{⊤, nat_lt, replicate, slice_get}
 use Rattle.std.proofs.lemmas.Bool.{cases_Bool}
 use Rattle.model.specs.declared.set.Sort.{Sort}
 use Rattle.model.specs.declared.set.Sort.TheVariants.{Propagate, Dispatch, Hold}
@@ -15,6 +15,7 @@ use Rattle.model.specs.declared.world.Value.TheVariants.{Blank, Ref, Status as S
 use Rattle.model.specs.Effect.{operand_of, answered_in, told_to}
 use Rattle.model.specs.Set.{Set, instruction_at, sort_of}
 use Rattle.model.specs.World.{Shared, packet_in, register}
+use Rattle.run_laws.proofs.Holders.Walking.{under_at}
 use Rattle.run_laws.proofs.States.Entering.{Begins, IsOfSort}
 use Rattle.run_laws.proofs.States.Stacks.{answered_in_sort}
 use Rattle.run_laws.proofs.States.Told.{last_under, told_frame, told_last, told_is}
@@ -152,6 +153,14 @@ module _ (set : Set) (states : States) where
       → AllSeen (last_under under below) frames
   seen_top under [] frames h = h
   seen_top under (f ∷ below) frames h = seen_top (Some f) below frames h.1
+
+  -- a frame at a place sees what it should of the one under it
+  pub seen_at : (under : Option Frame) (frames : List Frame) (k : ℕ) (f : Frame)
+      → AllSeen under frames → slice_get frames k ≡ Some f → Seen (under_at under frames k) f
+  seen_at under [] k f h there = cc
+  seen_at under (g ∷ frames) zero f h there =
+      let same : g ≡ f = cc in subst (λ (e : Frame). Seen under e) same h.0
+  seen_at under (g ∷ frames) (suc k) f h there = seen_at (Some g) frames k f h.1 there
 
   -- a frame that is told a status sees the same
   answered_views : (m : ℕ) (a : Activation) (status : Status) (r : Option ℕ) → Views states m a

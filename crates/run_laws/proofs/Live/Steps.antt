@@ -11,6 +11,7 @@ use Rattle.std.proofs.lemmas.Bool.{eq-eqb, cases_Bool}
 use Rattle.model.specs.declared.abs.Kind.{Kind}
 use Rattle.model.specs.declared.abs.Kind.TheVariants.{Armed, Taken, View}
 use Rattle.model.specs.declared.instr.Instr.{Instr}
+use Rattle.model.specs.declared.set.Routine.{Routine as RoutineOf}
 use Rattle.model.specs.declared.set.Sort.TheVariants.{Dispatch, Hold, Cancel}
 use Rattle.model.specs.declared.world.Activation.{Activation}
 use Rattle.model.specs.declared.world.Frame.{Frame}
@@ -25,7 +26,8 @@ use Rattle.model.specs.Effect.{completes_with, Outcome, asks, turned, routine_of
 use Rattle.model.specs.Fault.{bug_if, fault_of}
 use Rattle.model.specs.LocalRule.{kind_of, is_hold}
 use Rattle.model.specs.Kinds.{is_packet, is_right, is_view, is_new, is_exchanged}
-use Rattle.model.specs.Set.{flow_of, Set, lower_of, member, sort_of}
+use Rattle.model.specs.Paths.{Arrives}
+use Rattle.model.specs.Set.{flow_of, Set, lower_of, member, routine_of, sort_of}
 use Rattle.model.specs.Trace.{Entry, Actor}
 use Rattle.model.specs.World.{Shared, asked_of, current_location, next, packet_of, packet_in, register, queue_of, entered}
 use Rattle.run_laws.proofs.Holders.Counts.{Holding, right_lives, walk_lives}
@@ -254,7 +256,7 @@ module _ (set : Set) (states : States) (s : Shared) where
   seen t under top f o h sees (tops_out n p there none last) = tt
 
 -- a packet in a register that has no right to it is on its way up, or may be cancelled
-only_view : (k : Kind) → is_packet k ≡ true → is_right k ≡ false
+pub only_view : (k : Kind) → is_packet k ≡ true → is_right k ≡ false
     → (is_view k ≡ true) ⊎ (is_exchanged k ≡ true)
 only_view View is free = inl refl
 only_view (Armed name) is free = inr refl
@@ -281,64 +283,64 @@ UnderLives set s (Some (Walk n)) (Routine a) =
 UnderLives set s _ f = ⊤
 
 module _ (set : Set) (states : States) (s : Shared) (past : List Entry) where
-  none_views : (a : Activation) (i : Instr) (r : ℕ) → Runs set states s a i
-      → HasNoView (state_of states a) → is_view (kind_of (state_of states a) r) ≡ true → ⊥
-  none_views a i r h none view =
-      let no : true ≡ false = sym view ∙ no_view_at (state_of states a).kinds r none in cc
+  module _ (a : Activation) (routine : RoutineOf)
+      (is_of : routine_of set a.driver a.routine ≡ Some routine)
+      (arrives : Arrives (member set a.driver a.routine routine) a.position (state_of states a))
+    where
+      none_views : (r : ℕ) → HasNoView (state_of states a)
+          → is_view (kind_of (state_of states a) r) ≡ true → ⊥
+      none_views r none view =
+          let no : true ≡ false = sym view ∙ no_view_at (state_of states a).kinds r none in cc
 
-  sort_is : (a : Activation) (i : Instr) (sort : Sort) → (h : Runs set states s a i)
-      → IsOfSort set a sort
-      → h.routine.sort ≡ sort
-  sort_is a i sort h is = sym (sort_there set a.driver a.routine h.routine h.stays.is_of) ∙ is
+      sort_is : (sort : Sort) → IsOfSort set a sort → routine.sort ≡ sort
+      sort_is sort is = sym (sort_there set a.driver a.routine routine is_of) ∙ is
 
-  dispatch_views : (a : Activation) (i : Instr) (r : ℕ) → Runs set states s a i
-      → IsOfSort set a Dispatch
-      → is_view (kind_of (state_of states a) r) ≡ true → ⊥
-  dispatch_views a i r h is view =
-      none_views a i r h
-      (dispatch_no_view (member set a.driver a.routine h.routine) a.position (state_of states a)
-      (sort_is a i Dispatch h is) (h.known.follows.arrives a.position h.stays.within)) view
+      dispatch_views : (r : ℕ) → IsOfSort set a Dispatch
+          → is_view (kind_of (state_of states a) r) ≡ true → ⊥
+      dispatch_views r is view =
+          none_views r
+          (dispatch_no_view (member set a.driver a.routine routine) a.position (state_of states a)
+          (sort_is Dispatch is) arrives) view
 
-  deferred_views : (a : Activation) (i : Instr) (r : ℕ) → Runs set states s a i → IsDeferred set a
-      → is_view (kind_of (state_of states a) r) ≡ true → ⊥
-  deferred_views a i r h is view =
-      none_views a i r h
-      (deferred_no_view (member set a.driver a.routine h.routine) a.position (state_of states a)
-      (sort_of set a.driver a.routine) (sort_is a i (sort_of set a.driver a.routine) h refl) is
-      (h.known.follows.arrives a.position h.stays.within)) view
+      deferred_views : (r : ℕ) → IsDeferred set a
+          → is_view (kind_of (state_of states a) r) ≡ true → ⊥
+      deferred_views r is view =
+          none_views r
+          (deferred_no_view (member set a.driver a.routine routine) a.position (state_of states a)
+          (sort_of set a.driver a.routine) (sort_is (sort_of set a.driver a.routine) refl) is
+          arrives) view
 
-  hold_views : (a : Activation) (i : Instr) (r : ℕ) → Runs set states s a i → IsOfSort set a Hold
-      → is_view (kind_of (state_of states a) r) ≡ true → ⊥
-  hold_views a i r h is view =
-      none_views a i r h
-      (hold_no_view (member set a.driver a.routine h.routine) a.position (state_of states a)
-      (sort_is a i Hold h is) (h.known.follows.arrives a.position h.stays.within)) view
+      hold_views : (r : ℕ) → IsOfSort set a Hold
+          → is_view (kind_of (state_of states a) r) ≡ true → ⊥
+      hold_views r is view =
+          none_views r
+          (hold_no_view (member set a.driver a.routine routine) a.position (state_of states a)
+          (sort_is Hold is) arrives) view
 
-  refers_same : (m n : ℕ) (v : Value) → v ≡ Ref n → RefersTo m v → n ≡ m
-  refers_same m n v is refers = subst (λ (x : Value). RefersTo m x) is refers
+      refers_same : (m n : ℕ) (v : Value) → v ≡ Ref n → RefersTo m v → n ≡ m
+      refers_same m n v is refers = subst (λ (x : Value). RefersTo m x) is refers
 
-  view_lives : (under : Option Frame) (a : Activation) (i : Instr) (r n : ℕ) → Runs set states s a i
-      → Seen set states under (Routine a) → UnderLives set s under (Routine a)
-      → is_view (kind_of (state_of states a) r) ≡ true
-      → register a r ≡ Ref n → packet_of s n ≡ None → ⊥
-  view_lives None a i r n h seen live view refers gone =
-      elim seen [
-        | inl is ↦ dispatch_views a i r h is view
-        | inr is ↦ deferred_views a i r h is view
-      ]
-  view_lives (Some (Routine b)) a i r n h seen live view refers gone =
-      dispatch_views a i r h seen view
-  view_lives (Some (Walk m)) a i r n h seen live view refers gone =
-      let same : n ≡ m =
-      refers_same m n (register a r) refers (view_refers states m a seen.0 r view) in
-      elim (cases_Bool (is_hold (sort_of set a.driver a.routine))) [
-        | inl holds ↦ absurd (hold_views a i r h (hold_sort (sort_of set a.driver a.routine) holds)
-            view)
-        | inr free ↦ live free (ap (packet_of s) (sym same) ∙ gone)
-      ]
-  view_lives (Some (CancelFrame c)) a i r n h seen live view refers gone = seen
+      -- a packet on its way up is that of the I/O manager's frame below
+      pub view_lives : (under : Option Frame) (r n : ℕ) → Seen set states under (Routine a)
+          → UnderLives set s under (Routine a) → is_view (kind_of (state_of states a) r) ≡ true
+          → register a r ≡ Ref n → packet_of s n ≡ None → ⊥
+      view_lives None r n seen live view refers gone =
+          elim seen [
+            | inl is ↦ dispatch_views r is view
+            | inr is ↦ deferred_views r is view
+          ]
+      view_lives (Some (Routine b)) r n seen live view refers gone = dispatch_views r seen view
+      view_lives (Some (Walk m)) r n seen live view refers gone =
+          let same : n ≡ m =
+          refers_same m n (register a r) refers (view_refers states m a seen.0 r view) in
+          elim (cases_Bool (is_hold (sort_of set a.driver a.routine))) [
+            | inl holds ↦
+                absurd (hold_views r (hold_sort (sort_of set a.driver a.routine) holds) view)
+            | inr free ↦ live free (ap (packet_of s) (sym same) ∙ gone)
+          ]
+      view_lives (Some (CancelFrame c)) r n seen live view refers gone = seen
 
-  unheld_lives : (n : ℕ) → 1 ≤ unheld (find s.packets n) → packet_of s n ≡ None → ⊥
+  pub unheld_lives : (n : ℕ) → 1 ≤ unheld (find s.packets n) → packet_of s n ≡ None → ⊥
   unheld_lives n some gone =
       let own : (p : Packet) × (find s.packets n ≡ Some p) × (p.completing ≡ false) =
       own_if (find s.packets n) some in
@@ -365,7 +367,10 @@ module _ (set : Set) (states : States) (s : Shared) (past : List Entry) where
       let same : ref.0 ≡ n = cc in
       let refers : register a r ≡ Ref n = ref.1 ∙ ap (λ (m : ℕ). Ref m) same in
       elim (only_view (kind_of (state_of states a) r) packet right) [
-        | inl view ↦ view_lives under a i r n run seen live view refers gone
+        | inl view ↦
+            view_lives a run.routine run.stays.is_of
+            (run.known.follows.arrives a.position run.stays.within) under r n seen live view refers
+            gone
         | inr claimed ↦ unheld_lives n (claims r n claimed refers) gone
       ]
 

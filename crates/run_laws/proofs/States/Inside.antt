@@ -1,8 +1,8 @@
 -- Every routine's frame of a thread stands inside the code of its routine, with all its registers,
--- on top or below.
-use Rattle.std.proofs.Common.{◌≡◌, ℕ, zero, suc, ◌-◌, List, [], ◌∷◌, length, Option, None, Some, refl, ap, sym, ◌∙◌, subst}
-use Rattle.std.specs.Prelude.{slice_get}
-use Rattle.std.proofs.lemmas.List.{length-set}
+-- which hold what their kinds say, on top or below: but for one in which it is told a status.
+use Rattle.std.proofs.Common.{◌≡◌, ◌≢◌, ℕ, zero, suc, ◌-◌, List, [], ◌∷◌, length, Option, None, Some, refl, ap, sym, ◌∙◌, subst}
+use Rattle.std.specs.Prelude.{slice_get, slice_set}
+use Rattle.std.proofs.lemmas.List.{get_or-set_other, length-set}
 use Rattle.model.specs.declared.abs.Kind.{Kind}
 use Rattle.model.specs.declared.status.Status.{Status}
 use Rattle.model.specs.declared.status.Status.TheVariants.{Success}
@@ -10,12 +10,15 @@ use Rattle.model.specs.declared.world.Activation.{Activation}
 use Rattle.model.specs.declared.world.Frame.{Frame}
 use Rattle.model.specs.declared.world.Frame.TheVariants.{Routine, Walk, Cancel as CancelFrame}
 use Rattle.model.specs.declared.world.Value.{Value}
-use Rattle.model.specs.declared.world.Value.TheVariants.{Status as StatusValue}
+use Rattle.model.specs.declared.world.Value.TheVariants.{Blank, Status as StatusValue}
 use Rattle.model.specs.Effect.{operand_of, answered_in, answered}
 use Rattle.model.specs.Set.{Set, instruction_at}
+use Rattle.model.specs.LocalRule.{kind_of}
+use Rattle.model.specs.Shown.{told_register}
+use Rattle.model.specs.World.{register}
 use Rattle.run_laws.specs.Holder.{StandsInside}
 use Rattle.run_laws.proofs.States.Frames.{Ready, state_of}
-use Rattle.run_laws.proofs.States.Kinds.{HasKinds}
+use Rattle.run_laws.proofs.States.Kinds.{HasKinds, Suits, kinds_get}
 use Rattle.run_laws.specs.ArrivingStates.{States}
 use Rattle.run_laws.proofs.States.Stacks.{Stands, Stacked}
 
@@ -75,3 +78,64 @@ module _ (set : Set) (states : States) (issued : ℕ) where
   stands_inside (f ∷ g ∷ frames) zero a h there = let same : f ≡ Routine a =
       cc in inside_top (Some g) f a same h.0
   stands_inside (f ∷ g ∷ frames) (suc k) a h there = stands_inside (g ∷ frames) k a h.1 there
+
+-- the register of a frame in which it is told a status, if one stands on it that tells it
+pub record Waits (set : Set) (states : States) (issued : ℕ) (above : Option Frame) (a : Activation)
+    : Type 0 where
+  pub register : Option ℕ
+  pub told : told_register set above a ≡ register
+  pub ready : Ready set states issued (answered_in a Success register)
+
+pub waits_under : (set : Set) (states : States) (issued : ℕ) (above : Option Frame)
+    (a : Activation) → Stands set states issued above (Routine a)
+    → Waits set states issued above a
+waits_under set states issued None a h = record { register = None; told = refl; ready = h }
+waits_under set states issued (Some (Walk n)) a h =
+    record { register = None; told = refl; ready = h.0 }
+waits_under set states issued (Some (Routine b)) a h =
+    record { register = _; told = refl; ready = h.2 Success }
+waits_under set states issued (Some (CancelFrame c)) a h = absurd h
+
+-- each other register holds what its kind says
+answered_suits : (states : States) (issued : ℕ) (a : Activation) (q : Option ℕ)
+    → HasKinds issued (state_of states a).kinds (answered_in a Success q).registers
+    → (r : ℕ) → q ≢ Some r → Suits issued (kind_of (state_of states a) r) (register a r)
+answered_suits states issued a None kinds r apart =
+    kinds_get issued (state_of states a).kinds a.registers r kinds
+answered_suits states issued a (Some q) kinds r apart =
+    rw (get_or-set_other a.registers q r (StatusValue Success) Blank
+    (λ same. apart (ap (λ (x : ℕ). Some x) (sym same)))) at
+    (kinds_get issued (state_of states a).kinds (slice_set a.registers q (StatusValue Success)) r
+    kinds)
+
+ready_kinds : (set : Set) (states : States) (issued : ℕ) (a : Activation) (q : Option ℕ)
+    → Ready set states issued (answered_in a Success q)
+    → HasKinds issued (state_of states a).kinds (answered_in a Success q).registers
+ready_kinds set states issued a None ready = ready.1.kinds
+ready_kinds set states issued a (Some q) ready = ready.1.kinds
+
+pub suits_under : (set : Set) (states : States) (issued : ℕ) (above : Option Frame)
+    (a : Activation) → Stands set states issued above (Routine a)
+    → (r : ℕ) → told_register set above a ≢ Some r
+    → Suits issued (kind_of (state_of states a) r) (register a r)
+suits_under set states issued above a stands r untold =
+    let waits : Waits set states issued above a = waits_under set states issued above a stands in
+    answered_suits states issued a waits.register
+    (ready_kinds set states issued a waits.register waits.ready) r
+    (λ told. untold (waits.told ∙ told))
+
+-- a frame of a thread and the one on it
+pub stands_at : (set : Set) (states : States) (issued : ℕ) (frames : List Frame) (k : ℕ)
+    (a : Activation) → Stacked set states issued frames
+    → slice_get frames k ≡ Some (Routine a)
+    → Stands set states issued (slice_get frames (suc k)) (Routine a)
+stands_at set states issued [] k a h there = cc
+stands_at set states issued (f ∷ []) zero a h there =
+    let same : f ≡ Routine a = cc in
+    subst (λ (g : Frame). Stands set states issued None g) same h
+stands_at set states issued (f ∷ []) (suc k) a h there = cc
+stands_at set states issued (f ∷ g ∷ frames) zero a h there =
+    let same : f ≡ Routine a = cc in
+    subst (λ (e : Frame). Stands set states issued (Some g) e) same h.0
+stands_at set states issued (f ∷ g ∷ frames) (suc k) a h there =
+    stands_at set states issued (g ∷ frames) k a h.1 there

@@ -1,0 +1,136 @@
+-- Every register of a packet's kind, in any frame of any thread, names a live packet: who has the
+-- right to it holds it; who has a claim is backed by its cancel word or its cancel routine; and one
+-- on its way up is the I/O manager's.
+use Rattle.std.proofs.Common.{◌≡◌, ℕ, ◌+◌, ◌≤◌, Bool, true, false, List, Option, None, Some, inl, inr, refl, sym, ◌∙◌, arith, eq-eqb}
+use Rattle.std.specs.Prelude.{nat_eq, slice_get}
+use Rattle.std.proofs.lemmas.Bool.{cases_Bool}
+use Rattle.model.specs.declared.abs.Kind.{Kind}
+use Rattle.model.specs.declared.abs.Kind.TheVariants.{Blank as BlankKind, Armed, Taken}
+use Rattle.model.specs.declared.set.QueueName.TheVariants.{Declared}
+use Rattle.model.specs.declared.world.Activation.{Activation}
+use Rattle.model.specs.declared.world.Frame.{Frame}
+use Rattle.model.specs.declared.world.Frame.TheVariants.{Routine, Walk, Cancel as CancelFrame}
+use Rattle.model.specs.declared.world.Packet.{Packet}
+use Rattle.model.specs.declared.world.Value.TheVariants.{Ref}
+use Rattle.model.specs.Kinds.{is_armed, is_exchanged, is_packet, is_right, is_view}
+use Rattle.model.specs.LocalRule.{is_hold, kind_of}
+use Rattle.model.specs.Run.{frames_on}
+use Rattle.model.specs.Set.{Set, sort_of}
+use Rattle.model.specs.Trace.{Entry}
+use Rattle.model.specs.World.{World, packet_of, register}
+use Rattle.run_laws.specs.ArrivingStates.{States}
+use Rattle.run_laws.specs.Holder.{StandsInside, all_walking, frame_rights, named_as, named_in, thread_sum, times_waiting}
+use Rattle.run_laws.proofs.Claims.Sums.{Claimed, frame_names, is_taken, names_on}
+use Rattle.run_laws.proofs.Holders.Rights.{named_among}
+use Rattle.run_laws.proofs.Holders.Sums.{Held, frame_le, held, unheld, walked_if}
+use Rattle.run_laws.proofs.Holders.Walking.{under_at, walking_there}
+use Rattle.run_laws.proofs.Live.Claimed.{backed_lives}
+use Rattle.run_laws.proofs.Live.Kept.{Sees}
+use Rattle.run_laws.proofs.Live.Sees.{seen_at}
+use Rattle.run_laws.proofs.Live.Steps.{UnderLives, only_view, unheld_lives, view_lives}
+use Rattle.run_laws.proofs.Past.LivePackets.{find}
+use Rattle.run_laws.proofs.Past.Packets.{found}
+use Rattle.run_laws.proofs.States.Frames.{IsGood, state_of}
+use Rattle.run_laws.proofs.States.Inside.{stands_inside}
+use Rattle.run_laws.proofs.States.Standing.{Standing}
+
+module _ (set : Set) (states : States) (w : World) (past : List Entry) (good : IsGood set states)
+    (stands : Standing set states w past) (kept : Held set states w)
+    (claimed : Claimed set states w) (sees : Sees set states w)
+    (t k : ℕ) (a : Activation) (there : slice_get (frames_on w t) k ≡ Some (Routine a)) where
+  named_once : (g : Kind → Bool) (r n : ℕ) → g BlankKind ≡ false
+      → g (kind_of (state_of states a) r) ≡ true → register a r ≡ Ref n
+      → 1 ≤ named_in g (state_of states a).kinds a.registers n
+  named_once g r n blank is refers =
+      let one : named_as g (kind_of (state_of states a) r) (register a r) n ≡ 1 =
+      rw (is, refers, eq-eqb n n refl) refl in
+      let among : named_as g (kind_of (state_of states a) r) (register a r) n
+      ≤ named_in g (state_of states a).kinds a.registers n =
+      named_among g blank (state_of states a).kinds a.registers r n in
+      omega arith
+
+  -- a right
+  owner_lives : (r n : ℕ) → is_right (kind_of (state_of states a) r) ≡ true → register a r ≡ Ref n
+      → 1 ≤ unheld (find w.shared.packets n)
+  owner_lives r n right refers =
+      let once : 1 ≤ frame_rights states (Routine a) n =
+      named_once is_right r n refl right refers in
+      let among : frame_rights states (Routine a) n
+      ≤ thread_sum (λ f. frame_rights states f n) w.threads =
+      frame_le (λ f. frame_rights states f n) w t k (Routine a) there in
+      let all : thread_sum (λ f. frame_rights states f n) w.threads + times_waiting set w.shared n
+      ≡ unheld (find w.shared.packets n) = kept.rights n in
+      omega arith
+
+  -- a claim
+  claim_counts : (g : Kind → Bool) (r n : ℕ) → g BlankKind ≡ false
+      → g (kind_of (state_of states a) r) ≡ true → register a r ≡ Ref n
+      → 1 ≤ names_on states g a.device n w.threads
+  claim_counts g r n blank is refers =
+      let once : 1 ≤ named_in g (state_of states a).kinds a.registers n =
+      named_once g r n blank is refers in
+      let own : frame_names states g (λ d. nat_eq d a.device) n (Routine a)
+      ≡ named_in g (state_of states a).kinds a.registers n =
+      rw (eq-eqb a.device a.device refl) refl in
+      let among : frame_names states g (λ d. nat_eq d a.device) n (Routine a)
+      ≤ names_on states g a.device n w.threads =
+      frame_le (frame_names states g (λ d. nat_eq d a.device) n) w t k (Routine a) there in
+      omega arith
+
+  claim_lives : (kind : Kind) (r n : ℕ) → kind_of (state_of states a) r ≡ kind
+      → is_exchanged kind ≡ true → register a r ≡ Ref n → 1 ≤ unheld (find w.shared.packets n)
+  claim_lives (Armed (Declared q)) r n is claim refers =
+      let some : 1 ≤ names_on states (is_armed (Declared q)) a.device n w.threads =
+      claim_counts (is_armed (Declared q)) r n refl (rw is (eq-eqb q q refl)) refers in
+      backed_lives set states w past good stands kept claimed a.device q n (omega arith)
+  claim_lives (Taken (Declared q)) r n is claim refers =
+      let some : 1 ≤ names_on states (is_taken (Declared q)) a.device n w.threads =
+      claim_counts (is_taken (Declared q)) r n refl (rw is (eq-eqb q q refl)) refers in
+      backed_lives set states w past good stands kept claimed a.device q n (omega arith)
+  claim_lives _ r n is claim refers = cc
+
+  -- the packet of the I/O manager's frame under it
+  walk_lives : (n : ℕ) → under_at None (frames_on w t) k ≡ Some (Walk n)
+      → is_hold (sort_of set a.driver a.routine) ≡ false → packet_of w.shared n ≡ None → ⊥
+  walk_lives n is free gone =
+      let some : 1 ≤ all_walking set w.threads n = walking_there set w t k n a there is free in
+      let all : all_walking set w.threads n ≡ held (find w.shared.packets n) = kept.walks n in
+      let its : (p : Packet) × (find w.shared.packets n ≡ Some p) × (p.completing ≡ true) =
+      walked_if (find w.shared.packets n) (omega arith) in
+      let no : None ≡ Some its.0 = sym (found w.shared n None gone) ∙ its.1 in
+      cc
+
+  under_lives : (o : Option Frame) → under_at None (frames_on w t) k ≡ o
+      → UnderLives set w.shared o (Routine a)
+  under_lives None is = tt
+  under_lives (Some (Routine b)) is = tt
+  under_lives (Some (Walk n)) is = λ free gone. walk_lives n is free gone
+  under_lives (Some (CancelFrame c)) is = tt
+
+  up_lives : (r n : ℕ) → is_view (kind_of (state_of states a) r) ≡ true → register a r ≡ Ref n
+      → packet_of w.shared n ≡ None → ⊥
+  up_lives r n view refers gone =
+      let inside : StandsInside set a =
+      stands_inside set states w.shared.issued (frames_on w t) k a (stands.frames t) there in
+      view_lives set states w.shared past a inside.routine inside.is_of
+      ((good.led.known a.driver a.routine inside.routine inside.is_of).follows.arrives a.position
+      inside.inside)
+      (under_at None (frames_on w t) k) r n
+      (seen_at set states None (frames_on w t) k (Routine a) (sees t) there)
+      (under_lives (under_at None (frames_on w t) k) refl) view refers gone
+
+  -- any packet that a register names
+  pub named_lives : (r n : ℕ) → is_packet (kind_of (state_of states a) r) ≡ true
+      → register a r ≡ Ref n → packet_of w.shared n ≡ None → ⊥
+  named_lives r n packet refers gone =
+      elim (cases_Bool (is_right (kind_of (state_of states a) r))) [
+        | inl right ↦
+            unheld_lives set states w.shared past n (owner_lives r n right refers) gone
+        | inr free ↦
+            elim (only_view (kind_of (state_of states a) r) packet free) [
+              | inl view ↦ up_lives r n view refers gone
+              | inr claim ↦
+                  unheld_lives set states w.shared past n
+                  (claim_lives (kind_of (state_of states a) r) r n refl claim refers) gone
+            ]
+      ]
