@@ -22,7 +22,7 @@ last_split {A = A} xs x h =
     let same : get_or xs i x ≡ x = get_or_from_slice_get xs i x x h in
     sym all ∙ more ∙ ap (λ (y : A). take i xs ++ y ∷ []) same
 
-get_at_length : {A : Type 0} (xs : List A) (x : A) → slice_get (xs ++ x ∷ []) (length xs) ≡ Some x
+pub get_at_length : {A : Type 0} (xs : List A) (x : A) → slice_get (xs ++ x ∷ []) (length xs) ≡ Some x
 get_at_length [] x = refl
 get_at_length (y ∷ xs) x = get_at_length xs x
 

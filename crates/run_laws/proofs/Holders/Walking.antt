@@ -14,7 +14,8 @@ use Rattle.model.specs.Run.{frames_of, frames_on}
 use Rattle.model.specs.Set.{Set, instruction_at, sort_of}
 use Rattle.model.specs.World.{World, idle_thread}
 use Rattle.run_laws.specs.Holder.{all_walking, frame_walks, is_lent, walking}
-use Rattle.run_laws.proofs.States.Told.{told_frame, told_last}
+use Rattle.run_laws.proofs.Lists.{get_at_length}
+use Rattle.run_laws.proofs.States.Told.{last_under, told_frame, told_last}
 use Rattle.run_laws.proofs.Tests.{if_none}
 
 -- the I/O manager's frame that stands under another one, if any
@@ -220,3 +221,21 @@ pub walking_there : (set : Set) (w : World) (t k n : ℕ) (a : Activation)
     → is_hold (sort_of set a.driver a.routine) ≡ false → 1 ≤ all_walking set w.threads n
 walking_there set w t k n a there is free =
     walking_in set w.threads t k n a (slice_get w.threads t) refl there is free
+
+-- where it stands under the top one
+pub under_last : (under : Option Frame) (below : List Frame) (f : Frame)
+    → under_at under (below ++ f ∷ []) (length below) ≡ last_under under below
+under_last under [] f = refl
+under_last under (g ∷ below) f = under_last (Some g) below f
+
+pub walking_under : (set : Set) (threads : List Thread) (t : ℕ) (thread : Thread)
+    (below : List Frame) (a : Activation) (n : ℕ)
+    → slice_get threads t ≡ Some thread → thread.frames.items ≡ below ++ Routine a ∷ []
+    → last_under None below ≡ Some (Walk n) → is_hold (sort_of set a.driver a.routine) ≡ false
+    → 1 ≤ all_walking set threads n
+walking_under set threads t thread below a n found frames is free =
+    walking_in set threads t (length below) n a (Some thread) found
+    (ap (λ (items : List Frame). slice_get items (length below)) frames
+    ∙ get_at_length below (Routine a))
+    (ap (λ (items : List Frame). under_at None items (length below)) frames
+    ∙ under_last None below (Routine a) ∙ is) free

@@ -2,10 +2,11 @@
 -- holds it; and so is what stands in a queue.
 use Rattle.run_laws.proofs.Holders.Plain.{plain_in, driver_at, plain_le, plain_counts}
 use Rattle.model.specs.declared.world.Value.TheVariants.{Ref}
-use Rattle.run_laws.proofs.Claims.Tops.{named_some}
+use Rattle.run_laws.proofs.Claims.Tops.{named_some, top_there}
 use Rattle.run_laws.proofs.Claims.Held.{holder_lives}
 use Rattle.run_laws.proofs.Live.Steps.{ClaimsLive, EntriesLive}
 use Rattle.std.proofs.Common.{◌≡◌, ℕ, ◌+◌, ◌≤◌, Bool, true, false, List, Some, refl, ap, arith, Option, is_some, None}
+use Rattle.std.specs.Prelude.{length, slice_get}
 use Rattle.std.proofs.lemmas.Bool.{eq-eqb}
 use Rattle.model.specs.declared.abs.Kind.{Kind}
 use Rattle.model.specs.declared.abs.Kind.TheVariants.{Armed, Taken}
@@ -15,6 +16,7 @@ use Rattle.model.specs.declared.world.Frame.{Frame}
 use Rattle.model.specs.declared.world.Frame.TheVariants.{Routine}
 use Rattle.model.specs.Kinds.{is_armed, is_cancelling, is_exchanged, is_listed}
 use Rattle.model.specs.LocalRule.{kind_of}
+use Rattle.model.specs.Run.{frames_on}
 use Rattle.model.specs.Set.{Set}
 use Rattle.model.specs.Trace.{Entry}
 use Rattle.model.specs.World.{World, register, queue_of}
@@ -34,7 +36,7 @@ none_some (Some routine) h = cc
 module _ (set : Set) (states : States) (w : World) (past : List Entry) (good : IsGood set states)
     (stands : Standing set states w past) (held : Held set states w)
     (claimed : Claimed set states w) where
-  pub backed_lives : (d q n : ℕ)
+  backed_lives : (d q n : ℕ)
       → 1 ≤ names_on states (is_armed (Declared q)) d n w.threads
       + names_on states (is_taken (Declared q)) d n w.threads
       → 1 ≤ unheld (find w.shared.packets n)
@@ -46,26 +48,29 @@ module _ (set : Set) (states : States) (w : World) (past : List Entry) (good : I
       claimed.balanced.backed d q n in
       holder_lives set states w held n d q 1 (omega arith)
 
-  module _ (t : ℕ) (h : StepsFrame set w t) (a : Activation) (top : h.frame ≡ Routine a) where
-    exchanged_lives : (k : Kind) (r n : ℕ) → kind_of (state_of states a) r ≡ k
-        → is_exchanged k ≡ true → register a r ≡ Ref n → 1 ≤ unheld (find w.shared.packets n)
-    exchanged_lives (Armed (Declared q)) r n kind is refers =
-        let some : 1 ≤ names_on states (is_armed (Declared q)) a.device n w.threads =
-        named_some set states w past good stands t h a top (is_armed (Declared q)) r n
-        (rw kind (eq-eqb q q refl)) refers in
-        backed_lives a.device q n (omega arith)
-    exchanged_lives (Taken (Declared q)) r n kind is refers =
-        let some : 1 ≤ names_on states (is_taken (Declared q)) a.device n w.threads =
-        named_some set states w past good stands t h a top (is_taken (Declared q)) r n
-        (rw kind (eq-eqb q q refl)) refers in
-        backed_lives a.device q n (omega arith)
-    exchanged_lives _ r n kind is refers = cc
+  module _ (t k : ℕ) (a : Activation) (there : slice_get (frames_on w t) k ≡ Some (Routine a))
+    where
+      pub exchanged_lives : (kind : Kind) (r n : ℕ) → kind_of (state_of states a) r ≡ kind
+          → is_exchanged kind ≡ true → register a r ≡ Ref n
+          → 1 ≤ unheld (find w.shared.packets n)
+      exchanged_lives (Armed (Declared q)) r n is claim refers =
+          let some : 1 ≤ names_on states (is_armed (Declared q)) a.device n w.threads =
+          named_some states w t k a there (is_armed (Declared q)) refl r n
+          (rw is (eq-eqb q q refl)) refers in
+          backed_lives a.device q n (omega arith)
+      exchanged_lives (Taken (Declared q)) r n is claim refers =
+          let some : 1 ≤ names_on states (is_taken (Declared q)) a.device n w.threads =
+          named_some states w t k a there (is_taken (Declared q)) refl r n
+          (rw is (eq-eqb q q refl)) refers in
+          backed_lives a.device q n (omega arith)
+      exchanged_lives _ r n is claim refers = cc
 
   frame_claims : (t : ℕ) (h : StepsFrame set w t) (f : Frame) → h.frame ≡ f
       → ClaimsLive states w.shared f
   frame_claims t h (Routine a) top =
       λ r n is refers.
-      exchanged_lives t h a top (kind_of (state_of states a) r) r n refl is refers
+      exchanged_lives t (length h.below) a (top_there set w t h a top)
+      (kind_of (state_of states a) r) r n refl is refers
   frame_claims t h _ top = tt
 
   pub claims_live : (t : ℕ) (h : StepsFrame set w t) → ClaimsLive states w.shared h.frame

@@ -1,12 +1,10 @@
 -- In every run of an accepted set frames see what they should, and no packet is touched after it
 -- has topped out.
 use Rattle.run_laws.proofs.States.NoViews.{is_deferred}
-use Rattle.run_laws.proofs.Holders.Walking.{walking_le, walking_last, walking_on, walking_from, walks_under}
+use Rattle.run_laws.proofs.Holders.Walking.{walking_under}
 use Rattle.run_laws.proofs.Holders.Lent.{IsLent}
-use Rattle.model.specs.LocalRule.{is_hold}
-use Rattle.std.proofs.Common.{◌≡◌, ℕ, suc, ◌+◌, ◌-◌, ◌≤◌, ◌⊎◌, inl, inr, List, [], ◌∷◌, ◌++◌, length, take, Option, None, Some, refl, ap, sym, ◌∙◌, subst, arith, false, true}
+use Rattle.std.proofs.Common.{◌≡◌, ℕ, suc, ◌+◌, ◌-◌, ◌≤◌, ◌⊎◌, inl, inr, List, [], ◌∷◌, ◌++◌, length, Option, None, Some, refl, ap, sym, ◌∙◌, subst, arith, false, true}
 use Rattle.std.specs.Prelude.{slice_get}
-use Rattle.std.proofs.lemmas.Bool.{eq-eqb}
 use Rattle.model.specs.declared.set.Sort.TheVariants.{Dpc, StartIo, Hold, Dispatch}
 use Rattle.model.specs.declared.status.Status.{Status}
 use Rattle.model.specs.declared.world.Activation.{Activation}
@@ -19,13 +17,12 @@ use Rattle.model.specs.declared.world.Thread.{Thread}
 use Rattle.model.specs.Effect.{Outcome, told_to, top_of}
 use Rattle.model.specs.Events.{Change, rooted, serves_request, standing, with_stack, with_thread, dpc_activation, cancelling}
 use Rattle.model.specs.Run.{begun, frames_on}
-use Rattle.model.specs.Set.{Set, sort_of}
+use Rattle.model.specs.Set.{Set}
 use Rattle.model.specs.Trace.{Entry, Actor}
 use Rattle.model.specs.World.{Shared, World}
-use Rattle.run_laws.specs.Holder.{frame_walks, all_walking, walking}
+use Rattle.run_laws.specs.Holder.{all_walking}
 use Rattle.run_laws.proofs.Holders.Counts.{Holding}
 use Rattle.run_laws.proofs.Holders.Sums.{Held, held, walked_if}
-use Rattle.run_laws.proofs.Lists.{last_split}
 use Rattle.run_laws.proofs.Live.Sees.{deferred_sort, Seen, AllSeen, seen_append, seen_below, seen_top, told_seen, lent_refers}
 use Rattle.run_laws.proofs.Live.Steps.{UnderLives, seen, touch_faults, ClaimsLive, EntriesLive}
 use Rattle.run_laws.proofs.Past.LivePackets.{find}
@@ -63,31 +60,6 @@ last_is_top [] = refl
 last_is_top (f ∷ below) = last_is f below
 
 -- the packet of the I/O manager's frame below is live, if it isn't lent
-pub walk_counts : (set : Set) (threads : List Thread) (t : ℕ) (thread : Thread) (below : List Frame)
-    (a : Activation) (n : ℕ)
-    → slice_get threads t ≡ Some thread → thread.frames.items ≡ below ++ Routine a ∷ []
-    → top_of below ≡ Some (Walk n) → is_hold (sort_of set a.driver a.routine) ≡ false
-    → 1 ≤ all_walking set threads n
-walk_counts set threads t thread below a n there frames top free =
-    let all : walking set thread.frames.items n ≤ all_walking set threads n =
-    walking_le set threads t thread n there in
-    let same : walking set thread.frames.items n ≡ walking set (below ++ Routine a ∷ []) n =
-    ap (λ (items : List Frame). walking set items n) frames in
-    let others : List Frame = take (length below - 1) below in
-    let split : below ≡ others ++ Walk n ∷ [] = last_split below (Walk n) top in
-    let last : frame_walks (Walk n) n ≤ walking set (others ++ Walk n ∷ []) n =
-    walking_last set others (Walk n) n in
-    let one : frame_walks (Walk n) n ≡ 1 = rw (eq-eqb n n refl) refl in
-    let below_is : walking set below n ≡ walking set (others ++ Walk n ∷ []) n =
-    ap (λ (items : List Frame). walking set items n) split in
-    let on : walking set (below ++ Routine a ∷ []) n + walks_under (top_of below) n
-    ≡ walking set below n + walking_from set (top_of below) (Routine a ∷ []) n =
-    walking_on set below (Routine a ∷ []) n in
-    let under : walks_under (top_of below) n ≡ 1 = rw top one in
-    let from : 1 ≤ walking_from set (top_of below) (Routine a ∷ []) n =
-    rw (top, free) (rw one (omega arith)) in
-    omega arith
-
 under_lives : (set : Set) (states : States) (w : World) (t : ℕ) (thread : Thread)
     (below : List Frame) (f : Frame) (o : Option Frame) → Held set states w
     → slice_get w.threads t ≡ Some thread → thread.frames.items ≡ below ++ f ∷ []
@@ -95,7 +67,7 @@ under_lives : (set : Set) (states : States) (w : World) (t : ℕ) (thread : Thre
 under_lives set states w t thread below (Routine a) (Some (Walk n)) kept there frames top =
     λ free gone.
     let some : 1 ≤ all_walking set w.threads n =
-    walk_counts set w.threads t thread below a n there frames top free in
+    walking_under set w.threads t thread below a n there frames (last_is_top below ∙ top) free in
     let all : all_walking set w.threads n ≡ held (find w.shared.packets n) = kept.walks n in
     let its : (p : Packet) × (find w.shared.packets n ≡ Some p) × _ =
     walked_if (find w.shared.packets n) (omega arith) in

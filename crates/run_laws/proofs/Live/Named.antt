@@ -1,30 +1,27 @@
 -- Every register of a packet's kind, in any frame of any thread, names a live packet: who has the
 -- right to it holds it; who has a claim is backed by its cancel word or its cancel routine; and one
 -- on its way up is the I/O manager's.
-use Rattle.std.proofs.Common.{◌≡◌, ℕ, ◌+◌, ◌≤◌, Bool, true, false, List, Option, None, Some, inl, inr, refl, sym, ◌∙◌, arith, eq-eqb}
-use Rattle.std.specs.Prelude.{nat_eq, slice_get}
+use Rattle.std.proofs.Common.{◌≡◌, ℕ, ◌+◌, ◌≤◌, true, false, List, Option, None, Some, inl, inr, refl, sym, ◌∙◌, arith}
+use Rattle.std.specs.Prelude.{slice_get}
 use Rattle.std.proofs.lemmas.Bool.{cases_Bool}
-use Rattle.model.specs.declared.abs.Kind.{Kind}
-use Rattle.model.specs.declared.abs.Kind.TheVariants.{Blank as BlankKind, Armed, Taken}
-use Rattle.model.specs.declared.set.QueueName.TheVariants.{Declared}
 use Rattle.model.specs.declared.world.Activation.{Activation}
 use Rattle.model.specs.declared.world.Frame.{Frame}
 use Rattle.model.specs.declared.world.Frame.TheVariants.{Routine, Walk, Cancel as CancelFrame}
 use Rattle.model.specs.declared.world.Packet.{Packet}
 use Rattle.model.specs.declared.world.Value.TheVariants.{Ref}
-use Rattle.model.specs.Kinds.{is_armed, is_exchanged, is_packet, is_right, is_view}
+use Rattle.model.specs.Kinds.{is_packet, is_right, is_view}
 use Rattle.model.specs.LocalRule.{is_hold, kind_of}
 use Rattle.model.specs.Run.{frames_on}
 use Rattle.model.specs.Set.{Set, sort_of}
 use Rattle.model.specs.Trace.{Entry}
 use Rattle.model.specs.World.{World, packet_of, register}
 use Rattle.run_laws.specs.ArrivingStates.{States}
-use Rattle.run_laws.specs.Holder.{StandsInside, all_walking, frame_rights, named_as, named_in, thread_sum, times_waiting}
-use Rattle.run_laws.proofs.Claims.Sums.{Claimed, frame_names, is_taken, names_on}
-use Rattle.run_laws.proofs.Holders.Rights.{named_among}
+use Rattle.run_laws.specs.Holder.{StandsInside, all_walking, frame_rights, thread_sum, times_waiting}
+use Rattle.run_laws.proofs.Claims.Sums.{Claimed}
+use Rattle.run_laws.proofs.Claims.Tops.{named_once}
 use Rattle.run_laws.proofs.Holders.Sums.{Held, frame_le, held, unheld, walked_if}
 use Rattle.run_laws.proofs.Holders.Walking.{under_at, walking_there}
-use Rattle.run_laws.proofs.Live.Claimed.{backed_lives}
+use Rattle.run_laws.proofs.Live.Claimed.{exchanged_lives}
 use Rattle.run_laws.proofs.Live.Kept.{Sees}
 use Rattle.run_laws.proofs.Live.Sees.{seen_at}
 use Rattle.run_laws.proofs.Live.Steps.{UnderLives, only_view, unheld_lives, view_lives}
@@ -38,56 +35,18 @@ module _ (set : Set) (states : States) (w : World) (past : List Entry) (good : I
     (stands : Standing set states w past) (kept : Held set states w)
     (claimed : Claimed set states w) (sees : Sees set states w)
     (t k : ℕ) (a : Activation) (there : slice_get (frames_on w t) k ≡ Some (Routine a)) where
-  named_once : (g : Kind → Bool) (r n : ℕ) → g BlankKind ≡ false
-      → g (kind_of (state_of states a) r) ≡ true → register a r ≡ Ref n
-      → 1 ≤ named_in g (state_of states a).kinds a.registers n
-  named_once g r n blank is refers =
-      let one : named_as g (kind_of (state_of states a) r) (register a r) n ≡ 1 =
-      rw (is, refers, eq-eqb n n refl) refl in
-      let among : named_as g (kind_of (state_of states a) r) (register a r) n
-      ≤ named_in g (state_of states a).kinds a.registers n =
-      named_among g blank (state_of states a).kinds a.registers r n in
-      omega arith
-
   -- a right
   owner_lives : (r n : ℕ) → is_right (kind_of (state_of states a) r) ≡ true → register a r ≡ Ref n
       → 1 ≤ unheld (find w.shared.packets n)
   owner_lives r n right refers =
       let once : 1 ≤ frame_rights states (Routine a) n =
-      named_once is_right r n refl right refers in
+      named_once states w t k a there is_right refl r n right refers in
       let among : frame_rights states (Routine a) n
       ≤ thread_sum (λ f. frame_rights states f n) w.threads =
       frame_le (λ f. frame_rights states f n) w t k (Routine a) there in
       let all : thread_sum (λ f. frame_rights states f n) w.threads + times_waiting set w.shared n
       ≡ unheld (find w.shared.packets n) = kept.rights n in
       omega arith
-
-  -- a claim
-  claim_counts : (g : Kind → Bool) (r n : ℕ) → g BlankKind ≡ false
-      → g (kind_of (state_of states a) r) ≡ true → register a r ≡ Ref n
-      → 1 ≤ names_on states g a.device n w.threads
-  claim_counts g r n blank is refers =
-      let once : 1 ≤ named_in g (state_of states a).kinds a.registers n =
-      named_once g r n blank is refers in
-      let own : frame_names states g (λ d. nat_eq d a.device) n (Routine a)
-      ≡ named_in g (state_of states a).kinds a.registers n =
-      rw (eq-eqb a.device a.device refl) refl in
-      let among : frame_names states g (λ d. nat_eq d a.device) n (Routine a)
-      ≤ names_on states g a.device n w.threads =
-      frame_le (frame_names states g (λ d. nat_eq d a.device) n) w t k (Routine a) there in
-      omega arith
-
-  claim_lives : (kind : Kind) (r n : ℕ) → kind_of (state_of states a) r ≡ kind
-      → is_exchanged kind ≡ true → register a r ≡ Ref n → 1 ≤ unheld (find w.shared.packets n)
-  claim_lives (Armed (Declared q)) r n is claim refers =
-      let some : 1 ≤ names_on states (is_armed (Declared q)) a.device n w.threads =
-      claim_counts (is_armed (Declared q)) r n refl (rw is (eq-eqb q q refl)) refers in
-      backed_lives set states w past good stands kept claimed a.device q n (omega arith)
-  claim_lives (Taken (Declared q)) r n is claim refers =
-      let some : 1 ≤ names_on states (is_taken (Declared q)) a.device n w.threads =
-      claim_counts (is_taken (Declared q)) r n refl (rw is (eq-eqb q q refl)) refers in
-      backed_lives set states w past good stands kept claimed a.device q n (omega arith)
-  claim_lives _ r n is claim refers = cc
 
   -- the packet of the I/O manager's frame under it
   walk_lives : (n : ℕ) → under_at None (frames_on w t) k ≡ Some (Walk n)
@@ -131,6 +90,7 @@ module _ (set : Set) (states : States) (w : World) (past : List Entry) (good : I
               | inl view ↦ up_lives r n view refers gone
               | inr claim ↦
                   unheld_lives set states w.shared past n
-                  (claim_lives (kind_of (state_of states a) r) r n refl claim refers) gone
+                  (exchanged_lives set states w past good stands kept claimed t k a there
+                  (kind_of (state_of states a) r) r n refl claim refers) gone
             ]
       ]

@@ -53,7 +53,8 @@ use Rattle.run_laws.proofs.Steps.Below.{StopsBelow, stood}
 use Rattle.run_laws.proofs.Uses.CurrentUses.{Others, agreed_finished, agreed_marked, current_others, linked_agrees, linked_waits}
 use Rattle.run_laws.proofs.Uses.Events.{KnownWorld, agreed_by, all_carried, event_turns, known_top, linked_by}
 use Rattle.run_laws.proofs.Uses.Fates.{MarksTell, PacketUses, UsesTell}
-use Rattle.run_laws.proofs.Uses.LateMarks.{no_late_walk, walks_on}
+use Rattle.run_laws.proofs.Holders.Walking.{walking_under}
+use Rattle.run_laws.proofs.Uses.LateMarks.{no_late_walk}
 use Rattle.run_laws.proofs.Uses.Traced.{SameUses, same_recorded, same_uses}
 
 -- the frames of all threads, with their tags, serve, and every status that was returned is as
@@ -215,7 +216,7 @@ module _ (set : Set) (states : States) (w : World) (past : List Entry) (tags : L
             quiet = quiet;
             walked = λ m a is propagates on.
                 let some : 1 ≤ all_walking set w.threads m =
-                walks_on set states false m w.threads actor.thread h.thread h.below a h.found
+                walking_under set w.threads actor.thread h.thread h.below a m h.found
                 (h.frames ∙ ap (λ (f : Frame). h.below ++ f ∷ []) is) on
                 (ap is_hold propagates) in
                 let all : all_walking set w.threads m ≡ held (find w.shared.packets m) =

@@ -1,8 +1,8 @@
 -- A cancel word that a routine finds set names the routine's device: it has a register of kind
 -- Armed or Taken for the packet, which the word backs, or a cancel routine that was called; and
 -- there is none of these where the word is set, since a packet has one holder.
-use Rattle.run_laws.proofs.Claims.Tops.{named_some}
-use Rattle.std.proofs.Common.{◌≡◌, ℕ, ◌+◌, ◌≤◌, true, List, Some, refl, ◌∙◌, arith}
+use Rattle.run_laws.proofs.Claims.Tops.{named_some, top_there}
+use Rattle.std.proofs.Common.{◌≡◌, ℕ, ◌+◌, ◌≤◌, true, List, Some, refl, ◌∙◌, arith, length}
 use Rattle.std.proofs.lemmas.Bool.{eq-eqb}
 use Rattle.model.specs.declared.abs.Kind.{Kind}
 use Rattle.model.specs.declared.abs.Kind.TheVariants.{Armed, Taken}
@@ -48,12 +48,14 @@ module _ (set : Set) (states : States) (w : World) (past : List Entry) (good : I
           → find w.shared.packets n ≡ Some p → p.armer ≡ Some armer → armer.device ≡ a.device
       exchanged_device (Armed (Declared q)) r n p armer kind is reads there word =
           let some : 1 ≤ names_on states (is_armed (Declared q)) a.device n w.threads =
-          named_some set states w past good stands t h a top (is_armed (Declared q)) r n
+          named_some states w t (length h.below) a (top_there set w t h a top)
+          (is_armed (Declared q)) refl r n
           (rw kind (eq-eqb q q refl)) (reads_ref w.shared (register a r) n reads) in
           backed_device a.device q n p armer there word (omega arith)
       exchanged_device (Taken (Declared q)) r n p armer kind is reads there word =
           let some : 1 ≤ names_on states (is_taken (Declared q)) a.device n w.threads =
-          named_some set states w past good stands t h a top (is_taken (Declared q)) r n
+          named_some states w t (length h.below) a (top_there set w t h a top)
+          (is_taken (Declared q)) refl r n
           (rw kind (eq-eqb q q refl)) (reads_ref w.shared (register a r) n reads) in
           backed_device a.device q n p armer there word (omega arith)
       exchanged_device _ r n p armer kind is reads there word = cc

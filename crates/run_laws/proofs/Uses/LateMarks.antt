@@ -348,48 +348,6 @@ module _ (set : Set) (states : States) (returned : Bool) (n : ℕ) where
       late_less threads t thread found (λ k other there. carried (suc k) other there) h in
       omega arith
 
-  -- the I/O manager's frame under a routine that isn't lent its packet is one of those that have it
-  walks_under_top : (below : List Frame) (a : Activation) (under : Option Frame)
-      → last_under under below ≡ Some (Walk n) → is_hold (sort_of set a.driver a.routine) ≡ false
-      → 1 ≤ unlent_under (below ++ Routine a ∷ []) under + walking set (below ++ Routine a ∷ []) n
-  walks_under_top [] a under is free =
-      let own : unlent_under (Routine a ∷ []) under ≡ 1 = rw (free, is, eq-eqb n n refl) refl in
-      omega arith
-  walks_under_top (f ∷ below) a under is free =
-      let others : 1 ≤ unlent_under (below ++ Routine a ∷ []) (Some f)
-      + walking set (below ++ Routine a ∷ []) n =
-      walks_under_top below a (Some f) is free in
-      let walks : walking set (f ∷ below ++ Routine a ∷ []) n
-      ≡ unlent_under (below ++ Routine a ∷ []) (Some f) + walking set (below ++ Routine a ∷ []) n =
-      refl in
-      omega arith
-
-  thread_walking : (threads : List Thread) (t : ℕ) (thread : Thread)
-      → slice_get threads t ≡ Some thread
-      → walking set thread.frames.items n ≤ all_walking set threads n
-  thread_walking [] t thread found = cc
-  thread_walking (x ∷ threads) zero thread found = let one : x ≡ thread = cc in rw one (omega arith)
-  thread_walking (x ∷ threads) (suc t) thread found =
-      let others : walking set thread.frames.items n ≤ all_walking set threads n =
-      thread_walking threads t thread found in
-      omega arith
-
-  pub walks_on : (threads : List Thread) (t : ℕ) (thread : Thread) (below : List Frame)
-      (a : Activation)
-      → slice_get threads t ≡ Some thread → thread.frames.items ≡ below ++ Routine a ∷ []
-      → last_under None below ≡ Some (Walk n) → is_hold (sort_of set a.driver a.routine) ≡ false
-      → 1 ≤ all_walking set threads n
-  walks_on threads t thread below a found items is free =
-      let all : walking set thread.frames.items n ≤ all_walking set threads n =
-      thread_walking threads t thread found in
-      let same : walking set thread.frames.items n ≡ walking set (below ++ Routine a ∷ []) n =
-      ap (λ (frames : List Frame). walking set frames n) items in
-      let some : 1 ≤ unlent_under (below ++ Routine a ∷ []) None
-      + walking set (below ++ Routine a ∷ []) n = walks_under_top below a None is free in
-      let none : unlent_under (below ++ Routine a ∷ []) None ≡ 0 =
-      if_none (is_lent set (below ++ Routine a ∷ [])) in
-      omega arith
-
 -- where the I/O manager's frame of a packet is a top one, none is late
 pub no_late_walk : (set : Set) (states : States) (w : World) (t n : ℕ) (thread : Thread)
     (below : List Frame) (returned : Bool)
