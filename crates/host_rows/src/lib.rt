@@ -1,0 +1,10 @@
+//! The tests of cores and of queues of commands. Their vectors come from outside, and no clause of
+//! a contract says them.
+#![tactic(auto)]
+
+#[cfg(test)]
+mod cores;
+#[cfg(test)]
+mod histories;
+#[cfg(test)]
+mod sets;

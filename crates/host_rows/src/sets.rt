@@ -1,0 +1,87 @@
+//! The sets of the tests, cores of them, and one event or command of a core at a time.
+
+ghost use Rattle.std.specs.Prelude.{◌≤◌};
+ghost use Rattle.model.specs.declared.limits.TheConstants.{MAX_HISTORY, MAX_THREADS};
+
+use asm::assemble;
+use hostcore::{Core, LogFull, Queued, Seat, Ticket};
+use model::event::{Event, Reply};
+use model::history::{Command, Outcome};
+use model::status::Major;
+use std::alloc::Global;
+use std::process::Abort;
+use verifier::verify;
+
+/// A driver that completes each read at once.
+pub(crate) const COMPLETES: &[u8] =
+    b"driver d\ndispatch READ f\nroutine f dispatch\ncomplete r0 SUCCESS\nret SUCCESS\nendr\nendd\n\
+      device v d 1\n";
+
+/// A driver with a queue whose packets may be cancelled. Its DPC routine completes them.
+pub(crate) const QUEUES: &[u8] =
+    b"driver d\nqueue q l0 gone\ndispatch READ f\ndpc g\nroutine f dispatch\nmark r0\nacquire l0\n\
+      insert r0 q\narm r0 q\nifcancel r0 was\nrelease l0\nret PENDING\nwas: disarm r0 lost\n\
+      unlink r0 q\nrelease l0\ncomplete r0 CANCELLED\nret PENDING\nlost: release l0\nret PENDING\n\
+      endr\nroutine g dpc\nacquire l0\nremove r0 q none\ndisarm r0 none\nrelease l0\n\
+      complete r0 SUCCESS\nret void\nnone: release l0\nret void\nendr\nroutine gone cancel\nrelc\n\
+      acquire l0\nunlink r0 q\nrelease l0\ncomplete r0 CANCELLED\nret void\nendr\nendd\n\
+      device v d 1\n";
+
+/// A read of device 0.
+pub(crate) const READ: Command = Command::Request {
+    device: 0,
+    major: Major::Read,
+    argument: 0,
+};
+
+/// A core of a set, with ample memory.
+pub(crate) fn core_of<R: Abort>(rt: &R, alloc: Global, text: &[u8], threads: u8, log: usize) -> Core
+    requires some { 1 ≤ threads }
+    requires few { threads ≤ MAX_THREADS }
+    requires short { log ≤ MAX_HISTORY }
+{
+    let set = assemble(alloc, text).ok().expect(rt, "a set");
+    let accepted = verify(alloc, set).ok().expect(rt, "an accepted set");
+    Core::new(alloc, accepted, threads, log)
+        .ok()
+        .expect(rt, "memory")
+}
+
+/// One step of the seat's thread.
+pub(crate) fn step<R: Abort>(rt: &R, core: &mut Core, seat: &mut Seat) -> Reply {
+    let thread = seat.thread();
+    match core.apply(seat, Event::Step { thread }) {
+        Ok(reply) => reply,
+        Err(LogFull) => panic!(rt; "a full history"),
+    }
+}
+
+/// A command is performed.
+pub(crate) fn perform<R: Abort>(rt: &R, core: &mut Core, seat: &mut Seat, queued: Queued) -> Reply {
+    match core.perform(seat, queued.taken()) {
+        Ok(reply) => reply,
+        Err((LogFull, taken)) => {
+            let _command = taken.give_up();
+            panic!(rt; "a full history")
+        }
+    }
+}
+
+/// The ticket of a command whose outcome is owed.
+pub(crate) fn owed<R: Abort>(rt: &R, core: &Core, ticket: Ticket) -> Ticket {
+    match core.collect(ticket) {
+        Ok(_outcome) => panic!(rt; "an outcome that isn't owed any more"),
+        Err(back) => back,
+    }
+}
+
+/// What came of a command.
+pub(crate) fn collected<R: Abort>(rt: &R, core: &Core, ticket: Ticket) -> Outcome {
+    match core.collect(ticket) {
+        Ok(outcome) => outcome,
+        Err(back) => {
+            let _reply = core.abandon(back);
+            panic!(rt; "an outcome that is owed")
+        }
+    }
+}
