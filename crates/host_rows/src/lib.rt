@@ -5,6 +5,12 @@
 #[cfg(test)]
 mod cores;
 #[cfg(test)]
+mod crowd;
+#[cfg(test)]
 mod histories;
+#[cfg(test)]
+mod market;
+#[cfg(test)]
+mod queues;
 #[cfg(test)]
 mod sets;
