@@ -1,0 +1,4 @@
+pub mod Worked
+pub mod Turned
+pub mod Kept
+pub mod Serves

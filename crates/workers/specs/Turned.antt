@@ -1,0 +1,69 @@
+-- One turn of a worker.
+use Rattle.std.specs.Prelude.{ℕ, ◌≡◌, ◌⊎◌, ◌<◌, ◌+◌, ◌++◌, Bool, [], ◌∷◌, Option, None, Some, MatchBool, length, if◌then◌else◌}
+use Rattle.model.specs.declared.event.Event.{Event}
+use Rattle.model.specs.declared.event.Event.TheVariants.{Dpc, StartIo, Step}
+use Rattle.model.specs.declared.limits.TheConstants.{MAX_DEVICES}
+use Rattle.model.specs.History.{NamedCommand}
+use Rattle.model.specs.View.{busy_at, due_at}
+use Rattle.model.specs.World.{World}
+use Rattle.hostcore.specs.Core.{CoreState, entry_in, event_in, with_entry, world_of}
+use Rattle.intake.specs.Ends.{TakerState}
+use Rattle.workers.specs.declared.locked.Progress.{Progress}
+use Rattle.workers.specs.declared.locked.Progress.TheVariants.{Advanced, Over, Stalled}
+use Rattle.workers.specs.declared.turns.Turn.{Turn}
+use Rattle.workers.specs.declared.turns.Turn.TheVariants.{Ended, Entered, Full, Waits}
+
+-- what an idle thread starts of a device: the front of its start list before its DPC
+abbrev pub start_by : Bool × Bool → ℕ → ℕ → Option Event
+start_by due t d =
+    if due.0 then Some (StartIo t d) else (if due.1 then Some (Dpc t d) else None)
+
+abbrev pub start_of : World → ℕ → ℕ → Option Event
+start_of w t d = start_by (due_at w d) t d
+
+-- what an idle thread starts: what is due of the least device that has anything due
+abbrev pub IsFirstDue : World → ℕ → Option Event → Type 0
+IsFirstDue w t None = (d : ℕ) → d < MAX_DEVICES → start_of w t d ≡ None
+IsFirstDue w t (Some event) =
+    (d : ℕ) × (start_of w t d ≡ Some event) × ((k : ℕ) → k < d → start_of w t k ≡ None)
+
+-- what a thread does next of itself: a step if it is busy, else it starts what is due, if anything
+abbrev pub IsNext : World → ℕ → Option Event → Type 0
+IsNext w t event = MatchBool (busy_at w t) (event ≡ Some (Step t)) (IsFirstDue w t event)
+
+-- a turn enters what the thread does next of itself
+pub record Goes (t : ℕ) (before after : CoreState) : Type 0 where
+  pub event : Event
+  pub next : IsNext (world_of before) t (Some event)
+  pub entered : after ≡ with_entry before (entry_in before t event None)
+
+-- the taker took a command
+abbrev pub took : TakerState → NamedCommand → TakerState
+took taker asked = record taker { taken = taker.taken ++ asked ∷ [] }
+
+-- a turn takes a command and enters it, where the thread has nothing to do of itself
+pub record TakesOne (t : ℕ) (before after : CoreState) (taker taker' : TakerState) : Type 0 where
+  pub asked : NamedCommand
+  pub next : IsNext (world_of before) t None
+  pub taken : taker' ≡ took taker asked
+  pub entered : after
+      ≡ with_entry before (entry_in before t (event_in before t asked) (Some asked.name))
+
+-- what a turn came to. Where it ended, the thread has nothing to do of itself. At a full history
+-- nothing is entered, and a command that was taken is handed on
+abbrev pub Turned : ℕ → CoreState → CoreState → TakerState → TakerState → Turn → Type 0
+Turned t before after taker taker' Entered =
+    (Goes t before after × (taker' ≡ taker)) ⊎ TakesOne t before after taker taker'
+Turned t before after taker taker' Waits = (after ≡ before) × (taker' ≡ taker)
+Turned t before after taker taker' Ended =
+    IsNext (world_of before) t None × (after ≡ before) × (taker' ≡ taker)
+Turned t before after taker taker' (Full None) =
+    (length before.history ≡ before.log) × (after ≡ before) × (taker' ≡ taker)
+Turned t before after taker taker' (Full (Some asked)) =
+    (length before.history ≡ before.log) × (after ≡ before) × (taker' ≡ took taker asked)
+
+-- what a turn came to, for its worker: an entry is one entry more, and else nothing is entered
+abbrev pub Progressed : CoreState → CoreState → Progress → Type 0
+Progressed before after Advanced = length after.history ≡ length before.history + 1
+Progressed before after Stalled = after ≡ before
+Progressed before after Over = after ≡ before

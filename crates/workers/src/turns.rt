@@ -1,0 +1,107 @@
+//! One turn of a worker.
+
+ghost use Rattle.std.specs.Prelude.{◌≡◌, None, Some};
+ghost use Rattle.hostcore.specs.Core.{world_of};
+ghost use Rattle.intake.specs.Ends.{TakerState};
+ghost use Rattle.workers.specs.Turned.{IsFirstDue, IsNext, Turned, start_of, took};
+
+use hostcore::{Core, Seat, Taken};
+use intake::{Intake, Taker};
+use model::event::{Event, Reply};
+use model::limits::MAX_DEVICES;
+use std::sync::Wait;
+
+/// What a turn came to.
+pub enum Turn {
+    /// There is one entry more.
+    Entered,
+    /// The thread waits, or there was nothing to do: nothing changed.
+    Waits,
+    /// There is nothing left to do: nothing changed.
+    Ended,
+    /// The history is full: nothing was entered. A command that was taken comes with it.
+    Full(Option<Taken>),
+}
+
+/// What an idle thread starts of a device: the front of its start list before its DPC.
+fn start_of(core: &Core, thread: u8, device: u8) -> Option<Event>
+    ensures { result ≡ start_of (world_of core.now) thread device }
+{
+    match core.due(device) {
+        (true, _) => Some(Event::StartIo { thread, device }),
+        (false, true) => Some(Event::Dpc { thread, device }),
+        (false, false) => None,
+    }
+}
+
+/// What an idle thread starts: what is due of the least device that has anything due.
+fn first_due(core: &Core, thread: u8) -> Option<Event>
+    ensures first { IsFirstDue (world_of core.now) thread result }
+{
+    for device in 0..MAX_DEVICES as u8 {
+        let event = start_of(core, thread, device);
+        if event.is_some() {
+            return event;
+        }
+    }
+    None
+}
+
+/// What the seat's thread does next of itself: a step, or the start of what is due.
+fn next_event(core: &Core, seat: &Seat) -> Option<Event>
+    ensures next { IsNext (world_of core.now) seat.now result }
+{
+    let thread = seat.thread();
+    if core.busy(seat) {
+        return Some(Event::Step { thread });
+    }
+    first_due(core, thread)
+}
+
+/// Applies what the thread does next of itself.
+fn go(core: &mut Core, seat: &mut Seat, event: Event) -> Turn
+    requires next { IsNext (world_of core.old) seat.old (Some event) }
+    ensures turned { (taker : TakerState) → Turned seat.old core.old core.new taker taker result }
+    ensures seat { seat.new ≡ seat.old }
+{
+    match core.apply(seat, event) {
+        Ok(Reply::Waited | Reply::Idle) => Turn::Waits,
+        Ok(_) => Turn::Entered,
+        Err(_) => Turn::Full(None),
+    }
+}
+
+/// Performs a command.
+fn perform(core: &mut Core, seat: &mut Seat, taken: Taken) -> Turn
+    requires next { IsNext (world_of core.old) seat.old None }
+    ensures turned { (taker : TakerState) → Turned seat.old core.old core.new taker (took taker taken) result }
+    ensures seat { seat.new ≡ seat.old }
+{
+    match core.perform(seat, taken) {
+        Ok(_) => Turn::Entered,
+        Err((_, taken)) => Turn::Full(Some(taken)),
+    }
+}
+
+/// A turn of a worker: what its thread does next of itself, or else the next command.
+pub fn take_turn<R: Wait>(
+    rt: &R,
+    core: &mut Core,
+    seat: &mut Seat,
+    taker: &mut Taker,
+    intake: &Intake,
+) -> Turn
+    requires queue { taker.old.queue ≡ intake.now }
+    ensures turned { Turned seat.old core.old core.new taker.old taker.new result }
+    ensures seat { seat.new ≡ seat.old }
+{
+    if let Some(event) = next_event(core, seat) {
+        return go(core, seat, event);
+    }
+    let closed = intake.closed();
+    match taker.take(rt, intake) {
+        Some(taken) => perform(core, seat, taken),
+        None if closed => Turn::Ended,
+        None => Turn::Waits,
+    }
+}
