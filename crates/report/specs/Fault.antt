@@ -72,8 +72,15 @@ abbrev pub text_fault_line : AsmFault → List ℕ
 text_fault_line fault =
     codes "text" ++ fault_line (kind_number fault.kind) (text_kind_name fault.kind) fault.line
 
+-- what follows the name of a schedule or a script in the line of a fault
+abbrev pub kind_and_line : ScheduleFault → List ℕ
+kind_and_line fault =
+    fault_line (schedule_kind_number fault.kind) (schedule_kind_name fault.kind) fault.line
+
 -- the line of a fault of a schedule
 abbrev pub schedule_fault_line : ScheduleFault → List ℕ
-schedule_fault_line fault =
-    codes "schedule" ++ fault_line (schedule_kind_number fault.kind) (schedule_kind_name fault.kind)
-    fault.line
+schedule_fault_line fault = codes "schedule" ++ kind_and_line fault
+
+-- the line of a fault of a script
+abbrev pub script_fault_line : ScheduleFault → List ℕ
+script_fault_line fault = codes "script" ++ kind_and_line fault

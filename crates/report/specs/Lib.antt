@@ -4,3 +4,4 @@ pub mod Number
 pub mod Reply
 pub mod Verdict
 pub mod Fault
+pub mod Host

@@ -2,7 +2,7 @@
 
 ghost use Rattle.std.specs.Prelude.{◌≡◌, ◌+◌, ◌≤◌, ◌++◌, length};
 ghost use Rattle.asm.specs.Laws.{kind_number};
-ghost use Rattle.report.specs.Fault.{fault_line, image_fault_line, image_fault_name, image_fault_number, schedule_fault_line, schedule_kind_name, schedule_kind_number, text_fault_line, text_kind_name};
+ghost use Rattle.report.specs.Fault.{fault_line, image_fault_line, image_fault_name, image_fault_number, kind_and_line, schedule_fault_line, schedule_kind_name, schedule_kind_number, script_fault_line, text_fault_line, text_kind_name};
 ghost use Rattle.report.specs.Lines.{HasRoom};
 
 use crate::lines::{Lines, ROOM};
@@ -52,8 +52,25 @@ impl Lines {
         requires { HasRoom self.old }
         ensures { self.new ≡ self.old ++ schedule_fault_line fault }
     {
-        let ScheduleFault { line, kind } = fault;
         self.text(b"schedule");
+        self.kind_and_line(fault);
+    }
+
+    /// Adds the line of a fault of the text of a script, whose kinds are those of a schedule.
+    pub fn script_fault(&mut self, fault: ScheduleFault)
+        requires { HasRoom self.old }
+        ensures { self.new ≡ self.old ++ script_fault_line fault }
+    {
+        self.text(b"script");
+        self.kind_and_line(fault);
+    }
+
+    /// Adds what follows the input's name in the line of a fault of a schedule or a script.
+    fn kind_and_line(&mut self, fault: ScheduleFault)
+        requires { length self.old + LONGEST_FAULT ≤ ROOM }
+        ensures { self.new ≡ self.old ++ kind_and_line fault }
+    {
+        let ScheduleFault { line, kind } = fault;
         self.fault(schedule_kind_number(kind), schedule_kind_name(kind), line);
     }
 

@@ -6,6 +6,7 @@
 
 pub mod event_number;
 pub mod fault;
+pub mod host;
 pub mod lines;
 pub mod reply;
 pub mod verdict;

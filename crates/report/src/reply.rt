@@ -13,7 +13,7 @@ use model::event::{Bug, Lock, OfDevice, Place, Reply, Subject};
 use model::status::Status;
 
 /// Bytes of a reply that is a word, at most.
-const LONGEST_WORD: usize = 16;
+pub(crate) const LONGEST_WORD: usize = 16;
 
 /// Bytes of what a bug check is about, at most.
 const LONGEST_SUBJECT: usize = 70;
@@ -46,7 +46,7 @@ impl Lines {
     }
 
     /// Adds a number and the rest of its line.
-    fn word(&mut self, number: &EventNumber, rest: &[u8])
+    pub(crate) fn word(&mut self, number: &EventNumber, rest: &[u8])
         requires room { HasRoom self.old }
         requires short { length rest.now ≤ LONGEST_WORD }
         ensures { self.new ≡ self.old ++ (decimal number.now ++ rest.now) }
