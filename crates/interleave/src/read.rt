@@ -47,7 +47,11 @@ pub fn event_line(line: &[u8]) -> Result<Option<Repeated>, ScheduleKind>
 }
 
 /// The tokens of a line whose bytes and tokens are all allowed.
-fn checked_tokens(line: &[u8]) -> Result<Tokens<'_>, ScheduleKind>
+///
+/// # Errors
+///
+/// `Lex` for any other line.
+pub fn checked_tokens(line: &[u8]) -> Result<Tokens<'_>, ScheduleKind>
     ensures { result ≡ checked_tokens line.now }
 {
     let tokens = Tokens::of(line);
@@ -353,7 +357,7 @@ fn steps(thread: &[u8], count: &[u8]) -> Option<Repeated>
 }
 
 /// The number of a thread, a device or a level, which has 8 bits.
-fn byte(token: &[u8]) -> Option<u8>
+pub fn byte(token: &[u8]) -> Option<u8>
     ensures { result ≡ number_within 0 255 token.now }
 {
     let number = number_within(0, 255, token)?;
@@ -361,7 +365,7 @@ fn byte(token: &[u8]) -> Option<u8>
 }
 
 /// The number that a token writes, if it is in this range.
-fn number_within(least: u64, most: u64, token: &[u8]) -> Option<u64>
+pub fn number_within(least: u64, most: u64, token: &[u8]) -> Option<u64>
     ensures number { result ≡ number_within least most token.now }
     ensures most { IfSome result (λ n. n ≤ most) }
 {
