@@ -1,0 +1,2 @@
+pub mod Cancels
+pub mod Meanings

@@ -1,6 +1,7 @@
 //! The text of a script.
 
-ghost use Rattle.std.specs.Prelude.{◌≡◌, ◌≤◌, length, IfOk, MatchResult};
+ghost use Rattle.std.specs.Prelude.{◌≡◌, ◌≢◌, ◌↔◌, ◌≤◌, List, length, IfErr, IfOk, MatchResult};
+ghost use Rattle.script.specs.Meaning.{CancelsEarlier, IsFirstFault, IsScript};
 ghost use Rattle.script.specs.Script.{IsFaultOf, commands_after, script_in};
 
 use crate::read::command_line;
@@ -12,8 +13,8 @@ use text::cut::Lines;
 /// Commands of a script, at most.
 pub const MAX_COMMANDS: usize = 65_536;
 
-/// The commands that a script lists, in their order. No script lists two lists of commands; an
-/// empty one lists none.
+/// The commands that the text of a script lists, in their order; an empty text lists none. Each
+/// cancel names a request that stands before it.
 ///
 /// # Errors
 ///
@@ -23,6 +24,12 @@ pub fn parse_script(alloc: Global, text: &[u8]) -> Result<Vec<Command>, Schedule
     ensures listed { MatchResult result (λ commands. script_in text.now ≡ Ok commands.items)
         (IsFaultOf text.now) }
     ensures short { IfOk result (λ commands. length commands.items ≤ MAX_COMMANDS) }
+    ensures cancels { IfOk result (λ commands. CancelsEarlier commands.items) }
+
+    // What is read is what the text says, and a fault is where it first fails to say a script.
+    ensures meaning { (commands : List Command)
+        → (script_in text.now ≡ Ok commands) ↔ IsScript text.now commands }
+    ensures fault { IfErr result (λ f. f.kind ≢ ScheduleKind.Memory → IsFirstFault text.now f) }
 {
     match script_in(alloc, text) {
         Ok(Ok(commands)) => Ok(commands),
@@ -37,8 +44,7 @@ pub fn parse_script(alloc: Global, text: &[u8]) -> Result<Vec<Command>, Schedule
 /// The commands or the first fault.
 fn script_in(alloc: Global, text: &[u8]) -> Result<Result<Vec<Command>, ScheduleFault>, AllocError>
     ensures { IfOk result
-        (λ r. MatchResult r (λ commands. (script_in text.now ≡ Ok commands.items)
-        × (length commands.items ≤ MAX_COMMANDS))
+        (λ r. MatchResult r (λ commands. script_in text.now ≡ Ok commands.items)
         (λ fault. script_in text.now ≡ Err fault)) }
 {
     let mut commands = Vec::new(alloc);
@@ -58,11 +64,9 @@ fn add_line(
     commands: &mut Vec<Command>,
     line: &[u8],
 ) -> Result<Result<(), ScheduleKind>, AllocError>
-    ensures added { IfOk result
+    ensures { IfOk result
         (λ r. MatchResult r (λ _. commands_after commands.old.items line.now ≡ Ok commands.new.items)
         (λ kind. commands_after commands.old.items line.now ≡ Err kind)) }
-    ensures short { length commands.old.items ≤ MAX_COMMANDS
-        → length commands.new.items ≤ MAX_COMMANDS }
 {
     match command_line(commands.as_slice(), line) {
         Ok(Some(command)) => {

@@ -1,13 +1,12 @@
-use Rattle.std.proofs.Common.{◌≡◌, ◌+◌, ◌≤◌, ◌<◌, ◌^◌, length}
+use Rattle.std.proofs.Common.{◌≡◌, ◌+◌, ◌<◌, ◌^◌, length}
 use Rattle.script.specs.Script.{listing, script_in}
 use Rattle.script.proofs.parse.script_in.Given as goal
 
--- the rest is listed as the whole is, its lines can be counted, and the commands are not too many
+-- the rest is listed as the whole is, and its lines can be counted
 abbrev pub invariant-loop-raw : goal.invariant-loop-raw
 invariant-loop-raw l = record {
   same : listing l.commands.items l.line l.left ≡ script_in l.text;
   counted : l.line + length l.left < 2 ^ 64;
-  short : length l.commands.items ≤ 65536;
 }
 
 abbrev pub decreases-loop-raw : goal.decreases-loop-raw
