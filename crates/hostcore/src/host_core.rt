@@ -240,6 +240,7 @@ impl Core {
         ensures outcome { IfOk result (λ outcome. outcome_named self.now.history ticket
             ≡ Some outcome) }
         ensures back { IfErr result (λ back. back ≡ ticket) }
+        ensures none { OnErr result (outcome_named self.now.history ticket ≡ None) }
         ensures owed { IsErr result ↔ IsOwed self.now ticket }
     {
         top_outs_are_told();
