@@ -1,0 +1,9 @@
+pub mod Membership
+pub mod ThreadSums
+pub mod NumberedCommands
+pub mod TakerLists
+pub mod Accounting
+pub mod OneSubmitter
+pub mod TicketLists
+pub mod ToldLists
+pub mod ReplayedEntries
