@@ -13,4 +13,8 @@ mod market;
 #[cfg(test)]
 mod queues;
 #[cfg(test)]
+mod served;
+#[cfg(test)]
+mod serving;
+#[cfg(test)]
 mod sets;

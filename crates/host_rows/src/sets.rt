@@ -1,6 +1,6 @@
 //! The sets of the tests, cores of them, and one event or command of a core at a time.
 
-ghost use Rattle.std.specs.Prelude.{◌≤◌};
+ghost use Rattle.std.specs.Prelude.{◌≡◌, ◌≤◌, None, replicate};
 ghost use Rattle.model.specs.declared.limits.TheConstants.{MAX_HISTORY, MAX_THREADS};
 
 use asm::assemble;
@@ -34,11 +34,13 @@ pub(crate) const READ: Command = Command::Request {
     argument: 0,
 };
 
-/// A core of a set, with ample memory.
+/// An idle core of a set, with ample memory.
 pub(crate) fn core_of<R: Abort>(rt: &R, alloc: Global, text: &[u8], threads: u8, log: usize) -> Core
     requires some { 1 ≤ threads }
     requires few { threads ≤ MAX_THREADS }
     requires short { log ≤ MAX_HISTORY }
+    ensures threads { result.threads ≡ threads }
+    ensures free { result.seats ≡ replicate threads None }
 {
     let set = assemble(alloc, text).ok().expect(rt, "a set");
     let accepted = verify(alloc, set).ok().expect(rt, "an accepted set");
