@@ -2,7 +2,7 @@
 use Rattle.std.proofs.Common.{◌≡◌, ℕ, true, List, Result, Ok, Err}
 use Rattle.model.specs.Set.{Set}
 use Rattle.drvhost_parts.specs.declared.fault.Fault.{Fault}
-use Rattle.drvhost_parts.specs.declared.fault.Fault.TheVariants.{Read, Write, Memory, Text, Image, Schedule as OfSchedule}
+use Rattle.drvhost_parts.specs.declared.fault.Fault.TheVariants.{Read, Write, Memory, Text, Image, Schedule as OfSchedule, Script as OfScript}
 use Rattle.drvhost_parts.specs.Answer.{is_image}
 use Rattle.drvhost_parts.specs.Device.{Holds, Supply}
 use Rattle.drvhost_parts.specs.Fault.{ReadsSet, SaysImage}
@@ -16,3 +16,4 @@ image_read held bytes (Err Read) holds is says = absurd says
 image_read held bytes (Err Write) holds is says = absurd says
 image_read held bytes (Err (Text fault)) holds is says = absurd says
 image_read held bytes (Err (OfSchedule fault)) holds is says = absurd says
+image_read held bytes (Err (OfScript fault)) holds is says = absurd says

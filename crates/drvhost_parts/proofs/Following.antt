@@ -168,21 +168,6 @@ module _ {M : Type 0} (set_of : M → Set) (ShowsRun : M → ℕ → List Event 
         adds_line b n [] l f.text line f.adds,
       )
 
-  -- no event is left
-  pub followed_all : (set : Set) (threads : ℕ) (all : List Reply) (m : M) (number : ℕ)
-      (b n : Option (List ℕ)) (l : List ℕ)
-      → Followed set threads all m number [] b n l → Goes (IsTraceOfAll all) b n [] l (Ok Complete)
-  followed_all set threads all m number b n l f =
-      let text : reply_lines 0 all ≡ f.text =
-      f.lines ∙ ap (λ x. f.text ++ reply_lines number x) f.remains.are ∙ append-nil f.text in
-      let last : list_any is_last all ≡ false = f.last ∙ ap (λ x. list_any is_last x) f.remains.are
-      in (
-        f.text,
-        sym (ap (λ (x : Bool). ended (if x then Stopped else Complete) (reply_lines 0 all)) last
-            ∙ ap (λ x. ended Complete x) text),
-        f.adds,
-      )
-
   -- a write fails
   pub followed_broken : (set : Set) (threads : ℕ) (all : List Reply) (m : M) (number : ℕ)
       (rest : List Event) (b c n : Option (List ℕ)) (l : List ℕ)

@@ -11,12 +11,10 @@ use Rattle.report.specs.Fault.{image_fault_line, text_fault_line}
 use Rattle.drvhost_parts.specs.declared.fault.End.{End}
 use Rattle.drvhost_parts.specs.declared.fault.End.TheVariants.{Stopped}
 use Rattle.drvhost_parts.specs.declared.fault.Fault.{Fault}
-use Rattle.drvhost_parts.specs.declared.fault.Fault.TheVariants.{Read, Write, Memory, Text, Image, Schedule as OfSchedule}
-use Rattle.drvhost_parts.specs.declared.verification.Verification.{Verification}
-use Rattle.drvhost_parts.specs.declared.verification.Verification.TheVariants.{Required, Skipped}
-use Rattle.drvhost_parts.specs.Answer.{Answer, IsRefused, IsTraced, IsVerdict, ended, faulty}
+use Rattle.drvhost_parts.specs.declared.fault.Fault.TheVariants.{Read, Write, Memory, Text, Image, Schedule as OfSchedule, Script as OfScript}
+use Rattle.drvhost_parts.specs.Answer.{Answer, IsRefused, ended, faulty}
 use Rattle.drvhost_parts.specs.Device.{Supply, TakesBeginning}
-use Rattle.drvhost_parts.specs.Ends.{Ends, IsCheckOf, IsRunOf, IsTraceOf, IsTraceOfSet, Rightly, ReadFailed, WriteFailed, OutOfMemory}
+use Rattle.drvhost_parts.specs.Ends.{Ends, IsOfSupply, Rightly, ReadFailed, WriteFailed, OutOfMemory}
 use Rattle.drvhost_parts.specs.Fault.{Goes, ReadsSet, reads_failed, status_of, told_of, writes_failed}
 use Rattle.drvhost_parts.proofs.Writing.{adds_all, adds_breaks, appends_none, keeps_same}
 
@@ -31,6 +29,7 @@ goes_rightly R Q b n g l (Err Memory) on h = h
 goes_rightly R Q b n g l (Err (Text fault)) on h = (on _ h.0, h.1)
 goes_rightly R Q b n g l (Err (Image fault)) on h = (on _ h.0, h.1)
 goes_rightly R Q b n g l (Err (OfSchedule fault)) on h = (on _ h.0, h.1)
+goes_rightly R Q b n g l (Err (OfScript fault)) on h = (on _ h.0, h.1)
 
 -- after a fault it doesn't matter what gathers
 pub goes_left : (R : Answer → Type 0) (b n : Option (List ℕ)) (l k : List ℕ) (fault : Fault)
@@ -41,6 +40,7 @@ goes_left R b n l k Memory h = h
 goes_left R b n l k (Text fault) h = h
 goes_left R b n l k (Image fault) h = h
 goes_left R b n l k (OfSchedule fault) h = h
+goes_left R b n l k (OfScript fault) h = h
 
 -- where the lines that gathered are written, or a beginning of them
 pub goes_written : (R : Answer → Type 0) (b m n : Option (List ℕ)) (l : List ℕ) (end : End)
@@ -55,49 +55,22 @@ goes_broken R b m n l end h p =
     (ended end h.0, h.1, subst P (append-nil h.0) broken)
 
 -- an answer for the set that a source has
-pub judged_on : (held : Supply) (set : Set) → ReadsSet held (Ok set) → (answer : Answer)
-    → IsVerdict set answer → IsCheckOf held answer
-judged_on held set (bytes, holds, says) answer right = (bytes, holds, (Ok set, says, right))
-
-pub traced_on : (v : Verification) (held scheduled : Supply) (set : Set)
-    → ReadsSet held (Ok set) → (answer : Answer) → IsTraceOfSet v set scheduled answer
-    → IsTraceOf v held scheduled answer
-traced_on v held scheduled set (bytes, holds, says) answer right =
-    (bytes, holds, (Ok set, says, right))
+pub right_on : (R : Set → Answer → Type 0) (held : Supply) (set : Set) → ReadsSet held (Ok set)
+    → (answer : Answer) → R set answer → IsOfSupply R held answer
+right_on R held set (bytes, holds, says) answer right = (bytes, holds, (Ok set, says, right))
 
 -- the set can't be read
-pub check_unread : (held : Supply) (b : Option (List ℕ)) (g l : List ℕ) (fault : Fault)
-    → ReadsSet held (Err fault) → Goes (IsCheckOf held) b b g l (Err fault)
-check_unread held b g l Read h = keeps_same b
-check_unread held b g l Write h = absurd h
-check_unread held b g l Memory h = keeps_same b
-check_unread held b g l (Text fault) (bytes, holds, says) =
+pub set_unread : (R : Set → Answer → Type 0) (held : Supply) (b : Option (List ℕ)) (g l : List ℕ)
+    (fault : Fault) → ReadsSet held (Err fault) → Goes (IsOfSupply R held) b b g l (Err fault)
+set_unread R held b g l Read h = keeps_same b
+set_unread R held b g l Write h = absurd h
+set_unread R held b g l Memory h = keeps_same b
+set_unread R held b g l (Text fault) (bytes, holds, says) =
     ((bytes, holds, (Err (text_fault_line fault), says, refl)), keeps_same b)
-check_unread held b g l (Image fault) (bytes, holds, says) =
+set_unread R held b g l (Image fault) (bytes, holds, says) =
     ((bytes, holds, (Err (image_fault_line fault), says, refl)), keeps_same b)
-check_unread held b g l (OfSchedule fault) h = absurd h
-
--- an input is faulty, whatever the schedule
-traced_faulty : (v : Verification) (line : List ℕ) (IsRun : Set → Answer → Type 0)
-    → IsTraced v (Err line) IsRun (faulty line)
-traced_faulty Required line IsRun = refl
-traced_faulty Skipped line IsRun = refl
-
-pub trace_unread : (v : Verification) (held scheduled : Supply) (b : Option (List ℕ))
-    (g l : List ℕ) (fault : Fault) → ReadsSet held (Err fault)
-    → Goes (IsTraceOf v held scheduled) b b g l (Err fault)
-trace_unread v held scheduled b g l Read h = keeps_same b
-trace_unread v held scheduled b g l Write h = absurd h
-trace_unread v held scheduled b g l Memory h = keeps_same b
-trace_unread v held scheduled b g l (Text fault) (bytes, holds, says) = (
-  (bytes, holds, (Err (text_fault_line fault), says, traced_faulty v _ (IsRunOf scheduled))),
-  keeps_same b,
-)
-trace_unread v held scheduled b g l (Image fault) (bytes, holds, says) = (
-  (bytes, holds, (Err (image_fault_line fault), says, traced_faulty v _ (IsRunOf scheduled))),
-  keeps_same b,
-)
-trace_unread v held scheduled b g l (OfSchedule fault) h = absurd h
+set_unread R held b g l (OfSchedule fault) h = absurd h
+set_unread R held b g l (OfScript fault) h = absurd h
 
 -- the line of a refusal is added, unless there was no memory for a verdict
 pub goes_refused : (set : Set) (refusal : Refusal) (b : Option (List ℕ)) (l : List ℕ)
@@ -134,3 +107,4 @@ ends_of R b n (Err Memory) h = OutOfMemory refl refl refl refl h
 ends_of R b n (Err (Text fault)) h = Rightly _ h.0 refl refl refl refl (appends_none b n h.1)
 ends_of R b n (Err (Image fault)) h = Rightly _ h.0 refl refl refl refl (appends_none b n h.1)
 ends_of R b n (Err (OfSchedule fault)) h = Rightly _ h.0 refl refl refl refl (appends_none b n h.1)
+ends_of R b n (Err (OfScript fault)) h = Rightly _ h.0 refl refl refl refl (appends_none b n h.1)

@@ -1,4 +1,5 @@
 pub mod Writing
+pub mod Serving
 pub mod Jobs
 pub mod Following
 pub mod Judging

@@ -5,13 +5,13 @@ use Rattle.image.specs.Laws.{BytesSpellOne, FaultIsOne, ImagesAreFaultless}
 use Rattle.model.specs.Set.{Set}
 use Rattle.report.specs.Verdict.{refusal_line}
 use Rattle.verifier.specs.FirstFault.{OneIsFirst, TypableHasNone}
-use Rattle.drvhost_parts.specs.declared.fault.End.TheVariants.{Stopped}
+use Rattle.drvhost_parts.specs.declared.fault.End.TheVariants.{Complete, Stopped}
 use Rattle.drvhost_parts.specs.declared.verification.Verification.{Verification}
 use Rattle.drvhost_parts.specs.declared.verification.Verification.TheVariants.{Required, Skipped}
 use Rattle.asm.specs.Reading.{set_in}
 use Rattle.interleave.specs.Listing.{schedule_in}
 use Rattle.report.specs.Fault.{image_fault_line, text_fault_line}
-use Rattle.drvhost_parts.specs.Answer.{Answer, FileSays, ImageSays, IsCheck, IsJudged, IsRefused, IsTraced, SaysAs, TextSays, ended, is_image, ran}
+use Rattle.drvhost_parts.specs.Answer.{Answer, FileSays, ImageSays, IsCheck, IsIfAccepted, IsOfFile, IsOfSaid, IsRefused, IsTraced, IsVerdict, SaysAs, TextSays, acceptance, ended, is_image, ran}
 use Rattle.drvhost_parts.specs.Device.{Bytes}
 use Rattle.drvhost_parts.specs.Ends.{IsRunOf, IsTrace}
 
@@ -21,31 +21,44 @@ refused_once alone set one other a b =
     a.is ∙ ap (λ r. ended Stopped (refusal_line r)) (alone set a.refusal b.refusal a.first b.first)
     ∙ sym b.is
 
--- what `check` answers for a set or a fault
-judged_once : OneIsFirst → TypableHasNone → (set : Result Set (List ℕ)) (one other : Answer)
-    → IsJudged set one → IsJudged set other → one ≡ other
-judged_once alone none (Ok set) one other (inl a) (inl b) = a.1 ∙ sym b.1
-judged_once alone none (Ok set) one other (inl a) (inr b) = absurd (none set b.refusal b.first a.0)
-judged_once alone none (Ok set) one other (inr a) (inl b) = absurd (none set a.refusal a.first b.0)
-judged_once alone none (Ok set) one other (inr a) (inr b) = refused_once alone set one other a b
-judged_once alone none (Err line) one other a b = a ∙ sym b
+-- what a set that has to be accepted is answered with, where a run of it has one answer
+accepted_once : OneIsFirst → TypableHasNone → (IsRun : Set → Answer → Type 0)
+    → ((set : Set) (one other : Answer) → IsRun set one → IsRun set other → one ≡ other)
+    → (set : Set) (one other : Answer) → IsIfAccepted IsRun set one → IsIfAccepted IsRun set other
+    → one ≡ other
+accepted_once alone none IsRun once set one other (inl a) (inl b) = once set one other a.1 b.1
+accepted_once alone none IsRun once set one other (inl a) (inr b) =
+    absurd (none set b.refusal b.first a.0)
+accepted_once alone none IsRun once set one other (inr a) (inl b) =
+    absurd (none set a.refusal a.first b.0)
+accepted_once alone none IsRun once set one other (inr a) (inr b) =
+    refused_once alone set one other a b
+
+-- what `check` answers for a set
+abbrev IsAcceptance : Set → Answer → Type 0
+IsAcceptance set answer = answer ≡ ended Complete (acceptance set)
+
+judged_once : OneIsFirst → TypableHasNone → (set : Set) (one other : Answer)
+    → IsVerdict set one → IsVerdict set other → one ≡ other
+judged_once alone none set one other a b =
+    accepted_once alone none IsAcceptance (λ _ _ _ c d. c ∙ sym d) set one other a b
 
 -- what `trace` answers for it, where a run of the set has one answer
-traced_once : OneIsFirst → TypableHasNone
-    → (v : Verification) (set : Result Set (List ℕ)) (IsRun : Set → Answer → Type 0)
-    → ((run : Set) (one other : Answer) → IsRun run one → IsRun run other → one ≡ other)
-    → (one other : Answer) → IsTraced v set IsRun one → IsTraced v set IsRun other → one ≡ other
-traced_once alone none Required (Ok set) IsRun once one other (inl a) (inl b) =
-    once set one other a.1 b.1
-traced_once alone none Required (Ok set) IsRun once one other (inl a) (inr b) =
-    absurd (none set b.refusal b.first a.0)
-traced_once alone none Required (Ok set) IsRun once one other (inr a) (inl b) =
-    absurd (none set a.refusal a.first b.0)
-traced_once alone none Required (Ok set) IsRun once one other (inr a) (inr b) =
-    refused_once alone set one other a b
-traced_once alone none Required (Err line) IsRun once one other a b = a ∙ sym b
-traced_once alone none Skipped (Ok set) IsRun once one other a b = once set one other a b
-traced_once alone none Skipped (Err line) IsRun once one other a b = a ∙ sym b
+traced_once : OneIsFirst → TypableHasNone → (v : Verification) (IsRun : Set → Answer → Type 0)
+    → ((set : Set) (one other : Answer) → IsRun set one → IsRun set other → one ≡ other)
+    → (set : Set) (one other : Answer) → IsTraced v IsRun set one → IsTraced v IsRun set other
+    → one ≡ other
+traced_once alone none Required IsRun once set one other a b =
+    accepted_once alone none IsRun once set one other a b
+traced_once alone none Skipped IsRun once set one other a b = once set one other a b
+
+-- what is right for a set or a fault, where a set has one right answer
+said_once : (R : Set → Answer → Type 0)
+    → ((set : Set) (one other : Answer) → R set one → R set other → one ≡ other)
+    → (said : Result Set (List ℕ)) (one other : Answer) → IsOfSaid R said one
+    → IsOfSaid R said other → one ≡ other
+said_once R once (Ok set) one other a b = once set one other a b
+said_once R once (Err line) one other a b = a ∙ sym b
 
 -- a run by a schedule has one answer
 run_once : (schedule : List ℕ) (set : Set) (one other : Answer) → IsRunOf (Bytes schedule) set one
@@ -85,18 +98,25 @@ module _ (spell : BytesSpellOne) (faultless : ImagesAreFaultless) (single : Faul
   says_once false bytes one other a b = text_once bytes one other a b
 
   -- so there is one answer
+  file_once : (R : Set → Answer → Type 0)
+      → ((set : Set) (one other : Answer) → R set one → R set other → one ≡ other)
+      → (bytes : List ℕ) (one other : Answer) → IsOfFile R bytes one → IsOfFile R bytes other
+      → one ≡ other
+  file_once R once bytes one other a b =
+      said_once R once b.0 one other
+      (subst (λ (said : Result Set (List ℕ)). IsOfSaid R said one)
+      (says_once (is_image bytes) bytes a.0 b.0 a.1 b.1) a.2) b.2
+
   pub check_once : OneIsFirst → TypableHasNone → (set : List ℕ) (one other : Answer)
       → IsCheck set one → IsCheck set other → one ≡ other
   check_once alone none set one other a b =
-      judged_once alone none b.0 one other
-      (subst (λ (said : Result Set (List ℕ)). IsJudged said one)
-      (says_once (is_image set) set a.0 b.0 a.1 b.1) a.2) b.2
+      file_once IsVerdict (judged_once alone none) set one other a b
 
   pub trace_once : OneIsFirst → TypableHasNone → (v : Verification) (set schedule : List ℕ)
       (one other : Answer) → IsTrace v set schedule one → IsTrace v set schedule other → one ≡ other
   trace_once alone none v set schedule one other a b =
-      traced_once alone none v b.2.0 (IsRunOf (Bytes schedule)) (run_once schedule) one other
-      (subst (λ (x : Result Set (List ℕ)). IsTraced v x (IsRunOf (Bytes schedule)) one)
-      (says_once (is_image b.0) b.0 a.2.0 b.2.0
-      (subst (λ (x : List ℕ). FileSays x a.2.0) (a.1 ∙ sym b.1) a.2.1) b.2.1) a.2.2)
-      b.2.2
+      let IsRun : Set → Answer → Type 0 = IsRunOf (Bytes schedule) in
+      let R : Set → Answer → Type 0 = IsTraced v IsRun in
+      let P : List ℕ → Type 0 = λ bytes. IsOfFile R bytes one in
+      file_once R (traced_once alone none v IsRun (run_once schedule)) b.0 one other
+      (subst P (a.1 ∙ sym b.1) a.2) b.2

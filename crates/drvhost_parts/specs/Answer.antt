@@ -1,5 +1,5 @@
--- What `check` and `trace` answer for the bytes of their files.
-use Rattle.std.specs.Prelude.{ℕ, ⊤, nat_eq, ◌≡◌, ◌+◌, ◌⊎◌, ◌++◌, Bool, true, false, if◌then◌else◌, List, [], ◌∷◌, Result, Ok, Err}
+-- What `check`, `trace` and `host` answer for the bytes of their files.
+use Rattle.std.specs.Prelude.{ℕ, ⊤, nat_eq, ◌≡◌, ◌+◌, ◌⊎◌, ◌++◌, Bool, true, false, if◌then◌else◌, List, [], ◌∷◌, length, None, Option, Some, Result, Ok, Err}
 use Rattle.std.specs.List.{list_any, starts_with}
 use Rattle.asm.specs.declared.fault.AsmFault.{AsmFault}
 use Rattle.asm.specs.Reading.{set_in}
@@ -12,6 +12,8 @@ use Rattle.model.specs.declared.abs.Refusal.{Refusal}
 use Rattle.model.specs.declared.event.Event.{Event}
 use Rattle.model.specs.declared.event.Reply.{Reply}
 use Rattle.model.specs.declared.event.Reply.TheVariants.{Started, Stepped, Finished, Topped, Waited, Idle, Refused, Bug, Wrong}
+use Rattle.model.specs.declared.history.Command.{Command}
+use Rattle.model.specs.declared.history.Entry.{Entry}
 use Rattle.model.specs.declared.set.Driver.{Driver}
 use Rattle.model.specs.declared.set.Routine.{Routine}
 use Rattle.model.specs.Certificate.{certificate_of}
@@ -19,7 +21,10 @@ use Rattle.model.specs.Run.{Run, begun, step}
 use Rattle.model.specs.Set.{Set}
 use Rattle.model.specs.Sound.{IsSound}
 use Rattle.model.specs.Typable.{IsTypable, IsFirstFault}
-use Rattle.report.specs.Fault.{image_fault_line, schedule_fault_line, text_fault_line}
+use Rattle.hosting.specs.Served.{HasServed}
+use Rattle.hosting.specs.Told.{all_told}
+use Rattle.report.specs.Fault.{image_fault_line, schedule_fault_line, script_fault_line, text_fault_line}
+use Rattle.report.specs.Host.{agrees_line, differs_line, left_line}
 use Rattle.report.specs.Reply.{reply_line}
 use Rattle.report.specs.Verdict.{accepted_line, certificate_line, refusal_line}
 use Rattle.drvhost_parts.specs.declared.fault.End.{End}
@@ -131,19 +136,24 @@ SaysAs false bytes said = TextSays bytes said
 abbrev pub FileSays : List ℕ → Result Set (List ℕ) → Type 0
 FileSays bytes said = SaysAs (is_image bytes) bytes said
 
--- what `check` answers for the set of a file, or for the line of its first fault
-abbrev pub IsJudged : Result Set (List ℕ) → Answer → Type 0
-IsJudged (Ok set) answer = IsVerdict set answer
-IsJudged (Err line) answer = answer ≡ faulty line
+-- what is right for what a file says, where these are the right answers for a set: for the set that
+-- it names, or the line that tells its first fault
+abbrev pub IsOfSaid : (Set → Answer → Type 0) → Result Set (List ℕ) → Answer → Type 0
+IsOfSaid Right (Ok set) answer = Right set answer
+IsOfSaid Right (Err line) answer = answer ≡ faulty line
 
--- what `trace` answers for it, where these are the answers of a run of the set: one that has to be
--- accepted, and isn't, is not run
-abbrev pub IsTraced : Verification → Result Set (List ℕ) → (Set → Answer → Type 0) → Answer → Type 0
-IsTraced Required (Ok set) IsRun answer =
-    (IsTypable set × IsRun set answer) ⊎ IsRefused set answer
-IsTraced Skipped (Ok set) IsRun answer = IsRun set answer
-IsTraced Required (Err line) IsRun answer = answer ≡ faulty line
-IsTraced Skipped (Err line) IsRun answer = answer ≡ faulty line
+-- what is right for the bytes of a file, likewise
+abbrev pub IsOfFile : (Set → Answer → Type 0) → List ℕ → Answer → Type 0
+IsOfFile Right bytes answer =
+    (said : Result Set (List ℕ)) × FileSays bytes said × IsOfSaid Right said answer
+
+-- a set that has to be accepted, and isn't, is not run, where these are the answers of a run
+abbrev pub IsIfAccepted : (Set → Answer → Type 0) → Set → Answer → Type 0
+IsIfAccepted IsRun set answer = (IsTypable set × IsRun set answer) ⊎ IsRefused set answer
+
+abbrev pub IsTraced : Verification → (Set → Answer → Type 0) → Set → Answer → Type 0
+IsTraced Required IsRun set answer = IsIfAccepted IsRun set answer
+IsTraced Skipped IsRun set answer = IsRun set answer
 
 -- a set is run: it needn't be accepted, or is
 abbrev pub IsToRun : Verification → Set → Type 0
@@ -152,4 +162,38 @@ IsToRun Skipped set = ⊤
 
 -- what `check` answers for the bytes of its file
 abbrev pub IsCheck : List ℕ → Answer → Type 0
-IsCheck set answer = (said : Result Set (List ℕ)) × FileSays set said × IsJudged said answer
+IsCheck set answer = IsOfFile IsVerdict set answer
+
+-- the line of a command of a script: what is told of it, or that it was left
+abbrev pub command_line : ℕ → Option Reply → List ℕ
+command_line number None = left_line number
+command_line number (Some reply) = reply_line number reply
+
+-- a line for each command, the first of which has this number
+abbrev pub command_lines : ℕ → List (Option Reply) → List ℕ
+command_lines number [] = []
+command_lines number (told ∷ rest) = command_line number told ++ command_lines (number + 1) rest
+
+-- whether a history of so many entries agrees with its replay: the line that says so, and how a job
+-- ends
+abbrev pub replay_line : Bool → ℕ → List ℕ
+replay_line true entries = agrees_line entries
+replay_line false entries = differs_line entries
+
+abbrev pub replay_end : Bool → End
+replay_end true = Complete
+replay_end false = Stopped
+
+-- what is answered of the commands of a script and their history: what is told of each, and whether
+-- the history agrees
+abbrev pub served_as : Bool → List (Option Reply) → ℕ → Answer
+served_as agrees told entries =
+    ended (replay_end agrees) (command_lines 0 told ++ replay_line agrees entries)
+
+-- what `host` answers for a set that is accepted, with so many workers, and its script: that of some
+-- history in which they served the commands, and which agrees; or the fault of the script
+abbrev pub IsServed : ℕ → Set → Result (List Command) ScheduleFault → Answer → Type 0
+IsServed workers set (Ok commands) answer =
+    (history : List Entry) × HasServed set workers commands history
+    × (answer ≡ served_as true (all_told history (length commands)) (length history))
+IsServed workers set (Err fault) answer = answer ≡ faulty (script_fault_line fault)

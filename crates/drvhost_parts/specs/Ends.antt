@@ -4,40 +4,56 @@ use Rattle.std.specs.Io.KnownBytes.{Appends, Keeps}
 use Rattle.drvhost_parts.specs.declared.verification.Verification.{Verification}
 use Rattle.interleave.specs.Listing.{schedule_in}
 use Rattle.model.specs.Set.{Set}
-use Rattle.drvhost_parts.specs.Answer.{Answer, FileSays, IsCheck, IsToRun, IsTraced, ran}
+use Rattle.script.specs.Script.{script_in}
+use Rattle.drvhost_parts.specs.Answer.{Answer, FileSays, IsIfAccepted, IsOfFile, IsServed, IsToRun, IsTraced, IsVerdict, ran}
 use Rattle.drvhost_parts.specs.Device.{Bytes, Holds, Supply, TakesBeginning}
+
+-- what is right for the set that a source has, where these are the right answers for a set
+abbrev pub IsOfSupply : (Set → Answer → Type 0) → Supply → Answer → Type 0
+IsOfSupply Right supply answer =
+    (bytes : List ℕ) × Holds supply bytes × IsOfFile Right bytes answer
 
 -- what `check` answers for what its source has
 abbrev pub IsCheckOf : Supply → Answer → Type 0
-IsCheckOf supply answer = (set : List ℕ) × Holds supply set × IsCheck set answer
+IsCheckOf supply answer = IsOfSupply IsVerdict supply answer
 
 -- what a run of a set by the schedule that a source has answers
 abbrev pub IsRunOf : Supply → Set → Answer → Type 0
 IsRunOf supply set answer =
     (schedule : List ℕ) × Holds supply schedule × (answer ≡ ran set (schedule_in schedule))
 
--- what `trace` answers for a set, by the schedule that a source has
-abbrev pub IsTraceOfSet : Verification → Set → Supply → Answer → Type 0
-IsTraceOfSet verification set schedule answer =
-    IsTraced verification (Ok set) (IsRunOf schedule) answer
-
 -- what `trace` answers for what its sources have: it reads the schedule's for a run alone
 abbrev pub IsTraceOf : Verification → Supply → Supply → Answer → Type 0
 IsTraceOf verification supply schedule answer =
-    (set : List ℕ) × Holds supply set
-    × ((said : Result Set (List ℕ)) × FileSays set said
-    × IsTraced verification said (IsRunOf schedule) answer)
+    IsOfSupply (IsTraced verification (IsRunOf schedule)) supply answer
+
+-- what so many workers answer that serve the commands of the script that a source has
+abbrev pub IsServedOf : ℕ → Supply → Set → Answer → Type 0
+IsServedOf workers supply set answer =
+    (script : List ℕ) × Holds supply script × IsServed workers set (script_in script) answer
+
+-- what `host` answers for what its sources have: it reads the script's for an accepted set alone
+abbrev pub IsHostOf : ℕ → Supply → Supply → Answer → Type 0
+IsHostOf workers supply script answer =
+    IsOfSupply (IsIfAccepted (IsServedOf workers script)) supply answer
 
 -- what `trace` answers for the bytes of its files
 abbrev pub IsTrace : Verification → List ℕ → List ℕ → Answer → Type 0
 IsTrace verification set schedule answer =
     IsTraceOf verification (Bytes set) (Bytes schedule) answer
 
--- a source has a set that `trace` runs
+-- what `host` answers for the bytes of its files, with so many workers
+abbrev pub IsHost : ℕ → List ℕ → List ℕ → Answer → Type 0
+IsHost workers set script answer = IsHostOf workers (Bytes set) (Bytes script) answer
+
+-- a source has such a set
+abbrev pub HoldsSet : (Set → Type 0) → Supply → Type 0
+HoldsSet Such supply =
+    (bytes : List ℕ) × Holds supply bytes × ((set : Set) × FileSays bytes (Ok set) × Such set)
+
+-- a source has a set that `trace` runs, or that is accepted
 abbrev pub HoldsRun : Verification → Supply → Type 0
-HoldsRun verification supply =
-    (bytes : List ℕ) × Holds supply bytes
-    × ((set : Set) × FileSays bytes (Ok set) × IsToRun verification set)
+HoldsRun verification supply = HoldsSet (IsToRun verification) supply
 
 -- how a command ends, where these answers are right: by its exit status, what it tells, what went
 -- out, and how many reads and writes failed

@@ -12,10 +12,13 @@ use Rattle.interleave.specs.declared.schedule.ScheduleKind.{ScheduleKind}
 use Rattle.interleave.specs.declared.schedule.ScheduleKind.TheVariants as schedule_kind
 use Rattle.interleave.specs.Listing.{schedule_in}
 use Rattle.model.specs.Set.{Set}
-use Rattle.report.specs.Fault.{image_fault_line, schedule_fault_line, text_fault_line}
+use Rattle.model.specs.declared.history.Command.{Command}
+use Rattle.script.specs.Script.{script_in}
+use Rattle.std.specs.Global.{Vec}
+use Rattle.report.specs.Fault.{image_fault_line, schedule_fault_line, script_fault_line, text_fault_line}
 use Rattle.drvhost_parts.specs.declared.fault.End.{End}
 use Rattle.drvhost_parts.specs.declared.fault.Fault.{Fault}
-use Rattle.drvhost_parts.specs.declared.fault.Fault.TheVariants.{Read, Write, Memory, Text, Image, Schedule as OfSchedule}
+use Rattle.drvhost_parts.specs.declared.fault.Fault.TheVariants.{Read, Write, Memory, Text, Image, Schedule as OfSchedule, Script as OfScript}
 use Rattle.drvhost_parts.specs.Answer.{Answer, FileSays, ImageSays, TextSays, end_status, ended, faulty}
 use Rattle.drvhost_parts.specs.Device.{Adds, Holds, Supply, TakesBeginning}
 
@@ -27,6 +30,7 @@ failed_reads Memory = 0
 failed_reads (Text fault) = 0
 failed_reads (Image fault) = 0
 failed_reads (OfSchedule fault) = 0
+failed_reads (OfScript fault) = 0
 
 -- how many writes failed
 abbrev pub failed_writes : Fault → ℕ
@@ -36,6 +40,7 @@ failed_writes Memory = 0
 failed_writes (Text fault) = 0
 failed_writes (Image fault) = 0
 failed_writes (OfSchedule fault) = 0
+failed_writes (OfScript fault) = 0
 
 -- the same of a call that may end in a fault
 abbrev pub reads_failed : {T : Type 0} → Result T Fault → ℕ
@@ -54,6 +59,7 @@ fault_status Write = 2
 fault_status (Text fault) = 2
 fault_status (Image fault) = 2
 fault_status (OfSchedule fault) = 2
+fault_status (OfScript fault) = 2
 
 -- the exit status for a job
 abbrev pub status_of : Result End Fault → ℕ
@@ -68,6 +74,7 @@ fault_told Memory = codes "out of memory\n"
 fault_told (Text fault) = text_fault_line fault
 fault_told (Image fault) = image_fault_line fault
 fault_told (OfSchedule fault) = schedule_fault_line fault
+fault_told (OfScript fault) = script_fault_line fault
 
 -- what is told of a job
 abbrev pub told_of : Result End Fault → List ℕ
@@ -106,6 +113,16 @@ schedule_fault_of schedule_kind.TooLong fault = OfSchedule fault
 abbrev pub schedule_fault : ScheduleFault → Fault
 schedule_fault fault = schedule_fault_of fault.kind fault
 
+abbrev pub script_fault_of : ScheduleKind → ScheduleFault → Fault
+script_fault_of schedule_kind.Memory fault = Memory
+script_fault_of schedule_kind.Lex fault = OfScript fault
+script_fault_of schedule_kind.UnknownWord fault = OfScript fault
+script_fault_of schedule_kind.OutOfRange fault = OfScript fault
+script_fault_of schedule_kind.TooLong fault = OfScript fault
+
+abbrev pub script_fault : ScheduleFault → Fault
+script_fault fault = script_fault_of fault.kind fault
+
 -- the set that an image spells was found, or its first fault; and likewise of a text
 abbrev pub SaysImage : List ℕ → Result Set Fault → Type 0
 SaysImage bytes (Ok set) = ImageSays bytes (Ok set)
@@ -115,6 +132,7 @@ SaysImage bytes (Err Read) = ⊥
 SaysImage bytes (Err Write) = ⊥
 SaysImage bytes (Err (Text fault)) = ⊥
 SaysImage bytes (Err (OfSchedule fault)) = ⊥
+SaysImage bytes (Err (OfScript fault)) = ⊥
 
 abbrev pub SaysText : List ℕ → Result Set Fault → Type 0
 SaysText bytes (Ok set) = TextSays bytes (Ok set)
@@ -124,6 +142,7 @@ SaysText bytes (Err Read) = ⊥
 SaysText bytes (Err Write) = ⊥
 SaysText bytes (Err (Image fault)) = ⊥
 SaysText bytes (Err (OfSchedule fault)) = ⊥
+SaysText bytes (Err (OfScript fault)) = ⊥
 
 -- a set was read: it is the one that the bytes of a source name, or their first fault is told
 abbrev pub ReadsSet : Supply → Result Set Fault → Type 0
@@ -136,6 +155,7 @@ ReadsSet held (Err Read) = ⊤
 ReadsSet held (Err Memory) = ⊤
 ReadsSet held (Err Write) = ⊥
 ReadsSet held (Err (OfSchedule fault)) = ⊥
+ReadsSet held (Err (OfScript fault)) = ⊥
 
 -- a schedule was read likewise
 abbrev pub ReadsSchedule : Supply → Result Schedule Fault → Type 0
@@ -148,6 +168,20 @@ ReadsSchedule held (Err Memory) = ⊤
 ReadsSchedule held (Err Write) = ⊥
 ReadsSchedule held (Err (Text fault)) = ⊥
 ReadsSchedule held (Err (Image fault)) = ⊥
+ReadsSchedule held (Err (OfScript fault)) = ⊥
+
+-- a script was read likewise
+abbrev pub ReadsScript : Supply → Result (Vec Command) Fault → Type 0
+ReadsScript held (Ok commands) =
+    (text : List ℕ) × Holds held text × (script_in text ≡ Ok commands.items)
+ReadsScript held (Err (OfScript fault)) =
+    (text : List ℕ) × Holds held text × (script_in text ≡ Err fault)
+ReadsScript held (Err Read) = ⊤
+ReadsScript held (Err Memory) = ⊤
+ReadsScript held (Err Write) = ⊥
+ReadsScript held (Err (Text fault)) = ⊥
+ReadsScript held (Err (Image fault)) = ⊥
+ReadsScript held (Err (OfSchedule fault)) = ⊥
 
 -- a job has come to its end or to a fault, where these answers are right, with lines that gathered
 -- before and gather now: the output of a right answer was added; a write failed, and a beginning of
@@ -165,5 +199,7 @@ Goes Right before after gathered left (Err (Image fault)) =
     Right (faulty (image_fault_line fault)) × Keeps before after
 Goes Right before after gathered left (Err (OfSchedule fault)) =
     Right (faulty (schedule_fault_line fault)) × Keeps before after
+Goes Right before after gathered left (Err (OfScript fault)) =
+    Right (faulty (script_fault_line fault)) × Keeps before after
 Goes Right before after gathered left (Err Read) = Keeps before after
 Goes Right before after gathered left (Err Memory) = Keeps before after

@@ -3,7 +3,7 @@
 ghost use Rattle.std.specs.Prelude.{◌≡◌};
 ghost use Rattle.drvhost_parts.specs.Answer.{end_status};
 ghost use Rattle.drvhost_parts.specs.Device.{CanCount, Says};
-ghost use Rattle.drvhost_parts.specs.Fault.{fault_status, fault_told, image_fault, schedule_fault, status_of, text_fault, told_of};
+ghost use Rattle.drvhost_parts.specs.Fault.{fault_status, fault_told, image_fault, schedule_fault, script_fault, status_of, text_fault, told_of};
 
 use crate::device::Sink;
 use crate::transfer::write_whole;
@@ -51,6 +51,8 @@ pub enum Fault {
     Image(ImageFault),
     /// The schedule is faulty.
     Schedule(ScheduleFault),
+    /// The script is faulty.
+    Script(ScheduleFault),
 }
 
 impl Fault {
@@ -60,7 +62,12 @@ impl Fault {
     {
         match self {
             Fault::Memory => 3,
-            Fault::Read | Fault::Write | Fault::Text(_) | Fault::Image(_) | Fault::Schedule(_) => 2,
+            Fault::Read
+            | Fault::Write
+            | Fault::Text(_)
+            | Fault::Image(_)
+            | Fault::Schedule(_)
+            | Fault::Script(_) => 2,
         }
     }
 }
@@ -115,6 +122,16 @@ pub(crate) fn of_schedule(fault: ScheduleFault) -> Fault
     }
 }
 
+/// The fault of a script.
+pub(crate) fn of_script(fault: ScheduleFault) -> Fault
+    ensures { result ≡ script_fault fault }
+{
+    match fault.kind {
+        ScheduleKind::Memory => Fault::Memory,
+        _ => Fault::Script(fault),
+    }
+}
+
 /// Ends a job: a fault is told on the error writer. The answer is the exit status, which stays the
 /// same where the error writer fails.
 pub(crate) fn finish<E: Sink>(end: Result<End, Fault>, lines: &mut Lines, err: &mut E) -> u8
@@ -155,6 +172,11 @@ fn tell<E: Sink>(fault: Fault, lines: &mut Lines, err: &mut E)
         Fault::Schedule(fault) => {
             lines.clear();
             lines.schedule_fault(fault);
+            say(err, lines.bytes());
+        }
+        Fault::Script(fault) => {
+            lines.clear();
+            lines.script_fault(fault);
             say(err, lines.bytes());
         }
     }

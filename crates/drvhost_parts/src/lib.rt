@@ -1,10 +1,12 @@
-//! What the program does, over any devices: the verdict and the trace of a driver set.
+//! What the program does, over any devices: the verdict and the trace of a driver set,
+//! and what comes of a script of commands that workers serve.
 #![tactic(auto)]
 
 pub mod check;
 pub mod device;
 pub mod fault;
 mod follow;
+pub mod host;
 pub mod laws;
 mod reading;
 pub mod trace;

@@ -4,8 +4,8 @@ ghost use Rattle.std.specs.Prelude.{◌≡◌, ◌+◌, ◌⊎◌, [], IfOk};
 ghost use Rattle.interleave.specs.Listing.{IsWithinLimits};
 ghost use Rattle.drvhost_parts.specs.Device.{CanCount, Says};
 ghost use Rattle.model.specs.Typable.{IsTypable};
-ghost use Rattle.drvhost_parts.specs.Answer.{IsToRun};
-ghost use Rattle.drvhost_parts.specs.Ends.{Answers, HoldsRun, IsRunOf, IsTraceOf, IsTraceOfSet};
+ghost use Rattle.drvhost_parts.specs.Answer.{IsIfAccepted, IsToRun, IsTraced};
+ghost use Rattle.drvhost_parts.specs.Ends.{Answers, HoldsRun, IsRunOf, IsTraceOf};
 ghost use Rattle.drvhost_parts.specs.Fault.{Goes, ReadsSchedule, reads_failed, writes_failed};
 
 use crate::check::refuse;
@@ -97,7 +97,7 @@ fn trace_as<P: Source, O: Sink>(
     requires out { CanCount (O.failures out.old) }
     requires empty { lines.old ≡ [] }
     ensures unread { (schedule.new ≡ schedule.old) ⊎ IsToRun verification set }
-    ensures goes { Goes (IsTraceOfSet verification set (P.supply schedule.old))
+    ensures goes { Goes (IsTraced verification (IsRunOf (P.supply schedule.old)) set)
         (O.contents out.old) (O.contents out.new) [] lines.new result }
     ensures reads { P.failures schedule.new ≡ P.failures schedule.old + reads_failed result }
     ensures writes { O.failures out.new ≡ O.failures out.old + writes_failed result }
@@ -120,7 +120,7 @@ fn trace_verified<P: Source, O: Sink>(
     requires out { CanCount (O.failures out.old) }
     requires empty { lines.old ≡ [] }
     ensures unread { (schedule.new ≡ schedule.old) ⊎ IsTypable set }
-    ensures goes { Goes (IsTraceOfSet Verification.Required set (P.supply schedule.old))
+    ensures goes { Goes (IsIfAccepted (IsRunOf (P.supply schedule.old)) set)
         (O.contents out.old) (O.contents out.new) [] lines.new result }
     ensures reads { P.failures schedule.new ≡ P.failures schedule.old + reads_failed result }
     ensures writes { O.failures out.new ≡ O.failures out.old + writes_failed result }

@@ -2,7 +2,7 @@ use Rattle.std.proofs.Common.{[], Err, Ok}
 use Rattle.std.proofs.lemmas.Result.{err_from_is_err_and}
 use Rattle.drvhost_parts.specs.Answer.{IsVerdict}
 use Rattle.drvhost_parts.specs.Ends.{IsCheckOf}
-use Rattle.drvhost_parts.proofs.Jobs.{check_unread, goes_broken, goes_left, goes_rightly, goes_written, judged_on}
+use Rattle.drvhost_parts.proofs.Jobs.{goes_broken, goes_left, goes_rightly, goes_written, right_on, set_unread}
 use Rattle.drvhost_parts.proofs.check.check_set.Goals as goal
 
 pub returns-in_err-set-clause-goes : goal.returns-in_err-set-clause-goes
@@ -10,7 +10,7 @@ returns-in_err-set-clause-goes g c =
     let p = err_from_is_err_and c.from_residual.result c.from_residual.ensures.1 in
     let held = g.S.Source.supply c.args.set.now in
     rw (p.1, p.2)
-    (check_unread held (g.O.Sink.contents c.args.out.now) [] [] c.in_err-set.field-0.0
+    (set_unread IsVerdict held (g.O.Sink.contents c.args.out.now) [] [] c.in_err-set.field-0.0
     c.in_err-set.ensures.set)
 
 pub returns-in_err-end-clause-goes : goal.returns-in_err-end-clause-goes
@@ -23,7 +23,7 @@ returns-in_err-end-clause-goes g c =
     let after = g.O.Sink.contents c.judge.new.out in
     rw (p.1, p.2)
     (goes_rightly (IsVerdict set) (IsCheckOf held) before after [] [] (Err c.in_err-end.field-0.0)
-    (judged_on held set c.in_ok-set.ensures.set)
+    (right_on IsVerdict held set c.in_ok-set.ensures.set)
     (goes_left (IsVerdict set) before after c.judge.new.lines [] c.in_err-end.field-0.0
     c.in_err-end.ensures.goes))
 
@@ -40,7 +40,7 @@ returns-in_err-write_lines-clause-goes g c =
     (goes_broken (IsCheckOf held) before between (g.O.Sink.contents c.write_lines.new.sink)
     c.judge.new.lines end
     (goes_rightly (IsVerdict set) (IsCheckOf held) before between [] c.judge.new.lines (Ok end)
-    (judged_on held set c.in_ok-set.ensures.set) c.in_ok-end.ensures.goes)
+    (right_on IsVerdict held set c.in_ok-set.ensures.set) c.in_ok-end.ensures.goes)
     c.in_err-write_lines.ensures.written)
 
 pub returns-clause-goes : goal.returns-clause-goes
@@ -53,5 +53,5 @@ returns-clause-goes g c =
     goes_written (IsCheckOf held) before between (g.O.Sink.contents c.write_lines.new.sink)
     c.judge.new.lines end
     (goes_rightly (IsVerdict set) (IsCheckOf held) before between [] c.judge.new.lines (Ok end)
-    (judged_on held set c.in_ok-set.ensures.set) c.in_ok-end.ensures.goes)
+    (right_on IsVerdict held set c.in_ok-set.ensures.set) c.in_ok-end.ensures.goes)
     c.in_ok-write_lines.ensures.written

@@ -16,3 +16,9 @@ returns-in-Schedule g c =
     rw c.in-Schedule.is
     (rw (c.bytes-in-Schedule.ensures, c.schedule_fault.ensures, c.clear-in-Schedule.ensures) at
     c.say-in-Schedule.ensures)
+
+pub returns-in-Script : goal.returns-in-Script
+returns-in-Script g c =
+    rw c.in-Script.is
+    (rw (c.bytes-in-Script.ensures, c.script_fault.ensures, c.clear-in-Script.ensures) at
+    c.say-in-Script.ensures)

@@ -1,7 +1,8 @@
 use Rattle.std.proofs.Common.{[], Err, Ok}
 use Rattle.std.proofs.lemmas.Result.{err_from_is_err_and}
-use Rattle.drvhost_parts.specs.Ends.{IsTraceOf, IsTraceOfSet}
-use Rattle.drvhost_parts.proofs.Jobs.{goes_broken, goes_left, goes_rightly, goes_written, trace_unread, traced_on}
+use Rattle.drvhost_parts.specs.Answer.{IsTraced}
+use Rattle.drvhost_parts.specs.Ends.{IsRunOf, IsTraceOf}
+use Rattle.drvhost_parts.proofs.Jobs.{goes_broken, goes_left, goes_rightly, goes_written, right_on, set_unread}
 use Rattle.drvhost_parts.proofs.trace.trace_set.Goals as goal
 
 pub returns-in_err-set-clause-goes : goal.returns-in_err-set-clause-goes
@@ -11,7 +12,7 @@ returns-in_err-set-clause-goes g c =
     let held = g.S.Source.supply c.args.set.now in
     let scheduled = g.P.Source.supply c.args.schedule.now in
     rw (p.1, p.2)
-    (trace_unread v held scheduled (g.O.Sink.contents c.args.out.now) [] []
+    (set_unread (IsTraced v (IsRunOf scheduled)) held (g.O.Sink.contents c.args.out.now) [] []
     c.in_err-set.field-0.0 c.in_err-set.ensures.set)
 
 pub returns-in_err-end-clause-goes : goal.returns-in_err-end-clause-goes
@@ -25,9 +26,9 @@ returns-in_err-end-clause-goes g c =
     let before = g.O.Sink.contents c.args.out.now in
     let after = g.O.Sink.contents c.trace_as.new.out in
     rw (p.1, p.2)
-    (goes_rightly (IsTraceOfSet v set scheduled) (IsTraceOf v held scheduled) before after [] []
-    (Err c.in_err-end.field-0.0) (traced_on v held scheduled set c.in_ok-set.ensures.set)
-    (goes_left (IsTraceOfSet v set scheduled) before after c.trace_as.new.lines []
+    (goes_rightly (IsTraced v (IsRunOf scheduled) set) (IsTraceOf v held scheduled) before after [] []
+    (Err c.in_err-end.field-0.0) (right_on (IsTraced v (IsRunOf scheduled)) held set c.in_ok-set.ensures.set)
+    (goes_left (IsTraced v (IsRunOf scheduled) set) before after c.trace_as.new.lines []
     c.in_err-end.field-0.0 c.in_err-end.ensures.goes))
 
 pub returns-in_err-write_lines-clause-goes : goal.returns-in_err-write_lines-clause-goes
@@ -44,8 +45,8 @@ returns-in_err-write_lines-clause-goes g c =
     rw (p.1, p.2, c.in_err-write_lines.ensures.fault)
     (goes_broken (IsTraceOf v held scheduled) before between
     (g.O.Sink.contents c.write_lines.new.sink) c.trace_as.new.lines end
-    (goes_rightly (IsTraceOfSet v set scheduled) (IsTraceOf v held scheduled) before between []
-    c.trace_as.new.lines (Ok end) (traced_on v held scheduled set c.in_ok-set.ensures.set)
+    (goes_rightly (IsTraced v (IsRunOf scheduled) set) (IsTraceOf v held scheduled) before between []
+    c.trace_as.new.lines (Ok end) (right_on (IsTraced v (IsRunOf scheduled)) held set c.in_ok-set.ensures.set)
     c.in_ok-end.ensures.goes)
     c.in_err-write_lines.ensures.written)
 
@@ -60,7 +61,7 @@ returns-clause-goes g c =
     let end = c.in_ok-end.end in
     goes_written (IsTraceOf v held scheduled) before between
     (g.O.Sink.contents c.write_lines.new.sink) c.trace_as.new.lines end
-    (goes_rightly (IsTraceOfSet v set scheduled) (IsTraceOf v held scheduled) before between []
-    c.trace_as.new.lines (Ok end) (traced_on v held scheduled set c.in_ok-set.ensures.set)
+    (goes_rightly (IsTraced v (IsRunOf scheduled) set) (IsTraceOf v held scheduled) before between []
+    c.trace_as.new.lines (Ok end) (right_on (IsTraced v (IsRunOf scheduled)) held set c.in_ok-set.ensures.set)
     c.in_ok-end.ensures.goes)
     c.in_ok-write_lines.ensures.written
