@@ -4,14 +4,16 @@ use Rattle.std.proofs.KnownBytes.{Appends-nil, Keeps-refl}
 use Rattle.clap.specs.Words.{Text, subcommand_of, takes}
 use Rattle.drvhost_parts.specs.Answer.{Answer}
 use Rattle.drvhost_parts.specs.Device.{Bytes, Closed, Holds, IsSuppliedAs, Supply, Unknown}
-use Rattle.drvhost_parts.specs.Ends.{Answers, Ends, HoldsRun, IsCheckOf, IsTraceOf, OutOfMemory, ReadFailed, Rightly, WriteFailed}
+use Rattle.drvhost_parts.specs.Ends.{Answers, Ends, HoldsRun, IsCheckOf, IsHostOf, IsTraceOf, OutOfMemory, ReadFailed, Rightly, WriteFailed}
 use Rattle.drvhost_parts.specs.declared.verification.Verification.{Verification}
 use Rattle.command_line.specs.declared.job.Job.{Job}
 use Rattle.command_line.specs.declared.job.JobFault.{JobFault}
 use Rattle.command_line.specs.declared.job.JobFault.TheVariants.{Memory, Usage}
 use Rattle.command_line.specs.CommandLine.{Names, job_fault_status, job_fault_told, program, text_told}
 use Rattle.command_line.specs.Files.{supply_of}
-use Rattle.command_line.specs.Program.{IsAnswerTo}
+use Rattle.command_line.specs.declared.answer.Way.{Way}
+use Rattle.command_line.specs.declared.answer.Way.TheVariants.{BySchedule, ByWorkers}
+use Rattle.command_line.specs.Program.{IsAnswerTo, IsRunBy}
 
 -- where more answers are right
 ends_rightly : (R Q : Answer → Type 0) (reads writes : ℕ) (b n : Option (List ℕ)) (status : ℕ)
@@ -53,12 +55,27 @@ pub check_known : (known supply : Supply) → IsSuppliedAs known supply → (ans
 check_known known supply h answer (bytes, holds, right) =
     (bytes, holds_known known supply bytes h holds, right)
 
-pub trace_known : (v : Verification) (known supply schedule other : Supply)
+trace_known : (v : Verification) (known supply schedule other : Supply)
     → IsSuppliedAs known supply → other ≡ schedule → (answer : Answer)
     → IsTraceOf v supply other answer → IsTraceOf v known schedule answer
 trace_known v known supply schedule other h e answer (bytes, holds, right) =
     let P : Supply → Type 0 = λ s. IsTraceOf v known s answer in
     subst P e (bytes, holds_known known supply bytes h holds, right)
+
+host_known : (workers : ℕ) (known supply script other : Supply)
+    → IsSuppliedAs known supply → other ≡ script → (answer : Answer)
+    → IsHostOf workers supply other answer → IsHostOf workers known script answer
+host_known workers known supply script other h e answer (bytes, holds, right) =
+    let P : Supply → Type 0 = λ s. IsHostOf workers known s answer in
+    subst P e (bytes, holds_known known supply bytes h holds, right)
+
+pub way_known : (way : Way) (known supply input other : Supply)
+    → IsSuppliedAs known supply → other ≡ input → (answer : Answer)
+    → IsRunBy way supply other answer → IsRunBy way known input answer
+way_known (BySchedule v) known supply input other h e answer right =
+    trace_known v known supply input other h e answer right
+way_known (ByWorkers workers) known supply input other h e answer right =
+    host_known workers known supply input other h e answer right
 
 pub run_known : {A : Type 0} (v : Verification) (known supply : Supply)
     → IsSuppliedAs known supply → A ⊎ HoldsRun v supply → (A → ⊥) → HoldsRun v known

@@ -1,9 +1,11 @@
 -- The program's command line in the terms of `clap`, and which task its matches name.
-use Rattle.std.specs.Prelude.{◌≡◌, ◌≢◌, ℕ, List, [], ◌∷◌, Option, None, Some, true, codes, string_bytes}
+use Rattle.std.specs.Prelude.{◌≡◌, ◌≢◌, ℕ, List, [], ◌∷◌, Option, None, Some, true, codes, option_and_then, pos, string_bytes}
 use Rattle.clap.specs.Words.{App, Row, Rule, Text, first_of, new_app, new_rule, with_rule, with_subcommand}
 use Rattle.clap.specs.declared.builder.ArgAction.TheVariants.{Set, SetTrue}
+use Rattle.clap.specs.declared.builder.value_parser.ValueParser.TheVariants.{Signed}
+use Rattle.interleave.specs.Line.{number_within}
 use Rattle.command_line.specs.declared.job.Job.{Job}
-use Rattle.command_line.specs.declared.job.Job.TheVariants.{Check, Trace}
+use Rattle.command_line.specs.declared.job.Job.TheVariants.{Check, Trace, Host}
 use Rattle.command_line.specs.declared.job.JobFault.{JobFault}
 use Rattle.command_line.specs.declared.job.JobFault.TheVariants.{Usage, Memory}
 use Rattle.drvhost_parts.specs.declared.verification.Verification.{Verification}
@@ -28,6 +30,22 @@ trace_command =
     with_rule (with_rule (with_rule (new_app (codes "trace")) (file_argument (codes "FILE")))
     (file_argument (codes "SCHEDULE"))) unchecked_flag
 
+-- `--workers N`, which has to be there
+abbrev pub workers_option : Rule
+workers_option =
+    record (new_rule (codes "workers")) {
+      long = Some (codes "workers");
+      action = Some Set;
+      parser = Some (Signed (pos 1) (pos 32));
+      required = true;
+    }
+
+-- `host FILE SCRIPT --workers N`
+abbrev pub host_command : App
+host_command =
+    with_rule (with_rule (with_rule (new_app (codes "host")) (file_argument (codes "FILE")))
+    (file_argument (codes "SCRIPT"))) workers_option
+
 -- the program, whose own name isn't among the words
 abbrev pub named_program : App
 named_program = new_app (codes "drvhost")
@@ -37,8 +55,13 @@ bare_program =
     record named_program
     { top = record named_program.top { no_binary_name = true; subcommand_required = true } }
 
+-- with the subcommands that start no thread, and with all
+abbrev pub unthreaded_program : App
+unthreaded_program =
+    with_subcommand (with_subcommand bare_program check_command.top) trace_command.top
+
 abbrev pub program : App
-program = with_subcommand (with_subcommand bare_program check_command.top) trace_command.top
+program = with_subcommand unthreaded_program host_command.top
 
 -- what the flag's value says
 pub record IsFlag (value : Option Text) (verification : Verification) : Type 0 where
@@ -53,6 +76,10 @@ NamesTask found (Trace set schedule verification) =
     (found.0 ≡ codes "trace") × (first_of (codes "FILE") found.1 ≡ Some set.now)
     × (first_of (codes "SCHEDULE") found.1 ≡ Some schedule.now)
     × IsFlag (first_of (codes "unchecked") found.1) verification
+NamesTask found (Host set script workers) =
+    (found.0 ≡ codes "host") × (first_of (codes "FILE") found.1 ≡ Some set.now)
+    × (first_of (codes "SCRIPT") found.1 ≡ Some script.now)
+    × (option_and_then (number_within 1 32) (first_of (codes "workers") found.1) ≡ Some workers)
 
 -- the matches name a task
 abbrev pub Names : Option (Text × List Row) → Job → Type 0

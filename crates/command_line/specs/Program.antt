@@ -7,18 +7,33 @@ use Rattle.clap.specs.Words.{Text, fault_of, subcommand_of, takes}
 use Rattle.drvhost_parts.specs.Answer.{Answer}
 use Rattle.drvhost_parts.specs.Device.{Supply}
 use Rattle.drvhost_parts.specs.declared.verification.Verification.{Verification}
-use Rattle.drvhost_parts.specs.Ends.{HoldsRun, IsCheckOf, IsTraceOf}
+use Rattle.drvhost_parts.specs.declared.verification.Verification.TheVariants.{Required}
+use Rattle.drvhost_parts.specs.Ends.{HoldsRun, IsCheckOf, IsHostOf, IsTraceOf}
+use Rattle.command_line.specs.declared.answer.Way.{Way}
+use Rattle.command_line.specs.declared.answer.Way.TheVariants.{BySchedule, ByWorkers}
 use Rattle.command_line.specs.declared.job.Job.{Job}
-use Rattle.command_line.specs.declared.job.Job.TheVariants.{Check, Trace}
+use Rattle.command_line.specs.declared.job.Job.TheVariants.{Check, Trace, Host}
 use Rattle.command_line.specs.CommandLine.{Names, program, usage}
+
+-- what a run of a set by an input answers, where these are what their files have
+abbrev pub IsRunBy : Way → Supply → Supply → Answer → Type 0
+IsRunBy (BySchedule verification) set schedule answer = IsTraceOf verification set schedule answer
+IsRunBy (ByWorkers workers) set script answer = IsHostOf workers set script answer
+
+-- whether the set has to be accepted
+abbrev pub verification_of : Way → Verification
+verification_of (BySchedule verification) = verification
+verification_of (ByWorkers workers) = Required
 
 -- what is right for a job, where the files of these names have this to give
 abbrev pub IsJobOf : (List ℕ → Supply) → Job → Answer → Type 0
 IsJobOf supply (Check set) answer = IsCheckOf (supply set.now) answer
 IsJobOf supply (Trace set schedule verification) answer =
     IsTraceOf verification (supply set.now) (supply schedule.now) answer
+IsJobOf supply (Host set script workers) answer =
+    IsHostOf workers (supply set.now) (supply script.now) answer
 
--- how many files `trace` opens: that of the schedule for a run alone
+-- how many files are opened for a run: that of its input for a set that is run alone
 abbrev pub OpensToTrace : Verification → Supply → ℕ → Type 0
 OpensToTrace verification set count =
     (count ≡ 1) ⊎ ((count ≡ 2) × HoldsRun verification set)
@@ -28,6 +43,7 @@ abbrev pub Opens : (List ℕ → Supply) → Job → ℕ → Type 0
 Opens supply (Check set) count = count ≡ 1
 Opens supply (Trace set schedule verification) count =
     OpensToTrace verification (supply set.now) count
+Opens supply (Host set script workers) count = OpensToTrace Required (supply set.now) count
 
 -- words name a job: the command line takes them, and their matches name it
 pub record NamesJob (words : List Text) (job : Job) : Type 0 where

@@ -1,24 +1,29 @@
 //! What the program answers.
 
-ghost use Rattle.std.specs.Prelude.{◌≡◌, ◌+◌, ◌<◌, ◌^◌, ℕ, List, Option, drop, map, string_bytes};
-ghost use Rattle.command_line.specs.Program.{IsAnswerTo, IsAnswerToLost, IsJobOf, IsProgram, Opens, OpensFor, OpensToTrace, ProgramOpens};
+ghost use Rattle.std.specs.Prelude.{◌≡◌, ◌+◌, ◌<◌, ◌^◌, ◌⊎◌, ℕ, List, Option, drop, map, string_bytes};
+ghost use Rattle.command_line.specs.Program.{IsAnswerTo, IsAnswerToLost, IsJobOf, IsProgram, IsRunBy, Opens, OpensFor, OpensToTrace, ProgramOpens, verification_of};
 ghost use Rattle.drvhost_parts.specs.Device.{CanCount, Says};
-ghost use Rattle.drvhost_parts.specs.Ends.{Answers, IsCheckOf, IsTraceOf};
+ghost use Rattle.drvhost_parts.specs.Ends.{Answers, HoldsRun, IsCheckOf};
 
 use crate::files::{Files, Later};
-use crate::job::{Job, JobFault, refuse_unknown_words, refuse_words};
+use crate::job::{Job, JobFault, Workers, refuse_unknown_words, refuse_words};
 use drvhost_parts::check::check;
-use drvhost_parts::device::Sink;
+use drvhost_parts::device::{Sink, Source};
+use drvhost_parts::host::host;
 use drvhost_parts::trace::trace;
 use drvhost_parts::verification::Verification;
 use std::alloc::Global;
 use std::io::ErrorKind;
+use std::sync::Wait;
+use std::thread::Threads;
+use workers::Gate;
 
 /// Does what the words of a command line ask for, the program's own name first, or says why they
 /// can't be had. Each file that they name is opened, read and handed back when its turn comes. The
 /// answer is the exit status: that of the job that they name; 2 where they name none, and the
 /// writer for errors is then told how the program is used; 3 where memory ran out.
-pub fn answer<F: Files, O: Sink, E: Sink>(
+pub fn answer<F: Files, O: Sink, E: Sink, R: Threads + Wait + Sync>(
+    rt: &R,
     alloc: Global,
     words: Result<Vec<String>, ErrorKind>,
     files: &mut F,
@@ -38,7 +43,7 @@ pub fn answer<F: Files, O: Sink, E: Sink>(
         × (F.opened files.new ≡ F.opened files.old + count) }
 {
     match words {
-        Ok(words) => answer_words(alloc, arguments(words.as_slice()), files, out, err),
+        Ok(words) => answer_words(rt, alloc, arguments(words.as_slice()), files, out, err),
         Err(kind) => refuse_lost_words(kind, err),
     }
 }
@@ -70,7 +75,8 @@ fn refuse_lost_words<E: Sink>(kind: ErrorKind, err: &mut E) -> u8
 }
 
 /// Does what the words ask for, without the program's name.
-fn answer_words<F: Files, O: Sink, E: Sink>(
+fn answer_words<F: Files, O: Sink, E: Sink, R: Threads + Wait + Sync>(
+    rt: &R,
     alloc: Global,
     words: &[String],
     files: &mut F,
@@ -90,13 +96,14 @@ fn answer_words<F: Files, O: Sink, E: Sink>(
         × (F.opened files.new ≡ F.opened files.old + count) }
 {
     match Job::of(alloc, words) {
-        Ok(job) => perform(alloc, job, files, out, err),
+        Ok(job) => perform(rt, alloc, job, files, out, err),
         Err(fault) => refuse_words(&fault, err),
     }
 }
 
 /// Does a job with the files that it names.
-fn perform<F: Files, O: Sink, E: Sink>(
+fn perform<F: Files, O: Sink, E: Sink, R: Threads + Wait + Sync>(
+    rt: &R,
     alloc: Global,
     job: Job<'_>,
     files: &mut F,
@@ -121,7 +128,24 @@ fn perform<F: Files, O: Sink, E: Sink>(
             set,
             schedule,
             verification,
-        } => trace_files(alloc, set, schedule, verification, files, out, err),
+        } => {
+            let way = Way::BySchedule(verification);
+            run_files(rt, alloc, set, schedule, way, files, out, err)
+        }
+        Job::Host {
+            set,
+            script,
+            workers,
+        } => run_files(
+            rt,
+            alloc,
+            set,
+            script,
+            Way::ByWorkers(workers),
+            files,
+            out,
+            err,
+        ),
     }
 }
 
@@ -150,12 +174,32 @@ fn check_file<F: Files, O: Sink, E: Sink>(
     status
 }
 
-/// Runs the set of a file by the schedule of another one, which is opened for a run alone.
-fn trace_files<F: Files, O: Sink, E: Sink>(
+/// How a set is run by an input.
+#[derive(Clone, Copy)]
+pub(crate) enum Way {
+    /// By the events of a schedule.
+    BySchedule(Verification),
+    /// By workers that serve the commands of a script.
+    ByWorkers(Workers),
+}
+
+/// A gate that is always open.
+#[derive(Drop)]
+struct Open;
+
+impl Gate for Open {
+    fn before(&self, _worker: u32, _count: u64) -> bool {
+        true
+    }
+}
+
+/// Runs the set of a file by the input of another one, which is opened for a run alone.
+fn run_files<F: Files, O: Sink, E: Sink, R: Threads + Wait + Sync>(
+    rt: &R,
     alloc: Global,
     set: &str,
-    schedule: &str,
-    verification: Verification,
+    input: &str,
+    way: Way,
     files: &mut F,
     out: &mut O,
     err: &mut E,
@@ -164,22 +208,54 @@ fn trace_files<F: Files, O: Sink, E: Sink>(
     requires files { CanCount (F.failures files.old) }
     requires out { CanCount (O.failures out.old) }
     requires err { CanCount (E.failures err.old) }
-    ensures answers { Answers (IsTraceOf verification (F.supply files.old set.now)
-        (F.supply files.old schedule.now))
+    ensures answers { Answers (IsRunBy way (F.supply files.old set.now)
+        (F.supply files.old input.now))
         (F.failures files.old) (F.failures files.new) (O.failures out.old) (O.failures out.new)
         (O.contents out.old) (O.contents out.new)
         (Says (E.failures err.old) (E.failures err.new) (E.contents err.old) (E.contents err.new))
         result }
-    ensures opened { (count : ℕ) × OpensToTrace verification (F.supply files.old set.now) count
+    ensures opened { (count : ℕ)
+        × OpensToTrace (verification_of way) (F.supply files.old set.now) count
         × (F.opened files.new ≡ F.opened files.old + count) }
 {
     let mut file = files.open(set);
-    let mut later = Later::new(files, schedule);
-    let status = trace(alloc, &mut file, &mut later, verification, out, err);
-    let scheduled = later.into_file();
+    let mut later = Later::new(files, input);
+    let status = run(rt, alloc, &mut file, &mut later, way, out, err);
+    let inputs = later.into_file();
     files.close(file);
-    if let Some(scheduled) = scheduled {
-        files.close(scheduled);
+    if let Some(inputs) = inputs {
+        files.close(inputs);
     }
     status
+}
+
+/// Runs the set of a source by the input of another one.
+fn run<S: Source, P: Source, O: Sink, E: Sink, R: Threads + Wait + Sync>(
+    rt: &R,
+    alloc: Global,
+    set: &mut S,
+    input: &mut P,
+    way: Way,
+    out: &mut O,
+    err: &mut E,
+) -> u8
+    requires set { CanCount (S.failures set.old) }
+    requires input { CanCount (P.failures input.old) }
+    requires out { CanCount (O.failures out.old) }
+    requires err { CanCount (E.failures err.old) }
+    ensures unread { (input.new ≡ input.old)
+        ⊎ HoldsRun (verification_of way) (S.supply set.old) }
+    ensures answers { Answers (IsRunBy way (S.supply set.old) (P.supply input.old))
+        (S.failures set.old + P.failures input.old) (S.failures set.new + P.failures input.new)
+        (O.failures out.old) (O.failures out.new) (O.contents out.old) (O.contents out.new)
+        (Says (E.failures err.old) (E.failures err.new) (E.contents err.old) (E.contents err.new))
+        result }
+{
+    match way {
+        Way::BySchedule(verification) => trace(alloc, set, input, verification, out, err),
+        Way::ByWorkers(workers) => {
+            let count = workers.count();
+            host(rt, alloc, set, input, count, &Open, out, err)
+        }
+    }
 }

@@ -1,20 +1,26 @@
 //! The program's command line.
 
-ghost use Rattle.std.specs.Prelude.{◌≡◌, List, ℕ, false, true, codes, map, IfErr, IfNone, IfOk, IfSome, OnOk, option_map, []};
+ghost use Rattle.std.specs.Prelude.{◌≡◌, ◌≤◌, List, ℕ, false, true, codes, map, IfErr, IfNone, IfOk, IfSome, OnOk, option_map, []};
 ghost use Rattle.clap.specs.Words.{app_of, fault_of, first_of, found_of, kind_of, rows_of, rule_of, subcommand_of, subcommand_rows_of, takes};
 ghost use Rattle.clap.specs.declared.builder.command.Command.TheViews.{out-Command as fields_of};
 ghost use Rattle.drvhost_parts.specs.Device.{CanCount, Says};
-ghost use Rattle.command_line.specs.CommandLine.{check_command, file_argument, job_fault_status, job_fault_told, program, text_told, trace_command, unchecked_flag, usage, IsFlag, Names, NamesTask};
+ghost use Rattle.interleave.specs.Line.{number_within};
+ghost use Rattle.model.specs.declared.limits.TheConstants.{MAX_THREADS};
+ghost use Rattle.command_line.specs.CommandLine.{check_command, file_argument, host_command, job_fault_status, job_fault_told, program, text_told, trace_command, unchecked_flag, unthreaded_program, usage, workers_option, IsFlag, Names, NamesTask};
 
+use clap::builder::ValueParser;
 use clap::error::ErrorKind;
 use clap::{Arg, ArgAction, ArgMatches, Command};
 use drvhost_parts::device::Sink;
 use drvhost_parts::fault::say;
 use drvhost_parts::verification::Verification;
+use interleave::read::number_within;
+use model::limits::MAX_THREADS;
 use report::fault::OUT_OF_MEMORY;
 use std::alloc::{AllocError, Global};
 use std::convert::AsStr;
 use std::fmt;
+use std::marker::Model;
 use thiserror::Error;
 
 /// The program's name, in the texts of usage and help.
@@ -36,6 +42,50 @@ pub enum Job<'a> {
         schedule: &'a str,
         verification: Verification,
     },
+    /// `host FILE SCRIPT --workers N`
+    Host {
+        set: &'a str,
+        script: &'a str,
+        workers: Workers,
+    },
+}
+
+/// How many workers serve the commands of a script, 1 to `MAX_THREADS`.
+#[derive(Clone, Copy)]
+pub struct Workers {
+    count: u8,
+}
+
+impl Model for Workers {
+    ghost use Rattle.std.specs.Prelude.{◌≤◌, ℕ};
+    ghost use Rattle.model.specs.declared.limits.TheConstants.{MAX_THREADS};
+
+    ghost Value = { ℕ };
+
+    ghost view = { λ w. w.count };
+
+    ghost invariant = { λ w. (1 ≤ w.count) × (w.count ≤ MAX_THREADS) };
+
+    ghost inverse = { λ n. record { count = n } };
+}
+
+impl Workers {
+    /// As many as a text says in the numbers of a script, if that is within the limits.
+    fn of(text: &str) -> Option<Workers>
+        ensures { result ≡ number_within 1 32 text.now }
+    {
+        let count = number_within(1, MAX_THREADS as u64, text.as_bytes())?;
+        Some(Workers { count: count as u8 })
+    }
+
+    /// How many they are.
+    pub fn count(self) -> u8
+        ensures count { result ≡ self }
+        ensures some { 1 ≤ result }
+        ensures few { result ≤ MAX_THREADS }
+    {
+        self.count
+    }
 }
 
 /// Why there is no task.
@@ -148,6 +198,15 @@ fn refused(alloc: Global, error: &clap::Error) -> JobFault
 fn program<'a>(alloc: Global) -> Result<Command<'a>, AllocError>
     ensures { IfOk result (λ command. app_of command ≡ program) }
 {
+    let host = host_command(alloc)?;
+    let program = unthreaded_program(alloc)?;
+    program.subcommand(host)
+}
+
+/// The part of it that starts no thread.
+fn unthreaded_program<'a>(alloc: Global) -> Result<Command<'a>, AllocError>
+    ensures { IfOk result (λ command. app_of command ≡ unthreaded_program) }
+{
     let check = check_command(alloc)?;
     let trace = trace_command(alloc)?;
     let program = Command::new(alloc, NAME)
@@ -179,6 +238,19 @@ fn trace_command<'a>(alloc: Global) -> Result<Command<'a>, AllocError>
     command.arg(set)?.arg(schedule)?.arg(unchecked)
 }
 
+fn host_command<'a>(alloc: Global) -> Result<Command<'a>, AllocError>
+    ensures app { IfOk result (λ command. app_of command ≡ host_command) }
+    ensures local { IfOk result (λ command. (fields_of command).has_globals ≡ false) }
+{
+    let set = file(alloc, "FILE", "The text of the driver set");
+    let script = file(alloc, "SCRIPT", "The requests, cancels and interrupts");
+    let workers = workers_option(alloc);
+    let command = Command::new(alloc, "host").about(
+        "Has workers serve a script over one locked core, and writes what came of each command",
+    );
+    command.arg(set)?.arg(script)?.arg(workers)
+}
+
 /// A required argument: the name of a file.
 fn file<'a>(alloc: Global, id: &'a str, help: &'a str) -> Arg<'a>
     ensures rule { rule_of result ≡ file_argument id.entry.now }
@@ -200,6 +272,19 @@ fn unchecked_flag<'a>(alloc: Global) -> Arg<'a>
         .help("Runs the set whether or not it is accepted")
 }
 
+/// `--workers N`.
+fn workers_option<'a>(alloc: Global) -> Arg<'a>
+    ensures rule { rule_of result ≡ workers_option }
+    ensures local { result.global ≡ false }
+{
+    Arg::new(alloc, "workers")
+        .long("workers")
+        .required(true)
+        .action(ArgAction::Set)
+        .value_parser(ValueParser::Signed(1, 32))
+        .help("How many workers serve it, 1 to 32")
+}
+
 /// The task that a parsed command line names.
 fn named<'a>(matches: &ArgMatches<'a>) -> Option<Job<'a>>
     ensures some { IfSome result (Names (subcommand_rows_of matches.now)) }
@@ -209,6 +294,7 @@ fn named<'a>(matches: &ArgMatches<'a>) -> Option<Job<'a>>
     match command {
         "check" => check_named(inner),
         "trace" => trace_named(inner),
+        "host" => host_named(inner),
         _ => None,
     }
 }
@@ -234,6 +320,21 @@ fn trace_named<'a>(matches: &ArgMatches<'a>) -> Option<Job<'a>>
         set,
         schedule,
         verification,
+    })
+}
+
+fn host_named<'a>(matches: &ArgMatches<'a>) -> Option<Job<'a>>
+    ensures some { IfSome result (NamesTask (codes "host", rows_of (found_of matches.now))) }
+    ensures none { IfNone result
+        ((job : Job) → NamesTask (codes "host", rows_of (found_of matches.now)) job → ⊥) }
+{
+    let set = argument(matches, "FILE")?;
+    let script = argument(matches, "SCRIPT")?;
+    let workers = Workers::of(argument(matches, "workers")?)?;
+    Some(Job::Host {
+        set,
+        script,
+        workers,
     })
 }
 

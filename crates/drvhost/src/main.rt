@@ -1,4 +1,5 @@
-//! `drvhost`: the verdict and the trace of driver sets. See the library for what it answers.
+//! `drvhost`: the verdict and the trace of driver sets, and what workers make of a script. See the
+//! library for what it answers.
 #![tactic(auto)]
 
 use command_line::answer::answer;
@@ -12,7 +13,7 @@ fn main(rt: HostRuntime) -> ExitCode {
     let mut files = Disk::new(&rt);
     let mut out = Writer::new(rt.stdout());
     let mut err = Writer::new(rt.stderr());
-    let status = answer(rt.alloc(), words(&rt), &mut files, &mut out, &mut err);
+    let status = answer(&rt, rt.alloc(), words(&rt), &mut files, &mut out, &mut err);
     ExitCode::from(status)
 }
 

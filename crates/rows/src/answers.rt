@@ -9,6 +9,8 @@ use command_line::files::Files;
 use drvhost_parts::device::{Reader, Sink, Source, Writer};
 use std::alloc::{AllocError, Global};
 use std::io::ErrorKind;
+use std::sync::Wait;
+use std::thread::Threads;
 
 /// A file in memory.
 struct InMemory {
@@ -22,7 +24,33 @@ const TWICE: &[u8] =
 
 const REFUSED: &[u8] = b"refused V5 DoubleCompletion driver 0 routine 0 at 1\n";
 
-static ALL: [InMemory; 5] = [
+/// A driver with a queue whose packets may be cancelled. Its DPC routine completes them.
+const QUEUES: &[u8] =
+    b"driver d\nqueue q l0 gone\ndispatch READ f\ndpc g\nroutine f dispatch\nmark r0\nacquire l0\n\
+      insert r0 q\narm r0 q\nifcancel r0 was\nrelease l0\nret PENDING\nwas: disarm r0 lost\n\
+      unlink r0 q\nrelease l0\ncomplete r0 CANCELLED\nret PENDING\nlost: release l0\nret PENDING\n\
+      endr\nroutine g dpc\nacquire l0\nremove r0 q none\ndisarm r0 none\nrelease l0\n\
+      complete r0 SUCCESS\nret void\nnone: release l0\nret void\nendr\nroutine gone cancel\nrelc\n\
+      acquire l0\nunlink r0 q\nrelease l0\ncomplete r0 CANCELLED\nret void\nendr\nendd\n\
+      device v d 1\n";
+
+static ALL: [InMemory; 9] = [
+    InMemory {
+        name: "queue.drv",
+        bytes: QUEUES,
+    },
+    InMemory {
+        name: "two.script",
+        bytes: b"request 0 READ 0\ninterrupt 0\n",
+    },
+    InMemory {
+        name: "none.script",
+        bytes: b"; no command\n",
+    },
+    InMemory {
+        name: "early.script",
+        bytes: b"interrupt 0\ncancel 0 0\n",
+    },
     InMemory {
         name: "good.drv",
         bytes: TEXT,
@@ -83,7 +111,47 @@ struct Case {
     failures: u64,
 }
 
-static CASES: [Case; 10] = [
+static CASES: [Case; 15] = [
+    Case {
+        words: &["drvhost", "host", "queue.drv", "two.script", "--workers", "1"],
+        status: 0,
+        out: b"0 topped 0 0x00000000 0\n1 stepped\nhistory 17 agrees\n",
+        err: b"",
+        opened: 2,
+        failures: 0,
+    },
+    Case {
+        words: &["drvhost", "host", "--workers=32", "good.drv", "none.script"],
+        status: 0,
+        out: b"history 0 agrees\n",
+        err: b"",
+        opened: 2,
+        failures: 0,
+    },
+    Case {
+        words: &["drvhost", "host", "twice.drv", "no.script", "--workers", "2"],
+        status: 1,
+        out: REFUSED,
+        err: b"",
+        opened: 1,
+        failures: 0,
+    },
+    Case {
+        words: &["drvhost", "host", "good.drv", "early.script", "--workers", "2"],
+        status: 2,
+        out: b"",
+        err: b"script fault 3 OutOfRange line 2\n",
+        opened: 2,
+        failures: 0,
+    },
+    Case {
+        words: &["drvhost", "host", "good.drv", "no.script", "--workers", "2"],
+        status: 2,
+        out: b"",
+        err: b"read failed\n",
+        opened: 2,
+        failures: 1,
+    },
     Case {
         words: &["drvhost", "check", "good.drv"],
         status: 0,
@@ -176,7 +244,7 @@ fn given(alloc: Global, words: &[&str]) -> Result<Vec<String>, AllocError> {
 }
 
 /// Whether the program answers so.
-fn is_answered(alloc: Global, case: &Case) -> bool {
+fn is_answered<R: Threads + Wait + Sync>(rt: &R, alloc: Global, case: &Case) -> bool {
     let Ok(words) = given(alloc, case.words) else {
         return false;
     };
@@ -186,7 +254,7 @@ fn is_answered(alloc: Global, case: &Case) -> bool {
     };
     let mut out = Writer::new(Vec::<u8>::new(alloc));
     let mut err = Writer::new(Vec::<u8>::new(alloc));
-    let status = answer(alloc, Ok(words), &mut files, &mut out, &mut err);
+    let status = answer(rt, alloc, Ok(words), &mut files, &mut out, &mut err);
     status == case.status
         && files.opened == case.opened
         && files.failures == case.failures
@@ -197,19 +265,24 @@ fn is_answered(alloc: Global, case: &Case) -> bool {
 #[test]
 fn jobs(rt: HostRuntime) {
     for (number, case) in CASES.iter().enumerate() {
-        assert!(rt; is_answered(rt.alloc(), case), "{number}");
+        assert!(rt; is_answered(&rt, rt.alloc(), case), "{number}");
     }
 }
 
 /// What is told where words name no job: the text for the user alone, and status 2.
-fn told_of(alloc: Global, words: Result<Vec<String>, ErrorKind>, status: u8) -> Vec<u8> {
+fn told_of<R: Threads + Wait + Sync>(
+    rt: &R,
+    alloc: Global,
+    words: Result<Vec<String>, ErrorKind>,
+    status: u8,
+) -> Vec<u8> {
     let mut files = Shelf {
         opened: 0,
         failures: 0,
     };
     let mut out = Writer::new(Vec::<u8>::new(alloc));
     let mut err = Writer::new(Vec::<u8>::new(alloc));
-    let answered = answer(alloc, words, &mut files, &mut out, &mut err);
+    let answered = answer(rt, alloc, words, &mut files, &mut out, &mut err);
     if answered == status && files.opened == 0 && out.into_inner().is_empty() {
         err.into_inner()
     } else {
@@ -220,28 +293,32 @@ fn told_of(alloc: Global, words: Result<Vec<String>, ErrorKind>, status: u8) -> 
 #[test]
 fn wrong_words(rt: HostRuntime) {
     let alloc = rt.alloc();
-    let all: [&[&str]; 6] = [
+    let all: [&[&str]; 10] = [
         &[],
         &["drvhost"],
         &["drvhost", "run", "good.drv"],
         &["drvhost", "check"],
         &["drvhost", "check", "good.drv", "good.sched"],
         &["check", "good.drv"],
+        &["drvhost", "host", "good.drv", "none.script"],
+        &["drvhost", "host", "good.drv", "none.script", "--workers", "0"],
+        &["drvhost", "host", "good.drv", "none.script", "--workers", "33"],
+        &["drvhost", "host", "good.drv", "none.script", "--workers", "many"],
     ];
     for words in all {
         let count = words.len();
         let Ok(words) = given(alloc, words) else {
             continue;
         };
-        assert!(rt; !told_of(alloc, Ok(words), 2).is_empty(), "{count}");
+        assert!(rt; !told_of(&rt, alloc, Ok(words), 2).is_empty(), "{count}");
     }
 }
 
 #[test]
 fn lost_words(rt: HostRuntime) {
     let alloc = rt.alloc();
-    let told = told_of(alloc, Err(ErrorKind::InvalidData), 2);
+    let told = told_of(&rt, alloc, Err(ErrorKind::InvalidData), 2);
     assert!(rt; told.as_slice() == b"Usage: drvhost <COMMAND>".as_slice());
-    let told = told_of(alloc, Err(ErrorKind::OutOfMemory), 3);
+    let told = told_of(&rt, alloc, Err(ErrorKind::OutOfMemory), 3);
     assert!(rt; told.as_slice() == b"out of memory\n".as_slice());
 }

@@ -2,10 +2,16 @@ use Rattle.command_line.proofs.answer.perform.Goals as goal
 
 pub returns-in-Check-clause-answers : goal.returns-in-Check-clause-answers
 returns-in-Check-clause-answers g c =
-    rw (c.in-Check.is, c.in-Check.set-is) c.check_file.ensures.answers
+    rw c.in-Check.is c.check_file.ensures.answers
 
 pub returns-in-Trace-clause-answers : goal.returns-in-Trace-clause-answers
-returns-in-Trace-clause-answers g c = rw c.in-Trace.is c.trace_files.ensures.answers
+returns-in-Trace-clause-answers g c = rw c.in-Trace.is c.run_files.ensures.answers
 
 pub returns-in-Trace-clause-opened : goal.returns-in-Trace-clause-opened
-returns-in-Trace-clause-opened g c = rw c.in-Trace.is c.trace_files.ensures.opened
+returns-in-Trace-clause-opened g c = rw c.in-Trace.is c.run_files.ensures.opened
+
+pub returns-in-Host-clause-answers : goal.returns-in-Host-clause-answers
+returns-in-Host-clause-answers g c = rw c.in-Host.is c.run_files-in-Host.ensures.answers
+
+pub returns-in-Host-clause-opened : goal.returns-in-Host-clause-opened
+returns-in-Host-clause-opened g c = rw c.in-Host.is c.run_files-in-Host.ensures.opened
