@@ -113,7 +113,14 @@ struct Case {
 
 static CASES: [Case; 15] = [
     Case {
-        words: &["drvhost", "host", "queue.drv", "two.script", "--workers", "1"],
+        words: &[
+            "drvhost",
+            "host",
+            "queue.drv",
+            "two.script",
+            "--workers",
+            "1",
+        ],
         status: 0,
         out: b"0 topped 0 0x00000000 0\n1 stepped\nhistory 17 agrees\n",
         err: b"",
@@ -129,7 +136,14 @@ static CASES: [Case; 15] = [
         failures: 0,
     },
     Case {
-        words: &["drvhost", "host", "twice.drv", "no.script", "--workers", "2"],
+        words: &[
+            "drvhost",
+            "host",
+            "twice.drv",
+            "no.script",
+            "--workers",
+            "2",
+        ],
         status: 1,
         out: REFUSED,
         err: b"",
@@ -137,7 +151,14 @@ static CASES: [Case; 15] = [
         failures: 0,
     },
     Case {
-        words: &["drvhost", "host", "good.drv", "early.script", "--workers", "2"],
+        words: &[
+            "drvhost",
+            "host",
+            "good.drv",
+            "early.script",
+            "--workers",
+            "2",
+        ],
         status: 2,
         out: b"",
         err: b"script fault 3 OutOfRange line 2\n",
@@ -301,9 +322,30 @@ fn wrong_words(rt: HostRuntime) {
         &["drvhost", "check", "good.drv", "good.sched"],
         &["check", "good.drv"],
         &["drvhost", "host", "good.drv", "none.script"],
-        &["drvhost", "host", "good.drv", "none.script", "--workers", "0"],
-        &["drvhost", "host", "good.drv", "none.script", "--workers", "33"],
-        &["drvhost", "host", "good.drv", "none.script", "--workers", "many"],
+        &[
+            "drvhost",
+            "host",
+            "good.drv",
+            "none.script",
+            "--workers",
+            "0",
+        ],
+        &[
+            "drvhost",
+            "host",
+            "good.drv",
+            "none.script",
+            "--workers",
+            "33",
+        ],
+        &[
+            "drvhost",
+            "host",
+            "good.drv",
+            "none.script",
+            "--workers",
+            "many",
+        ],
     ];
     for words in all {
         let count = words.len();
