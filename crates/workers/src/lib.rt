@@ -7,6 +7,7 @@ mod seating;
 pub mod served;
 pub mod serving;
 mod turns;
+mod waiting;
 
 pub use served::Served;
 pub use serving::{Gate, serve};

@@ -9,6 +9,7 @@ ghost use Rattle.workers.specs.Serves.{Serves};
 use crate::locked::{Beginning, Progress, Service};
 use crate::seating::give_out;
 use crate::served::{Served, no_counts};
+use crate::waiting::{lock_when_free, pause};
 use hostcore::{Core, Seat, Taken};
 use intake::limits::MAX_TAKERS;
 use intake::{Intake, Taker};
@@ -34,7 +35,7 @@ fn locked_turn<B: Beginning, R: Wait>(
     requires number { number < length B.takers }
     requires takers { AreTakersOf intake.now B.takers }
 {
-    service.lock(rt).turn(rt, intake, number)
+    lock_when_free(rt, service).turn(rt, intake, number)
 }
 
 /// The work of the worker of a number.
@@ -50,13 +51,20 @@ fn work<B: Beginning, G: Gate, R: Wait>(
     requires takers { AreTakersOf intake.now B.takers }
 {
     let mut count: u64 = 0;
+    let mut stalled: u32 = 0;
     for _ in rt.forever() {
         if !gate.before(number as u32, count) {
             continue;
         }
         match locked_turn(rt, service, intake, number) {
-            Progress::Advanced => count = count.saturating_add(1),
-            Progress::Stalled => thread::yield_now(),
+            Progress::Advanced => {
+                count = count.saturating_add(1);
+                stalled = 0;
+            }
+            Progress::Stalled => {
+                stalled = stalled.saturating_add(1);
+                pause(stalled);
+            }
             Progress::Over => break,
         }
     }
