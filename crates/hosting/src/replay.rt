@@ -1,7 +1,8 @@
 //! The replay of a history on the reference machine.
 
-ghost use Rattle.std.specs.Prelude.{◌≡◌, IsTrue, true};
-ghost use Rattle.hosting.specs.Replay.{CanReplay};
+ghost use Rattle.std.specs.Prelude.{◌≡◌, ℕ, IsTrue, [], true};
+ghost use Rattle.model.specs.Machine.{ShowsWhole};
+ghost use Rattle.hosting.specs.Replay.{IsReplay};
 ghost use Rattle.run_laws.specs.NeverStops.{LetsGoOn};
 
 use checked::Checked;
@@ -11,6 +12,7 @@ use model::history::Entry;
 /// Whether two replies are the same and let the run go on.
 fn is_same(one: &Reply, other: &Reply) -> bool
     ensures same { IsTrue result → one.now ≡ other.now }
+    ensures goes_on { IsTrue result → LetsGoOn one.now }
     ensures all { one.now ≡ other.now → LetsGoOn one.now → result ≡ true }
 {
     match (*one, *other) {
@@ -39,8 +41,8 @@ fn is_same(one: &Reply, other: &Reply) -> bool
 /// Whether a machine that has run nothing answers each event of a history as the history tells. A
 /// bug check or a wrong operand agrees with none.
 pub(crate) fn agrees(machine: &mut Checked, history: &[Entry]) -> bool
-    requires { CanReplay machine.old history.now }
-    ensures { result ≡ true }
+    ensures { (threads : ℕ) → ShowsWhole machine.old threads []
+        → IsReplay machine.old.set threads history.now result }
 {
     for entry in history {
         let reply = machine.apply(&entry.event);
