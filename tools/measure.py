@@ -1,8 +1,10 @@
 #!/usr/bin/env python3
 """measure.py [--runs N] [--encoder ENCODER] PROGRAM OTHER ..: times programs that answer the same commands, on
 inputs at the limits, each writing to /dev/null, in turn. Prints the least of N times of each (5 if left out), in
-milliseconds, and its ratio to that of the first. All must answer the same bytes. The images are those that
-'ENCODER encode TEXT IMAGE' makes of texts; without an encoder the rows of images are left out."""
+milliseconds, and its ratio to that of the first. All must answer the same bytes, but where several workers serve
+commands in an order of their own: then as many lines, and histories that agree. The images are those that 'ENCODER
+encode TEXT IMAGE' makes of texts; without an encoder the rows of images are left out. With --only WORD the rows whose
+names have this word."""
 import argparse, os, subprocess, sys, tempfile, time
 
 def routine(name, instructions):
@@ -110,6 +112,18 @@ def cases():
         yield 'trace of 55,000 requests, half cancelled, %s live' % f'{live:,}', 'trace', text, \
             half_cancelled(55000, live, request, completion, cancel)
 
+def served_commands(commands):
+    """Of so many commands each second is a request, and of the requests each second one is cancelled: the lines of a script."""
+    lines = []
+    for first in range(0, commands, 4):
+        lines += ['request 0 READ 0', 'request 0 READ 0', 'cancel %d 0' % first, 'interrupt 0']
+    return lines
+
+def host_cases():
+    """Of each run of `host` its name, its commands and its workers. `trace` has the same events as one worker."""
+    for commands, workers in (16384, 1), (32768, 1), (65536, 1), (65536, 2), (65536, 4), (65536, 8), (65536, 32):
+        yield 'host of %s commands, %d worker%s' % (f'{commands:,}', workers, 's' if 1 < workers else ''), commands, workers
+
 def image_cases():
     """Of each image its name, and the text of its set."""
     yield 'check of the image of the largest set', largest_set()
@@ -126,6 +140,14 @@ def answer(program, words):
     done = subprocess.run([program] + words, stdin=subprocess.DEVNULL, capture_output=True)
     return done.returncode, done.stdout, done.stderr
 
+def likeness(words, answer):
+    """What programs have to answer alike."""
+    status, out, err = answer
+    lines = out.splitlines()
+    if words[0] == 'host' and words[-1] != '1' and lines:
+        return status, len(lines), lines[-1].split()[-1], err
+    return answer
+
 def written(folder, name, lines):
     path = os.path.join(folder, name)
     with open(path, 'w') as file:
@@ -139,6 +161,11 @@ def rows(folder, encoder):
         if schedule is not None:
             words.append(written(folder, 'schedule', schedule))
         yield name, words
+    text, request, completion, cancel = through_a_cancelable_queue()
+    yield 'trace of the events of 65,536 commands', ['trace', written(folder, 'set', text), written(folder, 'schedule',
+        half_cancelled(32768, 2, request, completion, cancel))]
+    for name, commands, workers in host_cases():
+        yield name, ['host', written(folder, 'set', text), written(folder, 'script', served_commands(commands)), '--workers', str(workers)]
     if encoder is not None:
         for name, text in image_cases():
             image = os.path.join(folder, 'image')
@@ -149,16 +176,19 @@ def main():
     parser = argparse.ArgumentParser(description=__doc__)
     parser.add_argument('--runs', type=int, default=5)
     parser.add_argument('--encoder')
+    parser.add_argument('--only', default='')
     parser.add_argument('programs', nargs='+')
     given = parser.parse_args()
     programs = [os.path.abspath(program) for program in given.programs]
     differ = False
     with tempfile.TemporaryDirectory() as folder:
         for name, words in rows(folder, given.encoder):
+            if given.only not in name:
+                continue
             answers = [answer(program, words) for program in programs]
             times = [1000 * min(each) for each in zip(*([spent(program, words) for program in programs] for _ in range(given.runs)))]
             others = ''.join('%9.1f (%5.2f)' % (one, one / times[0]) for one in times[1:])
-            same = all(one == answers[0] for one in answers)
+            same = all(likeness(words, one) == likeness(words, answers[0]) for one in answers)
             differ = differ or not same
             print('%-48s %8.1f ms%s  %s' % (name, times[0], others, 'same answer' if same else 'ANSWERS DIFFER'), flush=True)
     sys.exit(1 if differ else 0)
