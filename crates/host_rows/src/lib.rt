@@ -1,5 +1,5 @@
-//! The tests of cores and of queues of commands. Their vectors come from outside, and no clause of
-//! a contract says them.
+//! The tests of cores, of queues of commands and of workers, and a gate for tests of these. Their
+//! vectors come from outside, and no clause of a contract says them.
 #![tactic(auto)]
 
 #[cfg(test)]
@@ -10,6 +10,7 @@ mod crowd;
 mod histories;
 #[cfg(test)]
 mod market;
+pub mod pace;
 #[cfg(test)]
 mod queues;
 #[cfg(test)]

@@ -1,5 +1,6 @@
 //! Workers that serve a queue of commands.
 
+use crate::pace::{Pace, TOGETHER};
 use crate::served::{Account, Told, serve_all};
 use crate::sets::{COMPLETES, QUEUES, READ, core_of};
 use model::event::Reply;
@@ -7,9 +8,6 @@ use model::history::{Command, Name, Outcome, TopOut};
 use model::status::Status;
 use std::alloc::Global;
 use std::process::Abort;
-use std::sync::atomic::{AtomicBool, AtomicU64, Ordering};
-use std::thread;
-use std::time::{Clock, Duration};
 use workers::Gate;
 
 /// Many commands are 100 requests, 50 cancels of every other of these, and 100 interrupts.
@@ -247,77 +245,6 @@ fn a_full_history_ends_all_workers(rt: HostRuntime) {
     assert_eq!(rt; account.core.history().len(), 100);
     assert_eq!(rt; counted(&account), 100);
     check_names(&rt, alloc, &account);
-}
-
-/// How many entries two workers make side by side.
-const TOGETHER: u64 = 100;
-/// How often a worker is sent away in turn, at most.
-const TURNS: u64 = 1_000;
-
-/// A gate for two workers that makes them overlap: with a count below `TOGETHER` none goes on
-/// before the other was asked with as much.
-#[derive(Drop)]
-struct Pace<C: Clock> {
-    clock: C,
-    asked: [AtomicU64; 2],
-    turns: [AtomicU64; 2],
-    failed: AtomicBool,
-}
-
-impl<C: Clock> Pace<C> {
-    fn new(clock: C) -> Pace<C> {
-        Pace {
-            clock,
-            asked: [AtomicU64::new(0), AtomicU64::new(0)],
-            turns: [AtomicU64::new(0), AtomicU64::new(0)],
-            failed: AtomicBool::new(false),
-        }
-    }
-
-    /// Whether both were asked with all counts below `TOGETHER`, and neither waited in vain.
-    fn held(&self) -> bool {
-        let each = self
-            .asked
-            .iter()
-            .all(|asked| asked.load(Ordering::SeqCst) >= TOGETHER);
-        each && !self.failed.load(Ordering::SeqCst)
-    }
-
-    /// A worker is sent away for a while; one that was sent away too often fails the test.
-    fn send_away(&self, turns: &AtomicU64) -> bool {
-        if turns.fetch_add(1, Ordering::SeqCst) >= TURNS {
-            self.failed.store(true, Ordering::SeqCst);
-            return true;
-        }
-        thread::sleep(&self.clock, Duration::from_millis(10));
-        false
-    }
-}
-
-impl<C: Clock> Gate for Pace<C> {
-    fn before(&self, worker: u32, count: u64) -> bool {
-        let (own, other) = if worker == 0 { (0, 1) } else { (1, 0) };
-        // One more than the count of the last call, and of that of the other worker.
-        let (last, theirs) = (
-            self.asked[own].swap(count.saturating_add(1), Ordering::SeqCst),
-            self.asked[other].load(Ordering::SeqCst),
-        );
-        if worker > 1 || count > last || count.saturating_add(1) < last {
-            self.failed.store(true, Ordering::SeqCst);
-        }
-        if count >= TOGETHER {
-            return true;
-        }
-        if theirs < count {
-            // It went on where it was sent away.
-            self.failed.store(true, Ordering::SeqCst);
-        }
-        if theirs > count {
-            self.turns[own].store(0, Ordering::SeqCst);
-            return true;
-        }
-        self.send_away(&self.turns[own])
-    }
 }
 
 /// Two workers perform requests side by side.

@@ -37,6 +37,8 @@ mod limits;
 #[cfg(test)]
 mod listings;
 #[cfg(test)]
+mod overlap;
+#[cfg(test)]
 mod queues;
 #[cfg(test)]
 mod readers;
@@ -48,6 +50,8 @@ mod rules;
 mod runs;
 #[cfg(test)]
 mod schedules;
+#[cfg(test)]
+mod scripts;
 #[cfg(test)]
 mod stacks;
 #[cfg(test)]

@@ -1,0 +1,56 @@
+//! Two workers that serve a script side by side.
+
+use drvhost_parts::device::{Reader, Writer};
+use drvhost_parts::host::host;
+use host_rows::pace::Pace;
+use std::alloc::Global;
+use std::process::Abort;
+
+/// A driver that completes each read at once.
+const COMPLETES: &[u8] =
+    b"driver d\ndispatch READ f\nroutine f dispatch\ncomplete r0 SUCCESS\nret SUCCESS\nendr\nendd\n\
+      device v d 1\n";
+
+/// How many reads the script asks for.
+const READS: usize = 200;
+
+/// The last line of what goes out: each read is begun, and steps three times.
+const AGREES: &[u8] = b"history 800 agrees\n";
+
+/// A script of so many reads.
+fn reads<R: Abort>(rt: &R, alloc: Global) -> Vec<u8> {
+    let mut script = Vec::new(alloc);
+    for _ in 0..READS {
+        script
+            .extend_from_slice(b"request 0 READ 0\n")
+            .expect(rt, "memory");
+    }
+    script
+}
+
+/// `host` has its commands served by two workers that take their turns side by side.
+#[test]
+fn workers_of_a_script_overlap(rt: HostRuntime) {
+    let alloc = rt.alloc();
+    let script = reads(&rt, alloc);
+    let clock = rt.clone().ok().expect(&rt, "a clock");
+    let pace = Pace::new(clock);
+    let mut set = Reader::new(Some(COMPLETES));
+    let mut commands = Reader::new(Some(script.as_slice()));
+    let mut out = Writer::new(Vec::<u8>::new(alloc));
+    let mut err = Writer::new(Vec::<u8>::new(alloc));
+    let status = host(
+        &rt,
+        alloc,
+        &mut set,
+        &mut commands,
+        2,
+        &pace,
+        &mut out,
+        &mut err,
+    );
+    assert!(rt; pace.held());
+    assert_eq!(rt; status, 0);
+    assert!(rt; err.into_inner().is_empty());
+    assert!(rt; out.into_inner().as_slice().ends_with(AGREES));
+}
