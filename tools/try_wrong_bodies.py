@@ -49,7 +49,7 @@ def copy(folder, crates, tried):
     """A copy of the crates, in which those that are tried have their edits of tools/wrong_bodies alone."""
     for name in 'crates.txt', 'HANDLES':
         shutil.copy(os.path.join(TOP, name), folder)
-    kept = [line for line in open(os.path.join(folder, 'crates.txt')) if line.split(':')[0] in crates]
+    kept = [line for line in open(os.path.join(folder, 'crates.txt')) if line.split(':')[0].split()[:1] in ([name] for name in crates)]
     open(os.path.join(folder, 'crates.txt'), 'w').writelines(kept)
     for crate in crates:
         to = os.path.join(folder, 'crates', crate)
