@@ -2,3 +2,4 @@ pub mod Whole
 pub mod Walking
 pub mod Telling
 pub mod Applying
+pub mod Stepping

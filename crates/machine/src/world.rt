@@ -1,8 +1,11 @@
 //! The world of an accepted driver set.
 
-ghost use Rattle.std.specs.Prelude.{◌≡◌, ◌≤◌, List, [], IfOk, IfErr};
+ghost use Rattle.std.specs.Prelude.{◌≡◌, ◌≢◌, ◌≤◌, ◌<◌, List, [], IfOk, IfErr};
 ghost use Rattle.machine.specs.Runs.{GoesOn, RulesKept, StepsThreads, TellsOf};
+ghost use Rattle.machine.specs.Steps.{MakesSteps};
 ghost use Rattle.model.specs.declared.event.Event.{Event};
+ghost use Rattle.model.specs.declared.event.Event.TheVariants.{Step};
+ghost use Rattle.model.specs.declared.event.Reply.TheVariants.{Stepped};
 ghost use Rattle.model.specs.declared.limits.TheConstants.{MAX_THREADS};
 ghost use Rattle.model.specs.Machine.{Applies, Shows};
 ghost use Rattle.model.specs.View.{due_at, packet_at, thread_at};
@@ -16,6 +19,15 @@ use run_laws::{accepted_runs_keep_the_rules, alike_runs_go_on_alike};
 use std::alloc::Global;
 use std::marker::Model;
 use verifier::Accepted;
+
+/// Steps of a thread that were made one after another.
+#[derive(Clone, Copy)]
+pub struct Steps {
+    /// How many were made.
+    pub made: usize,
+    /// The reply to the last of them; `Stepped` where none was made.
+    pub last: Reply,
+}
 
 /// The world of a run of an accepted driver set: its threads, packets and devices. Contracts see
 /// what it shows of them.
@@ -75,6 +87,32 @@ impl World {
         accepted_runs_keep_the_rules();
         alike_runs_go_on_alike();
         self.state.apply(self.accepted.set(), event)
+    }
+
+    /// Makes steps of a thread, at most `count`: it ends after the first that replies otherwise than
+    /// that the thread stepped. A world that showed a run shows that run with these steps added. As
+    /// with `apply`, it goes on; and no step of a thread that it has is refused.
+    pub fn steps(&mut self, thread: u8, count: usize) -> Steps
+        ensures few { result.made ≤ count }
+        ensures makes { MakesSteps self.old thread result.made self.new result.last }
+        ensures all { result.made < count → result.last ≢ Stepped }
+        ensures goes_on { GoesOn self.old result.last }
+        ensures steps { StepsThreads self.old (Step thread) result.last }
+    {
+        let event = Event::Step { thread };
+        for made in 0..count {
+            let reply = self.apply(&event);
+            if !matches!(reply, Reply::Stepped) {
+                return Steps {
+                    made: made + 1,
+                    last: reply,
+                };
+            }
+        }
+        Steps {
+            made: count,
+            last: Reply::Stepped,
+        }
     }
 
     /// What there is to tell of a thread, if there is one of this number.

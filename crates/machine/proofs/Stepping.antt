@@ -1,0 +1,105 @@
+-- Steps of one thread that are made one after another.
+use Rattle.std.proofs.Common.{◌≡◌, ◌∙◌, ◌+◌, ◌<◌, ℕ, List, [], ◌∷◌, ◌++◌, ap, arith, inl, inr, refl, sym, subst}
+use Rattle.std.proofs.lemmas.Bool.{cases_lt}
+use Rattle.std.proofs.lemmas.List.{append-nil, append_assoc, replicate_more}
+use Rattle.model.specs.declared.event.Event.{Event}
+use Rattle.model.specs.declared.event.Event.TheVariants.{Step}
+use Rattle.model.specs.declared.event.Reply.{Reply}
+use Rattle.model.specs.declared.event.Reply.TheVariants.{Stepped}
+use Rattle.model.specs.Machine.{Applies, Shows, reply_to}
+use Rattle.model.specs.Set.{Set}
+use Rattle.model.specs.Shown.{Shown}
+use Rattle.machine.specs.Runs.{GoesOn, StepsThreads}
+use Rattle.machine.specs.Steps.{MakesSteps, steps_of}
+
+-- so many steps were made, and each replied that it stepped
+pub record Stepping (before : Shown) (t made : ℕ) (m : Shown) : Type 0 where
+  pub set : m.set ≡ before.set
+  pub shows : (threads : ℕ) (events : List Event) → Shows before threads events
+      → Shows m threads (events ++ steps_of t made)
+  pub each : (threads : ℕ) (events : List Event) (k : ℕ) → Shows before threads events
+      → k < made → reply_to before.set threads (events ++ steps_of t k) (Step t) ≡ Stepped
+
+pub none_made : (m : Shown) (t : ℕ) → Stepping m t 0 m
+none_made m t =
+    record {
+      set = refl;
+      shows = λ threads events shows.
+          subst (λ (es : List Event). Shows m threads es) (sym (append-nil events)) shows;
+      each = λ threads events k shows lt. absurd (omega (arith, lt));
+    }
+
+-- one step more at the end of a list
+step_added : (t made : ℕ) (events : List Event)
+    → (events ++ steps_of t made) ++ Step t ∷ [] ≡ events ++ steps_of t (made + 1)
+step_added t made events =
+    append_assoc events (steps_of t made) (Step t ∷ [])
+    ∙ ap (λ (es : List Event). events ++ es) (replicate_more made (Step t))
+
+module _ (before m n : Shown) (t made : ℕ) (reply : Reply) (h : Stepping before t made m)
+    (applies : Applies m (Step t) n reply) where
+  shown_next : (threads : ℕ) (events : List Event) → Shows before threads events
+      → Shows n threads (events ++ steps_of t (made + 1))
+  shown_next threads events shows =
+      subst (λ (es : List Event). Shows n threads es) (step_added t made events)
+      (applies.shows threads (events ++ steps_of t made) (h.shows threads events shows))
+
+  replied : (threads : ℕ) (events : List Event) → Shows before threads events
+      → reply ≡ reply_to before.set threads (events ++ steps_of t made) (Step t)
+  replied threads events shows =
+      let R : Set → Type 0 =
+      λ s. reply ≡ reply_to s threads (events ++ steps_of t made) (Step t) in
+      subst R h.set
+      (applies.replies threads (events ++ steps_of t made) (h.shows threads events shows))
+
+  pub one_more : MakesSteps before t (made + 1) n reply
+  one_more =
+      record {
+        set = applies.set ∙ h.set;
+        shows = shown_next;
+        earlier = λ threads events k shows lt. h.each threads events k shows (omega (arith, lt));
+        last = λ threads events k shows is.
+            let same : made ≡ k = omega (arith, is) in
+            let R : ℕ → Type 0 =
+            λ i. reply ≡ reply_to before.set threads (events ++ steps_of t i) (Step t) in
+            subst R same (replied threads events shows);
+      }
+
+  each_next : reply ≡ Stepped → (threads : ℕ) (events : List Event) (k : ℕ)
+      → Shows before threads events → k < made + 1
+      → reply_to before.set threads (events ++ steps_of t k) (Step t) ≡ Stepped
+  each_next stepped threads events k shows lt =
+      elim (cases_lt k made) [
+        | inl below ↦ h.each threads events k shows below
+        | inr past ↦ (let same : made ≡ k = omega (arith, lt, past) in
+            let R : ℕ → Type 0 =
+            λ i. reply_to before.set threads (events ++ steps_of t i) (Step t) ≡ Stepped in
+            subst R same (sym (replied threads events shows) ∙ stepped))
+      ]
+
+  pub stepped_on : reply ≡ Stepped → Stepping before t (made + 1) n
+  stepped_on stepped =
+      record { set = applies.set ∙ h.set; shows = shown_next; each = each_next stepped }
+
+-- after so many steps that replied so, a reply that goes on there does so from the beginning
+pub goes_on_from : (before m : Shown) (t made : ℕ) (reply : Reply) → Stepping before t made m
+    → GoesOn m reply → GoesOn before reply
+goes_on_from before m t made reply h goes threads events shows =
+    goes threads (events ++ steps_of t made) (h.shows threads events shows)
+
+pub steps_from : (before m : Shown) (t made : ℕ) (reply : Reply) → Stepping before t made m
+    → StepsThreads m (Step t) reply → StepsThreads before (Step t) reply
+steps_from before m t made reply h steps threads events u shows below is =
+    steps threads (events ++ steps_of t made) u (h.shows threads events shows) below is
+
+-- all of them replied that they stepped
+pub all_stepped : (before m : Shown) (t made : ℕ) → Stepping before t made m
+    → MakesSteps before t made m Stepped
+all_stepped before m t made h =
+    record {
+      set = h.set;
+      shows = h.shows;
+      earlier = λ threads events k shows lt. h.each threads events k shows (omega (arith, lt));
+      last = λ threads events k shows is.
+          sym (h.each threads events k shows (omega (arith, is)));
+    }
