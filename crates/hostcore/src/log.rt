@@ -1,7 +1,7 @@
 //! The stored history of a core.
 
 ghost use Rattle.std.specs.Prelude.{◌≡◌, ◌≤◌, ◌<◌, ◌+◌, ◌++◌, ◌∷◌, [], false, length, nat_eq, option_map, IfOk};
-ghost use Rattle.indexmap.specs.IndexMap.{spare};
+ghost use Rattle.indexmap.specs.IndexMap.{get, spare};
 ghost use Rattle.model.specs.History.{entry_named, is_name, outcome_named, packet_named, request_started};
 ghost use Rattle.hostcore.specs.Indexed.{IsPlaceOf, Notes, PutsFirst, told_top};
 
@@ -103,6 +103,30 @@ fn note_top(tops: &mut IndexMap<u64, TopOut>, reply: &Reply)
     }
 }
 
+/// The place of a name. The names of one submitter mostly enter in their order; those need no search.
+fn place_at(places: &IndexMap<Name, usize>, name: Name) -> Option<usize>
+    ensures { result ≡ get is_name places.now name }
+{
+    if let Some((stands, place)) = places.get_index(name.count as usize) {
+        if *stands == name {
+            return Some(*place);
+        }
+    }
+    places.get(&name).copied()
+}
+
+/// How a packet topped out. Packets mostly do in the order of their issue; those need no search.
+fn top_at(tops: &IndexMap<u64, TopOut>, packet: u64) -> Option<TopOut>
+    ensures { result ≡ get nat_eq tops.now packet }
+{
+    if let Some((stands, top)) = tops.get_index(packet as usize) {
+        if *stands == packet {
+            return Some(*top);
+        }
+    }
+    tops.get(&packet).copied()
+}
+
 impl Log {
     /// An empty history that may have so many entries. An error where memory for all of them is
     /// refused; no other call needs any.
@@ -145,7 +169,7 @@ impl Log {
     fn place_of(&self, name: Name) -> Option<usize>
         ensures { IsPlaceOf self.now.entries name result }
     {
-        self.places.get(&name).copied()
+        place_at(&self.places, name)
     }
 
     /// The first entry with a name.
@@ -175,7 +199,7 @@ impl Log {
         let reply = entry.reply;
         match request_started(&entry) {
             Some(packet) => {
-                let topped = Some(self.tops.get(&packet).copied()?);
+                let topped = Some(top_at(&self.tops, packet)?);
                 Some(Outcome { reply, topped })
             }
             None => Some(Outcome {

@@ -1,4 +1,4 @@
-use Rattle.std.proofs.Common.{ℕ, Option, subst, sym, ◌∙◌}
+use Rattle.std.proofs.Common.{ℕ, Option, subst, sym}
 use Rattle.hostcore.specs.Indexed.{IsPlaceOf}
 use Rattle.hostcore.proofs.log.Log.place_of.Goals as goal
 
@@ -6,4 +6,4 @@ pub returns : goal.returns
 returns c =
     rw (sym c.self.view_is)
     (subst (λ (o : Option ℕ). IsPlaceOf c.self.inside.entries.items c.args.name o)
-    (sym (c.copied.ensures ∙ c.get.ensures.value)) (c.self.invariant.4.placed c.args.name))
+    (sym c.place_at.ensures) (c.self.invariant.4.placed c.args.name))
