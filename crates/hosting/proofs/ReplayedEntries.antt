@@ -25,7 +25,7 @@ pub record RestReplays (set : Set) (r : Run) (rest : List Entry) : Type 0 where
 
 pub nothing_left : (set : Set) (r : Run) → RestReplays set r []
 nothing_left set r =
-    record { replies = refl; lasting = All-nil (λ (e : Entry). LetsGoOn e.reply); }
+    record { replies = refl; lasting = All-nil (λ (e : Entry). LetsGoOn e.reply) }
 
 -- its first entry, and what comes behind that
 pub record FirstReplays (set : Set) (r : Run) (e : Entry) (rest : List Entry) : Type 0 where
@@ -72,8 +72,8 @@ follows_first m threads history begun =
       past = [];
       same = refl;
       shows = begun;
-      whole = λ rest. record { legal = rest.replies; lasting = rest.lasting; };
-      left = λ all. record { replies = all.legal; lasting = all.lasting; };
+      whole = λ rest. record { legal = rest.replies; lasting = rest.lasting };
+      left = λ all. record { replies = all.legal; lasting = all.lasting };
     }
 
 -- the machine's reply to the next event is that of the run
@@ -148,4 +148,4 @@ pub legal_replays : (set : Set) (threads : ℕ) (history : List Entry)
     → IsLegal set threads history
     → ((events : List Event) → NeverStops set threads events) → Replays set threads history
 legal_replays set threads history legal never =
-    record { legal = legal; lasting = replies_go_on set threads [] history legal never; }
+    record { legal = legal; lasting = replies_go_on set threads [] history legal never }
