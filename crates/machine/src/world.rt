@@ -94,6 +94,7 @@ impl World {
     /// with `apply`, it goes on; and no step of a thread that it has is refused.
     pub fn steps(&mut self, thread: u8, count: usize) -> Steps
         ensures few { result.made ≤ count }
+        ensures none { result.made ≡ 0 → result.last ≡ Stepped }
         ensures makes { MakesSteps self.old thread result.made self.new result.last }
         ensures all { result.made < count → result.last ≢ Stepped }
         ensures goes_on { GoesOn self.old result.last }
