@@ -15,11 +15,15 @@ FILES = {
     'short.image': b'DVB1',
     'good.sched': b'threads 1\nissue 0 0 READ 7\nstep 0 4\n',
     'none.sched': b'threads 0\n',
+    'two.script': b'request 0 READ 7\ninterrupt 0\n',
+    'early.script': b'interrupt 0\ncancel 0 0\n',
+    'none.script': b'; no command\n',
 }
 ACCEPTED = b'accepted\ndriver 0 routine 0 dispatch certificate 2\n'
 REFUSED = b'refused V5 DoubleCompletion driver 0 routine 0 at 1\n'
 TRACED = b'0 started 0\n1 stepped\n2 topped 0 0x00000000 0\n3 finished\n4 idle\n'
 STOPPED = b'0 started 0\n1 stepped\n2 topped 0 0x00000000 0\n3 bug 0x44 packet 0\n'
+SERVED = b'0 topped 0 0x00000000 0\n1 refused\nhistory 5 agrees\n'
 SOME = object()  # some text, whatever it is
 
 # words, and the exit status, the standard output and the error output
@@ -39,6 +43,17 @@ CASES = [
     ('trace good.drv none.sched', 2, b'', b'schedule fault 3 OutOfRange line 1\n'),
     ('trace good.drv nothing.sched', 2, b'', b'read failed\n'),
     ('trace open.drv nothing.sched', 2, b'', b'text fault 6 Unclosed line 2\n'),
+    ('host good.drv two.script --workers 1', 0, SERVED, b''),
+    ('host good.drv none.script --workers 32', 0, b'history 0 agrees\n', b''),
+    ('host --workers=2 twice.drv two.script', 1, REFUSED, b''),
+    ('host twice.drv early.script --workers 2', 1, REFUSED, b''),
+    ('host twice.drv nothing.script --workers 2', 1, REFUSED, b''),
+    ('host good.drv early.script --workers 2', 2, b'', b'script fault 3 OutOfRange line 2\n'),
+    ('host good.drv nothing.script --workers 2', 2, b'', b'read failed\n'),
+    ('host open.drv nothing.script --workers 2', 2, b'', b'text fault 6 Unclosed line 2\n'),
+    ('host good.drv two.script', 2, b'', SOME),
+    ('host good.drv two.script --workers 0', 2, b'', SOME),
+    ('host good.drv two.script --workers 33', 2, b'', SOME),
     ('', 2, b'', SOME),
     ('run good.drv', 2, b'', SOME),
     ('check', 2, b'', SOME),
@@ -64,6 +79,9 @@ def answers(program, folder):
     with open('/dev/full', 'wb') as full:
         status, _, told = run(program, ['check', 'good.drv'], folder, full)
     yield 'check good.drv > /dev/full', (2, b'', b'write failed\n'), (status, b'', told)
+    # several workers: the history is of their making, and agrees
+    status, told, errors = run(program, 'host good.drv two.script --workers 4'.split(), folder)
+    yield 'host, 4 workers', (0, True, b''), (status, told.endswith(b' agrees\n'), errors)
 
 def main():
     program = os.path.abspath(sys.argv[1] if len(sys.argv) > 1 else os.path.join(TOP, 'crates/drvhost/out/drvhost'))
