@@ -43,7 +43,7 @@ impl Model for Shared {
     ghost Value = { Shared };
 
     ghost view = { λ s. record {
-      packets = s.packet_table.packets;
+      packets = s.packet_table.live.packets;
       issued = s.packet_table.issued;
       locks = s.lock_table;
       cells = s.cell_list.items;
@@ -120,8 +120,11 @@ impl Shared {
         ensures number { result ≡ self.old.issued }
         ensures added { self.new ≡ with_new_packet self.old number device major argument }
     {
-        self.packet_table
-            .issue(number, major, argument, device.stack)
+        let packet = self.packet_table.issued();
+        let _key = self
+            .packet_table
+            .issue(number, major, argument, device.stack);
+        packet
     }
 
     /// Whether the DPC of a device is queued.
@@ -191,7 +194,7 @@ impl Shared {
     pub fn packet(&self, n: u64) -> PacketView
         ensures { result ≡ packet_view self.now n }
     {
-        match self.packet_table.find(n) {
+        match self.packet_table.live_packet(n) {
             Some(packet) => PacketView::Live(LiveView {
                 depth: packet.depth(),
                 cancel: packet.is_cancelled(),

@@ -6,9 +6,9 @@ use Rattle.std.proofs.lemmas.Bool.{cases_eq, cases_lt, false≢true}
 use Rattle.std.proofs.lemmas.Bool.Decides.{nat_tests}
 use Rattle.std.proofs.lemmas.Option.{slice_get-get_or, slice_get_within, get_or_from_slice_get}
 use Rattle.model.specs.declared.world.Packet.{Packet}
-use Rattle.model.specs.World.{place_of}
+use Rattle.model.specs.World.{carried_up, mark_current, moved_up, place_of}
 use Rattle.iomgr.proofs.Slots.{remove_past}
-use Rattle.iomgr.specs.Numbers.{Rising, is_number, is_at, number_place, number_at, AsNumberedBut}
+use Rattle.iomgr.specs.Numbers.{Rising, IsNumbered, is_number, is_at, number_place, numbers_of}
 
 -- a lower bound below
 rising_from : (low lower end : ℕ) (numbers : List ℕ) → lower ≤ low → Rising low end numbers
@@ -87,17 +87,11 @@ rising_sorted low end (m ∷ numbers) r (suc i) zero d le within = absurd (omega
 rising_sorted low end (m ∷ numbers) r (suc i) (suc j) d le within =
     rising_sorted (suc m) end numbers r.1 i j d (omega (arith, le)) (omega (arith, within))
 
--- packets with these numbers stand at their places
-pub numbered_place : (packets : List Packet) (numbers : List ℕ) (n : ℕ)
-    → ((place : ℕ) → number_at packets place ≡ slice_get numbers place)
-    → place_of packets n ≡ number_place numbers n
-numbered_place [] [] n same = refl
-numbered_place [] (m ∷ numbers) n same = absurd (let none = same 0 in cc)
-numbered_place (p ∷ packets) [] n same = absurd (let none = same 0 in cc)
-numbered_place (p ∷ packets) (m ∷ numbers) n same =
-    let first : p.number ≡ m = let some = same 0 in cc in
-    let rest = numbered_place packets numbers n (λ place. same (suc place)) in
-    rw (first, rest) refl
+-- packets stand where their numbers do
+pub numbered_place : (packets : List Packet) (n : ℕ)
+    → place_of packets n ≡ number_place (numbers_of packets) n
+numbered_place [] n = refl
+numbered_place (p ∷ packets) n = rw (numbered_place packets n) refl
 
 -- an earlier number is smaller
 rising_apart : (low end : ℕ) (numbers : List ℕ) (i j m n : ℕ) → Rising low end numbers → i < j
@@ -153,157 +147,57 @@ not_at_place numbers place n = by (slice_get numbers place)
         let same : m ≡ n = cc in
         absurd (grind (arith, nat_tests, h, same))
 
--- packets that had these numbers still have them where one was lent
-pub numbered_set : (packets : List Packet) (numbers : List ℕ) (lent : ℕ) (p : Packet)
-    → ((place : ℕ) → number_at packets place ≡ slice_get numbers place)
-    → AsNumberedBut lent (slice_set packets lent p) numbers
-numbered_set packets numbers lent p same place differs =
-    ap (λ (found : Option Packet). option_map (λ (q : Packet). q.number) found)
-    (set_other packets lent place p differs) ∙ same place
+-- the numbers of packets where one is changed and keeps its number, or is taken out
+pub numbers_set : (packets : List Packet) (place : ℕ) (p q : Packet)
+    → slice_get packets place ≡ Some p → q.number ≡ p.number
+    → numbers_of (slice_set packets place q) ≡ numbers_of packets
+numbers_set [] place p q found same = refl
+numbers_set (r ∷ packets) zero p q found same =
+    let first : r ≡ p = cc in
+    rw (first, same) refl
+numbers_set (r ∷ packets) (suc place) p q found same =
+    ap (λ (numbers : List ℕ). r.number ∷ numbers) (numbers_set packets place p q found same)
+
+pub numbers_removed : (packets : List Packet) (place : ℕ)
+    → numbers_of (remove packets place) ≡ remove (numbers_of packets) place
+numbers_removed [] zero = refl
+numbers_removed [] (suc place) = refl
+numbers_removed (p ∷ packets) zero = refl
+numbers_removed (p ∷ packets) (suc place) =
+    ap (λ (numbers : List ℕ). p.number ∷ numbers) (numbers_removed packets place)
+
+-- the number of the packet at a place
+pub number_there : (packets : List Packet) (place : ℕ) (p : Packet)
+    → slice_get packets place ≡ Some p → slice_get (numbers_of packets) place ≡ Some p.number
+number_there [] place p found = absurd (cc)
+number_there (q ∷ packets) zero p found = let same : q ≡ p = cc in rw same refl
+number_there (q ∷ packets) (suc place) p found = number_there packets place p found
+
+-- what is kept of the numbers stays where a packet is changed and keeps its number
+pub numbered_with : (packets : List Packet) (numbers : List ℕ) (issued room place : ℕ)
+    (p q : Packet) → IsNumbered packets numbers issued room → slice_get packets place ≡ Some p
+    → q.number ≡ p.number → IsNumbered (slice_set packets place q) numbers issued room
+numbered_with packets numbers issued room place p q n found same =
+    record {
+      rising = n.rising;
+      kept = numbers_set packets place p q found same ∙ n.kept;
+      room_for_all = n.room_for_all;
+    }
+
+-- where a packet stands whose number is kept
+pub numbered_there : (packets : List Packet) (numbers : List ℕ) (issued room place : ℕ)
+    (p : Packet) → IsNumbered packets numbers issued room → slice_get packets place ≡ Some p
+    → place_of packets p.number ≡ place
+numbered_there packets numbers issued room place p n found =
+    let there : slice_get numbers place ≡ Some p.number =
+    rw n.kept at (number_there packets place p found) in
+    numbered_place packets p.number
+    ∙ rw (← n.kept) at (found_place 0 issued numbers place p.number n.rising there)
+
+-- an upward step keeps the number
+pub carried_number : (p : Packet) → (carried_up p).number ≡ p.number
+carried_number p = by p.pending_returned
   where
-    set_other : (xs : List Packet) (i j : ℕ) (x : Packet) → j ≢ i
-        → slice_get (slice_set xs i x) j ≡ slice_get xs j
-    set_other [] i j x apart = refl
-    set_other (y ∷ xs) zero zero x apart = absurd (apart refl)
-    set_other (y ∷ xs) zero (suc j) x apart = refl
-    set_other (y ∷ xs) (suc i) zero x apart = refl
-    set_other (y ∷ xs) (suc i) (suc j) x apart =
-        set_other xs i j x (λ e. apart (ap (λ (k : ℕ). suc k) e))
-
--- what stands at a place where one was taken out
-get_before : {A : Type 0} (xs : List A) (gone place : ℕ) → place < gone
-    → slice_get (remove xs gone) place ≡ slice_get xs place
-get_before [] zero place l = refl
-get_before [] (suc gone) place l = refl
-get_before (x ∷ xs) zero place l = absurd (omega (arith, l))
-get_before (x ∷ xs) (suc gone) zero l = refl
-get_before (x ∷ xs) (suc gone) (suc place) l = get_before xs gone place (omega (arith, l))
-
-get_behind : {A : Type 0} (xs : List A) (gone place : ℕ) → gone ≤ place
-    → slice_get (remove xs gone) place ≡ slice_get xs (suc place)
-get_behind [] zero place l = refl
-get_behind [] (suc gone) place l = refl
-get_behind (x ∷ xs) zero place l = refl
-get_behind (x ∷ xs) (suc gone) zero l = absurd (omega (arith, l))
-get_behind (x ∷ xs) (suc gone) (suc place) l = get_behind xs gone place (omega (arith, l))
-
--- where one was taken out
-pub numbered_removed : (packets : List Packet) (numbers : List ℕ) (gone : ℕ)
-    → ((place : ℕ) → number_at packets place ≡ slice_get numbers place)
-    → (place : ℕ) → number_at (remove packets gone) place ≡ slice_get (remove numbers gone) place
-numbered_removed packets numbers gone same place =
-    elim (cases_lt place gone) [
-      | inl before ↦
-          ap number_in (get_before packets gone place before) ∙ same place
-          ∙ sym (get_before numbers gone place before)
-      | inr behind ↦
-          ap number_in (get_behind packets gone place behind) ∙ same (suc place)
-          ∙ sym (get_behind numbers gone place behind)
-    ]
-  where
-    number_in : Option Packet → Option ℕ
-    number_in found = option_map (λ p. p.number) found
-
--- where one more is issued
-pub numbered_pushed : (packets : List Packet) (numbers : List ℕ) (lent : ℕ) (p : Packet) (n : ℕ)
-    → p.number ≡ n → length numbers ≡ length packets → AsNumberedBut lent packets numbers
-    → AsNumberedBut lent (packets ++ p ∷ []) (numbers ++ n ∷ [])
-numbered_pushed packets numbers lent p n named lengths but place differs =
-    elim (cases_lt place (length packets)) [
-      | inl before ↦
-          ap number_in (get_front packets (p ∷ []) place before) ∙ but place differs
-          ∙ sym (get_front numbers (n ∷ []) place (omega (arith, lengths, before)))
-      | inr behind ↦ by_last packets numbers place lengths behind
-    ]
-  where
-    number_in : Option Packet → Option ℕ
-    number_in found = option_map (λ q. q.number) found
-
-    get_front : {A : Type 0} (xs ys : List A) (i : ℕ) → i < length xs
-        → slice_get (xs ++ ys) i ≡ slice_get xs i
-    get_front [] ys i l = absurd (omega (arith, l))
-    get_front (x ∷ xs) ys zero l = refl
-    get_front (x ∷ xs) ys (suc i) l = get_front xs ys i (omega (arith, l))
-
-    by_last : (ps : List Packet) (ns : List ℕ) (i : ℕ) → length ns ≡ length ps → length ps ≤ i
-        → number_at (ps ++ p ∷ []) i ≡ slice_get (ns ++ n ∷ []) i
-    by_last [] [] zero same l = rw named refl
-    by_last [] [] (suc i) same l = refl
-    by_last [] (m ∷ ns) i same l = absurd (omega (arith, same))
-    by_last (q ∷ ps) [] i same l = absurd (omega (arith, same))
-    by_last (q ∷ ps) (m ∷ ns) zero same l = absurd (omega (arith, l))
-    by_last (q ∷ ps) (m ∷ ns) (suc i) same l =
-        by_last ps ns i (omega (arith, same)) (omega (arith, l))
-
--- what a look at the place that was lent tells
-pub numbered_all : (packets : List Packet) (numbers : List ℕ) (lent : ℕ) (renumbered same : Bool)
-    → (renumbered ≡ false → AsNumberedBut lent packets numbers)
-    → (same ≡ true → number_at packets lent ≡ slice_get numbers lent)
-    → (renumbered || not same) ≡ false
-    → (place : ℕ) → number_at packets place ≡ slice_get numbers place
-numbered_all packets numbers lent true same kept here h place = absurd (cc)
-numbered_all packets numbers lent false false kept here h place = absurd (cc)
-numbered_all packets numbers lent false true kept here h place =
-    elim (cases_eq place lent) [
-      | inl at ↦ rw at (here refl)
-      | inr differs ↦ kept refl place differs
-    ]
-
--- the numbers that are left, whether there was one at the place or not
-pub left_numbers : {D : Type 0} (items : D → List ℕ) (removed : Option ℕ) (old new : D) (place : ℕ)
-    → OnSome removed (items new ≡ remove (items old) place)
-    → (place < length (items old) → IsSome removed) → IfNone removed (new ≡ old)
-    → items new ≡ remove (items old) place
-left_numbers items (Some n) old new place taken there unchanged = taken
-left_numbers items None old new place taken there unchanged =
-    let past : length (items old) ≤ place = elim (cases_lt place (length (items old))) [
-      | inl within ↦ absurd (false≢true (there within))
-      | inr behind ↦ behind
-    ] in
-    ap items unchanged ∙ sym (remove_past (items old) place past)
-
-pub left_lengths : {A B : Type 0} (xs : List A) (ys : List B) (place : ℕ) → length xs ≡ length ys
-    → length (remove xs place) ≡ length (remove ys place)
-left_lengths [] [] zero same = refl
-left_lengths [] [] (suc place) same = refl
-left_lengths [] (y ∷ ys) place same = absurd (omega (arith, same))
-left_lengths (x ∷ xs) [] place same = absurd (omega (arith, same))
-left_lengths (x ∷ xs) (y ∷ ys) zero same = omega (arith, same)
-left_lengths (x ∷ xs) (y ∷ ys) (suc place) same =
-    ap (λ (n : ℕ). suc n) (left_lengths xs ys place (omega (arith, same)))
-
--- one step of a search of the packets
-pub place_here : (packets : List Packet) (n place : ℕ) (p : Packet)
-    → slice_get packets place ≡ Some p → p.number ≡ n → place_of (drop place packets) n ≡ 0
-place_here [] n place p found named = absurd (cc)
-place_here (q ∷ packets) n zero p found named =
-    let same : q ≡ p = cc in
-    rw (same, named) (by (nat_eq n n) (grind (arith, nat_tests)))
-  where
-    by : (b : Bool) → b ≡ true → cond b 0 (suc (place_of packets n)) ≡ 0
-    by true h = refl
-    by false h = cc
-place_here (q ∷ packets) n (suc place) p found named = place_here packets n place p found named
-
-pub place_further : (packets : List Packet) (n place : ℕ) (p : Packet)
-    → slice_get packets place ≡ Some p → p.number ≢ n
-    → place_of (drop place packets) n ≡ suc (place_of (drop (place + 1) packets) n)
-place_further packets n place p found named = rw add-one (further packets place found)
-  where
-    by : (b : Bool) (rest : ℕ) → b ≡ false → cond b 0 (suc rest) ≡ suc rest
-    by true rest h = cc
-    by false rest h = refl
-
-    further : (ps : List Packet) (i : ℕ) → slice_get ps i ≡ Some p
-        → place_of (drop i ps) n ≡ suc (place_of (drop (suc i) ps) n)
-    further [] i at = absurd (cc)
-    further (q ∷ ps) zero at =
-        let same : q ≡ p = cc in
-        rw same (by (nat_eq p.number n) (place_of ps n) (grind (arith, nat_tests, named)))
-    further (q ∷ ps) (suc i) at = further ps i at
-
-pub some_there : {A : Type 0} (xs : List A) (place : ℕ) → place < length xs
-    → slice_get xs place ≢ None
-some_there [] place within none = absurd (omega (arith, within))
-some_there (x ∷ xs) zero within none = cc
-some_there (x ∷ xs) (suc place) within none = some_there xs place (omega (arith, within)) none
+    by : (b : Bool) → (cond b (mark_current (moved_up p)) (moved_up p)).number ≡ p.number
+    by true = refl
+    by false = refl

@@ -1,14 +1,17 @@
 -- The packets that slots have under a list of keys, where one slot changes.
-use Rattle.std.proofs.Common.{◌≡◌, ◌≢◌, ◌⊎◌, inl, inr, ◌≤◌, ◌+◌, ℕ, zero, suc, List, [], ◌∷◌, ◌++◌, Option, Some, None, IsSome, cond, is_some, length, ap, sym, ◌∙◌, refl, arith}
-use Rattle.std.specs.Prelude.{OnSome, slice_get, slice_set, remove}
+use Rattle.std.proofs.Common.{◌≡◌, ◌≢◌, ◌⊎◌, inl, inr, ◌≤◌, ◌<◌, ◌+◌, ℕ, zero, suc, List, [], ◌∷◌, ◌++◌, Option, Some, None, IsSome, cond, is_some, length, ap, sym, ◌∙◌, refl, arith}
+use Rattle.std.specs.Prelude.{OnSome, IfNone, slice_get, slice_set, remove}
 use Rattle.std.specs.List.{cons_option}
-use Rattle.std.proofs.lemmas.Bool.{cases_eq, false≢true}
+use Rattle.std.proofs.lemmas.Bool.{cases_eq, cases_lt, false≢true}
+use Rattle.std.proofs.lemmas.Bool.Decides.{eqb_tells}
 use Rattle.std.proofs.lemmas.List.Sums.{sum_by-set}
 use Rattle.std.proofs.lemmas.Option.{slice_get_past}
 use Rattle.model.specs.declared.world.Packet.{Packet}
 use Rattle.slab.specs.Slab.{Slab, ContainsKey, Updates, get, slab_len, with_value}
 use Rattle.slab.proofs.SlabLemmas.{ContainsKey-within}
+use Rattle.iomgr.specs.Numbers.{number_place}
 use Rattle.iomgr.specs.PacketList.{packets_in, Lacks, Hold}
+use Rattle.iomgr.specs.Slots.{packet_or_any}
 
 -- a slot that isn't among the keys
 pub packets_kept : (old new : Slab Packet) (key : ℕ) (slot : Option Packet)
@@ -132,6 +135,19 @@ remove_past (x ∷ xs) zero past = absurd (omega arith)
 remove_past {A} (x ∷ xs) (suc place) past =
     ap (λ (ys : List A). x ∷ ys) (remove_past xs place (omega arith))
 
+-- what is left of a list, whether there was something at the place or not
+pub left_numbers : {D : Type 0} (items : D → List ℕ) (removed : Option ℕ) (old new : D) (place : ℕ)
+    → OnSome removed (items new ≡ remove (items old) place)
+    → (place < length (items old) → IsSome removed) → IfNone removed (new ≡ old)
+    → items new ≡ remove (items old) place
+left_numbers items (Some n) old new place taken there unchanged = taken
+left_numbers items None old new place taken there unchanged =
+    let past : length (items old) ≤ place = elim (cases_lt place (length (items old))) [
+      | inl within ↦ absurd (false≢true (there within))
+      | inr behind ↦ behind
+    ] in
+    ap items unchanged ∙ sym (remove_past (items old) place past)
+
 lacks_removed : (key : ℕ) (keys : List ℕ) (place : ℕ) → Lacks key keys
     → Lacks key (remove keys place)
 lacks_removed key [] zero l = tt
@@ -221,3 +237,35 @@ pub fewer_slots : (old new : Slab Packet) (key : ℕ) (removed : Option Packet)
     → OnSome removed (slab_len new + 1 ≡ slab_len old) → slab_len new + 1 ≡ slab_len old
 fewer_slots old new key None full is len = absurd (false≢true (rw (← is) at full))
 fewer_slots old new key (Some p) full is len = len
+
+-- the place of a key that is among them
+pub key_there : (keys : List ℕ) (key : ℕ) → number_place keys key < length keys
+    → slice_get keys (number_place keys key) ≡ Some key
+key_there [] key within = absurd (omega (arith, within))
+key_there (first ∷ keys) key within =
+    elim (eqb_tells first key) [
+      | inl e ↦ rw e.0 (ap Some e.1)
+      | inr e ↦
+          let behind = rw e.0 at within in
+          rw e.0 (key_there keys key (omega (arith, behind)))
+    ]
+
+pub key_place : (slots : Slab Packet) (keys : List ℕ) (place key : ℕ) → Hold slots keys
+    → slice_get keys place ≡ Some key → number_place keys key ≡ place
+key_place slots [] place key h found = absurd (cc)
+key_place slots (first ∷ keys) zero key h found =
+    let same : first ≡ key = cc in
+    elim (eqb_tells first key) [
+      | inl e ↦ rw e.0 refl
+      | inr e ↦ absurd (e.1 same)
+    ]
+key_place slots (first ∷ keys) (suc place) key h found =
+    elim (eqb_tells first key) [
+      | inl e ↦ absurd (lacks_at key first keys place h.1 found e.1)
+      | inr e ↦ rw e.0 (ap suc (key_place slots keys place key h.2 found))
+    ]
+
+-- a packet that is there is the one that is read
+pub some_packet : (slot : Option Packet) → IsSome slot → slot ≡ Some (packet_or_any slot)
+some_packet None some = absurd (false≢true some)
+some_packet (Some p) some = refl

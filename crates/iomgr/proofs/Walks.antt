@@ -12,7 +12,8 @@ use Rattle.model.specs.Set.{Set}
 use Rattle.model.specs.World.{Shared, completion_of, current_location, left_location, moved_up, place_of, with_packet}
 use Rattle.iomgr.specs.Table.{Table, live_packet, with_live, with_table}
 use Rattle.iomgr.specs.Hold.{lent}
-use Rattle.iomgr.specs.Walk.{lent_if, walk_outcome, walk_from, walk_out, walk_packet, walk_up, Walked, walked}
+use Rattle.iomgr.specs.Slots.{SlotTable, packet_at, place_at, table_in}
+use Rattle.iomgr.specs.Walk.{Stepped, lent_if, steps_from, steps_out, steps_up, walk_outcome, walk_from, walk_out, walk_packet, walk_up, Walked, walked, walked_at}
 
 -- a packet that keeps its number is found where it was
 place_kept : (packets : List Packet) (n : ℕ) (p q : Packet)
@@ -96,3 +97,27 @@ module _ (set : Set) (s : Shared) (table : Table) (n : ℕ) where
 
   pub walked_agrees : (w : Walked) → w ≡ walked table n → Agrees w (live_packet table n)
   walked_agrees w same = rw same (agrees (live_packet table n) refl)
+
+-- a step by the packet's key is one by its number
+pub walked_by_key : (t : SlotTable) (key n : ℕ) (w : Stepped)
+    → Some (packet_at t.live key) ≡ live_packet (table_in t) n
+    → place_at t.live key ≡ place_of t.live.packets n → w ≡ walked_at t key (packet_at t.live key)
+    → record { table = table_in w.slots; step = w.step } ≡ walked (table_in t) n
+walked_by_key t key n w found place is =
+    rw (is, ← found)
+    (by (left_location (packet_at t.live key))
+    (completion_of (current_location (packet_at t.live key))))
+  where
+    of_step : Stepped → Walked
+    of_step s = record { table = table_in s.slots; step = s.step }
+
+    last : (p : Packet) (rises : Bool)
+        → of_step (if rises then steps_up t key p else steps_out t key p)
+        ≡ (if rises then walk_up (table_in t) n p else walk_out (table_in t) n p)
+    last p true = rw place refl
+    last p false = rw place refl
+
+    by : (p : Packet) (completion : Option Completion)
+        → of_step (steps_from t key p completion) ≡ walk_from (table_in t) n p completion
+    by p (Some c) = rw place refl
+    by p None = last p (nat_lt 1 p.depth)

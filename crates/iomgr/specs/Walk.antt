@@ -13,6 +13,7 @@ use Rattle.model.specs.World.{Shared, current_location, completion_of, left_loca
 use Rattle.iomgr.specs.declared.walk.WalkStep.{WalkStep}
 use Rattle.iomgr.specs.declared.walk.WalkStep.TheVariants.{Missing, Runs, Ascends, TopsOut}
 use Rattle.iomgr.specs.Hold.{lent}
+use Rattle.iomgr.specs.Slots.{SlotTable, with_packet_at, without_packet_at}
 use Rattle.iomgr.specs.Table.{Table, live_packet, table_of, with_live, with_table, without_live}
 
 -- what a step leaves: the table, and what was done
@@ -39,6 +40,26 @@ walk_packet table n (Some p) =
 
 abbrev pub walked : Table → ℕ → Walked
 walked table n = walk_packet table n (live_packet table n)
+
+-- the same by the packet's key
+pub record Stepped : Type 0 where
+  pub slots : SlotTable
+  pub step : WalkStep
+
+abbrev pub steps_up : SlotTable → ℕ → Packet → Stepped
+steps_up t key p =
+    record { slots = with_packet_at t key (carried_up p); step = Ascends p.pending_returned }
+
+abbrev pub steps_out : SlotTable → ℕ → Packet → Stepped
+steps_out t key p = record { slots = without_packet_at t key; step = TopsOut p.status p.info }
+
+abbrev pub steps_from : SlotTable → ℕ → Packet → Option Completion → Stepped
+steps_from t key p (Some c) =
+    record { slots = with_packet_at t key (moved_up p); step = Runs c }
+steps_from t key p None = if nat_lt 1 p.depth then steps_up t key p else steps_out t key p
+
+abbrev pub walked_at : SlotTable → ℕ → Packet → Stepped
+walked_at t key p = steps_from t key (left_location p) (completion_of (current_location p))
 
 -- a completion routine that may hold the packet is lent it after that
 abbrev pub lent_if : Sort → Shared → ℕ → Shared

@@ -18,6 +18,7 @@ pub enum Exchanged {
 }
 
 impl PacketTable {
+    ghost use Rattle.iomgr.specs.Slots.{table_in};
     ghost use Rattle.iomgr.specs.Table.{with_table};
     ghost use Rattle.model.specs.Effect.{cancel_exchanges, cancel_flags};
     ghost use Rattle.model.specs.Set.{Set};
@@ -25,14 +26,15 @@ impl PacketTable {
 
     /// Sets the cancel flag of the packet of a number. It answers whether the packet is live.
     pub fn set_cancel(&mut self, n: u64) -> bool
-        ensures flagged { record { table = self.new; live = result } ≡ flagged self.old n }
-        ensures outcome { (s : Shared)
-            → flag_outcome (with_table s self.new) n result
-            ≡ cancel_flags (with_table s self.old) n (packet_of (with_table s self.old) n) }
+        ensures flagged { record { table = table_in self.new; live = result }
+            ≡ flagged (table_in self.old) n }
+        ensures outcome { (s : Shared) → let before = with_table s (table_in self.old) in
+            flag_outcome (with_table s (table_in self.new)) n result
+            ≡ cancel_flags before n (packet_of before n) }
     {
-        match self.find_mut(n) {
-            Some(packet) => {
-                packet.cancel();
+        match self.find(n) {
+            Some(key) => {
+                self.flag(key);
                 true
             }
             None => false,
@@ -41,15 +43,17 @@ impl PacketTable {
 
     /// Exchanges the cancel routine of the packet of a number with none.
     pub fn exchange(&mut self, n: u64) -> Exchanged
-        ensures exchanged { record { table = self.new; was = result } ≡ exchanged self.old n }
+        ensures exchanged { record { table = table_in self.new; was = result }
+            ≡ exchanged (table_in self.old) n }
         ensures outcome { (set : Set) (s : Shared)
-            → exchange_outcome set (with_table s self.new) n result
-            ≡ cancel_exchanges set (with_table s self.old) n (packet_of (with_table s self.old) n) }
+            → let before = with_table s (table_in self.old) in
+            exchange_outcome set (with_table s (table_in self.new)) n result
+            ≡ cancel_exchanges set before n (packet_of before n) }
     {
-        let Some(packet) = self.find_mut(n) else {
+        let Some(key) = self.find(n) else {
             return Exchanged::Missing;
         };
-        match packet.exchange(None) {
+        match self.exchange_word(key, None) {
             Some(armer) => Exchanged::Calls(armer),
             None => Exchanged::WasEmpty,
         }

@@ -1,6 +1,7 @@
 //! The I/O manager: the table of live packets, and the walk by which it completes one.
 #![tactic(auto)]
 
+mod actions;
 pub mod cancelling;
 mod lending;
 mod numbers;
@@ -9,5 +10,5 @@ pub mod packet_table;
 pub mod walk;
 
 pub use cancelling::Exchanged;
-pub use packet_table::PacketTable;
+pub use packet_table::{Key, PacketTable};
 pub use walk::WalkStep;

@@ -1,6 +1,6 @@
 //! A list of packets that don't move.
 
-ghost use Rattle.std.specs.Prelude.{◌≡◌, ◌<◌, ◌++◌, ◌∷◌, [], IfOk, length, option_map, remove, slice_get};
+ghost use Rattle.std.specs.Prelude.{◌≡◌, ◌<◌, IfOk, IfSome, Some, length, option_map, slice_get};
 ghost use Rattle.model.specs.declared.limits.TheConstants.{MAX_LIVE_PACKETS};
 
 use irp::Packet;
@@ -20,26 +20,30 @@ pub struct PacketList {
 }
 
 impl Model for PacketList {
-    ghost use Rattle.std.specs.Prelude.{List};
     ghost use Rattle.std.specs.VecDeque.{deque_capacity};
-    ghost use Rattle.model.specs.declared.world.Packet.{Packet};
     ghost use Rattle.iomgr.specs.PacketList.{packets_in, IsSound};
+    ghost use Rattle.iomgr.specs.Slots.{Slots};
 
-    ghost Value = { List Packet };
+    ghost Value = { Slots };
 
-    ghost view = { λ l. packets_in l.slots l.keys.items };
+    ghost view = { λ l. record {
+      lying = l.slots.slots;
+      order = l.keys.items;
+      packets = packets_in l.slots l.keys.items;
+    } };
 
     ghost invariant = { λ l. IsSound l.slots l.keys.items (deque_capacity l.keys) };
 }
 
 impl PacketList {
     ghost use Rattle.std.specs.Borrow.{sem};
-    ghost use Rattle.iomgr.specs.Lending.{LendsPlace};
+    ghost use Rattle.iomgr.specs.Lending.{LendsSlot};
+    ghost use Rattle.iomgr.specs.Slots.{Holds, IsFilled, no_slots, packet_at, place_at, without_slot};
 
     /// An empty list. An error where memory for all packets that may live at once is refused; no
     /// other call needs any.
     pub fn new(alloc: Global) -> Result<PacketList, AllocError>
-        ensures { IfOk result (λ list. list ≡ []) }
+        ensures { IfOk result (λ list. list ≡ no_slots) }
     {
         Ok(PacketList {
             slots: Slab::with_capacity(alloc, MAX_LIVE_PACKETS)?,
@@ -49,42 +53,65 @@ impl PacketList {
 
     /// How many packets there are.
     pub fn len(&self) -> usize
-        ensures { result ≡ length self.now }
+        ensures { result ≡ length self.now.packets }
     {
         self.keys.len()
     }
 
-    /// Puts a packet at the end.
-    pub fn push(&mut self, packet: Packet)
-        requires { length self.old < MAX_LIVE_PACKETS }
-        ensures { self.new ≡ self.old ++ packet ∷ [] }
+    /// Puts a packet at the end, and answers its key.
+    pub fn push(&mut self, packet: Packet) -> usize
+        requires { length self.old.packets < MAX_LIVE_PACKETS }
+        ensures { IsFilled self.old result packet self.new }
     {
         let key = self.slots.insert_reserved(packet);
         self.keys.push_back_reserved(key);
+        key
+    }
+
+    /// The key of the packet at a place, if there is one.
+    pub fn key(&self, place: usize) -> Option<usize>
+        ensures key { result ≡ slice_get self.now.order place }
+        ensures packet { option_map (packet_at self.now) result
+            ≡ slice_get self.now.packets place }
+        ensures holds { IfSome result (Holds self.now) }
+        ensures place { IfSome result (λ key. place_at self.now key ≡ place) }
+    {
+        Some(*self.keys.get(place)?)
     }
 
     /// The packet at a place, if there is one.
     pub fn get(&self, place: usize) -> Option<&Packet>
-        ensures { option_map (λ p. p.now) result ≡ slice_get self.now place }
+        ensures { option_map (λ p. p.now) result ≡ slice_get self.now.packets place }
     {
         self.slots.get(*self.keys.get(place)?)
     }
 
-    /// The same, to be changed.
-    pub fn get_mut(&mut self, place: usize) -> Option<&mut Packet>
-        ensures* writes_back { sem 𝓛 (LendsPlace self.entry place result) }
-        ensures packet { option_map (λ p. p.now) result ≡ slice_get self.old place }
+    /// The packet of a key.
+    pub fn packet(&self, key: usize) -> &Packet
+        requires { Holds self.now key }
+        ensures packet { result.now ≡ packet_at self.now key }
+        ensures listed { slice_get self.now.packets (place_at self.now key) ≡ Some result.now }
     {
-        let key = *self.keys.get(place)?;
-        self.slots.get_mut(key)
+        &self.slots[key]
     }
 
-    /// Takes the packet at a place out; those behind it move up. Without one nothing changes.
-    pub fn remove(&mut self, place: usize)
-        ensures { self.new ≡ remove self.old place }
+    /// The same, to be changed.
+    pub fn packet_mut(&mut self, key: usize) -> &mut Packet
+        requires { Holds self.old key }
+        ensures* writes_back { sem 𝓛 (LendsSlot self.entry key result) }
+        ensures packet { result.now ≡ packet_at self.old key }
+        ensures listed { slice_get self.old.packets (place_at self.old key) ≡ Some result.now }
     {
-        if let Some(key) = self.keys.remove(place) {
-            let _packet = self.slots.try_remove(key);
-        }
+        &mut self.slots[key]
+    }
+
+    /// Takes the packet of a key out, which stands at this place; those behind it move up.
+    pub fn remove(&mut self, key: usize, place: usize)
+        requires held { Holds self.old key }
+        requires place { place_at self.old key ≡ place }
+        ensures { self.new ≡ without_slot self.old key }
+    {
+        let _key = self.keys.remove(place);
+        let _packet = self.slots.remove(key);
     }
 }

@@ -1,12 +1,10 @@
 //! The table of live packets.
 
-ghost use Rattle.std.specs.Prelude.{◌≡◌, ◌≤◌, ◌<◌, ◌++◌, ◌∷◌, [], IfOk, IsTrue, option_map, slice_get};
+ghost use Rattle.std.specs.Prelude.{◌≡◌, ◌≤◌, ◌<◌, IfOk, IfSome, IsTrue, Some, option_map, slice_get};
 ghost use Rattle.model.specs.declared.limits.TheConstants.{MAX_STACK};
-ghost use Rattle.iomgr.specs.Numbers.{number_at};
 
 use crate::numbers::number_place;
 use crate::packet_list::PacketList;
-use crate::walk::WalkStep;
 use irp::Packet;
 use model::limits::{MAX_ISSUED, MAX_LIVE_PACKETS};
 use model::status::Major;
@@ -15,71 +13,64 @@ use std::alloc::{AllocError, Global};
 use std::collections::VecDeque;
 use std::marker::Model;
 
+/// The key of a live packet: it is the packet's while that lives, and may be another's afterwards.
+/// Contracts see a number.
+#[derive(Clone, Copy)]
+pub struct Key {
+    pub(crate) slot: usize,
+}
+
+impl Model for Key {
+    ghost use Rattle.std.specs.Prelude.{ℕ};
+
+    ghost Value = { ℕ };
+
+    ghost view = { λ k. k.slot };
+
+    ghost inverse = { λ n. record { slot = n } };
+}
+
 /// The live packets in the order of their issue, with room for all that may live at once, and how
-/// many were ever issued. They are searched by number.
+/// many were ever issued. A packet is found by its number, and read and changed by its key, so that
+/// its number stays.
 ///
-/// Their numbers stand in a list of their own, where a search finds one without looking at packets.
-/// A packet that is lent may come back with another number, since its type allows it. So the place
-/// that was lent last is kept, and looked at before the next search; once a number has changed,
-/// the packets themselves are searched.
+/// Their numbers stand in a list of their own too, where a search finds one without looking at
+/// packets.
 #[derive(Drop)]
 pub struct PacketTable {
-    live: PacketList,
-    /// The number with which each was issued.
+    pub(crate) live: PacketList,
     numbers: VecDeque<u64>,
     issued_count: u64,
-    /// The place that was lent last.
-    lent: usize,
-    /// Whether a packet was found to have another number than that with which it was issued.
-    renumbered: bool,
 }
 
 impl Model for PacketTable {
     ghost use Rattle.std.specs.VecDeque.{deque_capacity};
     ghost use Rattle.iomgr.specs.Numbers.{IsNumbered};
-    ghost use Rattle.iomgr.specs.Table.{Table};
+    ghost use Rattle.iomgr.specs.Slots.{SlotTable};
 
-    ghost Value = { Table };
+    ghost Value = { SlotTable };
 
-    ghost view = { λ t. record { packets = t.live; issued = t.issued_count } };
+    ghost view = { λ t. record { live = t.live; issued = t.issued_count } };
 
     ghost invariant = { λ t.
-        IsNumbered t.live t.numbers.items t.issued_count t.lent t.renumbered
-        (deque_capacity t.numbers) };
-}
-
-/// Whether the packet at a place has the number that is kept for it.
-fn is_as_numbered(live: &PacketList, numbers: &VecDeque<u64>, place: usize) -> bool
-    ensures { IsTrue result → number_at live.now place ≡ slice_get numbers.now.items place }
-{
-    match (live.get(place), numbers.get(place)) {
-        (Some(packet), Some(number)) => packet.number() == *number,
-        (None, None) => true,
-        _ => false,
-    }
+        IsNumbered t.live.packets t.numbers.items t.issued_count (deque_capacity t.numbers) };
 }
 
 impl PacketTable {
-    ghost use Rattle.std.specs.Borrow.{sem};
-    ghost use Rattle.model.specs.Effect.{walk_packet};
     ghost use Rattle.model.specs.Events.{can_issue};
-    ghost use Rattle.model.specs.Set.{Set};
-    ghost use Rattle.model.specs.World.{Shared, new_packet, packet_in, packet_of, place_of};
-    ghost use Rattle.iomgr.specs.Table.{no_packets, shared_of, with_table, live_packet, with_issued, without_place};
-    ghost use Rattle.iomgr.specs.Walk.{walked, walk_outcome};
-    ghost use Rattle.iomgr.specs.Lending.{LendsPacket, LendsAt};
+    ghost use Rattle.model.specs.World.{new_packet, packet_in, place_of};
+    ghost use Rattle.iomgr.specs.Slots.{Holds, IsFilled, none_issued, packet_at, place_at, table_in, without_packet_at};
+    ghost use Rattle.iomgr.specs.Table.{shared_of, live_packet, with_issued};
 
     /// No packets. An error where memory for all that may live at once is refused; no other call
     /// needs any.
     pub fn new(alloc: Global) -> Result<PacketTable, AllocError>
-        ensures { IfOk result (λ table. table ≡ no_packets) }
+        ensures { IfOk result (λ table. table ≡ none_issued) }
     {
         Ok(PacketTable {
             live: PacketList::new(alloc)?,
             numbers: VecDeque::with_capacity(alloc, MAX_LIVE_PACKETS)?,
             issued_count: 0,
-            lent: 0,
-            renumbered: false,
         })
     }
 
@@ -92,30 +83,33 @@ impl PacketTable {
 
     /// Whether one more packet may be issued.
     pub fn can_issue(&self) -> bool
-        ensures { result ≡ can_issue (shared_of self.now) }
+        ensures { result ≡ can_issue (shared_of (table_in self.now)) }
     {
         self.live.len() < MAX_LIVE_PACKETS && self.issued_count < MAX_ISSUED
     }
 
-    /// Issues a packet to a device of this stack size, 1 to 16, and answers its number.
-    pub fn issue(&mut self, device: u8, major: Major, argument: u64, stack: u8) -> u64
-        requires room { IsTrue (can_issue (shared_of self.old)) }
+    /// Issues a packet to a device of this stack size, 1 to 16, and answers its key. Its number is
+    /// how many were issued before.
+    pub fn issue(&mut self, device: u8, major: Major, argument: u64, stack: u8) -> Key
+        requires room { IsTrue (can_issue (shared_of (table_in self.old))) }
         requires stack { stack ≤ MAX_STACK }
-        ensures number { result ≡ self.old.issued }
+        ensures filled { let packet = new_packet self.old.issued device major argument stack in
+            IsFilled self.old.live result packet self.new.live }
         ensures added { let packet = new_packet self.old.issued device major argument stack in
-            self.new ≡ with_issued self.old packet }
+            table_in self.new ≡ with_issued (table_in self.old) packet }
     {
         let number = self.issued_count;
-        let packet = Packet::new(number, device, major, argument, stack);
-        self.live.push(packet);
+        let slot = self
+            .live
+            .push(Packet::new(number, device, major, argument, stack));
         self.numbers.push_back_reserved(number);
         self.issued_count += 1;
-        number
+        Key { slot }
     }
 
     /// The packet that a value refers to: one that was issued, live or not.
     pub fn packet_in(&self, value: Value) -> Option<u64>
-        ensures { result ≡ packet_in (shared_of self.now) value }
+        ensures { result ≡ packet_in (shared_of (table_in self.now)) value }
     {
         match value {
             Value::Ref(n) if n < self.issued_count => Some(n),
@@ -125,94 +119,46 @@ impl PacketTable {
 
     /// The place of a packet among the live ones, or their number where it isn't live.
     fn place(&self, n: u64) -> usize
-        ensures { result ≡ place_of self.now.packets n }
+        ensures { result ≡ place_of self.now.live.packets n }
     {
-        if self.renumbered || !is_as_numbered(&self.live, &self.numbers, self.lent) {
-            return self.searched(n);
-        }
         number_place(&self.numbers, n)
     }
 
-    /// The same, by a search of the packets themselves.
-    fn searched(&self, n: u64) -> usize
-        ensures { result ≡ place_of self.now.packets n }
+    /// The key of the live packet of a number.
+    pub fn find(&self, n: u64) -> Option<Key>
+        ensures key { result ≡ slice_get self.now.live.order (place_of self.now.live.packets n) }
+        ensures packet { option_map (packet_at self.now.live) result
+            ≡ live_packet (table_in self.now) n }
+        ensures holds { IfSome result (Holds self.now.live) }
+        ensures place { IfSome result (λ key.
+            place_at self.now.live key ≡ place_of self.now.live.packets n) }
     {
-        for place in 0..self.live.len() {
-            if let Some(packet) = self.live.get(place) {
-                if packet.number() == n {
-                    return place;
-                }
-            }
-        }
-        self.live.len()
-    }
-
-    /// The packet at a place, to be changed.
-    fn lend(&mut self, place: usize) -> Option<&mut Packet>
-        ensures* writes_back { sem 𝓛 (LendsAt self.entry place result) }
-        ensures packet { option_map (λ p. p.now) result ≡ slice_get self.old.packets place }
-    {
-        self.renumbered |= !is_as_numbered(&self.live, &self.numbers, self.lent);
-        self.lent = place;
-        self.live.get_mut(place)
-    }
-
-    /// Takes the packet at a place out.
-    fn remove(&mut self, place: usize)
-        ensures { self.new ≡ without_place self.old place }
-    {
-        self.renumbered |= !is_as_numbered(&self.live, &self.numbers, self.lent);
-        self.live.remove(place);
-        let _number = self.numbers.remove(place);
+        let slot = self.live.key(self.place(n))?;
+        Some(Key { slot })
     }
 
     /// The live packet of a number.
-    pub fn find(&self, n: u64) -> Option<&Packet>
-        ensures { option_map (λ p. p.now) result ≡ live_packet self.now n }
+    pub fn live_packet(&self, n: u64) -> Option<&Packet>
+        ensures { option_map (λ p. p.now) result ≡ live_packet (table_in self.now) n }
     {
         self.live.get(self.place(n))
     }
 
-    /// The same, to be changed.
-    pub fn find_mut(&mut self, n: u64) -> Option<&mut Packet>
-        ensures* writes_back { sem 𝓛 (LendsPacket self.entry n result) }
-        ensures packet { option_map (λ p. p.now) result ≡ live_packet self.old n }
+    /// The packet of a key.
+    pub fn packet(&self, key: Key) -> &Packet
+        requires { Holds self.now.live key }
+        ensures { result.now ≡ packet_at self.now.live key }
     {
-        let place = self.place(n);
-        self.lend(place)
+        self.live.packet(key.slot)
     }
 
-    /// One step of the walk that completes the packet of a number.
-    pub fn walk(&mut self, n: u64) -> WalkStep
-        ensures walked { record { table = self.new; step = result } ≡ walked self.old n }
-        ensures outcome { (set : Set) (s : Shared)
-            → walk_outcome set (with_table s self.new) n result
-            ≡ walk_packet set (with_table s self.old) n (packet_of (with_table s self.old) n) }
+    /// Takes the packet of a key out.
+    pub(crate) fn remove(&mut self, key: Key)
+        requires { Holds self.old.live key }
+        ensures { self.new ≡ without_packet_at self.old key }
     {
-        let place = self.place(n);
-        let Some(packet) = self.live.get(place) else {
-            return WalkStep::Missing;
-        };
-        let completion = packet.completion();
-        if completion.is_none() && packet.depth() <= 1 {
-            let step = WalkStep::TopsOut {
-                status: packet.status(),
-                info: packet.info(),
-            };
-            self.remove(place);
-            return step;
-        }
-        let Some(packet) = self.lend(place) else {
-            return WalkStep::Missing;
-        };
-        packet.leave();
-        if let Some(completion) = completion {
-            packet.up();
-            return WalkStep::Runs(completion);
-        }
-        packet.carry_up();
-        WalkStep::Ascends {
-            marked: packet.pending_returned(),
-        }
+        let place = self.place(self.live.packet(key.slot).number());
+        self.live.remove(key.slot, place);
+        let _number = self.numbers.remove(place);
     }
 }

@@ -24,7 +24,6 @@ impl Shared {
     ghost use Rattle.model.specs.World.{packet_in, register, with_locks, with_owner};
 
     /// `arm r q`: IoSetCancelRoutine with the cancel routine of a queue.
-    #[tactic(auto, using(crate::proofs::Lists::set_back))]
     pub fn arm(&mut self, set: &DriverSet, r: Register, q: u8, a: &mut Activation) -> Ran
         requires { a.old.position < MAX_INSTRUCTIONS }
         ensures { let named = packet_in self.old (register a.old r) in
@@ -37,19 +36,19 @@ impl Shared {
         if set.cancel_routine(a.driver, q).is_none() {
             return Ran::Stays(wrong_at(a));
         }
-        let Some(packet) = self.packet_table.find_mut(n) else {
+        let Some(key) = self.packet_table.find(n) else {
             return Ran::Stays(packet_bug(BugCheck::IrqlNotLessOrEqual, n));
         };
-        let _before = packet.exchange(Some(Armer {
+        let word = Armer {
             device: a.device,
             queue: QueueName::Declared(q),
-        }));
+        };
+        let _before = self.packet_table.exchange_word(key, Some(word));
         a.position += 1;
         Ran::Stays(Reply::Stepped)
     }
 
     /// `disarm r L`: IoSetCancelRoutine with none; jumps where none was set.
-    #[tactic(auto, using(crate::proofs::Lists::set_back))]
     pub fn disarm(&mut self, r: Register, label: u16, a: &mut Activation) -> Ran
         requires { a.old.position < MAX_INSTRUCTIONS }
         ensures { let named = packet_in self.old (register a.old r) in
@@ -58,10 +57,10 @@ impl Shared {
         let Some(n) = self.packet_in(a.registers[r.index()]) else {
             return Ran::Stays(wrong_at(a));
         };
-        let Some(packet) = self.packet_table.find_mut(n) else {
+        let Some(key) = self.packet_table.find(n) else {
             return Ran::Stays(packet_bug(BugCheck::IrqlNotLessOrEqual, n));
         };
-        let was = packet.exchange(None);
+        let was = self.packet_table.exchange_word(key, None);
         if was.is_none() {
             a.position = label;
             return Ran::Stays(Reply::Stepped);
@@ -125,17 +124,17 @@ impl Shared {
             → left_of self.new (cancels_next n CancelStep.Exchange) result
             ≡ frame_now set.now self.old runner below (cancels_next n CancelStep.Exchange) }
     {
-        let Some(packet) = self.packet_table.find(n) else {
+        let Some(key) = self.packet_table.find(n) else {
             return self.end_cancel(runner);
         };
-        let called = match packet.armer() {
+        let called = match self.packet_table.packet(key).armer() {
             Some(armer) => cancelled_by(set, armer, n),
             None => None,
         };
         if called.is_none() && !self.owns_cancel(runner) {
             return Ran::Stays(lock_bug(BugCheck::SpinLockNotOwned, Lock::SystemCancel));
         }
-        let _was = self.packet_table.exchange(n);
+        let _was = self.packet_table.exchange_word(key, None);
         match called {
             Some(over) => Ran::Becomes(over),
             None => self.free_cancel(),

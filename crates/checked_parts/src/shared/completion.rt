@@ -25,7 +25,6 @@ impl Shared {
 
     /// `complete r STATUS`: IoCompleteRequest on the packet in the register. The I/O manager's
     /// frame then stands over the routine's, which stands over the frames `below`.
-    #[tactic(auto, using(crate::proofs::Lists::set_back))]
     pub fn complete(
         &mut self,
         below: &[Frame],
@@ -41,9 +40,10 @@ impl Shared {
         let Some(n) = self.packet_in(a.registers[r.index()]) else {
             return Ran::Stays(wrong_at(a));
         };
-        let Some(packet) = self.packet_table.find_mut(n) else {
+        let Some(key) = self.packet_table.find(n) else {
             return Ran::Stays(packet_bug(BugCheck::MultipleIrpCompleteRequests, n));
         };
+        let packet = self.packet_table.packet(key);
         if packet.is_completing() {
             return Ran::Stays(packet_bug(BugCheck::MultipleIrpCompleteRequests, n));
         }
@@ -53,7 +53,7 @@ impl Shared {
         if is_last(below.len()) {
             return Ran::Stays(Reply::Refused);
         }
-        packet.complete(status);
+        self.packet_table.complete(key, status);
         a.position += 1;
         Ran::Under(Over::Manager(Managing::Completes(n)))
     }
@@ -102,7 +102,7 @@ impl Shared {
         ensures { let current = option_and_then (λ p. current_location p) (packet_of self.now n) in
             result ≡ is_some (completion_of current) }
     {
-        match self.packet_table.find(n) {
+        match self.packet_table.live_packet(n) {
             Some(packet) => packet.completion().is_some(),
             None => false,
         }

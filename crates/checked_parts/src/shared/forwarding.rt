@@ -31,7 +31,6 @@ impl Shared {
 
     /// `pass r`: the lower driver is asked in the caller's location. Its routine then stands over
     /// the caller's frame, which stands over the frames `below`.
-    #[tactic(auto, using(crate::proofs::Lists::set_back))]
     pub fn pass(&mut self, set: &DriverSet, below: &[Frame], r: Register, a: &mut Activation) -> Ran
         requires { a.old.position < MAX_INSTRUCTIONS }
         ensures { let named = packet_in self.old (register a.old r) in
@@ -44,21 +43,20 @@ impl Shared {
         let Some(lower) = set.lower(a.device) else {
             return Ran::Stays(wrong_at(a));
         };
-        let Some(packet) = self.packet_table.find_mut(n) else {
+        let Some(key) = self.packet_table.find(n) else {
             return Ran::Stays(packet_bug(BugCheck::IrqlNotLessOrEqual, n));
         };
         if is_last(below.len()) {
             return Ran::Stays(Reply::Refused);
         }
-        let asked = packet.asked_major();
-        packet.share(lower);
+        let asked = self.packet_table.packet(key).asked_major();
+        self.packet_table.share(key, lower);
         a.position += 1;
         Ran::Under(dispatched(set, lower, asked, n))
     }
 
     /// `call r` and `call r f`: the lower driver is asked in a location of its own, with a
     /// completion routine or none.
-    #[tactic(auto, using(crate::proofs::Lists::set_back))]
     pub fn call(
         &mut self,
         set: &DriverSet,
@@ -79,9 +77,10 @@ impl Shared {
         let Some(lower) = set.lower(a.device) else {
             return Ran::Stays(wrong_at(a));
         };
-        let Some(packet) = self.packet_table.find_mut(n) else {
+        let Some(key) = self.packet_table.find(n) else {
             return Ran::Stays(packet_bug(BugCheck::IrqlNotLessOrEqual, n));
         };
+        let packet = self.packet_table.packet(key);
         if !packet.has_room_below() {
             return Ran::Stays(packet_bug(BugCheck::NoMoreIrpStackLocations, n));
         }
@@ -89,7 +88,8 @@ impl Shared {
             return Ran::Stays(Reply::Refused);
         }
         let asked = packet.asked_major();
-        packet.down(lower, completion(a, routine));
+        self.packet_table
+            .send_down(key, lower, completion(a, routine));
         a.position += 1;
         Ran::Under(dispatched(set, lower, asked, n))
     }

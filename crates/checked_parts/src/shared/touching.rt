@@ -24,7 +24,7 @@ impl Shared {
         let Some(n) = self.packet_in(a.registers[s.index()]) else {
             return Ran::Stays(wrong_at(a));
         };
-        let number = match self.packet_table.find(n) {
+        let number = match self.packet_table.live_packet(n) {
             Some(packet) => packet.field(field),
             None => return Ran::Stays(packet_bug(BugCheck::IrqlNotLessOrEqual, n)),
         };
@@ -46,10 +46,10 @@ impl Shared {
         let Some(n) = self.packet_in(a.registers[s.index()]) else {
             return Ran::Stays(wrong_at(a));
         };
-        let Some(packet) = self.packet_table.find_mut(n) else {
+        let Some(key) = self.packet_table.find(n) else {
             return Ran::Stays(packet_bug(BugCheck::IrqlNotLessOrEqual, n));
         };
-        packet.set_info(number);
+        self.packet_table.set_info(key, number);
         a.position += 1;
         Ran::Stays(Reply::Stepped)
     }
@@ -63,10 +63,10 @@ impl Shared {
         let Some(n) = self.packet_in(a.registers[r.index()]) else {
             return Ran::Stays(wrong_at(a));
         };
-        let Some(packet) = self.packet_table.find_mut(n) else {
+        let Some(key) = self.packet_table.find(n) else {
             return Ran::Stays(packet_bug(BugCheck::IrqlNotLessOrEqual, n));
         };
-        packet.mark();
+        self.packet_table.mark(key);
         a.position += 1;
         Ran::Stays(Reply::Stepped)
     }
@@ -80,7 +80,7 @@ impl Shared {
         let Some(n) = self.packet_in(a.registers[r.index()]) else {
             return Ran::Stays(wrong_at(a));
         };
-        let pending = match self.packet_table.find(n) {
+        let pending = match self.packet_table.live_packet(n) {
             Some(packet) => packet.pending_returned(),
             None => return Ran::Stays(packet_bug(BugCheck::IrqlNotLessOrEqual, n)),
         };
@@ -101,7 +101,7 @@ impl Shared {
         let Some(n) = self.packet_in(a.registers[r.index()]) else {
             return Ran::Stays(wrong_at(a));
         };
-        let cancelled = match self.packet_table.find(n) {
+        let cancelled = match self.packet_table.live_packet(n) {
             Some(packet) => packet.is_cancelled(),
             None => return Ran::Stays(packet_bug(BugCheck::IrqlNotLessOrEqual, n)),
         };

@@ -1,4 +1,4 @@
-use Rattle.std.proofs.Common.{[], ◌∷◌, arith, length-append}
+use Rattle.std.proofs.Common.{[], ◌∷◌, arith, length-append, refl}
 use Rattle.iomgr.proofs.Slots.{length_in, vacant_lacks, packet_pushed, hold_pushed}
 use Rattle.iomgr.proofs.packet_list.PacketList.push.Goals as goal
 
@@ -40,4 +40,12 @@ returns c =
     let made = c.insert_reserved-key.ensures in
     let lacks = vacant_lacks slots key made.was_vacant keys c.self.invariant.held in
     rw (← c.self.view_is, c.push_back_reserved.ensures.items)
-    (packet_pushed slots c.insert_reserved-key.new.self key c.args.packet made.updates keys lacks)
+    record {
+      was_vacant = made.was_vacant;
+      filled = made.updates.changed;
+      others = made.updates.others;
+      order = refl;
+      packets =
+          packet_pushed slots c.insert_reserved-key.new.self key c.args.packet made.updates keys
+          lacks;
+    }

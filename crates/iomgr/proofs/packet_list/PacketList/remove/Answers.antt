@@ -1,55 +1,61 @@
-use Rattle.std.proofs.Common.{◌≡◌, ◌≤◌, Some, length, refl, sym, arith}
-use Rattle.std.specs.Prelude.{slice_get}
-use Rattle.std.proofs.lemmas.Bool.{false≢true}
+use Rattle.std.proofs.Common.{◌≡◌, arith, refl}
 use Rattle.std.proofs.lemmas.List.Edits.{length-remove}
-use Rattle.std.proofs.lemmas.Option.{slice_get_read, slice_get_within}
-use Rattle.iomgr.proofs.Slots.{key_held, length_in, packet_removed, hold_removed, fewer_slots, remove_past}
-use Rattle.iomgr.specs.PacketList.{packets_in}
+use Rattle.iomgr.proofs.Slots.{key_held, key_there, packet_removed, hold_removed, left_numbers}
+use Rattle.iomgr.specs.Numbers.{number_place}
 use Rattle.iomgr.proofs.packet_list.PacketList.remove.Goals as goal
+
+pub remove-packet-requires : goal.remove-packet-requires
+remove-packet-requires c =
+    let keys = c.self.inside.keys.items in
+    let key = c.args.key in
+    let there = key_there keys key (rw (← c.self.view_is) at c.requires.held) in
+    key_held c.self.inside.slots key keys (number_place keys key) c.self.invariant.held there
 
 pub invariant_of-self : goal.invariant_of-self
 invariant_of-self c =
     let slots = c.self.inside.slots in
     let keys = c.self.inside.keys.items in
+    let key = c.args.key in
     let place = c.args.place in
-    let key = c.in-Some.key in
-    let there : slice_get keys place ≡ Some key =
-    slice_get_read keys _ place key refl (omega (arith, c.in-Some.ensures.variant.0 refl))
-    c.in-Some.ensures.value in
-    let gone = c.try_remove-packet.ensures in
-    let within = slice_get_within keys place key there in
-    let full = key_held slots key keys place c.self.invariant.held there in
-    let fewer = fewer_slots slots c.try_remove-packet.new.self key _ full gone.value gone.len in
-    rw c.in-Some.ensures.items
+    let within = rw (← c.self.view_is) at c.requires.held in
+    let same : number_place keys key ≡ place = rw (← c.self.view_is) at c.requires.place in
+    let there = rw same at (key_there keys key within) in
+    let taken = c.remove-key.ensures in
+    let left = left_numbers (λ d. d.items) c.remove-key.result c.self.inside.keys
+    c.remove-key.new.self place taken.items (λ l. taken.variant.1 (omega (arith, l)))
+    taken.unchanged in
+    let gone = c.remove-packet.ensures in
+    rw (left, taken.capacity)
     record {
       held =
-          hold_removed slots c.try_remove-packet.new.self key gone.updates keys place
+          hold_removed slots c.remove-packet.new.self key gone.updates keys place
           c.self.invariant.held there;
       counted =
-          omega (arith, fewer, c.self.invariant.counted, length-remove keys place within);
+          omega (
+            arith,
+            gone.len,
+            c.self.invariant.counted,
+            length-remove keys place (omega (arith, same, within)),
+          );
       slot_room = rw gone.capacity c.self.invariant.slot_room;
-      key_room = rw c.remove.ensures.capacity c.self.invariant.key_room;
+      key_room = c.self.invariant.key_room;
     }
 
-pub returns-in-Some : goal.returns-in-Some
-returns-in-Some c =
+pub returns : goal.returns
+returns c =
     let slots = c.self.inside.slots in
     let keys = c.self.inside.keys.items in
+    let key = c.args.key in
     let place = c.args.place in
-    let key = c.in-Some.key in
-    let there : slice_get keys place ≡ Some key =
-    slice_get_read keys _ place key refl (omega (arith, c.in-Some.ensures.variant.0 refl))
-    c.in-Some.ensures.value in
-    rw (← c.self.view_is, c.in-Some.ensures.items)
-    (packet_removed slots c.try_remove-packet.new.self key c.try_remove-packet.ensures.updates keys
-    place c.self.invariant.held there)
-
-pub returns-in_default : goal.returns-in_default
-returns-in_default c =
-    let slots = c.self.inside.slots in
-    let keys = c.self.inside.keys.items in
-    let none = c.in_default.ensures.variant.1 in
-    let behind : length keys ≤ c.args.place = grind (arith, none, false≢true) in
-    let past = remove_past (packets_in slots keys) c.args.place
-    (rw (length_in slots keys c.self.invariant.held) behind) in
-    rw (c.in_default.ensures.unchanged, ← c.self.view_is) (sym past)
+    let within = rw (← c.self.view_is) at c.requires.held in
+    let same : number_place keys key ≡ place = rw (← c.self.view_is) at c.requires.place in
+    let there = rw same at (key_there keys key within) in
+    let taken = c.remove-key.ensures in
+    let left = left_numbers (λ d. d.items) c.remove-key.result c.self.inside.keys
+    c.remove-key.new.self place taken.items (λ l. taken.variant.1 (omega (arith, l)))
+    taken.unchanged in
+    let gone = c.remove-packet.ensures in
+    let packets =
+    packet_removed slots c.remove-packet.new.self key gone.updates keys place
+    c.self.invariant.held there in
+    rw (← c.self.view_is, left, packets, gone.slots, same) refl
