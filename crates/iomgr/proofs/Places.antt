@@ -1,13 +1,12 @@
 -- Where a number stands in a list that rises, and how that list goes on.
-use Rattle.std.proofs.Common.{◌≡◌, ◌≢◌, ◌<◌, ◌≤◌, ◌+◌, ℕ, zero, suc, List, [], ◌∷◌, ◌++◌, Option, Some, None, Bool, true, false, cond, nat_eq, ltb, inl, inr, drop, add-one, length, get_or, ap, sym, ◌∙◌, refl, arith}
-use Rattle.std.specs.Prelude.{◌||◌, not, option_map, slice_get, slice_set, remove, OnSome, IfNone, IsSome}
+use Rattle.std.proofs.Common.{◌≡◌, ◌≢◌, ◌<◌, ◌≤◌, ◌+◌, ℕ, zero, suc, List, [], ◌∷◌, ◌++◌, Option, Some, None, Bool, true, false, cond, nat_eq, ltb, inl, inr, length, get_or, ap, ◌∙◌, refl, arith}
+use Rattle.std.specs.Prelude.{slice_get, slice_set, remove}
 use Rattle.std.specs.List.Sorted.{IsNonDecreasingBy, IsPartitionPoint}
-use Rattle.std.proofs.lemmas.Bool.{cases_eq, cases_lt, false≢true}
+use Rattle.std.proofs.lemmas.Bool.{cases_eq, cases_lt}
 use Rattle.std.proofs.lemmas.Bool.Decides.{nat_tests}
 use Rattle.std.proofs.lemmas.Option.{slice_get-get_or, slice_get_within, get_or_from_slice_get}
 use Rattle.model.specs.declared.world.Packet.{Packet}
 use Rattle.model.specs.World.{carried_up, mark_current, moved_up, place_of}
-use Rattle.iomgr.proofs.Slots.{remove_past}
 use Rattle.iomgr.specs.Numbers.{Rising, IsNumbered, is_number, is_at, number_place, numbers_of}
 
 -- a lower bound below

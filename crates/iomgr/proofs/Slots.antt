@@ -16,7 +16,7 @@ use Rattle.iomgr.specs.Slots.{packet_or_any}
 -- a slot that isn't among the keys
 pub packets_kept : (old new : Slab Packet) (key : ℕ) (slot : Option Packet)
     → Updates old new key slot → (keys : List ℕ) → Lacks key keys
-    → packets_in new keys ≡ packets_in old keys
+    → packets_in new.slots keys ≡ packets_in old.slots keys
 packets_kept old new key slot u [] l = refl
 packets_kept old new key slot u (other ∷ keys) l =
     let same = u.others other l.0 in
@@ -24,14 +24,14 @@ packets_kept old new key slot u (other ∷ keys) l =
     rw (same, rest) refl
 
 pub hold_kept : (old new : Slab Packet) (key : ℕ) (slot : Option Packet)
-    → Updates old new key slot → (keys : List ℕ) → Lacks key keys → Hold old keys → Hold new keys
+    → Updates old new key slot → (keys : List ℕ) → Lacks key keys → Hold old.slots keys → Hold new.slots keys
 hold_kept old new key slot u [] l h = tt
 hold_kept old new key slot u (other ∷ keys) l h =
     (rw (u.others other l.0) h.0, h.1, hold_kept old new key slot u keys l.1 h.2)
 
 -- a key without a packet isn't among them
 pub vacant_lacks : (slots : Slab Packet) (key : ℕ) → get slots key ≡ None → (keys : List ℕ)
-    → Hold slots keys → Lacks key keys
+    → Hold slots.slots keys → Lacks key keys
 vacant_lacks slots key vacant [] h = tt
 vacant_lacks slots key vacant (other ∷ keys) h =
     (λ e. absurd (false≢true (rw (e, vacant) at h.0)), vacant_lacks slots key vacant keys h.2)
@@ -46,7 +46,7 @@ lacks_at key other (first ∷ keys) zero l found =
 lacks_at key other (first ∷ keys) (suc place) l found = lacks_at key other keys place l.1 found
 
 -- a key that is among them has a packet
-pub key_held : (slots : Slab Packet) (key : ℕ) (keys : List ℕ) (place : ℕ) → Hold slots keys
+pub key_held : (slots : Slab Packet) (key : ℕ) (keys : List ℕ) (place : ℕ) → Hold slots.slots keys
     → slice_get keys place ≡ Some key → ContainsKey slots key
 key_held slots key [] place h found = absurd (cc)
 key_held slots key (first ∷ keys) zero h found =
@@ -55,25 +55,25 @@ key_held slots key (first ∷ keys) zero h found =
 key_held slots key (first ∷ keys) (suc place) h found = key_held slots key keys place h.2 found
 
 -- how many packets there are
-pub length_in : (slots : Slab Packet) (keys : List ℕ) → Hold slots keys
-    → length (packets_in slots keys) ≡ length keys
+pub length_in : (slots : Slab Packet) (keys : List ℕ) → Hold slots.slots keys
+    → length (packets_in slots.slots keys) ≡ length keys
 length_in slots [] h = refl
 length_in slots (key ∷ keys) h = by (get slots key) h.0 (length_in slots keys h.2)
   where
-    by : (slot : Option Packet) → IsSome slot → length (packets_in slots keys) ≡ length keys
-        → length (cons_option slot (packets_in slots keys)) ≡ suc (length keys)
+    by : (slot : Option Packet) → IsSome slot → length (packets_in slots.slots keys) ≡ length keys
+        → length (cons_option slot (packets_in slots.slots keys)) ≡ suc (length keys)
     by None some rest = absurd (false≢true some)
     by (Some p) some rest = ap (λ (n : ℕ). suc n) rest
 
 -- the packet at a place, and behind the last
-pub packet_at : (slots : Slab Packet) (key : ℕ) (keys : List ℕ) (place : ℕ) → Hold slots keys
+pub packet_at : (slots : Slab Packet) (key : ℕ) (keys : List ℕ) (place : ℕ) → Hold slots.slots keys
     → slice_get keys place ≡ Some key
-    → slice_get (packets_in slots keys) place ≡ get slots key
+    → slice_get (packets_in slots.slots keys) place ≡ get slots key
 packet_at slots key [] place h found = absurd (cc)
 packet_at slots key (first ∷ keys) zero h found = by (get slots first) h.0 refl
   where
     by : (slot : Option Packet) → IsSome slot → get slots first ≡ slot
-        → slice_get (cons_option slot (packets_in slots keys)) zero ≡ get slots key
+        → slice_get (cons_option slot (packets_in slots.slots keys)) zero ≡ get slots key
     by None some is = absurd (false≢true some)
     by (Some p) some is =
         let same : first ≡ key = cc in
@@ -82,20 +82,20 @@ packet_at slots key (first ∷ keys) (suc place) h found =
     by (get slots first) h.0 (packet_at slots key keys place h.2 found)
   where
     by : (slot : Option Packet) → IsSome slot
-        → slice_get (packets_in slots keys) place ≡ get slots key
-        → slice_get (cons_option slot (packets_in slots keys)) (suc place) ≡ get slots key
+        → slice_get (packets_in slots.slots keys) place ≡ get slots key
+        → slice_get (cons_option slot (packets_in slots.slots keys)) (suc place) ≡ get slots key
     by None some rest = absurd (false≢true some)
     by (Some p) some rest = rest
 
-pub packet_past : (slots : Slab Packet) (keys : List ℕ) (place : ℕ) → Hold slots keys
-    → length keys ≤ place → slice_get (packets_in slots keys) place ≡ None
+pub packet_past : (slots : Slab Packet) (keys : List ℕ) (place : ℕ) → Hold slots.slots keys
+    → length keys ≤ place → slice_get (packets_in slots.slots keys) place ≡ None
 packet_past slots keys place h past =
-    slice_get_past (packets_in slots keys) place (rw (length_in slots keys h) past)
+    slice_get_past (packets_in slots.slots keys) place (rw (length_in slots keys h) past)
 
 -- another packet in the slot of one that is there
 pub packet_set : (old new : Slab Packet) (key : ℕ) (p : Packet) → Updates old new key (Some p)
-    → (keys : List ℕ) (place : ℕ) → Hold old keys → slice_get keys place ≡ Some key
-    → packets_in new keys ≡ slice_set (packets_in old keys) place p
+    → (keys : List ℕ) (place : ℕ) → Hold old.slots keys → slice_get keys place ≡ Some key
+    → packets_in new.slots keys ≡ slice_set (packets_in old.slots keys) place p
 packet_set old new key p u [] place h found = absurd (cc)
 packet_set old new key p u (first ∷ keys) zero h found =
     let same : first ≡ key = cc in
@@ -103,7 +103,7 @@ packet_set old new key p u (first ∷ keys) zero h found =
     rw (same, u.changed, rest) (by (get old key) (rw same at h.0))
   where
     by : (slot : Option Packet) → IsSome slot
-        → p ∷ packets_in old keys ≡ slice_set (cons_option slot (packets_in old keys)) zero p
+        → p ∷ packets_in old.slots keys ≡ slice_set (cons_option slot (packets_in old.slots keys)) zero p
     by None some = absurd (false≢true some)
     by (Some q) some = refl
 packet_set old new key p u (first ∷ keys) (suc place) h found =
@@ -112,13 +112,13 @@ packet_set old new key p u (first ∷ keys) (suc place) h found =
     rw (same, rest) (by (get old first) h.0)
   where
     by : (slot : Option Packet) → IsSome slot
-        → cons_option slot (slice_set (packets_in old keys) place p)
-        ≡ slice_set (cons_option slot (packets_in old keys)) (suc place) p
+        → cons_option slot (slice_set (packets_in old.slots keys) place p)
+        ≡ slice_set (cons_option slot (packets_in old.slots keys)) (suc place) p
     by None some = absurd (false≢true some)
     by (Some q) some = refl
 
 pub hold_set : (old new : Slab Packet) (key : ℕ) (p : Packet) → Updates old new key (Some p)
-    → (keys : List ℕ) → Hold old keys → Hold new keys
+    → (keys : List ℕ) → Hold old.slots keys → Hold new.slots keys
 hold_set old new key p u [] h = tt
 hold_set old new key p u (first ∷ keys) h =
     (by (cases_eq first key), h.1, hold_set old new key p u keys h.2)
@@ -156,8 +156,8 @@ lacks_removed key (first ∷ keys) zero l = l.1
 lacks_removed key (first ∷ keys) (suc place) l = (l.0, lacks_removed key keys place l.1)
 
 pub packet_removed : (old new : Slab Packet) (key : ℕ) → Updates old new key None
-    → (keys : List ℕ) (place : ℕ) → Hold old keys → slice_get keys place ≡ Some key
-    → packets_in new (remove keys place) ≡ remove (packets_in old keys) place
+    → (keys : List ℕ) (place : ℕ) → Hold old.slots keys → slice_get keys place ≡ Some key
+    → packets_in new.slots (remove keys place) ≡ remove (packets_in old.slots keys) place
 packet_removed old new key u [] place h found = absurd (cc)
 packet_removed old new key u (first ∷ keys) zero h found =
     let same : first ≡ key = cc in
@@ -165,7 +165,7 @@ packet_removed old new key u (first ∷ keys) zero h found =
     rw rest (by (get old first) h.0)
   where
     by : (slot : Option Packet) → IsSome slot
-        → packets_in old keys ≡ remove (cons_option slot (packets_in old keys)) zero
+        → packets_in old.slots keys ≡ remove (cons_option slot (packets_in old.slots keys)) zero
     by None some = absurd (false≢true some)
     by (Some q) some = refl
 packet_removed old new key u (first ∷ keys) (suc place) h found =
@@ -174,14 +174,14 @@ packet_removed old new key u (first ∷ keys) (suc place) h found =
     rw (same, rest) (by (get old first) h.0)
   where
     by : (slot : Option Packet) → IsSome slot
-        → cons_option slot (remove (packets_in old keys) place)
-        ≡ remove (cons_option slot (packets_in old keys)) (suc place)
+        → cons_option slot (remove (packets_in old.slots keys) place)
+        ≡ remove (cons_option slot (packets_in old.slots keys)) (suc place)
     by None some = absurd (false≢true some)
     by (Some q) some = refl
 
 pub hold_removed : (old new : Slab Packet) (key : ℕ) → Updates old new key None
-    → (keys : List ℕ) (place : ℕ) → Hold old keys → slice_get keys place ≡ Some key
-    → Hold new (remove keys place)
+    → (keys : List ℕ) (place : ℕ) → Hold old.slots keys → slice_get keys place ≡ Some key
+    → Hold new.slots (remove keys place)
 hold_removed old new key u [] place h found = absurd (cc)
 hold_removed old new key u (first ∷ keys) zero h found =
     let same : first ≡ key = cc in
@@ -200,7 +200,7 @@ lacks_pushed key other (first ∷ keys) l differs = (l.0, lacks_pushed key other
 
 pub packet_pushed : (old new : Slab Packet) (key : ℕ) (p : Packet) → Updates old new key (Some p)
     → (keys : List ℕ) → Lacks key keys
-    → packets_in new (keys ++ key ∷ []) ≡ packets_in old keys ++ p ∷ []
+    → packets_in new.slots (keys ++ key ∷ []) ≡ packets_in old.slots keys ++ p ∷ []
 packet_pushed old new key p u [] l = rw u.changed refl
 packet_pushed old new key p u (first ∷ keys) l =
     let same = u.others first l.0 in
@@ -208,13 +208,13 @@ packet_pushed old new key p u (first ∷ keys) l =
     rw (same, rest) (by (get old first))
   where
     by : (slot : Option Packet)
-        → cons_option slot (packets_in old keys ++ p ∷ [])
-        ≡ cons_option slot (packets_in old keys) ++ p ∷ []
+        → cons_option slot (packets_in old.slots keys ++ p ∷ [])
+        ≡ cons_option slot (packets_in old.slots keys) ++ p ∷ []
     by None = refl
     by (Some q) = refl
 
 pub hold_pushed : (old new : Slab Packet) (key : ℕ) (p : Packet) → Updates old new key (Some p)
-    → (keys : List ℕ) → Lacks key keys → Hold old keys → Hold new (keys ++ key ∷ [])
+    → (keys : List ℕ) → Lacks key keys → Hold old.slots keys → Hold new.slots (keys ++ key ∷ [])
 hold_pushed old new key p u [] l h = (rw u.changed refl, tt, tt)
 hold_pushed old new key p u (first ∷ keys) l h = (
   rw (u.others first l.0) h.0,
@@ -250,7 +250,7 @@ key_there (first ∷ keys) key within =
           rw e.0 (key_there keys key (omega (arith, behind)))
     ]
 
-pub key_place : (slots : Slab Packet) (keys : List ℕ) (place key : ℕ) → Hold slots keys
+pub key_place : (slots : Slab Packet) (keys : List ℕ) (place key : ℕ) → Hold slots.slots keys
     → slice_get keys place ≡ Some key → number_place keys key ≡ place
 key_place slots [] place key h found = absurd (cc)
 key_place slots (first ∷ keys) zero key h found =

@@ -1,10 +1,11 @@
 -- The live packets by the slots in which they lie. The key of a packet is that of its slot, and
 -- stays while the packet lives.
-use Rattle.std.specs.Prelude.{◌≡◌, ◌≢◌, ◌<◌, ◌++◌, ℕ, List, [], ◌∷◌, Option, None, Some, length, remove, slice_index_or, slice_set}
+use Rattle.std.specs.Prelude.{◌≡◌, ◌≢◌, ◌<◌, ◌++◌, ℕ, List, [], ◌∷◌, Option, None, Some, count_by, is_some, length, remove, slice_set}
 use Rattle.model.specs.declared.status.Major.TheVariants.{Read}
 use Rattle.model.specs.declared.world.Packet.{Packet}
 use Rattle.model.specs.World.{new_packet}
-use Rattle.iomgr.specs.Numbers.{number_place}
+use Rattle.iomgr.specs.Numbers.{Rising, number_place, numbers_of}
+use Rattle.iomgr.specs.PacketList.{Hold, packets_in, under}
 use Rattle.iomgr.specs.Table.{Table}
 
 -- what lies in each slot, the keys of the live packets in the order of issue, and these packets
@@ -18,7 +19,7 @@ no_slots = record { lying = []; order = []; packets = [] }
 
 -- what lies under a key
 abbrev pub lies_at : Slots → ℕ → Option Packet
-lies_at s key = slice_index_or s.lying key None
+lies_at s key = under s.lying key
 
 -- the packet that lies there; any packet where none does
 abbrev pub packet_or_any : Option Packet → Packet
@@ -34,6 +35,13 @@ place_at s key = number_place s.order key
 
 abbrev pub Holds : Slots → ℕ → Type 0
 Holds s key = place_at s key < length s.order
+
+-- each key of the order has a packet, and none stands twice; no further slot has one; and the
+-- packets are these
+pub record IsOrdered (s : Slots) : Type 0 where
+  pub held : Hold s.lying s.order
+  pub counted : count_by is_some s.lying ≡ length s.order
+  pub packets : s.packets ≡ packets_in s.lying s.order
 
 -- another packet under a key
 abbrev pub with_slot : Slots → ℕ → Packet → Slots
@@ -71,6 +79,11 @@ none_issued = record { live = no_slots; issued = 0 }
 -- the same by the packets alone
 abbrev pub table_in : SlotTable → Table
 table_in t = record { packets = t.live.packets; issued = t.issued }
+
+-- the packets are in order, with numbers that rise
+pub record IsInOrder (t : SlotTable) : Type 0 where
+  pub live : IsOrdered t.live
+  pub rising : Rising 0 t.issued (numbers_of t.live.packets)
 
 -- another packet under a key
 abbrev pub with_packet_at : SlotTable → ℕ → Packet → SlotTable

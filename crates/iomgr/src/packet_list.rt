@@ -29,7 +29,7 @@ impl Model for PacketList {
     ghost view = { λ l. record {
       lying = l.slots.slots;
       order = l.keys.items;
-      packets = packets_in l.slots l.keys.items;
+      packets = packets_in l.slots.slots l.keys.items;
     } };
 
     ghost invariant = { λ l. IsSound l.slots l.keys.items (deque_capacity l.keys) };
@@ -38,7 +38,7 @@ impl Model for PacketList {
 impl PacketList {
     ghost use Rattle.std.specs.Borrow.{sem};
     ghost use Rattle.iomgr.specs.Lending.{LendsSlot};
-    ghost use Rattle.iomgr.specs.Slots.{Holds, IsFilled, no_slots, packet_at, place_at, without_slot};
+    ghost use Rattle.iomgr.specs.Slots.{Holds, IsFilled, IsOrdered, no_slots, packet_at, place_at, without_slot};
 
     /// An empty list. An error where memory for all packets that may live at once is refused; no
     /// other call needs any.
@@ -49,6 +49,13 @@ impl PacketList {
             slots: Slab::with_capacity(alloc, MAX_LIVE_PACKETS)?,
             keys: VecDeque::with_capacity(alloc, MAX_LIVE_PACKETS)?,
         })
+    }
+
+    /// The keys, the slots and the packets agree: a law of all lists, which runs nothing.
+    pub fn slots_are_in_order(&self)
+        ensures { IsOrdered self.now }
+    {
+        let _ = &self.slots;
     }
 
     /// How many packets there are.

@@ -59,7 +59,7 @@ impl Model for PacketTable {
 impl PacketTable {
     ghost use Rattle.model.specs.Events.{can_issue};
     ghost use Rattle.model.specs.World.{new_packet, packet_in, place_of};
-    ghost use Rattle.iomgr.specs.Slots.{Holds, IsFilled, none_issued, packet_at, place_at, table_in, without_packet_at};
+    ghost use Rattle.iomgr.specs.Slots.{Holds, IsFilled, IsInOrder, none_issued, packet_at, place_at, table_in, without_packet_at};
     ghost use Rattle.iomgr.specs.Table.{shared_of, live_packet, with_issued};
 
     /// No packets. An error where memory for all that may live at once is refused; no other call
@@ -72,6 +72,14 @@ impl PacketTable {
             numbers: VecDeque::with_capacity(alloc, MAX_LIVE_PACKETS)?,
             issued_count: 0,
         })
+    }
+
+    /// The keys, the slots and the packets agree, and numbers rise: a law of all tables, for who
+    /// holds keys. It runs nothing.
+    pub fn keys_are_in_order(&self)
+        ensures { IsInOrder self.now }
+    {
+        self.live.slots_are_in_order();
     }
 
     /// How many packets were ever issued.
@@ -147,7 +155,9 @@ impl PacketTable {
     /// The packet of a key.
     pub fn packet(&self, key: Key) -> &Packet
         requires { Holds self.now.live key }
-        ensures { result.now ≡ packet_at self.now.live key }
+        ensures packet { result.now ≡ packet_at self.now.live key }
+        ensures listed { let place = place_at self.now.live key in
+            slice_get self.now.live.packets place ≡ Some result.now }
     {
         self.live.packet(key.slot)
     }

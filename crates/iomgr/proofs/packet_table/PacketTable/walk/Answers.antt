@@ -1,4 +1,3 @@
-use Rattle.std.proofs.Common.{Some, ap, ◌∙◌, sym}
 use Rattle.iomgr.proofs.Walks.{walked_agrees, walked_by_key}
 use Rattle.iomgr.specs.Slots.{table_in}
 use Rattle.iomgr.proofs.packet_table.PacketTable.walk.Goals as goal
