@@ -1,9 +1,9 @@
 -- Packets of the table that the I/O manager lends to completion routines that may hold them.
-use Rattle.std.specs.Prelude.{ℕ, true, false, Option, None, Some}
+use Rattle.std.specs.Prelude.{ℕ, Option, None, Some}
 use Rattle.model.specs.declared.set.Sort.TheVariants.{Hold}
 use Rattle.model.specs.declared.world.Packet.{Packet}
 use Rattle.model.specs.Effect.{lent_to}
-use Rattle.iomgr.specs.Table.{Changed, Table, live_packet, with_live}
+use Rattle.iomgr.specs.Table.{Table, live_packet, with_live}
 
 -- a packet is lent, where it is live
 abbrev pub lent_packet : Table → ℕ → Option Packet → Table
@@ -12,12 +12,3 @@ lent_packet table n (Some p) = with_live table n (lent_to Hold p)
 
 abbrev pub lent : Table → ℕ → Table
 lent table n = lent_packet table n (live_packet table n)
-
--- and given back
-abbrev pub given_back_packet : Table → ℕ → Option Packet → Changed
-given_back_packet table n None = record { table = table; live = false }
-given_back_packet table n (Some p) =
-    record { table = with_live table n (record p { completing = true }); live = true }
-
-abbrev pub given_back_from : Table → ℕ → Changed
-given_back_from table n = given_back_packet table n (live_packet table n)

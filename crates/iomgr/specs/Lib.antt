@@ -5,4 +5,3 @@ pub mod Slots
 pub mod Walk
 pub mod Lending
 pub mod Hold
-pub mod Cancelling

@@ -1,6 +1,6 @@
 -- The packet table: the part of a world that the I/O manager keeps of its packets. Its words are
 -- those of the world, on the table alone.
-use Rattle.std.specs.Prelude.{ℕ, Bool, ◌+◌, ◌++◌, List, [], ◌∷◌, Option, slice_get, slice_set, remove}
+use Rattle.std.specs.Prelude.{ℕ, ◌+◌, ◌++◌, List, [], ◌∷◌, Option, slice_get, slice_set, remove}
 use Rattle.model.specs.declared.world.Packet.{Packet}
 use Rattle.model.specs.World.{Shared, free_locks, place_of}
 
@@ -54,8 +54,3 @@ without_live table n = without_place table (place_of table.packets n)
 -- the same with a packet issued
 abbrev pub with_issued : Table → Packet → Table
 with_issued table p = record { packets = table.packets ++ p ∷ []; issued = table.issued + 1 }
-
--- a table after a change of one packet, and whether that packet is live
-pub record Changed : Type 0 where
-  pub table : Table
-  pub live : Bool

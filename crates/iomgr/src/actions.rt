@@ -69,7 +69,7 @@ impl PacketTable {
     }
 
     /// The I/O manager has the packet again, and goes on with its completion.
-    pub fn take_back(&mut self, key: Key)
+    pub fn give_back(&mut self, key: Key)
         requires { Holds self.old.live key }
         ensures { let packet = packet_at self.old.live key in
             self.new ≡ with_packet_at self.old key (record packet { completing = true }) }
@@ -78,7 +78,7 @@ impl PacketTable {
     }
 
     /// IoCancelIrp: the packet is to be cancelled.
-    pub fn flag(&mut self, key: Key)
+    pub fn cancel(&mut self, key: Key)
         requires { Holds self.old.live key }
         ensures { let packet = packet_at self.old.live key in
             self.new ≡ with_packet_at self.old key (cancelled packet) }
@@ -87,7 +87,7 @@ impl PacketTable {
     }
 
     /// IoSetCancelRoutine: the cancel word becomes this one, and what it was is answered.
-    pub fn exchange_word(&mut self, key: Key, armer: Option<Armer>) -> Option<Armer>
+    pub fn exchange(&mut self, key: Key, armer: Option<Armer>) -> Option<Armer>
         requires { Holds self.old.live key }
         ensures word { result ≡ (packet_at self.old.live key).armer }
         ensures packet { let packet = packet_at self.old.live key in

@@ -2,13 +2,11 @@
 #![tactic(auto)]
 
 mod actions;
-pub mod cancelling;
 mod lending;
 mod numbers;
 mod packet_list;
 pub mod packet_table;
 pub mod walk;
 
-pub use cancelling::Exchanged;
 pub use packet_table::{Key, PacketTable};
 pub use walk::WalkStep;

@@ -43,7 +43,7 @@ impl Shared {
             device: a.device,
             queue: QueueName::Declared(q),
         };
-        let _before = self.packet_table.exchange_word(key, Some(word));
+        let _before = self.packet_table.exchange(key, Some(word));
         a.position += 1;
         Ran::Stays(Reply::Stepped)
     }
@@ -60,7 +60,7 @@ impl Shared {
         let Some(key) = self.packet_table.find(n) else {
             return Ran::Stays(packet_bug(BugCheck::IrqlNotLessOrEqual, n));
         };
-        let was = self.packet_table.exchange_word(key, None);
+        let was = self.packet_table.exchange(key, None);
         if was.is_none() {
             a.position = label;
             return Ran::Stays(Reply::Stepped);
@@ -111,10 +111,11 @@ impl Shared {
             → left_of self.new (cancels_next n CancelStep.SetFlag) result
             ≡ frame_now set self.old runner below (cancels_next n CancelStep.SetFlag) }
     {
-        if self.packet_table.set_cancel(n) {
-            return Ran::Becomes(cancelling(n, CancelStep::Exchange));
-        }
-        self.end_cancel(runner)
+        let Some(key) = self.packet_table.find(n) else {
+            return self.end_cancel(runner);
+        };
+        self.packet_table.cancel(key);
+        Ran::Becomes(cancelling(n, CancelStep::Exchange))
     }
 
     /// The third step: it exchanges the packet's cancel routine with none, if the packet is live.
@@ -134,7 +135,7 @@ impl Shared {
         if called.is_none() && !self.owns_cancel(runner) {
             return Ran::Stays(lock_bug(BugCheck::SpinLockNotOwned, Lock::SystemCancel));
         }
-        let _was = self.packet_table.exchange_word(key, None);
+        let _was = self.packet_table.exchange(key, None);
         match called {
             Some(over) => Ran::Becomes(over),
             None => self.free_cancel(),

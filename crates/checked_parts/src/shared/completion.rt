@@ -136,10 +136,13 @@ impl Shared {
         let Some(n) = under.and_then(|frame| frame.completed_packet()) else {
             return Ran::Gone(Reply::Stepped);
         };
-        if self.is_gone(n) {
-            return Ran::Stays(packet_bug(BugCheck::IrqlNotLessOrEqual, n));
-        }
-        let _live = self.packet_table.give_back(n);
+        let Some(key) = self.packet_table.find(n) else {
+            if self.is_issued(n) {
+                return Ran::Stays(packet_bug(BugCheck::IrqlNotLessOrEqual, n));
+            }
+            return Ran::Gone(Reply::Stepped);
+        };
+        self.packet_table.give_back(key);
         Ran::Gone(Reply::Stepped)
     }
 

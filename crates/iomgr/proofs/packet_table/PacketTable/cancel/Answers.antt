@@ -1,7 +1,7 @@
 use Rattle.std.proofs.Common.{ap}
 use Rattle.model.specs.declared.world.Packet.{Packet}
 use Rattle.iomgr.proofs.Places.{numbered_with}
-use Rattle.iomgr.proofs.packet_table.PacketTable.flag.Goals as goal
+use Rattle.iomgr.proofs.packet_table.PacketTable.cancel.Goals as goal
 
 pub invariant_of-self : goal.invariant_of-self
 invariant_of-self c =
