@@ -10,8 +10,7 @@ use Rattle.model.specs.declared.world.Packet.{Packet}
 use Rattle.slab.specs.Slab.{Slab, ContainsKey, Updates, get, slab_len, with_value}
 use Rattle.slab.proofs.SlabLemmas.{ContainsKey-within}
 use Rattle.iomgr.specs.Numbers.{number_place}
-use Rattle.iomgr.specs.PacketList.{packets_in, Lacks, Hold}
-use Rattle.iomgr.specs.Slots.{packet_or_any}
+use Rattle.iomgr.specs.Slots.{Hold, Lacks, packet_or_any, packets_in}
 
 -- a slot that isn't among the keys
 pub packets_kept : (old new : Slab Packet) (key : ℕ) (slot : Option Packet)

@@ -1,7 +1,7 @@
 pub mod Numbers
-pub mod PacketList
 pub mod Table
 pub mod Slots
+pub mod PacketList
 pub mod Walk
 pub mod Lending
 pub mod Hold

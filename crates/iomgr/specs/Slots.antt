@@ -1,12 +1,29 @@
 -- The live packets by the slots in which they lie. The key of a packet is that of its slot, and
 -- stays while the packet lives.
-use Rattle.std.specs.Prelude.{◌≡◌, ◌≢◌, ◌<◌, ◌++◌, ℕ, List, [], ◌∷◌, Option, None, Some, count_by, is_some, length, remove, slice_set}
+use Rattle.std.specs.Prelude.{◌≡◌, ◌≢◌, ◌<◌, ◌++◌, ℕ, List, [], ◌∷◌, ⊤, IsSome, Option, None, Some, count_by, filter_map, is_some, length, remove, slice_get, slice_index_or, slice_set}
 use Rattle.model.specs.declared.status.Major.TheVariants.{Read}
 use Rattle.model.specs.declared.world.Packet.{Packet}
-use Rattle.model.specs.World.{new_packet}
+use Rattle.model.specs.World.{new_packet, place_of}
 use Rattle.iomgr.specs.Numbers.{Rising, number_place, numbers_of}
-use Rattle.iomgr.specs.PacketList.{Hold, packets_in, under}
 use Rattle.iomgr.specs.Table.{Table}
+
+-- what lies under a key
+abbrev pub under : List (Option Packet) → ℕ → Option Packet
+under lying key = slice_index_or lying key None
+
+-- the packets that lie under these keys
+abbrev pub packets_in : List (Option Packet) → List ℕ → List Packet
+packets_in lying keys = filter_map (under lying) keys
+
+-- none of these keys is that one
+abbrev pub Lacks : ℕ → List ℕ → Type 0
+Lacks key [] = ⊤
+Lacks key (other ∷ keys) = (other ≢ key) × Lacks key keys
+
+-- each key has a packet, and none stands twice
+abbrev pub Hold : List (Option Packet) → List ℕ → Type 0
+Hold lying [] = ⊤
+Hold lying (key ∷ keys) = IsSome (under lying key) × Lacks key keys × Hold lying keys
 
 -- what lies in each slot, the keys of the live packets in the order of issue, and these packets
 pub record Slots : Type 0 where
@@ -79,6 +96,10 @@ none_issued = record { live = no_slots; issued = 0 }
 -- the same by the packets alone
 abbrev pub table_in : SlotTable → Table
 table_in t = record { packets = t.live.packets; issued = t.issued }
+
+-- the key of the live packet of a number
+abbrev pub key_of : SlotTable → ℕ → Option ℕ
+key_of t n = slice_get t.live.order (place_of t.live.packets n)
 
 -- the packets are in order, with numbers that rise
 pub record IsInOrder (t : SlotTable) : Type 0 where

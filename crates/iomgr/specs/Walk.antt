@@ -13,7 +13,7 @@ use Rattle.model.specs.World.{Shared, current_location, completion_of, left_loca
 use Rattle.iomgr.specs.declared.walk.WalkStep.{WalkStep}
 use Rattle.iomgr.specs.declared.walk.WalkStep.TheVariants.{Missing, Runs, Ascends, TopsOut}
 use Rattle.iomgr.specs.Hold.{lent}
-use Rattle.iomgr.specs.Slots.{SlotTable, with_packet_at, without_packet_at}
+use Rattle.iomgr.specs.Slots.{SlotTable, key_of, packet_at, with_packet_at, without_packet_at}
 use Rattle.iomgr.specs.Table.{Table, live_packet, table_of, with_live, with_table, without_live}
 
 -- what a step leaves: the table, and what was done
@@ -60,6 +60,13 @@ steps_from t key p None = if nat_lt 1 p.depth then steps_up t key p else steps_o
 
 abbrev pub walked_at : SlotTable → ℕ → Packet → Stepped
 walked_at t key p = steps_from t key (left_location p) (completion_of (current_location p))
+
+abbrev pub walked_found : SlotTable → Option ℕ → Stepped
+walked_found t None = record { slots = t; step = Missing }
+walked_found t (Some key) = walked_at t key (packet_at t.live key)
+
+abbrev pub walked_by : SlotTable → ℕ → Stepped
+walked_by t n = walked_found t (key_of t n)
 
 -- a completion routine that may hold the packet is lent it after that
 abbrev pub lent_if : Sort → Shared → ℕ → Shared

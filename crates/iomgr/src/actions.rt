@@ -16,7 +16,7 @@ impl PacketTable {
         ensures { let packet = packet_at self.old.live key in
             self.new ≡ with_packet_at self.old key (with_info packet info) }
     {
-        self.live.packet_mut(key.slot).set_info(info);
+        self.live.packet_mut(key.slot()).set_info(info);
     }
 
     /// IoMarkIrpPending: marks the current location.
@@ -25,7 +25,7 @@ impl PacketTable {
         ensures { let packet = packet_at self.old.live key in
             self.new ≡ with_packet_at self.old key (mark_current packet) }
     {
-        self.live.packet_mut(key.slot).mark();
+        self.live.packet_mut(key.slot()).mark();
     }
 
     /// IoSkipCurrentIrpStackLocation and IoCallDriver: the lower device is asked in the current
@@ -35,7 +35,7 @@ impl PacketTable {
         ensures { let packet = packet_at self.old.live key in
             self.new ≡ with_packet_at self.old key (shared_with packet device) }
     {
-        self.live.packet_mut(key.slot).share(device);
+        self.live.packet_mut(key.slot()).share(device);
     }
 
     /// IoCopyCurrentIrpStackLocationToNext, IoSetCompletionRoutine and IoCallDriver: the lower
@@ -47,7 +47,7 @@ impl PacketTable {
         ensures { let packet = packet_at self.old.live key in
             self.new ≡ with_packet_at self.old key (sent_down packet device completion) }
     {
-        self.live.packet_mut(key.slot).down(device, completion);
+        self.live.packet_mut(key.slot()).down(device, completion);
     }
 
     /// IoCompleteRequest: the I/O manager has the packet, with its final status.
@@ -56,7 +56,7 @@ impl PacketTable {
         ensures { let packet = packet_at self.old.live key in
             self.new ≡ with_packet_at self.old key (completed packet status) }
     {
-        self.live.packet_mut(key.slot).complete(status);
+        self.live.packet_mut(key.slot()).complete(status);
     }
 
     /// The I/O manager lends the packet to a completion routine that may hold it.
@@ -65,7 +65,7 @@ impl PacketTable {
         ensures { let packet = packet_at self.old.live key in
             self.new ≡ with_packet_at self.old key (record packet { completing = false }) }
     {
-        self.live.packet_mut(key.slot).lend();
+        self.live.packet_mut(key.slot()).lend();
     }
 
     /// The I/O manager has the packet again, and goes on with its completion.
@@ -74,7 +74,7 @@ impl PacketTable {
         ensures { let packet = packet_at self.old.live key in
             self.new ≡ with_packet_at self.old key (record packet { completing = true }) }
     {
-        self.live.packet_mut(key.slot).give_back();
+        self.live.packet_mut(key.slot()).give_back();
     }
 
     /// IoCancelIrp: the packet is to be cancelled.
@@ -83,7 +83,7 @@ impl PacketTable {
         ensures { let packet = packet_at self.old.live key in
             self.new ≡ with_packet_at self.old key (cancelled packet) }
     {
-        self.live.packet_mut(key.slot).cancel();
+        self.live.packet_mut(key.slot()).cancel();
     }
 
     /// IoSetCancelRoutine: the cancel word becomes this one, and what it was is answered.
@@ -93,6 +93,6 @@ impl PacketTable {
         ensures packet { let packet = packet_at self.old.live key in
             self.new ≡ with_packet_at self.old key (with_armer packet armer) }
     {
-        self.live.packet_mut(key.slot).exchange(armer)
+        self.live.packet_mut(key.slot()).exchange(armer)
     }
 }

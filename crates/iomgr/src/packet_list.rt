@@ -21,8 +21,8 @@ pub struct PacketList {
 
 impl Model for PacketList {
     ghost use Rattle.std.specs.VecDeque.{deque_capacity};
-    ghost use Rattle.iomgr.specs.PacketList.{packets_in, IsSound};
-    ghost use Rattle.iomgr.specs.Slots.{Slots};
+    ghost use Rattle.iomgr.specs.PacketList.{IsSound};
+    ghost use Rattle.iomgr.specs.Slots.{Slots, packets_in};
 
     ghost Value = { Slots };
 

@@ -17,7 +17,7 @@ use std::marker::Model;
 /// Contracts see a number.
 #[derive(Clone, Copy)]
 pub struct Key {
-    pub(crate) slot: usize,
+    slot: usize,
 }
 
 impl Model for Key {
@@ -28,6 +28,22 @@ impl Model for Key {
     ghost view = { λ k. k.slot };
 
     ghost inverse = { λ n. record { slot = n } };
+}
+
+impl Key {
+    /// The key of a slot.
+    pub fn of(slot: usize) -> Key
+        ensures { result ≡ slot }
+    {
+        Key { slot }
+    }
+
+    /// The slot whose key it is.
+    pub fn slot(self) -> usize
+        ensures { result ≡ self }
+    {
+        self.slot
+    }
 }
 
 /// The live packets in the order of their issue, with room for all that may live at once, and how
@@ -59,7 +75,7 @@ impl Model for PacketTable {
 impl PacketTable {
     ghost use Rattle.model.specs.Events.{can_issue};
     ghost use Rattle.model.specs.World.{new_packet, packet_in, place_of};
-    ghost use Rattle.iomgr.specs.Slots.{Holds, IsFilled, IsInOrder, none_issued, packet_at, place_at, table_in, without_packet_at};
+    ghost use Rattle.iomgr.specs.Slots.{Holds, IsFilled, IsInOrder, key_of, none_issued, packet_at, place_at, table_in, without_packet_at};
     ghost use Rattle.iomgr.specs.Table.{shared_of, live_packet, with_issued};
 
     /// No packets. An error where memory for all that may live at once is refused; no other call
@@ -112,7 +128,7 @@ impl PacketTable {
             .push(Packet::new(number, device, major, argument, stack));
         self.numbers.push_back_reserved(number);
         self.issued_count += 1;
-        Key { slot }
+        Key::of(slot)
     }
 
     /// The packet that a value refers to: one that was issued, live or not.
@@ -134,7 +150,7 @@ impl PacketTable {
 
     /// The key of the live packet of a number.
     pub fn find(&self, n: u64) -> Option<Key>
-        ensures key { result ≡ slice_get self.now.live.order (place_of self.now.live.packets n) }
+        ensures key { result ≡ key_of self.now n }
         ensures packet { option_map (packet_at self.now.live) result
             ≡ live_packet (table_in self.now) n }
         ensures holds { IfSome result (Holds self.now.live) }
@@ -142,7 +158,7 @@ impl PacketTable {
             place_at self.now.live key ≡ place_of self.now.live.packets n) }
     {
         let slot = self.live.key(self.place(n))?;
-        Some(Key { slot })
+        Some(Key::of(slot))
     }
 
     /// The live packet of a number.
@@ -159,7 +175,7 @@ impl PacketTable {
         ensures listed { let place = place_at self.now.live key in
             slice_get self.now.live.packets place ≡ Some result.now }
     {
-        self.live.packet(key.slot)
+        self.live.packet(key.slot())
     }
 
     /// Takes the packet of a key out.
@@ -167,8 +183,9 @@ impl PacketTable {
         requires { Holds self.old.live key }
         ensures { self.new ≡ without_packet_at self.old key }
     {
-        let place = self.place(self.live.packet(key.slot).number());
-        self.live.remove(key.slot, place);
+        let slot = key.slot();
+        let place = self.place(self.live.packet(slot).number());
+        self.live.remove(slot, place);
         let _number = self.numbers.remove(place);
     }
 }

@@ -27,7 +27,7 @@ impl PacketTable {
     ghost use Rattle.model.specs.World.{Shared, carried_up, left_location, moved_up, packet_of};
     ghost use Rattle.iomgr.specs.Slots.{Holds, packet_at, table_in, with_packet_at};
     ghost use Rattle.iomgr.specs.Table.{with_table};
-    ghost use Rattle.iomgr.specs.Walk.{steps_out, walked, walked_at, walk_outcome};
+    ghost use Rattle.iomgr.specs.Walk.{steps_out, walked, walked_at, walked_by, walk_outcome};
 
     /// One step of the walk that completes the packet of a key: after `TopsOut` the key is none.
     pub fn walk_on(&mut self, key: Key) -> WalkStep
@@ -35,7 +35,7 @@ impl PacketTable {
         ensures { record { slots = self.new; step = result }
             ≡ walked_at self.old key (packet_at self.old.live key) }
     {
-        let packet = self.live.packet(key.slot);
+        let packet = self.live.packet(key.slot());
         match packet.completion() {
             Some(completion) => {
                 self.rise(key);
@@ -54,7 +54,7 @@ impl PacketTable {
         ensures { let left = left_location (packet_at self.old.live key) in
             self.new ≡ with_packet_at self.old key (moved_up left) }
     {
-        let packet = self.live.packet_mut(key.slot);
+        let packet = self.live.packet_mut(key.slot());
         packet.leave();
         packet.up();
     }
@@ -66,7 +66,7 @@ impl PacketTable {
             self.new ≡ with_packet_at self.old key (carried_up left) }
         ensures marked { result ≡ (left_location (packet_at self.old.live key)).pending_returned }
     {
-        let packet = self.live.packet_mut(key.slot);
+        let packet = self.live.packet_mut(key.slot());
         packet.leave();
         let marked = packet.pending_returned();
         packet.carry_up();
@@ -79,7 +79,7 @@ impl PacketTable {
         ensures { record { slots = self.new; step = result }
             ≡ steps_out self.old key (packet_at self.old.live key) }
     {
-        let packet = self.live.packet(key.slot);
+        let packet = self.live.packet(key.slot());
         let step = WalkStep::TopsOut {
             status: packet.status(),
             info: packet.info(),
@@ -90,6 +90,7 @@ impl PacketTable {
 
     /// The same of the packet of a number.
     pub fn walk(&mut self, n: u64) -> WalkStep
+        ensures slots { record { slots = self.new; step = result } ≡ walked_by self.old n }
         ensures walked { record { table = table_in self.new; step = result }
             ≡ walked (table_in self.old) n }
         ensures outcome { (set : Set) (s : Shared)

@@ -20,7 +20,7 @@ invariant_of-self c =
     let there = numbered_there packets numbers _ _ _ c.packet.result.now
     c.self.invariant c.packet.ensures.listed in
     let found = rw (← c.self.view_is, c.number.ensures) at c.place-place.ensures in
-    let same : place_at c.self.inside.live c.key.inside.slot ≡ place = sym (found ∙ there) in
+    let same : place_at c.self.inside.live c.slot-slot.result ≡ place = sym (found ∙ there) in
     let taken = c.remove-number.ensures in
     let left = left_numbers (λ d. d.items) c.remove-number.result c.self.inside.numbers
     c.remove-number.new.self place taken.items (λ l. taken.variant.1 (omega (arith, l)))
