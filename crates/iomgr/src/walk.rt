@@ -29,7 +29,7 @@ impl PacketTable {
     ghost use Rattle.iomgr.specs.Table.{with_table};
     ghost use Rattle.iomgr.specs.Walk.{steps_out, walked, walked_at, walked_by, walk_outcome};
 
-    /// One step of the walk that completes the packet of a key: after `TopsOut` the key is none.
+    /// One step of the walk that completes the packet of a key, which has no packet after `TopsOut`.
     pub fn walk_on(&mut self, key: Key) -> WalkStep
         requires { Holds self.old.live key }
         ensures { record { slots = self.new; step = result }
@@ -45,6 +45,22 @@ impl PacketTable {
                 marked: self.ascend(key),
             },
             None => self.top_out(key),
+        }
+    }
+
+    /// The same of the packet of a number.
+    pub fn walk(&mut self, n: u64) -> WalkStep
+        ensures slots { record { slots = self.new; step = result } ≡ walked_by self.old n }
+        ensures walked { record { table = table_in self.new; step = result }
+            ≡ walked (table_in self.old) n }
+        ensures outcome { (set : Set) (s : Shared)
+            → let before = with_table s (table_in self.old) in
+            walk_outcome set (with_table s (table_in self.new)) n result
+            ≡ walk_packet set before n (packet_of before n) }
+    {
+        match self.find(n) {
+            Some(key) => self.walk_on(key),
+            None => WalkStep::Missing,
         }
     }
 
@@ -86,21 +102,5 @@ impl PacketTable {
         };
         self.remove(key);
         step
-    }
-
-    /// The same of the packet of a number.
-    pub fn walk(&mut self, n: u64) -> WalkStep
-        ensures slots { record { slots = self.new; step = result } ≡ walked_by self.old n }
-        ensures walked { record { table = table_in self.new; step = result }
-            ≡ walked (table_in self.old) n }
-        ensures outcome { (set : Set) (s : Shared)
-            → let before = with_table s (table_in self.old) in
-            walk_outcome set (with_table s (table_in self.new)) n result
-            ≡ walk_packet set before n (packet_of before n) }
-    {
-        match self.find(n) {
-            Some(key) => self.walk_on(key),
-            None => WalkStep::Missing,
-        }
     }
 }
