@@ -1,2 +1,3 @@
 pub mod Limits
 pub mod Meanings
+pub mod Stepping

@@ -2,6 +2,7 @@
 #![tactic(auto)]
 
 pub mod parse;
+pub mod quick;
 pub mod read;
 pub mod run;
 pub mod schedule;
