@@ -5,9 +5,10 @@ ghost use Rattle.interleave.specs.Listing.{IsFaultOf, IsWithinLimits, Lists, eve
 ghost use Rattle.interleave.specs.Meaning.{IsListing, IsFirstFault};
 ghost use Rattle.text.specs.Cut.{lines_of};
 
+use crate::events::Events;
 use crate::quick::quick_line;
 use crate::read::opening_line;
-use crate::schedule::{Events, MAX_EVENTS, Schedule, ScheduleFault, ScheduleKind};
+use crate::schedule::{MAX_EVENTS, Schedule, ScheduleFault, ScheduleKind};
 use std::alloc::{AllocError, Global};
 use text::cut::Lines;
 
