@@ -25,7 +25,8 @@ listed_steps (c ∷ bytes) others b n step =
     elim (eqb_tells c 255) [
       | inl p ↦
           rw (p.0, listed_steps bytes (drop 1 others) b n step)
-          (sym (append_assoc (first_of others) (listed bytes (drop 1 others)) (replicate n (Step b))))
+          (sym (append_assoc (first_of others) (listed bytes (drop 1 others))
+          (replicate n (Step b))))
       | inr p ↦ rw p.0 (ap (λ es. Step c ∷ es) (listed_steps bytes others b n step))
     ]
 

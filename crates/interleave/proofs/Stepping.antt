@@ -222,8 +222,8 @@ after_thread thread (d ∷ ds) rest count some digits writes few (Times last par
     (counted thread count d ds is.digits digits is.some is.all writes is.writes few least most)
 
 pub line_read : (line operands rest : List ℕ) (thread count : ℕ) → IsOfStep line
-    → operands ≡ take (length line - 5) (drop 5 line) → BeginsWith operands thread rest → thread ≤ 255
-    → IsCount rest count → IsRead line thread count
+    → operands ≡ take (length line - 5) (drop 5 line) → BeginsWith operands thread rest
+    → thread ≤ 255 → IsCount rest count → IsRead line thread count
 line_read line operands rest thread count is follow thread_is few count_is =
     let short : length (drop 5 line) ≤ length line - 5 = omega (arith, length-drop 5 line) in
     let all : operands ≡ drop 5 line = follow ∙ take_all (length line - 5) (drop 5 line) short in

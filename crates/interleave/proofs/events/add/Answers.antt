@@ -14,10 +14,10 @@ returns-in-Some-clause-listed c =
 
 pub returns-in-None-clause-marked : goal.returns-in-None-clause-marked
 returns-in-None-clause-marked c =
-    (other_added _ _ _ _ c.args.repeated (is_ok c.push_other.result) c.requires c.push_other.ensures.bytes
-    c.push_other.ensures.others).0
+    (other_added _ _ _ _ c.args.repeated (is_ok c.push_other.result) c.requires
+    c.push_other.ensures.bytes c.push_other.ensures.others).0
 
 pub returns-in-None-clause-listed : goal.returns-in-None-clause-listed
 returns-in-None-clause-listed c =
-    (other_added _ _ _ _ c.args.repeated (is_ok c.push_other.result) c.requires c.push_other.ensures.bytes
-    c.push_other.ensures.others).1
+    (other_added _ _ _ _ c.args.repeated (is_ok c.push_other.result) c.requires
+    c.push_other.ensures.bytes c.push_other.ensures.others).1

@@ -2,7 +2,7 @@ use Rattle.std.proofs.Common.{◌≡◌, ◌++◌, length, replicate}
 use Rattle.interleave.specs.Events.{listed}
 use Rattle.interleave.proofs.events.Upcoming.next_event.Given as goal
 
--- what is left is what there was
+-- no event has been taken yet
 abbrev pub invariant-loop-self : goal.invariant-loop-self
 invariant-loop-self l =
     replicate l.self-inside.left l.self-inside.event
