@@ -1,2 +1,4 @@
+pub mod Bytes
 pub mod Limits
 pub mod Meanings
+pub mod Stepping

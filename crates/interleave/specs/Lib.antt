@@ -1,3 +1,4 @@
+pub mod Digits
 pub mod Events
 pub mod Line
 pub mod Listing

@@ -1,7 +1,9 @@
 //! Schedules: which thread does what, event by event, read from their texts.
 #![tactic(auto)]
 
+pub mod events;
 pub mod parse;
+pub mod quick;
 pub mod read;
 pub mod run;
 pub mod schedule;

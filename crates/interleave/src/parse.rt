@@ -5,8 +5,10 @@ ghost use Rattle.interleave.specs.Listing.{IsFaultOf, IsWithinLimits, Lists, eve
 ghost use Rattle.interleave.specs.Meaning.{IsListing, IsFirstFault};
 ghost use Rattle.text.specs.Cut.{lines_of};
 
-use crate::read::{event_line, opening_line};
-use crate::schedule::{Events, MAX_EVENTS, Schedule, ScheduleFault, ScheduleKind};
+use crate::events::Events;
+use crate::quick::quick_line;
+use crate::read::opening_line;
+use crate::schedule::{MAX_EVENTS, Schedule, ScheduleFault, ScheduleKind};
 use std::alloc::{AllocError, Global};
 use text::cut::Lines;
 
@@ -113,7 +115,7 @@ fn add_line(events: &mut Events, line: &[u8]) -> Result<Result<(), ScheduleKind>
         (λ r. MatchResult r (λ _. events_after events.old line.now ≡ Ok events.new)
         (λ kind. events_after events.old line.now ≡ Err kind)) }
 {
-    match event_line(line) {
+    match quick_line(line) {
         Ok(Some(repeated)) => match events.len().checked_add(repeated.count) {
             Some(length) => {
                 if length > MAX_EVENTS {

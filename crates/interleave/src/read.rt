@@ -21,7 +21,7 @@ pub struct Repeated {
 }
 
 /// The most events that one line stands for.
-const MAX_REPEATS: u64 = 1_000_000;
+pub(crate) const MAX_REPEATS: u64 = 1_000_000;
 
 /// The number of threads that a line gives where no line before it has, or `None` if the line is
 /// blank.

@@ -1,12 +1,7 @@
 //! What a schedule is, and what can be wrong with its text.
 
-ghost use Rattle.std.specs.Prelude.{◌≡◌, ◌+◌, ◌^◌, ◌<◌, ◌++◌, ◌∷◌, [], length, replicate, MatchOption, OnOk};
-
-use crate::read::Repeated;
-use model::event::Event;
-use std::alloc::{AllocError, Global};
+use crate::events::Events;
 use std::fmt;
-use std::marker::Model;
 use thiserror::Error;
 
 /// Threads of a run, and the events that happen, in order.
@@ -20,106 +15,6 @@ pub struct Schedule {
 
 /// Events of a schedule, at most.
 pub const MAX_EVENTS: usize = 1_000_000;
-
-/// The events of a schedule, in order. Contracts see the list of them; events that a line stands
-/// for together are kept once, with how often they happen.
-#[derive(Drop)]
-pub struct Events {
-    repeated: Vec<Repeated>,
-    count: usize,
-}
-
-impl Model for Events {
-    ghost use Rattle.std.specs.Prelude.{◌≡◌, List, length};
-    ghost use Rattle.model.specs.declared.event.Event.{Event};
-    ghost use Rattle.interleave.specs.Events.{listed};
-
-    ghost Value = { List Event };
-
-    ghost view = { λ events. listed events.repeated.items };
-
-    ghost invariant = { λ events. events.count ≡ length (listed events.repeated.items) };
-}
-
-impl Events {
-    /// No events.
-    pub fn new(alloc: Global) -> Events
-        ensures { result ≡ [] }
-    {
-        Events {
-            repeated: Vec::new(alloc),
-            count: 0,
-        }
-    }
-
-    /// How many events there are.
-    pub fn len(&self) -> usize
-        ensures { result ≡ length self.now }
-    {
-        self.count
-    }
-
-    /// Adds an event as many times as it happens.
-    ///
-    /// # Errors
-    ///
-    /// When memory runs out.
-    pub fn push(&mut self, repeated: Repeated) -> Result<(), AllocError>
-        requires { length self.old + repeated.count < 2 ^ 64 }
-        ensures { OnOk result (self.new ≡ self.old ++ replicate repeated.count repeated.event) }
-    {
-        self.repeated.push(repeated)?;
-        self.count += repeated.count;
-        Ok(())
-    }
-
-    /// All events, to be taken one by one.
-    pub fn upcoming(&self) -> Upcoming<'_>
-        ensures { result ≡ self.now }
-    {
-        Upcoming {
-            event: Event::Step { thread: 0 },
-            left: 0,
-            later: self.repeated.as_slice(),
-        }
-    }
-}
-
-/// Events that are still to come, in order.
-#[derive(Drop)]
-pub struct Upcoming<'a> {
-    /// The next event, as often as it is left.
-    event: Event,
-    left: usize,
-    later: &'a [Repeated],
-}
-
-impl<'a> Model for Upcoming<'a> {
-    ghost use Rattle.std.specs.Prelude.{◌++◌, List, replicate};
-    ghost use Rattle.model.specs.declared.event.Event.{Event};
-    ghost use Rattle.interleave.specs.Events.{listed};
-
-    ghost Value = { List Event };
-
-    ghost view = { λ u. replicate u.left u.event ++ listed u.later.now };
-}
-
-impl Upcoming<'_> {
-    /// Takes the next event, if there is one.
-    #[inline]
-    pub fn next_event(&mut self) -> Option<Event>
-        ensures { MatchOption result (self.old ≡ []) (λ event. self.old ≡ event ∷ self.new) }
-    {
-        while self.left == 0 {
-            let (next, later) = self.later.split_first()?;
-            self.event = next.event;
-            self.left = next.count;
-            self.later = later;
-        }
-        self.left -= 1;
-        Some(self.event)
-    }
-}
 
 /// The kind of a fault, by its number. Of all that is wrong with a line the least kind is given.
 #[derive(Clone, Copy, Debug, PartialEq, Eq)]
