@@ -1,5 +1,5 @@
 -- The lines of steps, one after another, and where they are written.
-use Rattle.std.proofs.Common.{◌≡◌, ◌≤◌, ℕ, zero, suc, ◌+◌, List, ◌++◌, length, take, codes, arith, ap, sym, ◌∙◌, append_assoc, drop_at, length-take-le, take-add, take-take, take_at}
+use Rattle.std.proofs.Common.{◌≡◌, ◌≤◌, ℕ, zero, suc, ◌+◌, ◌*◌, ◌/◌, ◌%◌, List, ◌++◌, length, take, codes, arith, ap, sym, ◌∙◌, append_assoc, drop_at, length-take-le, take-add, take-take, take_at}
 use Rattle.std.proofs.lemmas.List.{append-nil}
 use Rattle.std.proofs.lemmas.Slice.{take-put_mid}
 use Rattle.std.specs.Fmt.{decimal}
@@ -44,3 +44,25 @@ pub digits_first : (n count : ℕ) (ys : List ℕ) → count ≡ length (decimal
 digits_first n count ys long line =
     sym (take-take count (count + 9) ys (omega arith)) ∙ ap (take count) line
     ∙ take_at (decimal n) (codes " stepped\n") count (sym long)
+
+-- one of the ten lines more
+pub ten_next : (n digit : ℕ) (before was now : List ℕ) → n % 10 ≡ 0
+    → was ≡ before ++ stepped_lines n digit
+    → now ≡ was ++ stepped_line (n / 10 * 10 + digit)
+    → now ≡ before ++ stepped_lines n (digit + 1)
+ten_next n digit before was now ten lines line =
+    let same : n / 10 * 10 + digit ≡ n + digit = omega arith in
+    line ∙ ap (λ l. l ++ stepped_line (n / 10 * 10 + digit)) lines
+    ∙ append_assoc before (stepped_lines n digit) (stepped_line (n / 10 * 10 + digit))
+    ∙ ap (λ m. before ++ (stepped_lines n digit ++ stepped_line m)) same
+    ∙ ap (λ l. before ++ l) (sym (stepped_next n digit))
+
+-- some of the lines more
+pub told_more : (n j k m : ℕ) (before was now : List ℕ) → m ≡ n + j
+    → was ≡ before ++ stepped_lines n j → now ≡ was ++ stepped_lines m k
+    → now ≡ before ++ stepped_lines n (j + k)
+told_more n j k m before was now number lines more =
+    more ∙ ap (λ l. l ++ stepped_lines m k) lines
+    ∙ append_assoc before (stepped_lines n j) (stepped_lines m k)
+    ∙ ap (λ i. before ++ (stepped_lines n j ++ stepped_lines i k)) number
+    ∙ ap (λ l. before ++ l) (sym (stepped_more n j k))

@@ -1,10 +1,11 @@
 //! Lines of output that gather before they are written.
 
-ghost use Rattle.std.specs.Prelude.{◌≡◌, ◌+◌, ◌*◌, ◌/◌, ◌^◌, ◌<◌, ◌≤◌, ◌↔◌, ◌++◌, [], IfOk, IsTrue, decimal, length, take};
+ghost use Rattle.std.specs.Prelude.{◌≡◌, ◌+◌, ◌%◌, ◌^◌, ◌<◌, ◌≤◌, ◌↔◌, ◌++◌, [], IfOk, IsTrue, decimal, length, take};
 ghost use Rattle.report.specs.Lines.{HasRoom};
-ghost use Rattle.report.specs.Reply.{stepped_line};
+ghost use Rattle.report.specs.Reply.{stepped_line, stepped_lines};
 
 use crate::event_number::{EventNumber, LONGEST_NUMBER, LONGEST_STEP, STEPPED};
+use crate::step::{LONGEST_TEN, write_step, write_ten};
 use itoa::Buffer;
 use std::alloc::{AllocError, Global};
 use std::marker::Model;
@@ -98,6 +99,58 @@ impl Lines {
         self.used += digits + STEPPED.len();
     }
 
+    /// Adds the lines of so many steps, from a number on, as long as there is room for one line
+    /// more. Answers how many, and goes on to the number behind them.
+    pub fn steps(&mut self, number: &mut EventNumber, count: u64) -> u64
+        requires room { HasRoom self.old }
+        requires some { 0 < count }
+        requires fits { number.old + count < 2 ^ 64 }
+        ensures some { 0 < result }
+        ensures most { result ≤ count }
+        ensures full { result < count → ROOM < length self.new + LONGEST_LINE }
+        ensures lines { self.new ≡ self.old ++ stepped_lines number.old result }
+        ensures number { number.new ≡ number.old + result }
+    {
+        let mut told = self.some_steps(number, count);
+        while told < count && self.has_room() {
+            told += self.some_steps(number, count - told);
+        }
+        told
+    }
+
+    /// Adds the line of one step or those of ten, at most so many. Answers how many, and goes on to
+    /// the number behind them.
+    fn some_steps(&mut self, number: &mut EventNumber, most: u64) -> u64
+        requires room { HasRoom self.old }
+        requires some { 0 < most }
+        requires fits { number.old + most < 2 ^ 64 }
+        ensures some { 0 < result }
+        ensures most { result ≤ most }
+        ensures lines { self.new ≡ self.old ++ stepped_lines number.old result }
+        ensures number { number.new ≡ number.old + result }
+    {
+        if most >= 10 && number.last_digit() == 0 && self.used + LONGEST_TEN <= ROOM {
+            self.ten_steps(number);
+            return 10;
+        }
+        self.stepped(number);
+        number.advance();
+        1
+    }
+
+    /// Adds the lines of ten steps, of a number that ends in 0 and of the nine after it, and goes
+    /// on to the number behind them.
+    fn ten_steps(&mut self, number: &mut EventNumber)
+        requires ten { number.old % 10 ≡ 0 }
+        requires fits { number.old + 10 < 2 ^ 64 }
+        requires room { length self.old + LONGEST_TEN ≤ ROOM }
+        ensures lines { self.new ≡ self.old ++ stepped_lines number.old 10 }
+        ensures number { number.new ≡ number.old + 10 }
+    {
+        self.used = write_ten(&mut self.buffer, self.used, number);
+        number.advance_by_ten();
+    }
+
     /// Adds the number of an event.
     #[inline]
     pub(crate) fn event_number(&mut self, number: &EventNumber)
@@ -124,37 +177,4 @@ fn zeros(alloc: Global, count: usize) -> Result<Vec<u8>, AllocError>
     ensures { IfOk result (λ bytes. length bytes.items ≡ count) }
 {
     vec![in alloc; 0; count]
-}
-
-/// Writes the line of a step into a block: of the number with the digits of the given one but for
-/// the last, which is given too. Answers how many digits the number has.
-#[inline]
-fn write_block(block: &mut [u8], number: &EventNumber, last_digit: u8) -> usize
-    requires digit { last_digit < 10 }
-    requires long { length block.old ≡ LONGEST_STEP }
-    ensures len { length block.new ≡ LONGEST_STEP }
-    ensures line { take (result + 9) block.new
-        ≡ stepped_line (number.now / 10 * 10 + last_digit) }
-    ensures digits { result ≡ length (decimal (number.now / 10 * 10 + last_digit)) }
-    ensures short { result ≤ LONGEST_NUMBER }
-{
-    let Some(block) = block.as_mut_array() else {
-        unreachable!()
-    };
-    number.write(last_digit, block)
-}
-
-/// Writes such a line into a buffer, at a place. Bytes behind the line may change.
-#[inline]
-fn write_step(buffer: &mut [u8], at: usize, number: &EventNumber, last_digit: u8) -> usize
-    requires digit { last_digit < 10 }
-    requires room { at + LONGEST_STEP ≤ length buffer.old }
-    ensures len { length buffer.new ≡ length buffer.old }
-    ensures line { take (at + (result + 9)) buffer.new
-        ≡ take at buffer.old ++ stepped_line (number.now / 10 * 10 + last_digit) }
-    ensures digits { take (at + result) buffer.new
-        ≡ take at buffer.old ++ decimal (number.now / 10 * 10 + last_digit) }
-    ensures short { result ≤ LONGEST_NUMBER }
-{
-    write_block(&mut buffer[at..at + LONGEST_STEP], number, last_digit)
 }

@@ -1,6 +1,6 @@
 use Rattle.std.proofs.Common.{arith}
 use Rattle.report.proofs.Steps.{digits_first, placed}
-use Rattle.report.proofs.lines.write_step.Goals as goal
+use Rattle.report.proofs.step.write_step.Goals as goal
 
 pub returns-clause-line : goal.returns-clause-line
 returns-clause-line c =
