@@ -1,5 +1,5 @@
 -- The lines of steps, one after another, and where they are written.
-use Rattle.std.proofs.Common.{◌≡◌, ◌≤◌, ℕ, zero, suc, ◌+◌, ◌*◌, ◌/◌, ◌%◌, List, ◌++◌, length, take, codes, arith, ap, sym, ◌∙◌, append_assoc, drop_at, length-take-le, take-add, take-take, take_at}
+use Rattle.std.proofs.Common.{◌≡◌, ◌≤◌, ℕ, zero, suc, ◌+◌, ◌-◌, ◌*◌, ◌/◌, ◌%◌, List, ◌++◌, length, take, codes, arith, ap, sym, ◌∙◌, append_assoc, drop_at, length-take-le, take-add, take-take, take_at}
 use Rattle.std.proofs.lemmas.List.{append-nil}
 use Rattle.std.proofs.lemmas.Slice.{take-put_mid}
 use Rattle.std.specs.Fmt.{decimal}
@@ -66,3 +66,10 @@ told_more n j k m before was now number lines more =
     ∙ append_assoc before (stepped_lines n j) (stepped_lines m k)
     ∙ ap (λ i. before ++ (stepped_lines n j ++ stepped_lines i k)) number
     ∙ ap (λ l. before ++ l) (sym (stepped_more n j k))
+
+-- some of the lines, and those behind them
+pub stepped_split : (n count j : ℕ) → j ≤ count
+    → stepped_lines n count ≡ stepped_lines n j ++ stepped_lines (n + j) (count - j)
+stepped_split n count j within =
+    let both : count ≡ j + (count - j) = omega arith in
+    ap (stepped_lines n) both ∙ stepped_more n j (count - j)

@@ -61,6 +61,19 @@ impl EventNumber {
         }
     }
 
+    /// This number once more.
+    #[inline]
+    pub(crate) fn copy(&self) -> EventNumber
+        ensures { result ≡ self.now }
+    {
+        EventNumber {
+            number: self.number,
+            last_digit: self.last_digit,
+            place: self.place,
+            line: self.line,
+        }
+    }
+
     /// The last digit of this number.
     #[inline]
     pub(crate) fn last_digit(&self) -> u8

@@ -55,9 +55,11 @@ pub(crate) fn write_ten(buffer: &mut [u8], start: usize, number: &EventNumber) -
     ensures lines { take result buffer.new ≡ take start buffer.old ++ stepped_lines number.now 10 }
     ensures end { result ≤ start + LONGEST_TEN }
 {
+    // A copy, so that no store into the buffer asks for another load of the number's line.
+    let ten = number.copy();
     let mut at = start;
     for last_digit in 0..10 {
-        at += write_step(buffer, at, number, last_digit) + STEPPED.len();
+        at += write_step(buffer, at, &ten, last_digit) + STEPPED.len();
     }
     at
 }

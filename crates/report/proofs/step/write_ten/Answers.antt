@@ -8,5 +8,5 @@ loop-last_digit-preserved c =
       len = search rules;
       end = omega arith;
       lines = ten_next c.args.number.now c.loop-last_digit.last_digit _ _ _ c.requires.ten
-          c.loop-last_digit.invariant.lines c.write_step.ensures.line;
+          c.loop-last_digit.invariant.lines (rw c.copy-ten.ensures at c.write_step.ensures.line);
     }
