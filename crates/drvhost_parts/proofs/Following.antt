@@ -1,19 +1,21 @@
 -- How the trace of a run goes on, event by event.
-use Rattle.std.proofs.Common.{◌≡◌, ◌∙◌, ℕ, ◌+◌, Bool, true, false, ◌||◌, List, [], ◌∷◌, ◌++◌, Option, Ok, Err, refl, sym, ap, subst, append_assoc, if◌then◌else◌}
+use Rattle.std.proofs.Common.{◌≡◌, ◌∙◌, ℕ, ◌+◌, Bool, true, false, ◌||◌, List, [], ◌∷◌, ◌++◌, Option, Ok, Err, arith, refl, sym, ap, subst, append_assoc, if◌then◌else◌}
 use Rattle.std.proofs.lemmas.List.{append-nil}
 use Rattle.std.specs.List.{list_any}
 use Rattle.model.specs.declared.event.Event.{Event}
 use Rattle.model.specs.declared.event.Reply.{Reply}
+use Rattle.model.specs.declared.event.Reply.TheVariants.{Stepped}
 use Rattle.model.specs.Machine.{AppliesBy}
 use Rattle.model.specs.Run.{Run, begun, run, run_from, step}
 use Rattle.model.specs.Set.{Set}
-use Rattle.report.specs.Reply.{reply_line}
+use Rattle.report.proofs.Steps.{stepped_next}
+use Rattle.report.specs.Reply.{reply_line, stepped_line, stepped_lines}
 use Rattle.drvhost_parts.specs.declared.fault.End.TheVariants.{Complete, Stopped}
 use Rattle.drvhost_parts.specs.declared.fault.Fault.TheVariants.{Write}
 use Rattle.drvhost_parts.specs.Answer.{Answer, ended, is_last, replies, reply_lines, trace_of}
 use Rattle.drvhost_parts.specs.Device.{Adds, TakesBeginning}
 use Rattle.drvhost_parts.specs.Fault.{Goes}
-use Rattle.drvhost_parts.proofs.Writing.{adds_breaks, adds_line, adds_more, adds_none}
+use Rattle.drvhost_parts.proofs.Writing.{adds_behind, adds_breaks, adds_line, adds_more, adds_none}
 
 -- the run of one event more
 run_more : (set : Set) (r : Run) (events : List Event) (e : Event)
@@ -144,6 +146,52 @@ module _ {M : Type 0} (set_of : M → Set) (ShowsRun : M → ℕ → List Event 
         adds = adds_line b n [] l f.text line f.adds;
       }
 
+  -- one step more, whose line is not added yet
+  pub followed_step : (set : Set) (threads : ℕ) (all : List Reply) (m o : M) (first steps : ℕ)
+      (upcoming rest : List Event) (e : Event) (b n : Option (List ℕ)) (l : List ℕ) (reply : Reply)
+      → Followed set threads all m (first + steps) upcoming b n (l ++ stepped_lines first steps)
+      → upcoming ≡ e ∷ rest → AppliesBy set_of ShowsRun m e o reply → reply ≡ Stepped
+      → Followed set threads all o (first + (steps + 1)) rest b n
+      (l ++ stepped_lines first (steps + 1))
+  followed_step set threads all m o first steps upcoming rest e b n l reply f next applies is =
+      let A : Reply → Type 0 = λ r. AppliesBy set_of ShowsRun m e o r in
+      let N : ℕ → Type 0 = λ number. Followed set threads all o number rest b n
+      (l ++ stepped_lines first (steps + 1)) in
+      let L : List ℕ → Type 0 = λ lines. Followed set threads all o (first + steps + 1) rest b n
+      lines in
+      let same : first + steps + 1 ≡ first + (steps + 1) = omega arith in
+      let line = stepped_line (first + steps) in
+      let lines : (l ++ stepped_lines first steps) ++ line ≡ l ++ stepped_lines first (steps + 1) =
+      append_assoc l (stepped_lines first steps) line
+      ∙ ap (λ x. l ++ x) (sym (stepped_next first steps)) in
+      subst N same
+      (subst L lines
+      (followed_next set threads all m o (first + steps) upcoming rest e b n
+      (l ++ stepped_lines first steps) Stepped f next (subst A is applies) refl))
+
+  -- the lines of the steps are added
+  pub followed_told : (set : Set) (threads : ℕ) (all : List Reply) (m : M) (first steps next : ℕ)
+      (rest : List Event) (b c n : Option (List ℕ)) (l k : List ℕ)
+      → Followed set threads all m (first + steps) rest b c (l ++ stepped_lines first steps)
+      → next ≡ first + steps → Adds c n l k (stepped_lines first steps)
+      → Followed set threads all m next rest b n k
+  followed_told set threads all m first steps next rest b c n l k f same a =
+      let N : ℕ → Type 0 = λ number. Followed set threads all m number rest b n k in
+      subst N (sym same)
+      (followed_room set threads all m (first + steps) rest b c n (l ++ stepped_lines first steps) k
+      f (adds_behind c n l k (stepped_lines first steps) a))
+
+  -- no steps are to be added
+  pub followed_anew : (set : Set) (threads : ℕ) (all : List Reply) (m : M) (number : ℕ)
+      (rest : List Event) (b n : Option (List ℕ)) (l : List ℕ)
+      → Followed set threads all m number rest b n l
+      → Followed set threads all m (number + 0) rest b n (l ++ stepped_lines number 0)
+  followed_anew set threads all m number rest b n l f =
+      let N : ℕ → Type 0 = λ i. Followed set threads all m i rest b n (l ++ []) in
+      let L : List ℕ → Type 0 = λ lines. Followed set threads all m number rest b n lines in
+      let same : number ≡ number + 0 = omega arith in
+      subst N same (subst L (sym (append-nil l)) f)
+
   -- the last event
   pub followed_last : (set : Set) (threads : ℕ) (all : List Reply) (m o : M) (number : ℕ)
       (upcoming rest : List Event) (e : Event) (b n : Option (List ℕ)) (l : List ℕ) (reply : Reply)
@@ -166,6 +214,23 @@ module _ {M : Type 0} (set_of : M → Set) (ShowsRun : M → ℕ → List Event 
         sym (ap (λ (x : Bool). ended (if x then Stopped else Complete) (reply_lines 0 all)) last
             ∙ ap (λ x. ended Stopped x) text),
         adds_line b n [] l f.text line f.adds,
+      )
+
+  -- there are no events left
+  pub followed_end : (set : Set) (threads : ℕ) (all : List Reply) (m : M) (number : ℕ)
+      (rest : List Event) (b n : Option (List ℕ)) (l : List ℕ)
+      → Followed set threads all m number rest b n l → rest ≡ []
+      → Goes (IsTraceOfAll all) b n [] l (Ok Complete)
+  followed_end set threads all m number rest b n l f none =
+      let later : f.later ≡ [] =
+      f.remains.are ∙ ap (λ r. replies set (run set threads f.remains.past) r) none in
+      let text : reply_lines 0 all ≡ f.text =
+      f.lines ∙ ap (λ x. f.text ++ reply_lines number x) later ∙ append-nil f.text in
+      let last : list_any is_last all ≡ false = f.last ∙ ap (λ x. list_any is_last x) later in (
+        f.text,
+        sym (ap (λ (x : Bool). ended (if x then Stopped else Complete) (reply_lines 0 all)) last
+            ∙ ap (λ x. ended Complete x) text),
+        f.adds,
       )
 
   -- a write fails

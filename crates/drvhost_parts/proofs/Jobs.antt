@@ -12,7 +12,7 @@ use Rattle.drvhost_parts.specs.declared.fault.End.{End}
 use Rattle.drvhost_parts.specs.declared.fault.End.TheVariants.{Stopped}
 use Rattle.drvhost_parts.specs.declared.fault.Fault.{Fault}
 use Rattle.drvhost_parts.specs.declared.fault.Fault.TheVariants.{Read, Write, Memory, Text, Image, Schedule as OfSchedule, Script as OfScript}
-use Rattle.drvhost_parts.specs.Answer.{Answer, IsRefused, ended, faulty}
+use Rattle.drvhost_parts.specs.Answer.{Answer, IsRefused, ended}
 use Rattle.drvhost_parts.specs.Device.{Supply, TakesBeginning}
 use Rattle.drvhost_parts.specs.Ends.{Ends, IsOfSupply, Rightly, ReadFailed, WriteFailed, OutOfMemory}
 use Rattle.drvhost_parts.specs.Fault.{Goes, ReadsSet, reads_failed, status_of, told_of, writes_failed}

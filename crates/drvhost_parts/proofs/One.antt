@@ -11,7 +11,7 @@ use Rattle.drvhost_parts.specs.declared.verification.Verification.TheVariants.{R
 use Rattle.asm.specs.Reading.{set_in}
 use Rattle.interleave.specs.Listing.{schedule_in}
 use Rattle.report.specs.Fault.{image_fault_line, text_fault_line}
-use Rattle.drvhost_parts.specs.Answer.{Answer, FileSays, ImageSays, IsCheck, IsIfAccepted, IsOfFile, IsOfSaid, IsRefused, IsTraced, IsVerdict, SaysAs, TextSays, acceptance, ended, is_image, ran}
+use Rattle.drvhost_parts.specs.Answer.{Answer, ImageSays, IsCheck, IsIfAccepted, IsOfFile, IsOfSaid, IsRefused, IsTraced, IsVerdict, SaysAs, TextSays, acceptance, ended, is_image, ran}
 use Rattle.drvhost_parts.specs.Device.{Bytes}
 use Rattle.drvhost_parts.specs.Ends.{IsRunOf, IsTrace}
 

@@ -1,14 +1,12 @@
 -- How the lines of the commands of a script are added, and that they are right.
-use Rattle.std.proofs.Common.{◌≡◌, ◌∙◌, ◌<◌, ℕ, ◌+◌, Bool, true, List, [], ◌∷◌, ◌++◌, drop, get_or, length, Option, Some, Ok, Err, refl, sym, ap, subst, append_assoc}
+use Rattle.std.proofs.Common.{◌≡◌, ◌∙◌, ◌<◌, ℕ, ◌+◌, true, List, [], ◌++◌, drop, get_or, length, Option, Ok, Err, refl, sym, ap, subst, append_assoc}
 use Rattle.std.specs.Global.{Vec}
 use Rattle.std.proofs.lemmas.List.{append-nil, at_drop_more}
 use Rattle.model.specs.declared.event.Reply.{Reply}
 use Rattle.model.specs.declared.history.Command.{Command}
 use Rattle.model.specs.Set.{Set}
-use Rattle.interleave.specs.declared.schedule.ScheduleFault.{ScheduleFault}
 use Rattle.hosting.specs.declared.hosted.Hosted.{Hosted}
 use Rattle.hosting.specs.Told.{Hosts}
-use Rattle.script.specs.Script.{script_in}
 use Rattle.drvhost_parts.specs.declared.fault.End.{End}
 use Rattle.drvhost_parts.specs.declared.fault.Fault.TheVariants.{Write}
 use Rattle.drvhost_parts.specs.Answer.{Answer, IsServed, command_line, command_lines, ended, replay_end, replay_line, served_as}

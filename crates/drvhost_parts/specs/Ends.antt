@@ -1,5 +1,5 @@
 -- How a command ends, for what its devices hold.
-use Rattle.std.specs.Prelude.{ℕ, ◌≡◌, ◌+◌, List, codes, Ok, Option, Result}
+use Rattle.std.specs.Prelude.{ℕ, ◌≡◌, ◌+◌, List, codes, Ok, Option}
 use Rattle.std.specs.Io.KnownBytes.{Appends, Keeps}
 use Rattle.drvhost_parts.specs.declared.verification.Verification.{Verification}
 use Rattle.interleave.specs.Listing.{schedule_in}

@@ -1,12 +1,13 @@
 //! Runs that are followed event by event, and the lines of their replies.
 
-ghost use Rattle.std.specs.Prelude.{ℕ, ◌≡◌, ◌+◌, List, [], Ok, length};
+ghost use Rattle.std.specs.Prelude.{ℕ, ◌≡◌, ◌+◌, ◌^◌, ◌<◌, ◌↔◌, ◌++◌, List, [], IfErr, IsTrue, Ok, OnErr, OnOk, length};
 ghost use Rattle.interleave.specs.Listing.{IsWithinLimits};
 ghost use Rattle.model.specs.declared.event.Event.{Event};
 ghost use Rattle.model.specs.Machine.{AppliesBy, Shows, ShowsWhole};
 ghost use Rattle.model.specs.Set.{Set};
+ghost use Rattle.report.specs.Reply.{stepped_lines};
 ghost use Rattle.drvhost_parts.specs.Answer.{is_last, ran};
-ghost use Rattle.drvhost_parts.specs.Device.{CanCount};
+ghost use Rattle.drvhost_parts.specs.Device.{Adds, CanCount, TakesBeginning};
 ghost use Rattle.drvhost_parts.specs.Fault.{Goes, reads_failed, writes_failed};
 
 use crate::device::Sink;
@@ -71,17 +72,60 @@ pub(crate) fn follow<M: Machine, O: Sink>(
     ensures writes { O.failures out.new ≡ O.failures out.old + writes_failed result }
 {
     let mut number = EventNumber::first();
+    // The steps since the last line, which begin at that number: their lines are added together.
+    let mut steps = 0;
     let mut upcoming = schedule.events.upcoming();
     while let Some(event) = upcoming.next_event() {
-        make_room(lines, out)?;
         let reply = machine.perform(&event);
+        if is_step(&reply) {
+            steps += 1;
+            continue;
+        }
+        tell_steps(&mut number, steps, lines, out)?;
+        steps = 0;
+        make_room(lines, out)?;
         lines.reply(&number, &reply);
         if is_last(&reply) {
             return Ok(End::Stopped);
         }
         number.advance();
     }
+    tell_steps(&mut number, steps, lines, out)?;
     Ok(End::Complete)
+}
+
+/// Adds the lines of so many steps, from a number on, and goes on to the number behind them. Lines
+/// that fill their room are written.
+fn tell_steps<O: Sink>(
+    number: &mut EventNumber,
+    count: u64,
+    lines: &mut Lines,
+    out: &mut O,
+) -> Result<(), Fault>
+    requires numbered { number.old + count < 2 ^ 64 }
+    requires out { CanCount (O.failures out.old) }
+    ensures number { OnOk result (number.new ≡ number.old + count) }
+    ensures added { OnOk result (Adds (O.contents out.old) (O.contents out.new) lines.old lines.new
+        (stepped_lines number.old count)) }
+    ensures broken { OnErr result (TakesBeginning (O.contents out.old) (O.contents out.new)
+        (lines.old ++ stepped_lines number.old count)) }
+    ensures fault { IfErr result (λ fault. fault ≡ Fault.Write) }
+    ensures writes { O.failures out.new ≡ O.failures out.old + writes_failed result }
+{
+    let mut left = count;
+    while left > 0 {
+        make_room(lines, out)?;
+        left -= lines.steps(number, left);
+    }
+    Ok(())
+}
+
+/// Whether a reply says that a step was made, and no more.
+#[inline]
+fn is_step(reply: &Reply) -> bool
+    ensures { IsTrue result ↔ (reply.now ≡ Reply.Stepped) }
+{
+    matches!(reply, Reply::Stepped)
 }
 
 /// Whether the run ends with this reply: a bug check, or a wrong operand.

@@ -1,24 +1,11 @@
--- The line of a step when its number goes up by one.
-use Rattle.std.proofs.Common.{◌≡◌, ◌≢◌, ◌≤◌, ◌<◌, ℕ, ◌+◌, ◌-◌, ◌/◌, ◌%◌, ◌^◌, List, [], ◌∷◌, ◌++◌, length, slice_set, codes, arith, ap, sym, ◌∙◌, inl, inr, append_assoc, length-append}
+-- The block of a number when the number goes up.
+use Rattle.std.proofs.Common.{◌≡◌, ◌≤◌, ◌<◌, ℕ, subst, ◌+◌, ◌-◌, ◌*◌, ◌/◌, ◌%◌, ◌^◌, List, [], ◌∷◌, ◌++◌, length, get_or, slice_set, take, drop, codes, arith, ap, sym, refl, ◌∙◌, inl, inr, append_assoc, length-append, take_at}
 use Rattle.std.proofs.lemmas.Bool.{cases_lt}
-use Rattle.std.proofs.lemmas.Fmt.{decimal_digit, decimal_nonempty, decimal_step, length-decimal-le}
-use Rattle.std.proofs.Math.Seq.{set-append_seam}
+use Rattle.std.proofs.lemmas.Fmt.{decimal_digit, decimal_step, decimal_step_wide, length-decimal-le_wide}
+use Rattle.std.proofs.lemmas.List.{get_or_at, same_from_push, set_at, take-append-drop}
 use Rattle.std.specs.Fmt.{decimal}
 use Rattle.report.specs.Reply.{stepped_line}
-
--- how long the line is
-pub record IsLong (n : ℕ) : Type 0 where
-  pub line : length (stepped_line n) ≡ length (decimal n) + 9
-  pub some : 1 ≤ length (decimal n)
-  pub most : length (decimal n) ≤ 20
-
-pub line_length : (n : ℕ) → n < 2 ^ 64 → IsLong n
-line_length n small =
-    record {
-      line = length-append (decimal n) (codes " stepped\n");
-      some = omega (arith, decimal_nonempty n small);
-      most = length-decimal-le 20 n (omega arith) (omega arith) small;
-    }
+use Rattle.report.specs.Step.{IsReady}
 
 -- two numbers that differ in their last digit alone
 record Differ (m n : ℕ) : Type 0 where
@@ -26,41 +13,195 @@ record Differ (m n : ℕ) : Type 0 where
   one : decimal m ≡ front ++ (48 + m % 10) ∷ []
   other : decimal n ≡ front ++ (48 + n % 10) ∷ []
 
-differ : (n : ℕ) → n + 1 < 2 ^ 64 → (n + 1) % 10 ≢ 0 → Differ n (n + 1)
-differ n small next = elim (cases_lt n 10) [
+differ : (m n : ℕ) → m / 10 ≡ n / 10 → m < 2 ^ 65 → n < 2 ^ 65 → Differ m n
+differ m n same one other = elim (cases_lt n 10) [
   | inl low ↦
-      let one : n % 10 ≡ n = omega arith in
-      let other : (n + 1) % 10 ≡ n + 1 = omega arith in
+      let m_is : m % 10 ≡ m = omega arith in
+      let n_is : n % 10 ≡ n = omega arith in
       record {
         front = [];
-        one = decimal_digit n low ∙ ap (λ d. (48 + d) ∷ []) (sym one);
-        other = decimal_digit (n + 1) (omega arith) ∙ ap (λ d. (48 + d) ∷ []) (sym other);
+        one = decimal_digit m (omega arith) ∙ ap (λ d. (48 + d) ∷ []) (sym m_is);
+        other = decimal_digit n low ∙ ap (λ d. (48 + d) ∷ []) (sym n_is);
       }
   | inr high ↦
-      let same : (n + 1) / 10 ≡ n / 10 = omega arith in
       record {
         front = decimal (n / 10);
-        one = decimal_step n high (omega arith);
-        other = decimal_step (n + 1) (omega arith) small
-            ∙ ap (λ q. decimal q ++ (48 + (n + 1) % 10) ∷ []) same;
+        one = decimal_step_wide m (omega arith) (omega arith)
+            ∙ ap (λ q. decimal q ++ (48 + m % 10) ∷ []) same;
+        other = decimal_step_wide n high (omega arith);
       }
 ]
 
--- the last digit alone is written
-pub line_advanced : (n : ℕ) → n + 1 < 2 ^ 64 → (n + 1) % 10 ≢ 0
-    → slice_set (stepped_line n) (length (stepped_line n) - 9 - 1) (48 + (n + 1) % 10)
-    ≡ stepped_line (n + 1)
-line_advanced n small next =
-    let d = differ n small next in
-    let digit : List ℕ = (48 + n % 10) ∷ [] in
-    let line : stepped_line n ≡ d.front ++ (48 + n % 10) ∷ codes " stepped\n" =
-    ap (λ ds. ds ++ codes " stepped\n") d.one ∙ append_assoc d.front digit (codes " stepped\n") in
-    let long : length (stepped_line n) ≡ length d.front + 10 =
-    ap length line ∙ length-append d.front ((48 + n % 10) ∷ codes " stepped\n") in
-    let place : length (stepped_line n) - 9 - 1 ≡ length d.front = omega arith in
-    let after : d.front ++ (48 + (n + 1) % 10) ∷ codes " stepped\n" ≡ stepped_line (n + 1) =
-    sym (ap (λ ds. ds ++ codes " stepped\n") d.other
-    ∙ append_assoc d.front ((48 + (n + 1) % 10) ∷ []) (codes " stepped\n")) in
-    ap (λ i. slice_set (stepped_line n) i (48 + (n + 1) % 10)) place
-    ∙ (ap (λ l. slice_set l (length d.front) (48 + (n + 1) % 10)) line
-    ∙ (set-append_seam d.front (48 + n % 10) (codes " stepped\n") (48 + (n + 1) % 10) ∙ after))
+-- how many digits there are
+pub digits_long : (n place : ℕ) (block : List ℕ) → IsReady n place block
+    → length (decimal n) ≡ place + 1
+digits_long n place block r =
+    let whole : length (decimal n) ≡ length (r.front ++ (48 + n % 10) ∷ []) = ap length r.digits in
+    omega (arith, length-append r.front ((48 + n % 10) ∷ []), r.long, whole)
+
+pub place_short : (n place : ℕ) (block : List ℕ) → IsReady n place block → n < 2 ^ 65
+    → place + 1 ≤ 20
+place_short n place block r small =
+    omega (
+      arith,
+      digits_long n place block r,
+      length-decimal-le_wide 20 n (omega arith) (omega arith) (omega arith),
+    )
+
+-- the block serves each number that differs in its last digit alone
+pub ready_other : (m n place : ℕ) (block : List ℕ) → IsReady m place block → m / 10 ≡ n / 10
+    → m < 2 ^ 65 → n < 2 ^ 65 → IsReady n place block
+ready_other m n place block r same one other =
+    let d = differ m n same one other in
+    let fronts = same_from_push d.front r.front (48 + m % 10) (48 + m % 10)
+    (sym d.one ∙ r.digits) in
+    record {
+      front = r.front;
+      other = r.other;
+      behind = r.behind;
+      digits = d.other ∙ ap (λ f. f ++ (48 + n % 10) ∷ []) fronts.0;
+      long = r.long;
+      begins = r.begins;
+    }
+
+-- the line of a step stands at the beginning of a block
+pub record IsWritten (n count : ℕ) (block : List ℕ) : Type 0 where
+  pub line : take (count + 9) block ≡ stepped_line n
+  pub digits : count ≡ length (decimal n)
+  pub short : count ≤ 20
+
+written : (n place : ℕ) (block : List ℕ) → IsReady n place block → place + 1 ≤ 20
+    → IsWritten n (place + 1) (slice_set block place (48 + n % 10))
+written n place block r short =
+    let word = codes " stepped\n" in
+    let last : List ℕ = (48 + n % 10) ∷ [] in
+    let line : stepped_line n ≡ r.front ++ (48 + n % 10) ∷ word =
+    ap (λ ds. ds ++ word) r.digits ∙ append_assoc r.front last word in
+    let whole : slice_set block place (48 + n % 10) ≡ stepped_line n ++ r.behind =
+    ap (λ b. slice_set b place (48 + n % 10)) r.begins
+    ∙ set_at r.front r.other (word ++ r.behind) (48 + n % 10) place r.long
+    ∙ sym (append_assoc r.front ((48 + n % 10) ∷ word) r.behind)
+    ∙ ap (λ l. l ++ r.behind) (sym line) in
+    let long : length (stepped_line n) ≡ place + 1 + 9 =
+    omega (arith, digits_long n place block r, length-append (decimal n) word) in
+    record {
+      line = ap (take (place + 1 + 9)) whole ∙ take_at (stepped_line n) r.behind _ long;
+      digits = sym (digits_long n place block r);
+      short = short;
+    }
+
+-- with another last digit
+pub written_as : (n digit place : ℕ) (block : List ℕ) → IsReady n place block → n < 2 ^ 64
+    → digit < 10
+    → IsWritten (n / 10 * 10 + digit) (place + 1) (slice_set block place (48 + digit))
+written_as n digit place block r small low =
+    let m = n / 10 * 10 + digit in
+    let same : m % 10 ≡ digit = omega arith in
+    let P : ℕ → Type 0 = λ d. IsWritten m (place + 1) (slice_set block place (48 + d)) in
+    let ready = ready_other n m place block r (omega arith) (omega arith) (omega arith) in
+    subst P same (written m place block ready (place_short m place block ready (omega arith)))
+
+-- the block of a number whose line it begins with
+pub ready_line : (n : ℕ) (block : List ℕ) → n < 2 ^ 64
+    → take (length (decimal n) + 9) block ≡ decimal n ++ codes " stepped\n"
+    → IsReady n (length (decimal n) - 1) block
+ready_line n block small line =
+    let word = codes " stepped\n" in
+    let last : List ℕ = (48 + n % 10) ∷ [] in
+    let count = length (decimal n) + 9 in
+    let behind = drop count block in
+    let d = differ n n refl (omega arith) (omega arith) in
+    let long : length (decimal n) ≡ length (d.front ++ last) = ap length d.one in
+    record {
+      front = d.front;
+      other = 48 + n % 10;
+      behind = behind;
+      digits = d.one;
+      long = omega (arith, long, length-append d.front last);
+      begins =
+          sym (take-append-drop count block) ∙ ap (λ l. l ++ behind) line
+          ∙ append_assoc (decimal n) word behind ∙ ap (λ l. l ++ (word ++ behind)) d.one
+          ∙ append_assoc d.front last (word ++ behind);
+    }
+
+many_digits : (n place : ℕ) (block : List ℕ) → IsReady n place block → 0 < place → 10 ≤ n
+many_digits n place block r some = elim (cases_lt n 10) [
+  | inl low ↦
+      let one : length (decimal n) ≡ 1 = ap length (decimal_digit n low) in
+      absurd (omega (arith, one, digits_long n place block r, some))
+  | inr high ↦ high
+]
+
+-- a number's digits at the beginning of a block, where the last one stands
+record Last (q place : ℕ) (rest block : List ℕ) (front : List ℕ) : Type 0 where
+  long : length front ≡ place - 1
+  here : block ≡ front ++ (48 + q % 10) ∷ rest
+
+last_of : (q place : ℕ) (rest block front : List ℕ) → block ≡ decimal q ++ rest
+    → length (decimal q) ≡ place → decimal q ≡ front ++ (48 + q % 10) ∷ []
+    → Last q place rest block front
+last_of q place rest block front is long digits =
+    let last : List ℕ = (48 + q % 10) ∷ [] in
+    let whole : length (decimal q) ≡ length (front ++ last) = ap length digits in
+    record {
+      long = omega (arith, whole, long, length-append front last);
+      here = is ∙ ap (λ l. l ++ rest) digits ∙ append_assoc front last rest;
+    }
+
+last_byte : (q place : ℕ) (rest block : List ℕ) → block ≡ decimal q ++ rest
+    → length (decimal q) ≡ place → q < 2 ^ 64 → get_or block (place - 1) 0 ≡ 48 + q % 10
+last_byte q place rest block is long small =
+    let d = differ q q refl (omega arith) (omega arith) in
+    let last = last_of q place rest block d.front is long d.one in
+    ap (λ b. get_or b (place - 1) 0) last.here
+    ∙ get_or_at d.front (48 + q % 10) rest 0 (place - 1) last.long
+
+-- the last of them goes up
+record Raised (q place : ℕ) (rest block : List ℕ) : Type 0 where
+  begins : block ≡ decimal (q + 1) ++ rest
+  long : length (decimal (q + 1)) ≡ place
+
+raised : (q place : ℕ) (rest block : List ℕ) → block ≡ decimal q ++ rest
+    → length (decimal q) ≡ place → q + 1 < 2 ^ 64 → 0 < place → get_or block (place - 1) 0 < 57
+    → Raised q place rest
+    (slice_set block (place - 1) (get_or block (place - 1) 0 + 1))
+raised q place rest block is long small some below =
+    let byte = last_byte q place rest block is long (omega arith) in
+    let same : q / 10 ≡ (q + 1) / 10 = omega (arith, byte, below) in
+    let up : get_or block (place - 1) 0 + 1 ≡ 48 + (q + 1) % 10 = omega (arith, byte, below) in
+    let d = differ q (q + 1) same (omega arith) (omega arith) in
+    let last = last_of q place rest block d.front is long d.one in
+    let digit : List ℕ = (48 + (q + 1) % 10) ∷ [] in
+    let whole : length (decimal (q + 1)) ≡ length (d.front ++ digit) = ap length d.other in
+    record {
+      begins =
+          ap (λ byte. slice_set block (place - 1) byte) up
+          ∙ ap (λ b. slice_set b (place - 1) (48 + (q + 1) % 10)) last.here
+          ∙ set_at d.front (48 + q % 10) rest (48 + (q + 1) % 10) (place - 1) last.long
+          ∙ sym (append_assoc d.front digit rest) ∙ ap (λ l. l ++ rest) (sym d.other);
+      long = omega (arith, whole, some, last.long, length-append d.front digit);
+    }
+
+-- the last digit but one goes up, and the last one becomes 0
+pub ready_ten : (n place : ℕ) (block : List ℕ) → IsReady n place block → n + 1 < 2 ^ 64
+    → n % 10 ≡ 9 → 0 < place → get_or block (place - 1) 0 < 57
+    → IsReady (n + 1) place (slice_set block (place - 1) (get_or block (place - 1) 0 + 1))
+ready_ten n place block r small nine some below =
+    let q = n / 10 in
+    let rest = r.other ∷ (codes " stepped\n" ++ r.behind) in
+    let high : 10 ≤ n = many_digits n place block r some in
+    let fronts = same_from_push r.front (decimal q) (48 + n % 10) (48 + n % 10)
+    (sym r.digits ∙ decimal_step n high (omega arith)) in
+    let tens : block ≡ decimal q ++ rest = r.begins ∙ ap (λ f. f ++ rest) fronts.0 in
+    let long : length (decimal q) ≡ place = sym (ap length fronts.0) ∙ r.long in
+    let up = raised q place rest block tens long (omega arith) some below in
+    let next : (n + 1) / 10 ≡ q + 1 = omega arith in
+    record {
+      front = decimal (q + 1);
+      other = r.other;
+      behind = r.behind;
+      digits = decimal_step (n + 1) (omega arith) small
+          ∙ ap (λ k. decimal k ++ (48 + (n + 1) % 10) ∷ []) next;
+      long = up.long;
+      begins = up.begins;
+    }

@@ -9,5 +9,6 @@ pub mod fault;
 pub mod host;
 pub mod lines;
 pub mod reply;
+mod step;
 pub mod verdict;
 mod words;

@@ -1,8 +1,11 @@
 //! Lines of output that gather before they are written.
 
-ghost use Rattle.std.specs.Prelude.{◌≡◌, ◌+◌, ◌≤◌, ◌↔◌, ◌++◌, [], IfOk, IsTrue, decimal, length};
+ghost use Rattle.std.specs.Prelude.{◌≡◌, ◌+◌, ◌%◌, ◌^◌, ◌<◌, ◌≤◌, ◌↔◌, ◌++◌, [], IfOk, IsTrue, decimal, length, take};
 ghost use Rattle.report.specs.Lines.{HasRoom};
+ghost use Rattle.report.specs.Reply.{stepped_line, stepped_lines};
 
+use crate::event_number::{EventNumber, LONGEST_NUMBER, LONGEST_STEP, STEPPED};
+use crate::step::{LONGEST_TEN, write_step, write_ten};
 use itoa::Buffer;
 use std::alloc::{AllocError, Global};
 use std::marker::Model;
@@ -13,25 +16,26 @@ pub const ROOM: usize = 65_536;
 /// Bytes of a line, at most.
 pub const LONGEST_LINE: usize = 128;
 
-/// Digits of a number, at most.
-pub(crate) const LONGEST_NUMBER: usize = 20;
-
 /// Lines that gather before they are written. All their memory is taken once: a line that there is
 /// room for needs none.
 #[derive(Drop)]
 pub struct Lines {
-    gathered: Vec<u8>,
+    /// The bytes of the lines, and room.
+    buffer: Vec<u8>,
+    /// How many bytes of the buffer the lines have.
+    used: usize,
 }
 
 impl Model for Lines {
-    ghost use Rattle.std.specs.Prelude.{◌≤◌, List, ℕ, vec_capacity};
+    ghost use Rattle.std.specs.Prelude.{◌≡◌, ◌≤◌, List, ℕ, length, take};
     ghost use Rattle.report.specs.declared.lines.TheConstants.{ROOM};
 
     ghost Value = { List ℕ };
 
-    ghost view = { λ lines. lines.gathered.items };
+    ghost view = { λ lines. take lines.used lines.buffer.items };
 
-    ghost invariant = { λ lines. ROOM ≤ vec_capacity lines.gathered };
+    ghost invariant = { λ lines.
+        (length lines.buffer.items ≡ ROOM) × (lines.used ≤ ROOM) };
 }
 
 impl Lines {
@@ -44,7 +48,8 @@ impl Lines {
         ensures { IfOk result (λ lines. lines ≡ []) }
     {
         Ok(Lines {
-            gathered: Vec::with_capacity(alloc, ROOM)?,
+            buffer: zeros(alloc, ROOM)?,
+            used: 0,
         })
     }
 
@@ -53,7 +58,7 @@ impl Lines {
     pub fn has_room(&self) -> bool
         ensures { IsTrue result ↔ HasRoom self.now }
     {
-        self.gathered.len() + LONGEST_LINE <= ROOM
+        self.used + LONGEST_LINE <= ROOM
     }
 
     /// The bytes of the lines.
@@ -61,7 +66,7 @@ impl Lines {
     pub fn bytes(&self) -> &[u8]
         ensures { result.now ≡ self.now }
     {
-        self.gathered.as_slice()
+        &self.buffer[..self.used]
     }
 
     /// Forgets the lines.
@@ -69,7 +74,7 @@ impl Lines {
     pub fn clear(&mut self)
         ensures { self.new ≡ [] }
     {
-        self.gathered.clear();
+        self.used = 0;
     }
 
     /// Adds a part of a line.
@@ -79,9 +84,82 @@ impl Lines {
         ensures added { self.new ≡ self.old ++ part.now }
         ensures grown { length self.new ≡ length self.old + length part.now }
     {
-        let added = self.gathered.extend_from_slice(part);
-        prove!(added.is_ok());
-        let _ = added;
+        let end = self.used + part.len();
+        self.buffer[self.used..end].copy_from_slice(part);
+        self.used = end;
+    }
+
+    /// Adds the line of a step of a number.
+    #[inline]
+    pub(crate) fn stepped(&mut self, number: &EventNumber)
+        requires { length self.old + LONGEST_STEP ≤ ROOM }
+        ensures { self.new ≡ self.old ++ stepped_line number.now }
+    {
+        let digits = write_step(&mut self.buffer, self.used, number, number.last_digit());
+        self.used += digits + STEPPED.len();
+    }
+
+    /// Adds the lines of so many steps, from a number on, as long as there is room for one line
+    /// more. Answers how many, and goes on to the number behind them.
+    pub fn steps(&mut self, number: &mut EventNumber, count: u64) -> u64
+        requires room { HasRoom self.old }
+        requires some { 0 < count }
+        requires fits { number.old + count < 2 ^ 64 }
+        ensures some { 0 < result }
+        ensures most { result ≤ count }
+        ensures full { result < count → ROOM < length self.new + LONGEST_LINE }
+        ensures lines { self.new ≡ self.old ++ stepped_lines number.old result }
+        ensures number { number.new ≡ number.old + result }
+    {
+        let mut told = self.some_steps(number, count);
+        while told < count && self.has_room() {
+            told += self.some_steps(number, count - told);
+        }
+        told
+    }
+
+    /// Adds the line of one step or those of ten, at most so many. Answers how many, and goes on to
+    /// the number behind them.
+    fn some_steps(&mut self, number: &mut EventNumber, most: u64) -> u64
+        requires room { HasRoom self.old }
+        requires some { 0 < most }
+        requires fits { number.old + most < 2 ^ 64 }
+        ensures some { 0 < result }
+        ensures most { result ≤ most }
+        ensures lines { self.new ≡ self.old ++ stepped_lines number.old result }
+        ensures number { number.new ≡ number.old + result }
+    {
+        if most >= 10 && number.last_digit() == 0 && self.used + LONGEST_TEN <= ROOM {
+            self.ten_steps(number);
+            return 10;
+        }
+        self.stepped(number);
+        number.advance();
+        1
+    }
+
+    /// Adds the lines of ten steps, of a number that ends in 0 and of the nine after it, and goes
+    /// on to the number behind them.
+    fn ten_steps(&mut self, number: &mut EventNumber)
+        requires ten { number.old % 10 ≡ 0 }
+        requires fits { number.old + 10 < 2 ^ 64 }
+        requires room { length self.old + LONGEST_TEN ≤ ROOM }
+        ensures lines { self.new ≡ self.old ++ stepped_lines number.old 10 }
+        ensures number { number.new ≡ number.old + 10 }
+    {
+        self.used = write_ten(&mut self.buffer, self.used, number);
+        number.advance_by_ten();
+    }
+
+    /// Adds the number of an event.
+    #[inline]
+    pub(crate) fn event_number(&mut self, number: &EventNumber)
+        requires { length self.old + LONGEST_STEP ≤ ROOM }
+        ensures added { self.new ≡ self.old ++ decimal number.now }
+        ensures grown { length self.new ≤ length self.old + LONGEST_NUMBER }
+    {
+        let digits = write_step(&mut self.buffer, self.used, number, number.last_digit());
+        self.used += digits;
     }
 
     /// Adds a decimal number.
@@ -93,4 +171,10 @@ impl Lines {
         let mut digits = Buffer::new();
         self.text(digits.format(number).as_bytes());
     }
+}
+
+fn zeros(alloc: Global, count: usize) -> Result<Vec<u8>, AllocError>
+    ensures { IfOk result (λ bytes. length bytes.items ≡ count) }
+{
+    vec![in alloc; 0; count]
 }

@@ -29,7 +29,7 @@ impl Lines {
         ensures { self.new ≡ self.old ++ reply_line number.now reply.now }
     {
         match *reply {
-            Reply::Stepped => self.text(number.stepped()),
+            Reply::Stepped => self.stepped(number),
             Reply::Finished => self.word(number, b" finished\n"),
             Reply::Waited => self.word(number, b" waited\n"),
             Reply::Idle => self.word(number, b" idle\n"),
@@ -51,7 +51,7 @@ impl Lines {
         requires short { length rest.now ≤ LONGEST_WORD }
         ensures { self.new ≡ self.old ++ (decimal number.now ++ rest.now) }
     {
-        self.text(number.digits());
+        self.event_number(number);
         self.text(rest);
     }
 
@@ -59,7 +59,7 @@ impl Lines {
         requires { HasRoom self.old }
         ensures { self.new ≡ self.old ++ reply_line number.now (Reply.Started packet) }
     {
-        self.text(number.digits());
+        self.event_number(number);
         self.text(b" started ");
         self.number(packet);
         self.text(b"\n");
@@ -69,7 +69,7 @@ impl Lines {
         requires { HasRoom self.old }
         ensures { self.new ≡ self.old ++ reply_line number.now (Reply.Topped packet status info) }
     {
-        self.text(number.digits());
+        self.event_number(number);
         self.text(b" topped ");
         self.number(packet);
         self.text(b" ");
@@ -83,7 +83,7 @@ impl Lines {
         requires { HasRoom self.old }
         ensures { self.new ≡ self.old ++ reply_line number.now (Reply.Wrong place) }
     {
-        self.text(number.digits());
+        self.event_number(number);
         self.text(b" wrong ");
         self.number(place.driver as u64);
         self.text(b".");
@@ -97,7 +97,7 @@ impl Lines {
         requires { HasRoom self.old }
         ensures { self.new ≡ self.old ++ reply_line number.now (Reply.Bug bug) }
     {
-        self.text(number.digits());
+        self.event_number(number);
         self.text(b" bug ");
         self.text(bug_check_text(bug.check).as_bytes());
         self.text(b" ");

@@ -1,5 +1,6 @@
-use Rattle.std.proofs.Common.{◌≡◌, ◌+◌, length}
+use Rattle.std.proofs.Common.{◌≡◌, ◌+◌, ◌++◌, length}
 use Rattle.model.specs.Run.{begun}
+use Rattle.report.specs.Reply.{stepped_lines}
 use Rattle.drvhost_parts.specs.Answer.{replies}
 use Rattle.drvhost_parts.proofs.Following.{Followed}
 use Rattle.drvhost_parts.proofs.follow.follow.Given as goal
@@ -8,13 +9,14 @@ abbrev pub invariant-loop-event : goal.invariant-loop-event
 invariant-loop-event g l =
     let set = g.M.Machine.set_of l.initial.machine in
     record {
-      numbered : l.number + length l.upcoming ≡ length l.schedule.events;
+      numbered : l.number + l.steps + length l.upcoming ≡ length l.schedule.events;
       fine : g.O.Sink.failures l.out ≡ g.O.Sink.failures l.initial.out;
       followed :
           Followed g.M.Machine.set_of g.M.Machine.shows set l.schedule.threads
           (replies set (begun set l.schedule.threads) l.schedule.events)
-          l.machine l.number l.upcoming
-          (g.O.Sink.contents l.initial.out) (g.O.Sink.contents l.out) l.lines;
+          l.machine (l.number + l.steps) l.upcoming
+          (g.O.Sink.contents l.initial.out) (g.O.Sink.contents l.out)
+          (l.lines ++ stepped_lines l.number l.steps);
     }
 
 abbrev pub decreases-loop-event : goal.decreases-loop-event

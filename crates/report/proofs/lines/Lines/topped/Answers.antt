@@ -4,14 +4,13 @@ use Rattle.report.proofs.lines.Lines.topped.Goals as goal
 pub returns : goal.returns
 returns c =
     rw (
-      c.text-6.ensures.added,
-      c.number-2.ensures.added,
       c.text-5.ensures.added,
+      c.number-2.ensures.added,
       c.text-4.ensures.added,
       c.text-3.ensures.added,
-      c.number.ensures.added,
       c.text-2.ensures.added,
+      c.number.ensures.added,
       c.text.ensures.added,
+      c.event_number.ensures.added,
     )
-    (simp (append_assoc, c.status_text.ensures, c.as_bytes.ensures.value, c.digits.ensures.digits)
-    refl)
+    (simp (append_assoc, c.status_text.ensures, c.as_bytes.ensures.value) refl)

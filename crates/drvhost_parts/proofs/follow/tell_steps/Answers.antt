@@ -1,0 +1,24 @@
+use Rattle.std.proofs.Common.{arith, rules}
+use Rattle.std.proofs.lemmas.Result.{err_from_is_err_and}
+use Rattle.report.proofs.Steps.{stepped_split}
+use Rattle.drvhost_parts.proofs.Judging.{certified_broken, certified_line, certified_room}
+use Rattle.drvhost_parts.proofs.follow.tell_steps.Goals as goal
+
+pub returns-in_err-make_room-clause-broken : goal.returns-in_err-make_room-clause-broken
+returns-in_err-make_room-clause-broken g c =
+    let p = err_from_is_err_and c.from_residual.result c.from_residual.ensures.1 in
+    rw p.1
+    (certified_broken _ _ _ _ _ _ _ c.loop-left.invariant.certified
+    c.in_err-make_room.ensures.broken)
+
+pub loop-left-preserved : goal.loop-left-preserved
+loop-left-preserved g c =
+    record {
+      numbered = omega (arith, c.loop-left.invariant.numbered);
+      fine = search rules;
+      certified =
+          rw (c.steps-left.ensures.lines, c.steps-left.ensures.number)
+          (certified_line _ _ _ _ _ _ _ _
+          (certified_room _ _ _ _ _ _ _ _ c.loop-left.invariant.certified
+          c.in_ok-make_room.ensures.written) (stepped_split _ _ _ c.steps-left.ensures.most));
+    }

@@ -1,0 +1,17 @@
+use Rattle.std.proofs.Common.{◌≡◌, ◌+◌}
+use Rattle.report.specs.Reply.{stepped_lines}
+use Rattle.drvhost_parts.proofs.Judging.{Certified}
+use Rattle.drvhost_parts.proofs.follow.tell_steps.Given as goal
+
+abbrev pub invariant-loop-left : goal.invariant-loop-left
+invariant-loop-left g l =
+    record {
+      numbered : l.number + l.left ≡ l.fn.number + l.count;
+      fine : g.O.Sink.failures l.out ≡ g.O.Sink.failures l.initial.out;
+      certified :
+          Certified (stepped_lines l.fn.number l.count) (stepped_lines l.number l.left)
+          (g.O.Sink.contents l.initial.out) (g.O.Sink.contents l.out) l.initial.lines l.lines;
+    }
+
+abbrev pub decreases-loop-left : goal.decreases-loop-left
+decreases-loop-left g l = l.left

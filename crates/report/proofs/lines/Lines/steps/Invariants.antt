@@ -1,0 +1,15 @@
+use Rattle.std.proofs.Common.{◌≡◌, ◌≤◌, ◌<◌, ◌+◌, ◌-◌, ◌++◌}
+use Rattle.report.specs.Reply.{stepped_lines}
+use Rattle.report.proofs.lines.Lines.steps.Given as goal
+
+abbrev pub invariant-loop-told : goal.invariant-loop-told
+invariant-loop-told l =
+    record {
+      some : 0 < l.told;
+      most : l.told ≤ l.count;
+      number : l.number ≡ l.fn.number + l.told;
+      lines : l.self ≡ l.fn.self ++ stepped_lines l.fn.number l.told;
+    }
+
+abbrev pub decreases-loop-told : goal.decreases-loop-told
+decreases-loop-told l = l.count - l.told

@@ -1,0 +1,13 @@
+use Rattle.std.proofs.Common.{◌≡◌, ◌≤◌, ◌+◌, ◌*◌, ◌++◌, length, take}
+use Rattle.report.specs.Reply.{stepped_lines}
+use Rattle.report.proofs.step.write_ten.Given as goal
+
+abbrev pub invariant-loop-last_digit : goal.invariant-loop-last_digit
+invariant-loop-last_digit l =
+    record {
+      len : length l.buffer ≡ length l.fn.buffer;
+      end : l.at ≤ l.fn.start + 32 * l.last_digit;
+      lines :
+          take l.at l.buffer
+          ≡ take l.fn.start l.fn.buffer ++ stepped_lines l.fn.number l.last_digit;
+    }
