@@ -1,6 +1,6 @@
 //! What a schedule is, and what can be wrong with its text.
 
-ghost use Rattle.std.specs.Prelude.{◌≡◌, ◌+◌, ◌^◌, ◌<◌, ◌++◌, ◌∷◌, [], length, replicate, MatchOption, OnOk};
+ghost use Rattle.std.specs.Prelude.{◌≡◌, ◌+◌, ◌^◌, ◌<◌, ◌≤◌, ◌++◌, [], length, replicate, IfSome, MatchOption, OnOk};
 
 use crate::read::Repeated;
 use model::event::Event;
@@ -73,13 +73,11 @@ impl Events {
         Ok(())
     }
 
-    /// All events, to be taken one by one.
+    /// All events, to be taken in their order.
     pub fn upcoming(&self) -> Upcoming<'_>
         ensures { result ≡ self.now }
     {
         Upcoming {
-            event: Event::Step { thread: 0 },
-            left: 0,
             later: self.repeated.as_slice(),
         }
     }
@@ -88,36 +86,34 @@ impl Events {
 /// Events that are still to come, in order.
 #[derive(Drop)]
 pub struct Upcoming<'a> {
-    /// The next event, as often as it is left.
-    event: Event,
-    left: usize,
     later: &'a [Repeated],
 }
 
 impl<'a> Model for Upcoming<'a> {
-    ghost use Rattle.std.specs.Prelude.{◌++◌, List, replicate};
+    ghost use Rattle.std.specs.Prelude.{List};
     ghost use Rattle.model.specs.declared.event.Event.{Event};
     ghost use Rattle.interleave.specs.Events.{listed};
 
     ghost Value = { List Event };
 
-    ghost view = { λ u. replicate u.left u.event ++ listed u.later.now };
+    ghost view = { λ u. listed u.later.now };
 }
 
 impl Upcoming<'_> {
-    /// Takes the next event, if there is one.
+    /// Takes the next event, if there is one, as often as it is kept to happen in a row.
     #[inline]
-    pub fn next_event(&mut self) -> Option<Event>
-        ensures { MatchOption result (self.old ≡ []) (λ event. self.old ≡ event ∷ self.new) }
+    pub fn next_run(&mut self) -> Option<Repeated>
+        ensures taken { MatchOption result (self.old ≡ [])
+            (λ run. self.old ≡ replicate run.count run.event ++ self.new) }
+        ensures some { IfSome result (λ run. 1 ≤ run.count) }
     {
-        while self.left == 0 {
-            let (next, later) = self.later.split_first()?;
-            self.event = next.event;
-            self.left = next.count;
+        while let Some((next, later)) = self.later.split_first() {
             self.later = later;
+            if next.count > 0 {
+                return Some(*next);
+            }
         }
-        self.left -= 1;
-        Some(self.event)
+        None
     }
 }
 
