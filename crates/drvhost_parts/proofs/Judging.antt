@@ -53,6 +53,13 @@ certified_more all later lines after b m n g l k h e a =
       adds = adds_more b m n g l k h.text lines h.adds a;
     }
 
+-- all lines were added
+pub certified_all : (all later : List ℕ) (b n : Option (List ℕ)) (g l : List ℕ)
+    → Certified all later b n g l → later ≡ [] → Adds b n g l all
+certified_all all later b n g l h none =
+    subst (λ (lines : List ℕ). Adds b n g l lines)
+    (sym (h.whole ∙ ap (λ x. h.text ++ x) none ∙ append-nil h.text)) h.adds
+
 -- a write fails
 pub certified_broken : (all later : List ℕ) (b m n : Option (List ℕ)) (g l : List ℕ)
     → Certified all later b m g l → TakesBeginning m n l → TakesBeginning b n (g ++ all)

@@ -67,13 +67,3 @@ adds_breaks b m n g l t more a p =
           ∙ append_assoc (a.written ++ p.part) p.rest more;
       appended = appends_more b m n a.written p.part a.appended p.appended;
     }
-
--- what was added belongs to the lines that had gathered
-pub adds_behind : (b n : Option (List ℕ)) (g l t : List ℕ) → Adds b n g l t
-    → Adds b n (g ++ t) l []
-adds_behind b n g l t a =
-    record {
-      written = a.written;
-      appended = a.appended;
-      whole = append-nil (g ++ t) ∙ a.whole;
-    }

@@ -1,5 +1,6 @@
 pub mod Device
 pub mod Answer
 pub mod Fault
+pub mod Repeats
 pub mod Ends
 pub mod Laws

@@ -1,58 +1,23 @@
-//! Runs that are followed event by event, and the lines of their replies.
+//! Runs that are followed to their end, and the lines of their replies.
 
-ghost use Rattle.std.specs.Prelude.{ℕ, ◌≡◌, ◌+◌, ◌^◌, ◌<◌, ◌↔◌, ◌++◌, List, [], IfErr, IsTrue, Ok, OnErr, OnOk, length};
+ghost use Rattle.std.specs.Prelude.{◌≡◌, ◌↔◌, ◌+◌, ◌++◌, ◌<◌, ◌≤◌, ◌^◌, [], IfErr, IfSome, IsTrue, Ok, OnErr, OnOk, replicate};
 ghost use Rattle.interleave.specs.Listing.{IsWithinLimits};
-ghost use Rattle.model.specs.declared.event.Event.{Event};
-ghost use Rattle.model.specs.Machine.{AppliesBy, Shows, ShowsWhole};
-ghost use Rattle.model.specs.Set.{Set};
 ghost use Rattle.report.specs.Reply.{stepped_lines};
-ghost use Rattle.drvhost_parts.specs.Answer.{is_last, ran};
+ghost use Rattle.drvhost_parts.specs.Answer.{is_last, ran, reply_lines};
 ghost use Rattle.drvhost_parts.specs.Device.{Adds, CanCount, TakesBeginning};
 ghost use Rattle.drvhost_parts.specs.Fault.{Goes, reads_failed, writes_failed};
+ghost use Rattle.drvhost_parts.specs.Repeats.{awaited};
 
 use crate::device::Sink;
 use crate::fault::{End, Fault};
+use crate::running::Machine;
 use crate::transfer::make_room;
-use checked::Checked;
+use interleave::events::Upcoming;
+use interleave::read::Repeated;
 use interleave::schedule::Schedule;
-use machine::World;
 use model::event::{Event, Reply};
 use report::event_number::EventNumber;
 use report::lines::Lines;
-
-/// Something that runs events, one by one.
-pub(crate) trait Machine {
-    ghost set_of: { Self → Set };
-
-    /// It shows the run of these events, over so many threads.
-    ghost shows: { Self → ℕ → List Event → Type 0 };
-
-    /// Runs the next event, and answers its reply.
-    fn perform(&mut self, event: &Event) -> Reply
-        ensures { AppliesBy set_of shows self.old event.now self.new result };
-}
-
-impl Machine for Checked {
-    ghost set_of = { λ machine. machine.set };
-
-    ghost shows = { ShowsWhole };
-
-    #[inline]
-    fn perform(&mut self, event: &Event) -> Reply {
-        self.apply(event)
-    }
-}
-
-impl Machine for World {
-    ghost set_of = { λ world. world.set };
-
-    ghost shows = { Shows };
-
-    #[inline]
-    fn perform(&mut self, event: &Event) -> Reply {
-        self.apply(event)
-    }
-}
 
 /// Runs the events of a schedule, up to one that stops the run, and adds their lines. Lines that
 /// fill their room are written.
@@ -72,37 +37,71 @@ pub(crate) fn follow<M: Machine, O: Sink>(
     ensures writes { O.failures out.new ≡ O.failures out.old + writes_failed result }
 {
     let mut number = EventNumber::first();
-    // The steps since the last line, which begin at that number: their lines are added together.
-    let mut steps = 0;
     let mut upcoming = schedule.events.upcoming();
-    while let Some(event) = upcoming.next_event() {
-        let reply = machine.perform(&event);
-        if is_step(&reply) {
-            steps += 1;
-            continue;
-        }
-        tell_steps(&mut number, steps, lines, out)?;
-        steps = 0;
-        make_room(lines, out)?;
-        lines.reply(&number, &reply);
-        if is_last(&reply) {
+    let mut next = upcoming.next_run();
+    while let Some(Repeated { event, count }) = next {
+        let replies = machine.repeat(&event, count);
+        add_replies(&mut number, &Reply::Stepped, replies.stepped, lines, out)?;
+        add_replies(&mut number, &replies.last, replies.times, lines, out)?;
+        if is_last(&replies.last) {
             return Ok(End::Stopped);
         }
-        number.advance();
+        let left = count - replies.stepped - replies.times;
+        next = rest_of(event, left, &mut upcoming);
     }
-    tell_steps(&mut number, steps, lines, out)?;
     Ok(End::Complete)
 }
 
-/// Adds the lines of so many steps, from a number on, and goes on to the number behind them. Lines
-/// that fill their room are written.
-fn tell_steps<O: Sink>(
+/// The events that come next, where this one is left to happen so often before the others.
+#[inline]
+fn rest_of(event: Event, left: usize, upcoming: &mut Upcoming<'_>) -> Option<Repeated>
+    ensures events { replicate left event ++ upcoming.old ≡ awaited result upcoming.new }
+    ensures some { IfSome result (λ run. 1 ≤ run.count) }
+{
+    if left == 0 {
+        return upcoming.next_run();
+    }
+    Some(Repeated { event, count: left })
+}
+
+/// Adds the lines of so many events in a row that have the same reply.
+#[inline]
+fn add_replies<O: Sink>(
+    number: &mut EventNumber,
+    reply: &Reply,
+    count: usize,
+    lines: &mut Lines,
+    out: &mut O,
+) -> Result<(), Fault>
+    requires numbers { number.old + count < 2 ^ 64 }
+    requires out { CanCount (O.failures out.old) }
+    ensures number { OnOk result (number.new ≡ number.old + count) }
+    ensures added { OnOk result (Adds (O.contents out.old) (O.contents out.new) lines.old lines.new
+        (reply_lines number.old (replicate count reply.now))) }
+    ensures broken { OnErr result (TakesBeginning (O.contents out.old) (O.contents out.new)
+        (lines.old ++ reply_lines number.old (replicate count reply.now))) }
+    ensures fault { IfErr result (λ fault. fault ≡ Fault.Write) }
+    ensures writes { O.failures out.new ≡ O.failures out.old + writes_failed result }
+{
+    if is_step(reply) {
+        return add_steps(number, count as u64, lines, out);
+    }
+    for _ in 0..count {
+        make_room(lines, out)?;
+        lines.reply(number, reply);
+        number.advance();
+    }
+    Ok(())
+}
+
+/// Adds the lines of so many steps in a row.
+fn add_steps<O: Sink>(
     number: &mut EventNumber,
     count: u64,
     lines: &mut Lines,
     out: &mut O,
 ) -> Result<(), Fault>
-    requires numbered { number.old + count < 2 ^ 64 }
+    requires numbers { number.old + count < 2 ^ 64 }
     requires out { CanCount (O.failures out.old) }
     ensures number { OnOk result (number.new ≡ number.old + count) }
     ensures added { OnOk result (Adds (O.contents out.old) (O.contents out.new) lines.old lines.new

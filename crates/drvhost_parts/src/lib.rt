@@ -9,6 +9,7 @@ mod follow;
 pub mod host;
 pub mod laws;
 mod reading;
+mod running;
 pub mod trace;
 mod transfer;
 pub mod verification;

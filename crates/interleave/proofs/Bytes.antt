@@ -74,15 +74,13 @@ listed_other (b ∷ bytes) (o ∷ others) r fit =
       | inr p ↦ rw p.0 (ap (λ es. Step b ∷ es) (listed_other bytes (o ∷ others) r (rw p.0 at fit)))
     ]
 
--- a step, and the steps of equal bytes after it, from where nothing was left
-pub run_taken : (all : List Event) (left b n : ℕ) (event : Event) (bytes after rest : List ℕ)
-    (others : List Repeated) → (b ≡ 255 → ⊥) → left ≡ 0 → bytes ≡ b ∷ after
-    → after ≡ replicate n b ++ rest → replicate left event ++ listed bytes others ≡ all
-    → all ≡ replicate (n + 1) (Step b) ++ (replicate left event ++ listed rest others)
-run_taken all left b n event bytes after rest others step none here equal was =
-    let same : replicate left event ++ listed bytes others
-    ≡ replicate (n + 1) (Step b) ++ (replicate left event ++ listed rest others) =
-    rw (none, here, equal, ne_eqb b 255 step, add-one n)
+-- a step, and the steps of equal bytes after it
+pub run_taken : (all : List Event) (b n : ℕ) (bytes after rest : List ℕ) (others : List Repeated)
+    → (b ≡ 255 → ⊥) → bytes ≡ b ∷ after → after ≡ replicate n b ++ rest
+    → listed bytes others ≡ all → all ≡ replicate (n + 1) (Step b) ++ listed rest others
+run_taken all b n bytes after rest others step here equal was =
+    let same : listed bytes others ≡ replicate (n + 1) (Step b) ++ listed rest others =
+    rw (here, equal, ne_eqb b 255 step, add-one n)
     (ap (λ es. Step b ∷ es) (listed_run b n rest others (ne_eqb b 255 step))) in
     sym was ∙ same
 

@@ -72,13 +72,11 @@ impl Events {
         Ok(())
     }
 
-    /// All events, to be taken one by one.
+    /// All events, to be taken in their order.
     pub fn upcoming(&self) -> Upcoming<'_>
         ensures { result ≡ self.now }
     {
         Upcoming {
-            event: Event::Step { thread: 0 },
-            left: 0,
             bytes: self.bytes.as_slice(),
             others: self.others.as_slice(),
         }
@@ -149,53 +147,28 @@ fn push_other(
 /// Events that are still to come, in order.
 #[derive(Drop)]
 pub struct Upcoming<'a> {
-    /// The one of the others that is being taken, as often as it is left.
-    event: Event,
-    left: usize,
     bytes: &'a [u8],
     others: &'a [Repeated],
 }
 
 impl<'a> Model for Upcoming<'a> {
-    ghost use Rattle.std.specs.Prelude.{◌++◌, List, replicate};
+    ghost use Rattle.std.specs.Prelude.{List};
     ghost use Rattle.model.specs.declared.event.Event.{Event};
     ghost use Rattle.interleave.specs.Events.{listed};
 
     ghost Value = { List Event };
 
-    ghost view = { λ u. replicate u.left u.event ++ listed u.bytes.now u.others.now };
+    ghost view = { λ u. listed u.bytes.now u.others.now };
 }
 
 impl Upcoming<'_> {
-    /// Takes the next event, if there is one.
-    #[inline]
-    pub fn next_event(&mut self) -> Option<Event>
-        ensures { MatchOption result (self.old ≡ []) (λ event. self.old ≡ event ∷ self.new) }
-    {
-        while self.left == 0 {
-            let (byte, bytes) = self.bytes.split_first()?;
-            self.bytes = bytes;
-            if *byte != MARK {
-                return Some(Event::Step { thread: *byte });
-            }
-            if let Some((next, others)) = self.others.split_first() {
-                self.event = next.event;
-                self.left = next.count;
-                self.others = others;
-            }
-        }
-        self.left -= 1;
-        Some(self.event)
-    }
-
     /// Takes the next event and some of those that follow and are equal to it, if there is one:
-    /// steps of one thread that are kept as bytes, or what is left of one of the others.
+    /// steps of one thread that are kept as bytes, or one of the others as often as it happens.
     pub fn next_run(&mut self) -> Option<Repeated>
         ensures { MatchOption result (self.old ≡ []) (λ run. (1 ≤ run.count)
             × (self.old ≡ replicate run.count run.event ++ self.new)) }
     {
-        while self.left == 0 {
-            let (byte, bytes) = self.bytes.split_first()?;
+        while let Some((byte, bytes)) = self.bytes.split_first() {
             let thread = *byte;
             if thread != MARK {
                 let (again, rest) = split_run(thread, bytes);
@@ -208,17 +181,13 @@ impl Upcoming<'_> {
             }
             self.bytes = bytes;
             if let Some((next, others)) = self.others.split_first() {
-                self.event = next.event;
-                self.left = next.count;
                 self.others = others;
+                if next.count > 0 {
+                    return Some(*next);
+                }
             }
         }
-        let run = Repeated {
-            event: self.event,
-            count: self.left,
-        };
-        self.left = 0;
-        Some(run)
+        None
     }
 }
 

@@ -2,7 +2,7 @@ use Rattle.std.proofs.Common.{arith, rules}
 use Rattle.std.proofs.lemmas.Result.{err_from_is_err_and}
 use Rattle.report.proofs.Steps.{stepped_split}
 use Rattle.drvhost_parts.proofs.Judging.{certified_broken, certified_line, certified_room}
-use Rattle.drvhost_parts.proofs.follow.tell_steps.Goals as goal
+use Rattle.drvhost_parts.proofs.follow.add_steps.Goals as goal
 
 pub returns-in_err-make_room-clause-broken : goal.returns-in_err-make_room-clause-broken
 returns-in_err-make_room-clause-broken g c =

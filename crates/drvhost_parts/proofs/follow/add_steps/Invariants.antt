@@ -1,7 +1,7 @@
 use Rattle.std.proofs.Common.{◌≡◌, ◌+◌}
 use Rattle.report.specs.Reply.{stepped_lines}
 use Rattle.drvhost_parts.proofs.Judging.{Certified}
-use Rattle.drvhost_parts.proofs.follow.tell_steps.Given as goal
+use Rattle.drvhost_parts.proofs.follow.add_steps.Given as goal
 
 abbrev pub invariant-loop-left : goal.invariant-loop-left
 invariant-loop-left g l =

@@ -1,0 +1,47 @@
+use Rattle.std.proofs.Common.{◌≡◌, ◌-◌, ap, arith, refl, replicate, rules}
+use Rattle.std.proofs.lemmas.Result.{err_from_is_err_and}
+use Rattle.drvhost_parts.specs.Answer.{reply_lines}
+use Rattle.drvhost_parts.proofs.Following.{lines_stepped, next_reply}
+use Rattle.drvhost_parts.proofs.Judging.{certified_all, certified_broken, certified_line, certified_room}
+use Rattle.drvhost_parts.proofs.follow.add_replies.Goals as goal
+
+pub returns-in_err-make_room-clause-broken : goal.returns-in_err-make_room-clause-broken
+returns-in_err-make_room-clause-broken g c =
+    let p = err_from_is_err_and c.from_residual.result c.from_residual.ensures.1 in
+    rw p.1
+    (certified_broken _ _ _ _ _ _ _ c.loop.invariant.certified c.in_err-make_room.ensures.broken)
+
+pub returns-clause-added : goal.returns-clause-added
+returns-clause-added g c =
+    let none : c.args.count - c.loop.counter ≡ 0 = omega (arith, c.loop-test.false) in
+    certified_all _ _ _ _ _ _ c.loop.invariant.certified
+    (ap (λ n. reply_lines c.loop.number (replicate n c.args.reply.now)) none)
+
+pub loop-preserved : goal.loop-preserved
+loop-preserved g c =
+    record {
+      numbered = search rules;
+      few = search rules;
+      fine = search rules;
+      certified =
+          rw (c.advance.ensures, c.reply.ensures)
+          (certified_line _ _ _ _ _ _ _ _
+          (certified_room _ _ _ _ _ _ _ _ c.loop.invariant.certified
+          c.in_ok-make_room.ensures.written)
+          (next_reply c.loop.number c.args.count c.loop.counter c.args.reply.now
+          c.loop-test.true));
+    }
+
+pub returns-then-is_step-clause-added : goal.returns-then-is_step-clause-added
+returns-then-is_step-clause-added g c =
+    rw (
+      c.if-is_step.ensures.0 refl,
+      lines_stepped c.args.number.now c.args.count,
+    ) c.add_steps.ensures.added
+
+pub returns-then-is_step-clause-broken : goal.returns-then-is_step-clause-broken
+returns-then-is_step-clause-broken g c =
+    rw (
+      c.if-is_step.ensures.0 refl,
+      lines_stepped c.args.number.now c.args.count,
+    ) c.add_steps.ensures.broken
