@@ -1,0 +1,4 @@
+pub mod Slots
+pub mod Rep
+pub mod SlotStep
+pub mod GoOn
