@@ -85,7 +85,7 @@ module _ (name : ℕ → ℕ) (s : SlotShared) (r : Shared) (keyed : Keyed name 
   by_start p f one =
       by_found name s (p (slot_start s a.device)) f
       (option_map (meant_start name) (slot_start s a.device)) (start_of r a.device)
-      (start_meant name s r keyed a a.device) (one (slot_start s a.device))
+      (start_meant name s r means a.device) (one (slot_start s a.device))
 
   taken : (lock : Lock) → (owner_of r.locks lock ≡ Some (Some t) → ⊥)
       → GoesRight (acquire_effect r t c lock (owner_of r.locks lock))

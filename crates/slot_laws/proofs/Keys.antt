@@ -189,4 +189,4 @@ module _ (name : ℕ → ℕ) (s : SlotShared) (r : Shared) (keyed : Keyed name 
         ]
 
     pub written_same : SameSlots s after
-    written_same = record { name = named_after; use_of = used_after; order = refl }
+    written_same = record { name = named_after; use_of = used_after; order = refl; issued = refl }

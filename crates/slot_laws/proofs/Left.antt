@@ -15,6 +15,7 @@ use Rattle.slot_laws.proofs.Outcomes.{MeansOutcome, SameSlots}
 pub record Fewer (s after : SlotShared) : Type 0 where
   pub was : (j : ℕ) (q : Packet) → packet_at after j ≡ Some q
       → (p : Packet) × (packet_at s j ≡ Some p) × (p.number ≡ q.number)
+  pub issued : after.issued ≡ s.issued
 
 pub record Left (name : ℕ → ℕ) (s : SlotShared) (p : SlotOutcome) (o : Outcome) : Type 0 where
   pub shared : MeansShared name p.shared o.shared
@@ -32,10 +33,13 @@ pub cancel_later : (s after : SlotShared) → Fewer s after → (f : SlotFrame) 
     → CancelStands after f
 cancel_later s after fewer (SlotRoutine a) h = tt
 cancel_later s after fewer (SlotWalk k) h = tt
-cancel_later s after fewer (SlotCancel k n step) h =
-    λ j q at number.
-    (let was : (p : Packet) × (packet_at s j ≡ Some p) × (p.number ≡ q.number) = fewer.was j q at in
-    h j was.0 was.1 (was.2 ∙ number))
+cancel_later s after fewer (SlotCancel k n step) h = (
+  rw fewer.issued h.0,
+  λ j q at number.
+      (let was : (p : Packet) × (packet_at s j ≡ Some p) × (p.number ≡ q.number) =
+      fewer.was j q at in
+      h.1 j was.0 was.1 (was.2 ∙ number)),
+)
 
 was_used : (issued more : ℕ) (before after : Option Packet) (q : Packet) → after ≡ Some q
     → is_some after ≡ is_some before
@@ -51,6 +55,7 @@ same_fewer s after same =
     record {
       was = λ j q at. was_used s.issued after.issued (packet_at s j) (packet_at after j) q at
           (same.use_of j) (same.name j);
+      issued = same.issued;
     }
 
 pub same_ordered : (s after : SlotShared) → SameSlots s after → Ordered s → Ordered after

@@ -17,3 +17,7 @@ pub mod Entries
 pub mod Alike
 pub mod Threads
 pub mod Laws
+pub mod Opening
+pub mod Begins
+pub mod Issues
+pub mod Issuing

@@ -77,6 +77,27 @@ next_meant name start (k ∷ waiting) =
     record (meant_start name start) { start_list = starts; device_queue = map name waiting })
     (map-append name start.start_list (k ∷ []))
 
+module _ (name : ℕ → ℕ) (s : SlotShared) (r : Shared) (means : MeansShared name s r) where
+  pub start_meant : (d : ℕ) → option_map (meant_start name) (slot_start s d) ≡ start_of r d
+  start_meant d =
+      sym (map_get (meant_start name) s.starts d)
+      ∙ ap (λ (starts : List StartState). slice_get starts d) means.starts
+
+  pub start_put : (d : ℕ) (one other : StartState) → meant_start name one ≡ other
+      → MeansShared name (with_slot_start s d one) (with_start r d other)
+  start_put d one other is =
+      record {
+        packets = means.packets;
+        issued = means.issued;
+        locks = means.locks;
+        cells = means.cells;
+        queues = means.queues;
+        starts = map_put (meant_start name) s.starts d one
+            ∙ ap (λ (x : StartState). slice_set (map (meant_start name) s.starts) d x) is
+            ∙ ap (λ (starts : List StartState). slice_set starts d other) means.starts;
+        dpcs = means.dpcs;
+      }
+
 module _ (name : ℕ → ℕ) (s : SlotShared) (r : Shared) (keyed : Keyed name s r) (a : Activation)
   where
     abbrev c : Activation
@@ -181,33 +202,13 @@ module _ (name : ℕ → ℕ) (s : SlotShared) (r : Shared) (keyed : Keyed name 
         (Touches n ∷ []) refl
 
     -- what a device has for StartIo
-    pub start_meant : (d : ℕ) → option_map (meant_start name) (slot_start s d) ≡ start_of r d
-    start_meant d =
-        sym (map_get (meant_start name) s.starts d)
-        ∙ ap (λ (starts : List StartState). slice_get starts d) means.starts
-
-    start_put : (d : ℕ) (one other : StartState) → meant_start name one ≡ other
-        → MeansShared name (with_slot_start s d one) (with_start r d other)
-    start_put d one other is =
-        record {
-          packets = means.packets;
-          issued = means.issued;
-          locks = means.locks;
-          cells = means.cells;
-          queues = means.queues;
-          starts = map_put (meant_start name) s.starts d one
-              ∙ ap (λ (x : StartState). slice_set (map (meant_start name) s.starts) d x) is
-              ∙ ap (λ (starts : List StartState). slice_set starts d other) means.starts;
-          dpcs = means.dpcs;
-        }
-
     restarted : (one other : StartState) → meant_start name one ≡ other → (d e : Activation)
         (actions : List Action) → meant_routine name d ≡ e
         → Means (goes_on (with_slot_start s a.device one) d)
         (effect.goes_on (with_start r a.device other) e actions)
     restarted one other is d e actions same =
         on name s (with_slot_start s a.device one) (with_start r a.device other) d e actions
-        (start_put a.device one other is)
+        (start_put name s r means a.device one other is)
         (kept_slots name s (with_slot_start s a.device one) refl refl refl) same
 
     pub starts : (k : ℕ) (o : Option ℕ) (start : Option StartState) → Finds s r k o

@@ -130,7 +130,12 @@ module _ (name : ℕ → ℕ) (s : SlotShared) (r : Shared) (keyed : Keyed name 
         reply = refl;
         taken = refl;
         told = refl;
-        same = record { name = same.name; use_of = same.use_of; order = same.order };
+        same = record {
+          name = same.name;
+          use_of = same.use_of;
+          order = same.order;
+          issued = same.issued;
+        };
         cancels = cancels;
       }
 
@@ -172,7 +177,7 @@ module _ (name : ℕ → ℕ) (s : SlotShared) (r : Shared) (keyed : Keyed name 
   none_live k n (Some q) live stands none =
       let key : (j : ℕ) × Found s r j n = live_key name s r keyed n q live in
       let same : key.0 ≡ k =
-      stands key.0 (slotted key.1.packet) key.1.at key.1.number in
+      stands.1 key.0 (slotted key.1.packet) key.1.at key.1.number in
       absurd (none (slotted key.1.packet)
       (subst (λ (j : ℕ). packet_at s j ≡ Some (slotted key.1.packet)) same key.1.at) key.1.number)
 

@@ -16,6 +16,7 @@ pub record SameSlots (s after : SlotShared) : Type 0 where
   pub name : (k : ℕ) → named after k ≡ named s k
   pub use_of : (k : ℕ) → is_some (packet_at after k) ≡ is_some (packet_at s k)
   pub order : after.order ≡ s.order
+  pub issued : after.issued ≡ s.issued
 
 -- a step doesn't go wrong
 abbrev pub GoesRight : Outcome → Type 0
@@ -32,7 +33,7 @@ module _ (name : ℕ → ℕ) (s : SlotShared) where
     pub cancels : EachFrame (CancelStands s) p.frames
 
   pub same_slots : SameSlots s s
-  same_slots = record { name = λ k. refl; use_of = λ k. refl; order = refl }
+  same_slots = record { name = λ k. refl; use_of = λ k. refl; order = refl; issued = refl }
 
   -- what leaves the slots and their order alone
   pub kept_slots : (after : SlotShared) → after.slots ≡ s.slots → after.issued ≡ s.issued
@@ -42,6 +43,7 @@ module _ (name : ℕ → ℕ) (s : SlotShared) where
         name = λ k. (rw (slots, issued) refl);
         use_of = λ k. (rw slots refl);
         order = order;
+        issued = issued;
       }
 
   -- a routine goes on

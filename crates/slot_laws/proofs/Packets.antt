@@ -51,6 +51,19 @@ apart_below low packets high q p rises there same =
     find_below (suc q.number) packets high p.number rises (rw same (omega arith)) in
     let no : None ≡ Some p = sym none ∙ there in cc
 
+-- a slot of another key is changed
+pub apart_same : (slots : List (Option Packet)) (k : ℕ) (new : Option Packet) (keys : List ℕ)
+    → is_linked keys k ≡ false → packets_in (slice_set slots k new) keys ≡ packets_in slots keys
+apart_same slots k new [] none = refl
+apart_same slots k new (j ∷ keys) none =
+    elim (eqb_tells j k) [
+      | inl same ↦ let no : true ≡ false = rw same.0 at none in cc
+      | inr other ↦
+          let rest : packets_in (slice_set slots k new) keys ≡ packets_in slots keys =
+          apart_same slots k new keys (rw other.0 at none) in
+          rw (slot_other slots k j new other.1, rest) refl
+    ]
+
 module _ (slots : List (Option Packet)) (k : ℕ) (p : Packet) (at : slot_at slots k ≡ Some p) where
   -- the packet of a key is found by its number
   found_on : (low high j : ℕ) (keys : List ℕ) (o : Option Packet) → slot_at slots j ≡ o
@@ -90,21 +103,8 @@ module _ (slots : List (Option Packet)) (k : ℕ) (p : Packet) (at : slot_at slo
         | inr none ↦ none
       ]
 
-  module _ (new : Option Packet) where
-    abbrev after : List (Option Packet)
-    after = slice_set slots k new
-
-    apart_same : (keys : List ℕ) → is_linked keys k ≡ false
-        → packets_in after keys ≡ packets_in slots keys
-    apart_same [] none = refl
-    apart_same (j ∷ keys) none =
-        elim (eqb_tells j k) [
-          | inl same ↦ let no : true ≡ false = rw same.0 at none in cc
-          | inr other ↦
-              let rest : packets_in after keys ≡ packets_in slots keys =
-              apart_same keys (rw other.0 at none) in
-              rw (slot_other slots k j new other.1, rest) refl
-        ]
+  abbrev after : Option Packet → List (Option Packet)
+  after new = slice_set slots k new
 
   -- another packet of the same number is written to the slot
   module _ (q : Packet) where
@@ -139,7 +139,7 @@ module _ (slots : List (Option Packet)) (k : ℕ) (p : Packet) (at : slot_at slo
           | inl same ↦
               let above : Rises low (p ∷ packets_in slots keys) high = rw (same.1, at) at rises in
               let rest : packets_in (after (Some q)) keys ≡ packets_in slots keys =
-              apart_same (Some q) keys (alone high keys above.1) in
+              apart_same slots k (Some q) keys (alone high keys above.1) in
               rw (same.1, at, slot_same slots k p (Some q) at, eq-eqb p.number, rest) refl
           | inr other ↦
               let less : (less : ℕ) × Rises less (packets_in slots keys) high =
@@ -177,7 +177,7 @@ module _ (slots : List (Option Packet)) (k : ℕ) (p : Packet) (at : slot_at slo
         | inl same ↦
             let above : Rises low (p ∷ packets_in slots keys) high = rw (same.1, at) at rises in
             let rest : packets_in (after None) keys ≡ packets_in slots keys =
-            apart_same None keys (alone high keys above.1) in
+            apart_same slots k None keys (alone high keys above.1) in
             rw (same.0, same.1, at, eq-eqb p.number, rest) refl
         | inr other ↦
             let less : (less : ℕ) × Rises less (packets_in slots keys) high =

@@ -140,7 +140,7 @@ threads_at P [] t x h there = cc
 threads_at P (y ∷ xs) zero x h there = let same : y ≡ x = cc in rw same at h.0
 threads_at P (y ∷ xs) (suc t) x h there = threads_at P xs t x h.1 there
 
-threads_put : (P : SlotFrame → Type 0) (xs : List SlotThread) (t : ℕ) (x : SlotThread)
+pub threads_put : (P : SlotFrame → Type 0) (xs : List SlotThread) (t : ℕ) (x : SlotThread)
     → EachThread P xs → EachFrame P x.frames → EachThread P (slice_set xs t x)
 threads_put P [] t x h new = tt
 threads_put P (y ∷ xs) zero x h new = (new, h.1)

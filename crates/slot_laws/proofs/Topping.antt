@@ -141,6 +141,7 @@ module _ (name : ℕ → ℕ) (s : SlotShared) (r : Shared) (keyed : Keyed name 
               sym (ap (λ (i : ℕ). packet_at after i) same.1 ∙ free) ∙ at in cc
           | inr apart ↦ (q, sym (others j apart.1) ∙ at, refl)
         ];
+        issued = refl;
       }
 
   pub tops_out : (p : Packet) → p.number ≡ n

@@ -1,4 +1,5 @@
 pub mod Slots
 pub mod Rep
 pub mod SlotStep
+pub mod SlotEvents
 pub mod GoOn

@@ -1,5 +1,5 @@
 -- What a world of slots means: the world in which each packet is named by its number.
-use Rattle.std.specs.Prelude.{ℕ, ◌≡◌, List, [], ◌∷◌, length, map, option_map, Option, None, Some, is_some, true, false, ⊤}
+use Rattle.std.specs.Prelude.{ℕ, ◌≡◌, ◌<◌, List, [], ◌∷◌, length, map, option_map, Option, None, Some, is_some, true, false, ⊤}
 use Rattle.model.specs.declared.limits.TheConstants.{REGISTERS}
 use Rattle.model.specs.declared.world.Activation.{Activation}
 use Rattle.model.specs.declared.world.Frame.{Frame}
@@ -86,13 +86,13 @@ pub record Ordered (s : SlotShared) : Type 0 where
   pub used : (k : ℕ) → is_linked s.order k ≡ true → is_some (packet_at s k) ≡ true
   pub listed : (k : ℕ) → is_some (packet_at s k) ≡ true → is_linked s.order k ≡ true
 
--- a frame has all its registers; and one that cancels a packet has the key of its slot while it is
--- live: no other slot has it
+-- a frame that cancels a packet, which was issued, has the key of its slot while it is live: no
+-- other slot has it; and a routine has all its registers
 abbrev pub CancelStands : SlotShared → SlotFrame → Type 0
 CancelStands s (SlotRoutine a) = ⊤
 CancelStands s (SlotWalk k) = ⊤
 CancelStands s (SlotCancel k n step) =
-    (j : ℕ) (p : Packet) → packet_at s j ≡ Some p → p.number ≡ n → j ≡ k
+    (n < s.issued) × ((j : ℕ) (p : Packet) → packet_at s j ≡ Some p → p.number ≡ n → j ≡ k)
 
 abbrev pub IsWhole : SlotFrame → Type 0
 IsWhole (SlotRoutine a) = length a.registers ≡ REGISTERS
