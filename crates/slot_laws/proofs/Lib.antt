@@ -21,3 +21,4 @@ pub mod Opening
 pub mod Begins
 pub mod Issues
 pub mod Issuing
+pub mod Finding

@@ -127,7 +127,7 @@ module _ (set : Set) (states : States) (threads : ℕ) (w : World) (past : List 
         (sym (frames_there w t h.thread h.found ∙ h.frames))
         ∙ sym (keeps.locks t l) ∙ owned_held r.locks past t l keeps.told.locks its
 
-    walk_live : (n : ℕ) → h.frame ≡ Walk n → is_some (packet_of r n) ≡ true
+    pub walk_live : (n : ℕ) → h.frame ≡ Walk n → is_some (packet_of r n) ≡ true
     walk_live n is =
         let top : OnTop set states r (Walk n) =
         subst (λ (f : Frame). OnTop set states r f) is
@@ -251,7 +251,7 @@ module _ (set : Set) (states : States) (threads : ℕ) (w : World) (past : List 
     abbrev meant_below : List Frame
     meant_below = map (meant_frame name) below
 
-    steps_frame : (f : SlotFrame) → top_frame x.frames ≡ Some f
+    pub steps_frame : (f : SlotFrame) → top_frame x.frames ≡ Some f
         → (h : StepsFrame set w t)
         × AlikeFrame set states r None (meant_frame name f) h.frame
     steps_frame f is =
