@@ -162,7 +162,8 @@ module _ (set : Set) (typable : IsTypable set) (sound : IsSound set) (threads : 
     pub packets : (q : ℕ) → packet_operand i ≡ Some q
         → HasSlot v.shared (register a q)
 
-  finds_on : (a : Activation) (i : Instr) → instruction_at set a.driver a.routine a.position ≡ Some i
+  finds_on : (a : Activation) (i : Instr)
+      → instruction_at set a.driver a.routine a.position ≡ Some i
       → (f : Frame) → OnTop set states w.shared f
       → AlikeFrame set states w.shared None (Routine (meant_routine (named v.shared) a)) f
       → RoutineFinds a i
