@@ -22,3 +22,4 @@ pub mod Begins
 pub mod Issues
 pub mod Issuing
 pub mod Finding
+pub mod Shown

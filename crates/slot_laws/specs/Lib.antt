@@ -3,3 +3,4 @@ pub mod Rep
 pub mod SlotStep
 pub mod SlotEvents
 pub mod GoOn
+pub mod ShownSlots

@@ -4,6 +4,7 @@
 #![tactic(auto)]
 
 ghost use Rattle.slot_laws.specs.GoOn.{FreeSlotsMeanTheBeginning, SlotEventsShowRuns};
+ghost use Rattle.slot_laws.specs.ShownSlots.{SlotsShowWhatTheyMean};
 
 /// Free slots, with idle threads, mean the world before the first event.
 pub fn free_slots_mean_the_beginning()
@@ -16,4 +17,9 @@ pub fn free_slots_mean_the_beginning()
 /// that is free.
 pub fn slot_events_show_runs()
     ensures { SlotEventsShowRuns }
+{}
+
+/// Slots show each world that they mean, in the way that a machine of accepted sets shows one.
+pub fn slots_show_what_they_mean()
+    ensures { SlotsShowWhatTheyMean }
 {}
