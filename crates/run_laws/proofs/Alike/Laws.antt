@@ -41,7 +41,7 @@ module _ (set : Set) (states : States) (good : IsGood set states) where
         reply = ap (λ (a : Answered). a.reply) same;
       }
 
-  does : (threads : ℕ) (r : Run) (e : Event) → Lasts set states good threads r → Does r e
+  pub does : (threads : ℕ) (r : Run) (e : Event) → Lasts set states good threads r → Does r e
   does threads r e lasting = does_concerned threads r e lasting (concerns set r.world e)
 
   -- worlds that can't be told apart, one of them with the other's shared part

@@ -1,0 +1,6 @@
+pub mod Slots
+pub mod Rep
+pub mod SlotStep
+pub mod SlotEvents
+pub mod GoOn
+pub mod ShownSlots

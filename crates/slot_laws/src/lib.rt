@@ -1,0 +1,25 @@
+//! Laws of worlds whose packets stand in slots, as a machine keeps them that tests nothing of what
+//! an accepted set can never do: what an event does to the slots shows what it does in every run of
+//! the set. Nothing runs here: each law is the contract of a function that does nothing.
+#![tactic(auto)]
+
+ghost use Rattle.slot_laws.specs.GoOn.{FreeSlotsMeanTheBeginning, SlotEventsShowRuns};
+ghost use Rattle.slot_laws.specs.ShownSlots.{SlotsShowWhatTheyMean};
+
+/// Free slots, with idle threads, mean the world before the first event.
+pub fn free_slots_mean_the_beginning()
+    ensures { FreeSlotsMeanTheBeginning }
+{}
+
+/// Of an accepted set: where slots mean the world of a run, after an event on the slots they mean
+/// the run's world with that event added, and it is answered as the run answers it. A step of a
+/// thread on slots looks for nothing that could be wrong. A request's packet is put into any slot
+/// that is free.
+pub fn slot_events_show_runs()
+    ensures { SlotEventsShowRuns }
+{}
+
+/// Slots show each world that they mean, in the way that a machine of accepted sets shows one.
+pub fn slots_show_what_they_mean()
+    ensures { SlotsShowWhatTheyMean }
+{}
