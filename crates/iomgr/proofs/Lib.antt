@@ -1,3 +1,4 @@
 pub mod Places
 pub mod Slots
 pub mod Walks
+pub mod Used

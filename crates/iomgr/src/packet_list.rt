@@ -38,7 +38,7 @@ impl Model for PacketList {
 impl PacketList {
     ghost use Rattle.std.specs.Borrow.{sem};
     ghost use Rattle.iomgr.specs.Lending.{LendsSlot};
-    ghost use Rattle.iomgr.specs.Slots.{Holds, IsFilled, IsOrdered, no_slots, packet_at, place_at, without_slot};
+    ghost use Rattle.iomgr.specs.Slots.{Holds, IsFilled, IsOrdered, lies_at, no_slots, packet_at, place_at, without_slot};
 
     /// An empty list. An error where memory for all packets that may live at once is refused; no
     /// other call needs any.
@@ -91,6 +91,13 @@ impl PacketList {
         ensures { option_map (λ p. p.now) result ≡ slice_get self.now.packets place }
     {
         self.slots.get(*self.keys.get(place)?)
+    }
+
+    /// The packet in a slot, if it has one.
+    pub fn in_slot(&self, slot: usize) -> Option<&Packet>
+        ensures { option_map (λ p. p.now) result ≡ lies_at self.now slot }
+    {
+        self.slots.get(slot)
     }
 
     /// The packet of a key.

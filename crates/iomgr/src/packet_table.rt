@@ -1,6 +1,6 @@
 //! The table of live packets.
 
-ghost use Rattle.std.specs.Prelude.{◌≡◌, ◌≤◌, ◌<◌, IfOk, IfSome, IsTrue, Some, option_map, slice_get};
+ghost use Rattle.std.specs.Prelude.{◌≡◌, ◌≤◌, ◌<◌, IfOk, IfSome, IsSome, IsTrue, Some, option_map, slice_get};
 ghost use Rattle.model.specs.declared.limits.TheConstants.{MAX_STACK};
 
 use crate::numbers::number_place;
@@ -75,7 +75,7 @@ impl Model for PacketTable {
 impl PacketTable {
     ghost use Rattle.model.specs.Events.{can_issue};
     ghost use Rattle.model.specs.World.{new_packet, packet_in, place_of};
-    ghost use Rattle.iomgr.specs.Slots.{Holds, IsFilled, IsInOrder, key_of, none_issued, packet_at, place_at, table_in, without_packet_at};
+    ghost use Rattle.iomgr.specs.Slots.{Holds, IsFilled, IsInOrder, key_of, lies_at, none_issued, packet_at, place_at, table_in, without_packet_at};
     ghost use Rattle.iomgr.specs.Table.{shared_of, live_packet, with_issued};
 
     /// No packets. An error where memory for all that may live at once is refused; no other call
@@ -159,6 +159,23 @@ impl PacketTable {
     {
         let slot = self.live.key(self.place(n))?;
         Some(Key::of(slot))
+    }
+
+    /// The key of a slot that has a packet.
+    pub fn used(&self, slot: usize) -> Key
+        requires { IsSome (lies_at self.now.live slot) }
+        ensures key { result ≡ slot }
+        ensures holds { Holds self.now.live result }
+    {
+        self.live.slots_are_in_order();
+        Key::of(slot)
+    }
+
+    /// The packet in a slot, if it has one.
+    pub fn in_slot(&self, slot: usize) -> Option<&Packet>
+        ensures { option_map (λ p. p.now) result ≡ lies_at self.now.live slot }
+    {
+        self.live.in_slot(slot)
     }
 
     /// The live packet of a number.
