@@ -15,6 +15,7 @@ use std::marker::Model;
 mod cells;
 mod due;
 mod locks;
+mod packets;
 mod queues;
 mod starting;
 
