@@ -1,6 +1,6 @@
 //! What drivers do to the packet of a key, and what they see of it. Its slot has a packet.
 
-ghost use Rattle.std.specs.Prelude.{◌≡◌, ◌<◌, IsSome, length};
+ghost use Rattle.std.specs.Prelude.{◌≡◌, ◌<◌, IsSome, is_some, length};
 ghost use Rattle.slot_laws.specs.Slots.{with_packet_at};
 
 use super::Shared;
@@ -9,6 +9,8 @@ use model::world::{Armer, Completion};
 
 impl Shared {
     ghost use Rattle.model.specs.World.{cancelled, field_of, mark_current, sent_down, shared_with, with_armer, with_info};
+    ghost use Rattle.slot_laws.specs.Rep.{named};
+    ghost use Rattle.slot_laws.specs.SlotStep.{if_numbered};
     ghost use Rattle.slot_laws.specs.Slots.{packet_at};
     ghost use Rattle.slot_parts.specs.Packets.{packet_in_slot};
 
@@ -100,5 +102,27 @@ impl Shared {
     {
         let key = self.packet_table.used(key as usize);
         self.packet_table.cancel(key);
+    }
+
+    /// The number that a key names: that of the packet in its slot, or the next number where the
+    /// slot is free.
+    pub fn named(&self, key: u64) -> u64
+        ensures { result ≡ named self.now key }
+    {
+        match self.packet_table.in_slot(key as usize) {
+            Some(packet) => packet.number(),
+            None => self.packet_table.issued(),
+        }
+    }
+
+    /// Whether the packet of a number is in the slot of a key: a step of IoCancelIrp looks for it
+    /// there.
+    pub fn is_there(&self, key: u64, number: u64) -> bool
+        ensures { result ≡ is_some (if_numbered (packet_at self.now key) number) }
+    {
+        match self.packet_table.in_slot(key as usize) {
+            Some(packet) => packet.number() == number,
+            None => false,
+        }
     }
 }
