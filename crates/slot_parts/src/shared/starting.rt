@@ -43,7 +43,8 @@ impl Shared {
     pub fn start_next(&mut self, device: u8)
         requires device { device < length self.old.starts }
         requires room { IsTrue (has_room_for_next (start_in self.old device)) }
-        ensures { self.new ≡ with_slot_start self.old device (next_started (start_in self.old device)) }
+        ensures { let next = next_started (start_in self.old device) in
+            self.new ≡ with_slot_start self.old device next }
     {
         self.start_list[device as usize].next();
     }
