@@ -1,0 +1,5 @@
+pub mod Frames
+pub mod Left
+pub mod Lending
+pub mod Registers
+pub mod Turns

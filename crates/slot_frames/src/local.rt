@@ -1,0 +1,113 @@
+//! Instructions that change nothing but their routine.
+
+ghost use Rattle.std.specs.Prelude.{◌≡◌, ◌<◌, ◌++◌, ◌∷◌, [], ◌+◌, IsSome, length, nat_eq, nat_lt, if◌then◌else◌};
+ghost use Rattle.model.specs.declared.limits.TheConstants.{MAX_INSTRUCTIONS, MAX_LOOPS};
+ghost use Rattle.model.specs.declared.world.OpenLoop.{OpenLoop};
+ghost use Rattle.model.specs.declared.world.Value.TheVariants.{Num};
+ghost use Rattle.model.specs.World.{at_label, innermost, next, with_loops, with_register};
+ghost use Rattle.slot_frames.specs.Turns.{turned_on};
+ghost use Rattle.slot_laws.specs.Fits.{HasNumber};
+ghost use Rattle.slot_laws.specs.SlotStep.{difference_at, number_at, sum_at};
+
+use crate::reading::number;
+use driver_set::{Register, Turns};
+use model::world::{Activation, OpenLoop, Value};
+
+/// The register becomes this value.
+pub fn set(r: Register, value: Value, a: &mut Activation)
+    requires { a.old.position < MAX_INSTRUCTIONS }
+    ensures { a.new ≡ next (with_register a.old r value) }
+{
+    a.registers[r.index()] = value;
+    a.position += 1;
+}
+
+/// `add r s`: r becomes the sum, modulo 2^64.
+pub fn add(r: Register, s: Register, a: &mut Activation)
+    requires near { a.old.position < MAX_INSTRUCTIONS }
+    requires left { HasNumber a.old r }
+    requires right { HasNumber a.old s }
+    ensures { a.new ≡ next (with_register a.old r (Num (sum_at a.old r s))) }
+{
+    let sum = number(a, r).wrapping_add(number(a, s));
+    set(r, Value::Num(sum), a);
+}
+
+/// `sub r s`: r becomes the difference, modulo 2^64.
+pub fn subtract(r: Register, s: Register, a: &mut Activation)
+    requires near { a.old.position < MAX_INSTRUCTIONS }
+    requires left { HasNumber a.old r }
+    requires right { HasNumber a.old s }
+    ensures { a.new ≡ next (with_register a.old r (Num (difference_at a.old r s))) }
+{
+    let difference = number(a, r).wrapping_sub(number(a, s));
+    set(r, Value::Num(difference), a);
+}
+
+/// Goes to the label where a test says so, and else to the next instruction.
+pub fn jump_if(label: u16, jumps: bool, a: &mut Activation)
+    requires { a.old.position < MAX_INSTRUCTIONS }
+    ensures { a.new ≡ (if jumps then at_label a.old label else next a.old) }
+{
+    if jumps {
+        a.position = label;
+    } else {
+        a.position += 1;
+    }
+}
+
+/// `jz r L`: jumps if r is 0.
+pub fn jump_if_zero(r: Register, label: u16, a: &mut Activation)
+    requires near { a.old.position < MAX_INSTRUCTIONS }
+    requires number { HasNumber a.old r }
+    ensures { a.new
+        ≡ (if nat_eq (number_at a.old r) 0 then at_label a.old label else next a.old) }
+{
+    let jumps = number(a, r) == 0;
+    jump_if(label, jumps, a);
+}
+
+/// `jlt r s L`: jumps if r is less than s.
+pub fn jump_if_less(r: Register, s: Register, label: u16, a: &mut Activation)
+    requires near { a.old.position < MAX_INSTRUCTIONS }
+    requires left { HasNumber a.old r }
+    requires right { HasNumber a.old s }
+    ensures { let jumps = nat_lt (number_at a.old r) (number_at a.old s) in
+        a.new ≡ (if jumps then at_label a.old label else next a.old) }
+{
+    let jumps = number(a, r) < number(a, s);
+    jump_if(label, jumps, a);
+}
+
+/// `loop n`: opens a loop of n turns; there is room for it.
+pub fn open_loop(turns: Turns, a: &mut Activation)
+    requires near { a.old.position < MAX_INSTRUCTIONS }
+    requires room { length a.old.loops.items < MAX_LOOPS }
+    ensures { let opened : OpenLoop = record { start = a.old.position + 1; turns = turns } in
+        a.new ≡ next (with_loops a.old (a.old.loops.items ++ opened ∷ [])) }
+{
+    a.position += 1;
+    a.loops.push(OpenLoop {
+        start: a.position,
+        turns: turns.count(),
+    });
+}
+
+/// `end`: goes back to the start of the innermost loop's body, or closes the loop. One is open.
+pub fn end_turn(a: &mut Activation)
+    requires near { a.old.position < MAX_INSTRUCTIONS }
+    requires open { IsSome (innermost a.old) }
+    ensures { a.new ≡ turned_on a.old }
+{
+    let place = a.loops.len() - 1;
+    let Some(innermost) = a.loops.get_mut(place) else {
+        unreachable!()
+    };
+    if innermost.turns <= 1 {
+        a.loops.truncate(place);
+        a.position += 1;
+        return;
+    }
+    innermost.turns -= 1;
+    a.position = innermost.start;
+}
