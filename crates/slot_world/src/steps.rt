@@ -1,0 +1,33 @@
+//! Steps of a frame.
+
+ghost use Rattle.std.specs.Prelude.{◌≡◌, length};
+ghost use Rattle.slot_frames.specs.Left.{left_of};
+ghost use Rattle.slot_laws.specs.Fits.{FrameFits};
+ghost use Rattle.slot_laws.specs.SlotStep.{frame_step, top_frame};
+
+use crate::manager;
+use crate::routine;
+use driver_set::DriverSet;
+use slot_frames::{Frame, Managing, Ran};
+use slot_parts::Shared;
+
+/// A step of a frame of a thread, over the frames `below`.
+pub fn step(
+    frame: &mut Frame,
+    set: &DriverSet,
+    shared: &mut Shared,
+    thread: u8,
+    below: &[Frame],
+) -> Ran
+    requires { FrameFits set.now shared.old thread (length below.now) frame.old }
+    ensures { left_of shared.new frame.new result
+        ≡ frame_step set.now shared.old thread (top_frame below.now) frame.old }
+{
+    match frame.manager() {
+        Some(Managing::Completes(key)) => manager::walk(set, shared, below, key),
+        Some(Managing::Cancels { key, number, next }) => {
+            manager::cancel(set, shared, thread, key, number, next)
+        }
+        None => routine::step(set, shared, thread, below, frame.activation_mut()),
+    }
+}
