@@ -3,10 +3,13 @@
 //! finds what it looks for.
 #![tactic(auto)]
 
-mod manager;
-mod routine;
-mod steps;
-mod thread;
-pub mod world;
-
-pub use world::Slots;
+pub mod cells;
+pub mod forwarding;
+pub mod locks;
+pub mod manager;
+pub mod packets;
+pub mod queues;
+pub mod reading;
+pub mod routine;
+pub mod starting;
+pub mod steps;

@@ -5,10 +5,11 @@ ghost use Rattle.slot_laws.specs.Slots.{with_packet_at};
 
 use super::Shared;
 use model::instr::Field;
+use model::status::Major;
 use model::world::{Armer, Completion};
 
 impl Shared {
-    ghost use Rattle.model.specs.World.{cancelled, field_of, mark_current, sent_down, shared_with, with_armer, with_info};
+    ghost use Rattle.model.specs.World.{asked_of, cancelled, current_location, field_of, mark_current, sent_down, shared_with, with_armer, with_info};
     ghost use Rattle.slot_laws.specs.Rep.{named};
     ghost use Rattle.slot_laws.specs.SlotStep.{if_numbered};
     ghost use Rattle.slot_laws.specs.Slots.{packet_at};
@@ -21,6 +22,15 @@ impl Shared {
     {
         let key = self.packet_table.used(key as usize);
         self.packet_table.packet(key).field(field)
+    }
+
+    /// What the driver of the current location is asked to do, if it is asked anything.
+    pub fn asked(&self, key: u64) -> Option<Major>
+        requires { IsSome (packet_at self.now key) }
+        ensures { result ≡ asked_of (current_location (packet_in_slot self.now key)) }
+    {
+        let key = self.packet_table.used(key as usize);
+        self.packet_table.packet(key).asked_major()
     }
 
     /// Whether Irp->PendingReturned is set.

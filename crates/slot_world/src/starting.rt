@@ -1,0 +1,69 @@
+//! Instructions on what a routine's device has for StartIo.
+
+ghost use Rattle.std.specs.Prelude.{◌≡◌, ◌<◌};
+ghost use Rattle.model.specs.declared.limits.TheConstants.{MAX_INSTRUCTIONS};
+ghost use Rattle.slot_laws.specs.Fits.{CanStart, CanStartNext, HasKey, HasStart};
+ghost use Rattle.slot_laws.specs.SlotStep.{begin_step, goes_on, key_at, next_step, start_step, take_step};
+ghost use Rattle.slot_laws.specs.Slots.{slot_start};
+
+use crate::reading::{key, start_is_there};
+use driver_set::Register;
+use model::world::{Activation, Value};
+use slot_frames::local;
+use slot_parts::Shared;
+
+/// `start r`: IoStartPacket.
+pub fn start(shared: &mut Shared, r: Register, a: &mut Activation)
+    requires near { a.old.position < MAX_INSTRUCTIONS }
+    requires key { HasKey shared.old a.old r }
+    requires start { HasStart shared.old a.old.device }
+    requires room { CanStart shared.old a.old.device }
+    ensures { let start = slot_start shared.old a.old.device in
+        goes_on shared.new a.new ≡ start_step shared.old a.old (key_at a.old r) start }
+{
+    start_is_there(shared, a.device);
+    let key = key(shared, a, r);
+    shared.start(a.device, key);
+    a.position += 1;
+}
+
+/// `take r L`: the packet in the current slot is taken out of it; jumps where there is none.
+pub fn take(shared: &mut Shared, r: Register, label: u16, a: &mut Activation)
+    requires near { a.old.position < MAX_INSTRUCTIONS }
+    requires start { HasStart shared.old a.old.device }
+    ensures { let start = slot_start shared.old a.old.device in
+        goes_on shared.new a.new ≡ take_step shared.old a.old r label start }
+{
+    start_is_there(shared, a.device);
+    match shared.take(a.device) {
+        Some(key) => local::set(r, Value::Ref(key), a),
+        None => a.position = label,
+    }
+}
+
+/// `begin r`: the packet is put into the current slot.
+pub fn begin(shared: &mut Shared, r: Register, a: &mut Activation)
+    requires near { a.old.position < MAX_INSTRUCTIONS }
+    requires key { HasKey shared.old a.old r }
+    requires start { HasStart shared.old a.old.device }
+    ensures { let start = slot_start shared.old a.old.device in
+        goes_on shared.new a.new ≡ begin_step shared.old a.old (key_at a.old r) start }
+{
+    start_is_there(shared, a.device);
+    let key = key(shared, a, r);
+    shared.begin(a.device, key);
+    a.position += 1;
+}
+
+/// `next`: IoStartNextPacket.
+pub fn start_next(shared: &mut Shared, a: &mut Activation)
+    requires near { a.old.position < MAX_INSTRUCTIONS }
+    requires start { HasStart shared.old a.old.device }
+    requires room { CanStartNext shared.old a.old.device }
+    ensures { let start = slot_start shared.old a.old.device in
+        goes_on shared.new a.new ≡ next_step shared.old a.old start }
+{
+    start_is_there(shared, a.device);
+    shared.start_next(a.device);
+    a.position += 1;
+}
