@@ -24,7 +24,7 @@ pub fn step(
         ≡ frame_step set.now shared.old thread (top_frame below.now) frame.old }
 {
     match frame.manager() {
-        Some(Managing::Completes(key)) => manager::walk(set, shared, below, key),
+        Some(Managing::Completes(key)) => manager::walk(set, shared, key),
         Some(Managing::Cancels { key, number, next }) => {
             manager::cancel(set, shared, thread, key, number, next)
         }
