@@ -19,6 +19,15 @@ impl PacketTable {
         self.live.packet_mut(key.slot()).set_info(info);
     }
 
+    /// Sets IoStatus.Status, for a machine that doesn't keep whether the I/O manager has the packet.
+    pub fn set_status(&mut self, key: Key, status: Status)
+        requires { Holds self.old.live key }
+        ensures { let packet = packet_at self.old.live key in
+            self.new ≡ with_packet_at self.old key (record packet { status = status }) }
+    {
+        self.live.packet_mut(key.slot()).set_status(status);
+    }
+
     /// IoMarkIrpPending: marks the current location.
     pub fn mark(&mut self, key: Key)
         requires { Holds self.old.live key }

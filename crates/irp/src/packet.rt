@@ -229,6 +229,13 @@ impl Packet {
         self.info = info;
     }
 
+    /// Sets IoStatus.Status, for a machine that doesn't keep whether the I/O manager has it.
+    pub fn set_status(&mut self, status: Status)
+        ensures { self.new ≡ record self.old { status = status } }
+    {
+        self.status = status;
+    }
+
     /// IoMarkIrpPending: marks the current location.
     pub fn mark(&mut self)
         ensures { self.new ≡ mark_current self.old }

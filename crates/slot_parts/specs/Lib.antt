@@ -1,2 +1,3 @@
 pub mod Devices
 pub mod Packets
+pub mod Walks

@@ -6,3 +6,4 @@
 pub mod shared;
 
 pub use shared::Shared;
+pub use shared::walking::Walked;

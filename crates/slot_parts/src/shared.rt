@@ -18,6 +18,7 @@ mod locks;
 mod packets;
 mod queues;
 mod starting;
+pub mod walking;
 
 /// The packets in their slots, the locks, and by device its cells, its queues, what it has for
 /// StartIo, and whether its DPC is queued. Entries of queues are keys of slots.

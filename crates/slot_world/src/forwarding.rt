@@ -83,3 +83,16 @@ pub fn call(
     a.position += 1;
     Ran::Under(dispatched(set, lower, asked, key))
 }
+/// `complete r STATUS`: IoCompleteRequest. The I/O manager's frame then stands over the routine's.
+pub fn complete(shared: &mut Shared, r: Register, status: Status, a: &mut Activation) -> Ran
+    requires near { a.old.position < MAX_INSTRUCTIONS }
+    requires key { HasKey shared.old a.old r }
+    ensures { let packet = packet_at shared.old (key_at a.old r) in
+        left_of shared.new (SlotRoutine a.new) result
+        ≡ complete_step shared.old a.old status (key_at a.old r) packet }
+{
+    let key = key(shared, a, r);
+    shared.complete(key, status);
+    a.position += 1;
+    Ran::Under(Over::Manager(Managing::Completes(key)))
+}

@@ -13,7 +13,7 @@ use model::event::Lock;
 use model::world::CancelStep;
 use slot_frames::activation::{cancelled_by, completing};
 use slot_frames::{Managing, Over, Ran};
-use slot_parts::Shared;
+use slot_parts::{Shared, Walked};
 
 /// It completes the packet of a key: completion leaves the current location.
 pub fn walk(set: &DriverSet, shared: &mut Shared, key: u64) -> Ran
@@ -22,7 +22,19 @@ pub fn walk(set: &DriverSet, shared: &mut Shared, key: u64) -> Ran
         left_of shared.new (SlotWalk key) result
         ≡ walk_step set.now shared.old key packet }
 {
-    Ran::Steps
+    match shared.walk(key) {
+        Walked::Runs(completion) => Ran::Under(completing(set, completion, key)),
+        Walked::Ascends => Ran::Steps,
+        Walked::TopsOut {
+            number,
+            status,
+            info,
+        } => Ran::TopsOut {
+            number,
+            status,
+            info,
+        },
+    }
 }
 
 /// A step of IoCancelIrp, on a thread.

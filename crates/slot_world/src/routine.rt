@@ -91,7 +91,7 @@ fn execute(
         Instr::Pass(r) => return forwarding::pass(shared, set, r, a),
         Instr::Call(r, routine) => return forwarding::call(shared, set, r, routine, a),
         Instr::IfPending(r, label) => packets::jump_if_pending(shared, r, label, a),
-        Instr::Complete(_r, _status) => {}
+        Instr::Complete(r, status) => return forwarding::complete(shared, r, status, a),
         Instr::Ret(form) => return leave(below, a, form),
     }
     Ran::Steps

@@ -5,7 +5,7 @@ ghost use Rattle.slot_laws.specs.Slots.{with_packet_at};
 
 use super::Shared;
 use model::instr::Field;
-use model::status::Major;
+use model::status::{Major, Status};
 use model::world::{Armer, Completion};
 
 impl Shared {
@@ -59,6 +59,16 @@ impl Shared {
     {
         let key = self.packet_table.used(key as usize);
         self.packet_table.set_info(key, info);
+    }
+
+    /// IoCompleteRequest: the packet has its final status.
+    pub fn complete(&mut self, key: u64, status: Status)
+        requires { IsSome (packet_at self.old key) }
+        ensures { let packet = record (packet_in_slot self.old key) { status = status } in
+            self.new ≡ with_packet_at self.old key packet }
+    {
+        let key = self.packet_table.used(key as usize);
+        self.packet_table.set_status(key, status);
     }
 
     /// IoMarkIrpPending.
