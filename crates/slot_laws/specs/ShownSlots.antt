@@ -1,24 +1,33 @@
 -- What a world of slots shows: that of what it means which shows that whole.
 use Rattle.std.specs.Prelude.{map}
 use Rattle.model.specs.Set.{Set}
-use Rattle.model.specs.Shown.{Shown, ShowsWorld, shown_packet, whole_thread}
-use Rattle.model.specs.World.{World}
+use Rattle.model.specs.Shown.{Shown, ShowsWorld, whole}
+use Rattle.model.specs.World.{Shared, World}
 use Rattle.slot_laws.specs.Rep.{Means, meant_lists, meant_start, meant_thread, named, packets_in}
-use Rattle.slot_laws.specs.Slots.{SlotWorld}
+use Rattle.slot_laws.specs.Slots.{SlotShared, SlotWorld}
+
+-- what threads share, and the world, with each packet named by its number
+abbrev pub meant_shared : SlotShared → Shared
+meant_shared s =
+    record {
+      packets = packets_in s.slots s.order;
+      issued = s.issued;
+      locks = s.locks;
+      cells = s.cells;
+      queues = map (meant_lists (named s)) s.queues;
+      starts = map (meant_start (named s)) s.starts;
+      dpcs = s.dpcs;
+    }
+
+abbrev pub meant : SlotWorld → World
+meant v =
+    record {
+      threads = map (meant_thread (named v.shared)) v.threads;
+      shared = meant_shared v.shared;
+    }
 
 abbrev pub shown_slots : Set → SlotWorld → Shown
-shown_slots set v =
-    record {
-      set = set;
-      threads = map whole_thread (map (meant_thread (named v.shared)) v.threads);
-      packets = map shown_packet (packets_in v.shared.slots v.shared.order);
-      issued = v.shared.issued;
-      locks = v.shared.locks;
-      cells = v.shared.cells;
-      queues = map (meant_lists (named v.shared)) v.shared.queues;
-      starts = map (meant_start (named v.shared)) v.shared.starts;
-      dpcs = v.shared.dpcs;
-    }
+shown_slots set v = whole set (meant v)
 
 -- it shows each world that it means
 abbrev pub SlotsShowWhatTheyMean : Type 0

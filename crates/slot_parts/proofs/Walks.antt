@@ -1,16 +1,15 @@
 -- A step of a packet's completion on the packet table, and on what threads share.
-use Rattle.std.proofs.Common.{◌≡◌, ◌<◌, ℕ, suc, Bool, true, false, List, [], ◌∷◌, length, Option, None, Some, ap, refl, arith, inl, inr}
+use Rattle.std.proofs.Common.{◌≡◌, ◌<◌, ℕ, Bool, true, false, List, [], ◌∷◌, length, Option, None, Some, ap, refl, arith, inl, inr}
 use Rattle.std.specs.Prelude.{nat_lt, remove}
 use Rattle.std.proofs.lemmas.Bool.Decides.{eqb_tells}
-use Rattle.model.specs.declared.world.Cells.{Cells}
 use Rattle.model.specs.declared.world.Completion.{Completion}
 use Rattle.model.specs.declared.world.Packet.{Packet}
-use Rattle.model.specs.Queues.{StartState, unlinked}
-use Rattle.model.specs.World.{Locks, completion_of, current_location, left_location}
+use Rattle.model.specs.Queues.{unlinked}
+use Rattle.model.specs.World.{completion_of, current_location, left_location}
 use Rattle.iomgr.specs.declared.walk.WalkStep.{WalkStep}
 use Rattle.iomgr.specs.declared.walk.WalkStep.TheVariants.{Missing, Runs, Ascends, TopsOut}
 use Rattle.iomgr.specs.Numbers.{number_place}
-use Rattle.iomgr.specs.Slots.{Holds, SlotTable, place_at}
+use Rattle.iomgr.specs.Slots.{Holds, SlotTable}
 use Rattle.iomgr.specs.Walk.{Stepped, steps_from, walked_at}
 use Rattle.slot_laws.specs.Slots.{SlotShared}
 use Rattle.slot_parts.specs.declared.shared.walking.Walked.{Walked}

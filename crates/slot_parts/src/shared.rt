@@ -14,6 +14,7 @@ use std::marker::Model;
 
 mod cells;
 mod due;
+mod issuing;
 mod locks;
 mod packets;
 mod queues;

@@ -1,10 +1,8 @@
-use Rattle.std.proofs.Common.{◌≡◌, ℕ, ap, refl, sym, ◌∙◌, subst}
+use Rattle.std.proofs.Common.{◌≡◌}
 use Rattle.model.specs.declared.world.Packet.{Packet}
 use Rattle.iomgr.specs.Slots.{SlotTable, packet_at}
-use Rattle.iomgr.specs.Walk.{Stepped, walked_at}
 use Rattle.slot_laws.specs.Slots.{SlotShared}
-use Rattle.slot_parts.specs.Walks.{WalkLeaves, walks}
-use Rattle.slot_parts.proofs.Walks.{told_of, walks_on, with_table}
+use Rattle.slot_parts.proofs.Walks.{told_of, walks_on}
 use Rattle.slot_parts.proofs.shared.Shared.walk.Goals as goal
 use Rattle.slot_parts.proofs.shared.Shared.walk.Goals.{in-Runs, in-Ascends, in-TopsOut}
 
