@@ -1,6 +1,6 @@
 -- What an event on slots looks for, and finds: the instruction, its operands, the packet of a key,
 -- a lock, a queue with room, room for another frame. Who carries an event out tests none of it.
-use Rattle.std.specs.Prelude.{ℕ, ◌≡◌, ◌≢◌, ◌+◌, ◌<◌, ⊤, true, List, length, Option, None, Some, is_some, slice_get}
+use Rattle.std.specs.Prelude.{ℕ, ◌≡◌, ◌≢◌, ◌<◌, ⊤, true, List, length, Some, is_some, slice_get}
 use Rattle.model.specs.declared.event.Event.{Event}
 use Rattle.model.specs.declared.event.Event.TheVariants.{Issue, Cancel as CancelEvent, Interrupt, Dpc as DpcEvent, StartIo as StartIoEvent, Step}
 use Rattle.model.specs.declared.event.Lock.{Lock}
@@ -19,12 +19,11 @@ use Rattle.model.specs.declared.world.Value.TheVariants.{Num, Ref, Status as Sta
 use Rattle.model.specs.Effect.{spin_lock}
 use Rattle.model.specs.Queues.{StartState, has_room_for_next, has_room_to_start}
 use Rattle.model.specs.Run.{run}
-use Rattle.model.specs.Set.{Set, dpc_of, instruction_at, lower_of, startio_of}
+use Rattle.model.specs.Set.{Set, instruction_at, lower_of}
 use Rattle.model.specs.Sound.{IsSound}
 use Rattle.model.specs.Typable.{IsTypable}
 use Rattle.model.specs.World.{innermost, owner_of, register}
 use Rattle.slot_laws.specs.Rep.{Means}
-use Rattle.slot_laws.specs.SlotEvents.{has_none}
 use Rattle.slot_laws.specs.SlotStep.{top_frame}
 use Rattle.slot_laws.specs.Slots.{SlotCancel, SlotFrame, SlotRoutine, SlotShared, SlotThread, SlotWalk, SlotWorld, packet_at, slot_queue, slot_start}
 
@@ -83,10 +82,6 @@ CanGoDown s a r =
     (key : ℕ) (packet : Packet) → register a r ≡ Ref key → packet_at s key ≡ Some packet
     → packet.depth < length packet.locations.items
 
--- there is room for another frame over one that stands over so many
-abbrev pub HasRoomOver : ℕ → Type 0
-HasRoomOver below = below + 1 < MAX_FRAMES
-
 -- a routine returns what it has
 abbrev pub ReturnFits : Activation → Return → Type 0
 ReturnFits a (WithStatus status) = ⊤
@@ -95,78 +90,71 @@ ReturnFits a Continue = ⊤
 ReturnFits a Stop = ⊤
 ReturnFits a Void = ⊤
 
--- what an instruction looks for, of a thread's routine that stands over so many frames
-abbrev pub InstructionFits : Set → SlotShared → ℕ → ℕ → Activation → Instr → Type 0
-InstructionFits set s t below a (Const r n) = ⊤
-InstructionFits set s t below a (Move r q) = ⊤
-InstructionFits set s t below a (Clear r) = ⊤
-InstructionFits set s t below a (Add r q) = HasNumber a r × HasNumber a q
-InstructionFits set s t below a (Subtract r q) = HasNumber a r × HasNumber a q
-InstructionFits set s t below a (JumpIfZero r label) = HasNumber a r
-InstructionFits set s t below a (JumpIfLess r q label) = HasNumber a r × HasNumber a q
-InstructionFits set s t below a (Jump label) = ⊤
-InstructionFits set s t below a (Loop turns) = length a.loops.items < MAX_LOOPS
-InstructionFits set s t below a End = is_some (innermost a) ≡ true
-InstructionFits set s t below a (Load r c) = HasCells s a.device
-InstructionFits set s t below a (Store c r) = HasCells s a.device × HasNumber a r
-InstructionFits set s t below a (LoadPaged r c) = HasCells s a.device
-InstructionFits set s t below a (StorePaged c r) = HasCells s a.device × HasNumber a r
-InstructionFits set s t below a (Get r q field) = HasKey s a q
-InstructionFits set s t below a (Put q r) = HasKey s a q × HasNumber a r
-InstructionFits set s t below a (Mark r) = HasKey s a r
-InstructionFits set s t below a (Acquire lock) = CanAcquire s t (spin_lock a lock)
-InstructionFits set s t below a (Release lock) = HasLock s (spin_lock a lock)
-InstructionFits set s t below a AcquireCancel = CanAcquire s t SystemCancel
-InstructionFits set s t below a ReleaseCancel = ⊤
-InstructionFits set s t below a (Insert r q) =
+-- what an instruction of a thread's routine looks for
+abbrev pub InstructionFits : Set → SlotShared → ℕ → Activation → Instr → Type 0
+InstructionFits set s t a (Const r n) = ⊤
+InstructionFits set s t a (Move r q) = ⊤
+InstructionFits set s t a (Clear r) = ⊤
+InstructionFits set s t a (Add r q) = HasNumber a r × HasNumber a q
+InstructionFits set s t a (Subtract r q) = HasNumber a r × HasNumber a q
+InstructionFits set s t a (JumpIfZero r label) = HasNumber a r
+InstructionFits set s t a (JumpIfLess r q label) = HasNumber a r × HasNumber a q
+InstructionFits set s t a (Jump label) = ⊤
+InstructionFits set s t a (Loop turns) = length a.loops.items < MAX_LOOPS
+InstructionFits set s t a End = is_some (innermost a) ≡ true
+InstructionFits set s t a (Load r c) = HasCells s a.device
+InstructionFits set s t a (Store c r) = HasCells s a.device × HasNumber a r
+InstructionFits set s t a (LoadPaged r c) = HasCells s a.device
+InstructionFits set s t a (StorePaged c r) = HasCells s a.device × HasNumber a r
+InstructionFits set s t a (Get r q field) = HasKey s a q
+InstructionFits set s t a (Put q r) = HasKey s a q × HasNumber a r
+InstructionFits set s t a (Mark r) = HasKey s a r
+InstructionFits set s t a (Acquire lock) = CanAcquire s t (spin_lock a lock)
+InstructionFits set s t a (Release lock) = HasLock s (spin_lock a lock)
+InstructionFits set s t a AcquireCancel = CanAcquire s t SystemCancel
+InstructionFits set s t a ReleaseCancel = ⊤
+InstructionFits set s t a (Insert r q) =
     HasKey s a r × HasQueue s a.device q × QueueHasRoom s a.device q
-InstructionFits set s t below a (Remove r q label) = HasQueue s a.device q
-InstructionFits set s t below a (Unlink r q) = HasKey s a r × HasQueue s a.device q
-InstructionFits set s t below a (Arm r q) = HasKey s a r
-InstructionFits set s t below a (Disarm r label) = HasKey s a r
-InstructionFits set s t below a (IfCancel r label) = HasKey s a r
-InstructionFits set s t below a (Start r) =
+InstructionFits set s t a (Remove r q label) = HasQueue s a.device q
+InstructionFits set s t a (Unlink r q) = HasKey s a r × HasQueue s a.device q
+InstructionFits set s t a (Arm r q) = HasKey s a r
+InstructionFits set s t a (Disarm r label) = HasKey s a r
+InstructionFits set s t a (IfCancel r label) = HasKey s a r
+InstructionFits set s t a (Start r) =
     HasKey s a r × HasStart s a.device × CanStart s a.device
-InstructionFits set s t below a (Take r label) = HasStart s a.device
-InstructionFits set s t below a (Begin r) = HasKey s a r × HasStart s a.device
-InstructionFits set s t below a Next = HasStart s a.device × CanStartNext s a.device
-InstructionFits set s t below a (Pass r) =
-    HasKey s a r × (is_some (lower_of set a.device) ≡ true) × HasRoomOver below
-InstructionFits set s t below a (Call r f) =
-    HasKey s a r × (is_some (lower_of set a.device) ≡ true) × HasRoomOver below × CanGoDown s a r
-InstructionFits set s t below a (Complete r status) = HasKey s a r × HasRoomOver below
-InstructionFits set s t below a (IfPending r label) = HasKey s a r
-InstructionFits set s t below a (Ret form) = ReturnFits a form
+InstructionFits set s t a (Take r label) = HasStart s a.device
+InstructionFits set s t a (Begin r) = HasKey s a r × HasStart s a.device
+InstructionFits set s t a Next = HasStart s a.device × CanStartNext s a.device
+InstructionFits set s t a (Pass r) =
+    HasKey s a r × (is_some (lower_of set a.device) ≡ true)
+InstructionFits set s t a (Call r f) =
+    HasKey s a r × (is_some (lower_of set a.device) ≡ true) × CanGoDown s a r
+InstructionFits set s t a (Complete r status) = HasKey s a r
+InstructionFits set s t a (IfPending r label) = HasKey s a r
+InstructionFits set s t a (Ret form) = ReturnFits a form
 
 -- the routine has an instruction at its position
-pub record RoutineFits (set : Set) (s : SlotShared) (t below : ℕ) (a : Activation) : Type 0 where
+pub record RoutineFits (set : Set) (s : SlotShared) (t : ℕ) (a : Activation) : Type 0 where
   pub instruction : Instr
   pub at : instruction_at set a.driver a.routine a.position ≡ Some instruction
   pub near : a.position < MAX_INSTRUCTIONS
-  pub fits : InstructionFits set s t below a instruction
-
--- the packet of the I/O manager's frame that completes one is there, and there is room for its
--- completion routine
-pub record WalkFits (s : SlotShared) (below key : ℕ) : Type 0 where
-  pub packet : Packet
-  pub lies : packet_at s key ≡ Some packet
-  pub room : HasRoomOver below
+  pub fits : InstructionFits set s t a instruction
 
 abbrev pub CancelFits : SlotShared → ℕ → CancelStep → Type 0
 CancelFits s t AcquireStep = CanAcquire s t SystemCancel
 CancelFits s t SetFlag = ⊤
 CancelFits s t Exchange = ⊤
 
--- a thread's top frame, over so many others
-abbrev pub FrameFits : Set → SlotShared → ℕ → ℕ → SlotFrame → Type 0
-FrameFits set s t below (SlotRoutine a) = RoutineFits set s t below a
-FrameFits set s t below (SlotWalk k) = WalkFits s below k
-FrameFits set s t below (SlotCancel k n step) = CancelFits s t step
+-- a thread's top frame: of the I/O manager's frame that completes a packet, that is there
+abbrev pub FrameFits : Set → SlotShared → ℕ → SlotFrame → Type 0
+FrameFits set s t (SlotRoutine a) = RoutineFits set s t a
+FrameFits set s t (SlotWalk k) = is_some (packet_at s k) ≡ true
+FrameFits set s t (SlotCancel k n step) = CancelFits s t step
 
-abbrev pub ThreadFits : Set → SlotShared → ℕ → SlotThread → Type 0
-ThreadFits set s t x =
-    (below : ℕ) (f : SlotFrame) → length x.frames ≡ below + 1 → slice_get x.frames below ≡ Some f
-    → FrameFits set s t below f
+-- a thread has room for another frame
+pub record ThreadFits (set : Set) (s : SlotShared) (t : ℕ) (x : SlotThread) : Type 0 where
+  pub room : length x.frames < MAX_FRAMES
+  pub top : (f : SlotFrame) → top_frame x.frames ≡ Some f → FrameFits set s t f
 
 -- what an event looks for
 abbrev pub EventFits : Set → SlotWorld → Event → Type 0

@@ -1,6 +1,6 @@
 //! Steps of a routine.
 
-ghost use Rattle.std.specs.Prelude.{◌≡◌, ◌<◌, length};
+ghost use Rattle.std.specs.Prelude.{◌≡◌, ◌<◌};
 ghost use Rattle.model.specs.declared.limits.TheConstants.{MAX_INSTRUCTIONS};
 ghost use Rattle.slot_frames.specs.Left.{left_of};
 ghost use Rattle.slot_laws.specs.Fits.{InstructionFits, ReturnFits, RoutineFits};
@@ -49,8 +49,7 @@ fn execute(
     instruction: Instr,
 ) -> Ran
     requires near { a.old.position < MAX_INSTRUCTIONS }
-    requires fits { let over = length below.now in
-        InstructionFits set.now shared.old thread over a.old instruction }
+    requires fits { InstructionFits set.now shared.old thread a.old instruction }
     ensures { left_of shared.new (SlotRoutine a.new) result
         ≡ instruction_step set.now shared.old thread (top_frame below.now) a.old instruction }
 {
@@ -106,7 +105,7 @@ pub fn step(
     below: &[Frame],
     a: &mut Activation,
 ) -> Ran
-    requires { RoutineFits set.now shared.old thread (length below.now) a.old }
+    requires { RoutineFits set.now shared.old thread a.old }
     ensures { left_of shared.new (SlotRoutine a.new) result
         ≡ frame_step set.now shared.old thread (top_frame below.now) (SlotRoutine a.old) }
 {

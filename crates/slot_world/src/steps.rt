@@ -1,6 +1,6 @@
 //! Steps of a frame.
 
-ghost use Rattle.std.specs.Prelude.{◌≡◌, length};
+ghost use Rattle.std.specs.Prelude.{◌≡◌};
 ghost use Rattle.slot_frames.specs.Left.{left_of};
 ghost use Rattle.slot_laws.specs.Fits.{FrameFits};
 ghost use Rattle.slot_laws.specs.SlotStep.{frame_step, top_frame};
@@ -19,7 +19,7 @@ pub fn step(
     thread: u8,
     below: &[Frame],
 ) -> Ran
-    requires { FrameFits set.now shared.old thread (length below.now) frame.old }
+    requires { FrameFits set.now shared.old thread frame.old }
     ensures { left_of shared.new frame.new result
         ≡ frame_step set.now shared.old thread (top_frame below.now) frame.old }
 {
