@@ -1,5 +1,5 @@
 -- Lists that are written, at a place or as a whole.
-use Rattle.std.proofs.Common.{◌≡◌, ◌<◌, ◌-◌, ℕ, List, [], ◌∷◌, ◌++◌, Some, length, take, get_or, ap, sym, ◌∙◌, refl, arith}
+use Rattle.std.proofs.Common.{◌≡◌, ◌<◌, ◌-◌, ℕ, zero, suc, List, [], ◌∷◌, ◌++◌, Some, length, take, get_or, ap, sym, ◌∙◌, refl, arith}
 use Rattle.std.specs.Prelude.{slice_get, slice_set}
 use Rattle.std.specs.List.{refill}
 use Rattle.std.proofs.Math.Seq.{take-append_seam}
@@ -40,3 +40,10 @@ set_last {A = A} xs x y h = set_split xs (take (length xs - 1) xs) (last_split x
     set_split ys front split =
         let before = sym (before_last front x) in
         rw split (last_set front x y ∙ ap (λ (zs : List A). zs ++ y ∷ []) before)
+
+-- what stands there, written there, changes nothing
+pub set_back : {A : Type 0} (xs : List A) (i : ℕ) (x : A) → slice_get xs i ≡ Some x
+    → slice_set xs i x ≡ xs
+set_back [] i x h = refl
+set_back (z ∷ xs) zero x h = let same : z ≡ x = cc in rw same refl
+set_back {A = A} (z ∷ xs) (suc i) x h = ap (λ (ys : List A). z ∷ ys) (set_back xs i x h)

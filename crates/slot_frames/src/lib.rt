@@ -7,6 +7,7 @@ pub mod frame;
 pub mod local;
 pub mod ran;
 pub mod reading;
+pub mod telling;
 
 pub use frame::Frame;
 pub use ran::{Managing, Over, Ran};

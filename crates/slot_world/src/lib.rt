@@ -13,3 +13,7 @@ pub mod reading;
 pub mod routine;
 pub mod starting;
 pub mod steps;
+mod thread;
+pub mod world;
+
+pub use world::Slots;

@@ -1,19 +1,22 @@
 //! A thread: its frames, and their steps.
 
-ghost use Rattle.std.specs.Prelude.{◌≡◌, ◌-◌, [], Some, true, length, take};
-ghost use Rattle.model.specs.declared.event.Reply.TheVariants.{Stepped};
+ghost use Rattle.std.specs.Prelude.{◌≡◌, ◌-◌, ◌∷◌, [], Some, length, take, true};
+ghost use Rattle.model.specs.View.{frame_view, thread_view};
+ghost use Rattle.slot_laws.specs.Rep.{meant_frame, meant_thread, named};
 ghost use Rattle.slot_laws.specs.Fits.{ThreadFits};
-ghost use Rattle.slot_laws.specs.SlotStep.{ends_or, level_over, told_frame, told_frames};
-ghost use Rattle.slot_world.specs.Threads.{thread_step};
+ghost use Rattle.slot_laws.specs.SlotEvents.{has_none, idle_slots, rooted_slot};
+ghost use Rattle.slot_laws.specs.SlotStep.{ends_or, told_frames};
+ghost use Rattle.slot_world.specs.Threads.{standing_on, thread_moves};
 
 use crate::steps;
 use arrayvec::ArrayVec;
-use driver_set::{DriverSet, Instr};
+use driver_set::DriverSet;
 use model::event::Reply;
 use model::limits::MAX_FRAMES;
 use model::status::Status;
-use model::world::{Activation, Irql, Value};
-use slot_frames::{Frame, Ran};
+use model::view::{FrameView, ThreadView};
+use model::world::{Canceller, Irql};
+use slot_frames::{Frame, Managing, Ran, telling};
 use slot_parts::Shared;
 use std::marker::Model;
 
@@ -31,4 +34,158 @@ impl Model for Thread {
     ghost Value = { SlotThread };
 
     ghost view = { λ t. record { root = t.root; frames = t.frames.items } };
+}
+
+/// The routine on the top, if one stands there, is told the status that a lower driver returned.
+fn tell(set: &DriverSet, frames: &mut ArrayVec<Frame, MAX_FRAMES>, status: Status)
+    ensures { frames.new.items ≡ told_frames set.now frames.old.items (Some status) }
+{
+    let top = frames.len().saturating_sub(1);
+    if let Some(caller) = frames.get_mut(top) {
+        telling::tell(caller, set, status);
+    }
+}
+
+/// What there is to tell of a frame: of a packet the number.
+fn told_of(frame: &Frame, shared: &Shared) -> FrameView
+    ensures { let meant = meant_frame (named shared.now) frame.now in
+        result ≡ frame_view meant }
+{
+    match frame.manager() {
+        Some(Managing::Completes(key)) => FrameView::Walk(shared.named(key)),
+        Some(Managing::Cancels {
+            key: _,
+            number,
+            next,
+        }) => FrameView::Cancel(Canceller {
+            packet: number,
+            next,
+        }),
+        None => {
+            let a = frame.activation();
+            FrameView::Routine {
+                driver: a.driver,
+                routine: a.routine,
+                device: a.device,
+                position: a.position,
+            }
+        }
+    }
+}
+
+impl Thread {
+    /// A thread without frames.
+    pub fn idle() -> Thread
+        ensures { result ≡ idle_slots }
+    {
+        Thread {
+            root: Irql::Passive,
+            frames: ArrayVec::new(),
+        }
+    }
+
+    /// Whether it has no frames.
+    pub fn is_idle(&self) -> bool
+        ensures { result ≡ has_none self.now }
+    {
+        self.frames.is_empty()
+    }
+
+    /// What there is to tell of it, where keys name these packets.
+    pub fn view(&self, shared: &Shared) -> ThreadView
+        ensures { let meant = meant_thread (named shared.now) self.now in
+            result ≡ thread_view meant }
+    {
+        let top = match self.frames.last() {
+            Some(frame) => Some(told_of(frame, shared)),
+            None => None,
+        };
+        ThreadView {
+            root: self.root,
+            frames: self.frames.len(),
+            top,
+        }
+    }
+
+    /// A frame is put on an idle thread, at a level.
+    pub fn begin(&mut self, level: Irql, root: Frame)
+        requires { has_none self.old ≡ true }
+        ensures { self.new ≡ rooted_slot level root }
+    {
+        self.root = level;
+        self.frames.push(root);
+    }
+
+    /// The top frame goes.
+    fn pop(&mut self)
+        ensures { let below = take (length self.old.frames - 1) self.old.frames in
+            self.new ≡ record self.old { frames = below } }
+    {
+        let top = self.frames.len().saturating_sub(1);
+        self.frames.truncate(top);
+    }
+
+    /// After a step: a thread that it left without frames has finished, and is idle.
+    fn finish(&mut self, reply: Reply) -> Reply
+        ensures thread { self.new ≡ standing_on self.old self.old.frames }
+        ensures reply { result ≡ ends_or self.old.frames reply }
+    {
+        if !self.frames.is_empty() {
+            return reply;
+        }
+        self.root = Irql::Passive;
+        match reply {
+            Reply::Stepped => Reply::Finished,
+            _ => reply,
+        }
+    }
+
+    /// A step of the top frame of the thread of this number, if it has one.
+    pub fn step(&mut self, set: &DriverSet, shared: &mut Shared, number: u8) -> Reply
+        requires { ThreadFits set.now shared.old number self.old }
+        ensures { record { shared = shared.new; thread = self.new; reply = result }
+            ≡ thread_moves set.now shared.old number self.old }
+    {
+        let Some((top, below)) = self.frames.as_mut_slice().split_last_mut() else {
+            return Reply::Idle;
+        };
+        match steps::step(top, set, shared, number, below) {
+            Ran::Steps => Reply::Stepped,
+            Ran::Waits => Reply::Waited,
+            Ran::Under(over) => {
+                self.frames.push(Frame::over(over));
+                Reply::Stepped
+            }
+            Ran::Becomes(over) => {
+                *top = Frame::over(over);
+                Reply::Stepped
+            }
+            Ran::Ends => {
+                self.pop();
+                self.finish(Reply::Stepped)
+            }
+            Ran::TopsOut {
+                number: packet,
+                status,
+                info,
+            } => {
+                self.pop();
+                self.finish(Reply::Topped {
+                    packet,
+                    status,
+                    info,
+                })
+            }
+            Ran::Stopped => {
+                self.pop();
+                self.pop();
+                self.finish(Reply::Stepped)
+            }
+            Ran::Returned(status) => {
+                self.pop();
+                tell(set, &mut self.frames, status);
+                self.finish(Reply::Stepped)
+            }
+        }
+    }
 }

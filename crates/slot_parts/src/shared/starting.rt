@@ -1,6 +1,6 @@
 //! What devices have for StartIo: entries and current packets are keys.
 
-ghost use Rattle.std.specs.Prelude.{◌≡◌, ◌<◌, IsTrue, None, Some, length};
+ghost use Rattle.std.specs.Prelude.{◌≡◌, ◌↔◌, ◌<◌, IsTrue, None, Some, length};
 
 use super::Shared;
 
@@ -9,6 +9,13 @@ impl Shared {
     ghost use Rattle.model.specs.Queues.{next_started, started, with_slot, without_first_to_start};
     ghost use Rattle.slot_laws.specs.Slots.{with_slot_start};
     ghost use Rattle.slot_parts.specs.Devices.{start_in};
+
+    /// Whether there is such a device.
+    pub fn has_device(&self, device: u8) -> bool
+        ensures { IsTrue result ↔ (device < length self.now.starts) }
+    {
+        (device as usize) < self.start_list.len()
+    }
 
     /// IoStartPacket: the list that the key goes to has room.
     pub fn start(&mut self, device: u8, key: u64)

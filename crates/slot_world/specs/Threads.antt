@@ -1,0 +1,36 @@
+-- A step of a thread, as the machine does it where the thread stands.
+use Rattle.std.specs.Prelude.{ℕ, ◌-◌, List, length, Option, None, Some, slice_get, take}
+use Rattle.model.specs.declared.event.Reply.{Reply}
+use Rattle.model.specs.declared.event.Reply.TheVariants.{Idle}
+use Rattle.model.specs.Set.{Set}
+use Rattle.slot_laws.specs.SlotStep.{SlotOutcome, ends_or, frame_step, frames_after, level_over, top_frame}
+use Rattle.slot_laws.specs.Slots.{SlotFrame, SlotShared, SlotThread}
+
+-- what a thread's step leaves: the shared part, the thread, and the reply
+pub record Moved : Type 0 where
+  pub shared : SlotShared
+  pub thread : SlotThread
+  pub reply : Reply
+
+-- a thread with other frames: one that is left without any is idle, at PASSIVE_LEVEL
+abbrev pub standing_on : SlotThread → List SlotFrame → SlotThread
+standing_on thread frames =
+    record { root = level_over thread.root frames; frames = frames }
+
+abbrev pub moved_to : SlotShared → SlotThread → List SlotFrame → Reply → Moved
+moved_to s thread frames reply =
+    record { shared = s; thread = standing_on thread frames; reply = ends_or frames reply }
+
+abbrev pub moved_by : Set → SlotThread → List SlotFrame → SlotOutcome → Moved
+moved_by set thread below o = moved_to o.shared thread (frames_after set below o) o.reply
+
+abbrev pub top_moves : Set → SlotShared → ℕ → SlotThread → List SlotFrame → Option SlotFrame
+    → Moved
+top_moves set s t thread below None = record { shared = s; thread = thread; reply = Idle }
+top_moves set s t thread below (Some f) =
+    moved_by set thread below (frame_step set s t (top_frame below) f)
+
+abbrev pub thread_moves : Set → SlotShared → ℕ → SlotThread → Moved
+thread_moves set s t thread =
+    top_moves set s t thread (take (length thread.frames - 1) thread.frames)
+    (top_frame thread.frames)

@@ -1,0 +1,264 @@
+//! The world of a run, and what an event does to it.
+
+ghost use Rattle.std.specs.Prelude.{◌≡◌, ◌≤◌, IfOk, IfSome, Some, slice_get};
+ghost use Rattle.model.specs.declared.limits.TheConstants.{MAX_STACK};
+ghost use Rattle.model.specs.Events.{irql_of as irql_of_level};
+ghost use Rattle.model.specs.Set.{dpc_of, startio_of};
+ghost use Rattle.model.specs.View.{due_at, packet_at, thread_at};
+ghost use Rattle.slot_laws.specs.Done.{EventDone, IssueDone};
+ghost use Rattle.slot_laws.specs.Fits.{EventFits};
+ghost use Rattle.slot_laws.specs.ShownSlots.{meant};
+ghost use Rattle.slot_laws.specs.SlotEvents.{cancel_slot, dpc_slot, interrupt_slot, opening_slots, startio_slot};
+ghost use Rattle.slot_laws.specs.SlotStep.{slot_step};
+
+use crate::thread::Thread;
+use driver_set::{Device, DriverSet};
+use model::event::{Event, Reply};
+use model::status::Major;
+use model::view::{PacketView, ThreadView};
+use model::world::{CancelStep, Irql, Value};
+use slot_frames::activation::{driver_of, entered};
+use slot_frames::{Frame, Managing, Over};
+use slot_parts::Shared;
+use std::alloc::{AllocError, Global};
+use std::marker::Model;
+
+/// The threads with their frames, and what they share. Contracts see a world of slots.
+#[derive(Drop)]
+pub struct Slots {
+    thread_list: Vec<Thread>,
+    shared: Shared,
+}
+
+impl Model for Slots {
+    ghost use Rattle.slot_laws.specs.Slots.{SlotWorld};
+
+    ghost Value = { SlotWorld };
+
+    ghost view = { λ w. record { threads = w.thread_list.items; shared = w.shared } };
+}
+
+/// The device of a number, if there is one.
+fn device_of(set: &DriverSet, number: u8) -> Option<Device>
+    ensures device { result ≡ slice_get set.now.devices number }
+    ensures stack { IfSome (slice_get set.now.devices number) (λ d. d.stack ≤ MAX_STACK) }
+{
+    set.devices().get(number as usize).copied()
+}
+
+/// The level of a number.
+fn irql_of(level: u8) -> Option<Irql>
+    ensures { result ≡ irql_of_level level }
+{
+    match level {
+        0 => Some(Irql::Passive),
+        1 => Some(Irql::Apc),
+        2 => Some(Irql::Dispatch),
+        _ => None,
+    }
+}
+
+impl Slots {
+    /// So many devices and idle threads, before the first event. All memory that a run ever needs
+    /// is taken here: an error where some of it is refused.
+    pub fn new(alloc: Global, devices: usize, threads: u8) -> Result<Slots, AllocError>
+        ensures { IfOk result (λ w. w ≡ opening_slots devices threads 0) }
+    {
+        let mut thread_list = Vec::with_capacity(alloc, threads as usize)?;
+        for _thread in 0..threads {
+            thread_list.push(Thread::idle())?;
+        }
+        let shared = Shared::new(alloc, devices)?;
+        Ok(Slots {
+            thread_list,
+            shared,
+        })
+    }
+
+    /// Carries an event out, which finds what it looks for, and answers its reply.
+    pub fn apply(&mut self, set: &DriverSet, event: &Event) -> Reply
+        requires { EventFits set.now self.old event.now }
+        ensures { EventDone set.now self.old event.now
+            (record { world = self.new; reply = result }) }
+    {
+        match *event {
+            Event::Issue {
+                thread,
+                device,
+                major,
+                argument,
+            } => self.issue(set, thread, device, major, argument),
+            Event::Cancel {
+                thread,
+                packet,
+                level,
+            } => self.cancel(thread, packet, level),
+            Event::Interrupt { device } => self.interrupt(set, device),
+            Event::Dpc { thread, device } => self.begin_dpc(set, thread, device),
+            Event::StartIo { thread, device } => self.begin_startio(set, thread, device),
+            Event::Step { thread } => self.step(set, thread),
+        }
+    }
+
+    /// A step of a thread's top frame.
+    pub fn step(&mut self, set: &DriverSet, thread: u8) -> Reply
+        requires { EventFits set.now self.old (Event.Step thread) }
+        ensures { record { world = self.new; reply = result }
+            ≡ slot_step set.now self.old thread }
+    {
+        match self.thread_list.get_mut(thread as usize) {
+            Some(stepped) => stepped.step(set, &mut self.shared, thread),
+            None => Reply::Refused,
+        }
+    }
+
+    /// What there is to tell of a thread, if there is one of this number.
+    pub fn thread(&self, number: u8) -> Option<ThreadView>
+        ensures { result ≡ thread_at (meant self.now) number }
+    {
+        match self.thread_list.get(number as usize) {
+            Some(thread) => Some(thread.view(&self.shared)),
+            None => None,
+        }
+    }
+
+    /// What there is to tell of the packet of a number.
+    pub fn packet(&self, number: u64) -> PacketView
+        ensures { result ≡ packet_at (meant self.now) number }
+    {
+        self.shared.packet(number)
+    }
+
+    /// Whether the start list of a device has a packet, and whether its DPC is queued.
+    pub fn due(&self, device: u8) -> (bool, bool)
+        ensures { result ≡ due_at (meant self.now) device }
+    {
+        self.shared.due(device)
+    }
+
+    /// A new packet is sent to a device by an idle thread.
+    fn issue(
+        &mut self,
+        set: &DriverSet,
+        thread: u8,
+        device: u8,
+        major: Major,
+        argument: u64,
+    ) -> Reply
+        ensures { let caller = slice_get self.old.threads thread in
+            let target = slice_get set.now.devices device in
+            IssueDone set.now self.old thread device major argument caller target
+            (record { world = self.new; reply = result }) }
+    {
+        let idle = match self.thread_list.get(thread as usize) {
+            Some(caller) => caller.is_idle(),
+            None => return Reply::Refused,
+        };
+        let Some(target) = device_of(set, device) else {
+            return Reply::Refused;
+        };
+        if !idle || !self.shared.can_issue() {
+            return Reply::Refused;
+        }
+        let routine = set.handler(target.driver, major);
+        let packet = self.shared.issued();
+        let key = self.shared.issue(device, major, argument, target.stack);
+        let root = entered(target.driver, routine, device, Value::Ref(key));
+        self.thread_list[thread as usize].begin(Irql::Passive, Frame::routine(root));
+        Reply::Started(packet)
+    }
+
+    /// IoCancelIrp begins for a packet, on an idle thread at a level.
+    fn cancel(&mut self, thread: u8, packet: u64, level: u8) -> Reply
+        ensures { let on = slice_get self.old.threads thread in
+            record { world = self.new; reply = result }
+            ≡ cancel_slot self.old thread packet (irql_of_level level) on }
+    {
+        let idle = match self.thread_list.get(thread as usize) {
+            Some(canceller) => canceller.is_idle(),
+            None => return Reply::Refused,
+        };
+        let Some(level) = irql_of(level) else {
+            return Reply::Refused;
+        };
+        if !idle || packet >= self.shared.issued() {
+            return Reply::Refused;
+        }
+        let Some(key) = self.shared.find(packet) else {
+            return Reply::Finished;
+        };
+        let cancels = Managing::Cancels {
+            key,
+            number: packet,
+            next: CancelStep::Acquire,
+        };
+        self.thread_list[thread as usize].begin(level, Frame::over(Over::Manager(cancels)));
+        Reply::Started(packet)
+    }
+
+    /// A device interrupts: its DPC is queued.
+    fn interrupt(&mut self, set: &DriverSet, device: u8) -> Reply
+        ensures { record { world = self.new; reply = result }
+            ≡ interrupt_slot self.old device (dpc_of set.now device) }
+    {
+        if set.dpc(device).is_none() {
+            return Reply::Refused;
+        }
+        if self.shared.is_queued(device) {
+            return Reply::Idle;
+        }
+        self.shared.set_queued(device, true);
+        Reply::Stepped
+    }
+
+    /// The DPC of a device is taken off, and its routine begins on an idle thread.
+    fn begin_dpc(&mut self, set: &DriverSet, thread: u8, device: u8) -> Reply
+        ensures { let on = slice_get self.old.threads thread in
+            record { world = self.new; reply = result }
+            ≡ dpc_slot set.now self.old thread device on (dpc_of set.now device) }
+    {
+        let idle = match self.thread_list.get(thread as usize) {
+            Some(runner) => runner.is_idle(),
+            None => return Reply::Refused,
+        };
+        let Some(routine) = set.dpc(device) else {
+            return Reply::Refused;
+        };
+        if !idle {
+            return Reply::Refused;
+        }
+        if !self.shared.is_queued(device) {
+            return Reply::Idle;
+        }
+        self.shared.set_queued(device, false);
+        let root = entered(driver_of(set, device), routine, device, Value::Blank);
+        self.thread_list[thread as usize].begin(Irql::Dispatch, Frame::routine(root));
+        Reply::Stepped
+    }
+
+    /// The StartIo routine of a device begins on an idle thread, for the first packet of its start
+    /// list.
+    fn begin_startio(&mut self, set: &DriverSet, thread: u8, device: u8) -> Reply
+        ensures { let on = slice_get self.old.threads thread in
+            record { world = self.new; reply = result }
+            ≡ startio_slot set.now self.old thread device on (startio_of set.now device) }
+    {
+        let idle = match self.thread_list.get(thread as usize) {
+            Some(runner) => runner.is_idle(),
+            None => return Reply::Refused,
+        };
+        let Some(routine) = set.startio(device) else {
+            return Reply::Refused;
+        };
+        if !idle || !self.shared.has_device(device) {
+            return Reply::Refused;
+        }
+        let Some(key) = self.shared.start_io(device) else {
+            return Reply::Idle;
+        };
+        let packet = self.shared.named(key);
+        let root = entered(driver_of(set, device), routine, device, Value::Ref(key));
+        self.thread_list[thread as usize].begin(Irql::Dispatch, Frame::routine(root));
+        Reply::Started(packet)
+    }
+}
