@@ -1,0 +1,2 @@
+pub mod SharedTop
+pub mod SharedCells
