@@ -111,7 +111,8 @@ module _ (set : Set) (typable : IsTypable set) (sound : IsSound set) (threads : 
   pub keeps : Keeps set states threads w (run set threads events).past
   keeps = (lasts set states good threads events).keeps
 
-  pub alike : AlikeThreads set states w.shared (map (meant_thread (named v.shared)) v.threads) w.threads
+  pub alike : AlikeThreads set states w.shared (map (meant_thread (named v.shared)) v.threads)
+      w.threads
   alike = alike_before set typable sound threads events v rep (named v.shared) (λ j live. refl)
 
   pub keys : Keyed (named v.shared) v.shared w.shared

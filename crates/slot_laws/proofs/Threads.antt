@@ -59,7 +59,7 @@ right_of [] _ h = h
 right_of (f ∷ frames) reply h = h
 
 -- the lock that an instruction takes is told by the device
-lock_same : (a b : Activation) → a.device ≡ b.device → (i : Instr)
+pub lock_same : (a b : Activation) → a.device ≡ b.device → (i : Instr)
     → lock_taken a i ≡ lock_taken b i
 lock_same a b is (Acquire lock) = rw is refl
 lock_same a b is AcquireCancel = refl

@@ -40,7 +40,7 @@ module _ (set : Set) (typable : IsTypable set) (sound : IsSound set) (threads : 
   abbrev pub world : World
   world = (run set threads events).world
 
-  abbrev past : List Entry
+  abbrev pub past : List Entry
   past = (run set threads events).past
 
   -- a top frame of the run
@@ -50,6 +50,13 @@ module _ (set : Set) (typable : IsTypable set) (sound : IsSound set) (threads : 
       (good set typable sound threads events v rep t x found)
       (keeps set typable sound threads events v rep t x found) v rep.shared rep.order rep.cancels
       (alike set typable sound threads events v rep t x found) t g
+
+  pub tops_run : (h : StepsFrame set world t) → TopsRun h.frame
+  tops_run h =
+      tops_at set known threads world past
+      (good set typable sound threads events v rep t x found)
+      (keeps set typable sound threads events v rep t x found) v rep.shared rep.order rep.cancels
+      (alike set typable sound threads events v rep t x found) t h
 
   -- the run's routine, which executes the instruction
   pub record Executed (a : Activation) (i : Instr) : Type 0 where
@@ -99,11 +106,7 @@ module _ (set : Set) (typable : IsTypable set) (sound : IsSound set) (threads : 
       let steps : (h : StepsFrame set world t)
       × AlikeFrame set known world.shared None (Routine (meant_routine (named v.shared) a)) h.frame =
       run_steps set typable sound threads events v rep t x found (SlotRoutine a) is in
-      executed_on a i at steps.0 steps.0.frame refl steps.1
-      (tops_at set known threads world past
-      (good set typable sound threads events v rep t x found)
-      (keeps set typable sound threads events v rep t x found) v rep.shared rep.order rep.cancels
-      (alike set typable sound threads events v rep t x found) t steps.0)
+      executed_on a i at steps.0 steps.0.frame refl steps.1 (tops_run steps.0)
 
   -- nothing that it wants is missing
   pub finds_all : (a : Activation) (i : Instr) (e : Executed a i)
