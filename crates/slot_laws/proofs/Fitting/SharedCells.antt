@@ -30,8 +30,8 @@ is_found (Some y) there = refl
 
 module _ (set : Set) (typable : IsTypable set) (sound : IsSound set) (threads : ℕ)
     (events : List Event) (v : SlotWorld) (rep : Means set v (run set threads events).world)
-    (t : ℕ) (x : SlotThread) (found : slice_get v.threads t ≡ Some x) (a : Activation) (i : Instr)
-    (top : top_frame x.frames ≡ Some (SlotRoutine a))
+    (t : ℕ) (x : SlotThread) (found : slice_get v.threads t ≡ Some x) (a : Activation)
+    (top : top_frame x.frames ≡ Some (SlotRoutine a)) (i : Instr)
     (at : instruction_at set a.driver a.routine a.position ≡ Some i) where
   abbrev e : Executed set typable sound threads events v rep t x found a i
   e = executed set typable sound threads events v rep t x found a i top at

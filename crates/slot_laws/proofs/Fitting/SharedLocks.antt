@@ -1,5 +1,5 @@
--- The lock that a routine takes or frees is there, and the one that it takes isn't its thread's; nor
--- is the system cancel spin lock where the I/O manager takes it to cancel a packet.
+-- The lock that a routine takes or frees is there, and its thread doesn't own the one that it takes;
+-- nor the system cancel spin lock, where the I/O manager takes that to cancel a packet.
 use Rattle.std.proofs.Common.{◌≡◌, ℕ, List, None, Some, true, false, refl, sym, ◌∙◌, ap}
 use Rattle.std.specs.Prelude.{slice_get}
 use Rattle.model.specs.declared.event.Event.{Event}
@@ -47,7 +47,7 @@ module _ (set : Set) (typable : IsTypable set) (sound : IsSound set) (threads : 
   owner_same : (lock : Lock) → owner_of v.shared.locks lock ≡ owner_of locks lock
   owner_same lock = ap (λ (l : Locks). owner_of l lock) rep.shared.locks
 
-  module _ (a : Activation) (i : Instr) (top : top_frame x.frames ≡ Some (SlotRoutine a))
+  module _ (a : Activation) (top : top_frame x.frames ≡ Some (SlotRoutine a)) (i : Instr)
       (at : instruction_at set a.driver a.routine a.position ≡ Some i) where
     abbrev e : Executed set typable sound threads events v rep t x found a i
     e = executed set typable sound threads events v rep t x found a i top at

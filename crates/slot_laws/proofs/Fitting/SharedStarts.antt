@@ -1,5 +1,5 @@
--- A routine that starts packets finds what its device has for StartIo, with room for the packet that
--- it puts there.
+-- A routine that starts packets finds what its device has for StartIo, with room for the packet
+-- that it puts there.
 use Rattle.std.proofs.Common.{◌≡◌, ℕ, List, [], ◌∷◌, Bool, Option, None, Some, true, false, map, refl, sym, ◌∙◌, ap}
 use Rattle.std.specs.Prelude.{not, option_map, slice_get}
 use Rattle.model.specs.declared.event.Event.{Event}

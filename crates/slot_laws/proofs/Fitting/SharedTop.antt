@@ -21,6 +21,7 @@ use Rattle.run_laws.proofs.Claims.Full.{OwnApart, never_full, own_apart}
 use Rattle.run_laws.proofs.Holders.Counts.{Holding}
 use Rattle.run_laws.proofs.Holders.Runs.{top_holding}
 use Rattle.run_laws.proofs.Runs.Events.{StepsFrame}
+use Rattle.run_laws.proofs.States.Frames.{IsGood}
 use Rattle.run_laws.proofs.States.Known.{led}
 use Rattle.run_laws.proofs.States.Lacking.{never_lacks}
 use Rattle.run_laws.proofs.Steps.Comes.{Comes, Executing, Lacks}
@@ -43,19 +44,21 @@ module _ (set : Set) (typable : IsTypable set) (sound : IsSound set) (threads : 
   abbrev pub past : List Entry
   past = (run set threads events).past
 
+  abbrev its_good : IsGood set known
+  its_good = good set typable sound threads events v rep t x found
+
+  abbrev its_keeps : Keeps set known threads world past
+  its_keeps = keeps set typable sound threads events v rep t x found
+
   -- a top frame of the run
   abbrev pub TopsRun : Frame → Type 0
   TopsRun g =
-      Tops set known threads world past
-      (good set typable sound threads events v rep t x found)
-      (keeps set typable sound threads events v rep t x found) v rep.shared rep.order rep.cancels
+      Tops set known threads world past its_good its_keeps v rep.shared rep.order rep.cancels
       (alike set typable sound threads events v rep t x found) t g
 
   pub tops_run : (h : StepsFrame set world t) → TopsRun h.frame
   tops_run h =
-      tops_at set known threads world past
-      (good set typable sound threads events v rep t x found)
-      (keeps set typable sound threads events v rep t x found) v rep.shared rep.order rep.cancels
+      tops_at set known threads world past its_good its_keeps v rep.shared rep.order rep.cancels
       (alike set typable sound threads events v rep t x found) t h
 
   -- the run's routine, which executes the instruction
@@ -72,14 +75,13 @@ module _ (set : Set) (typable : IsTypable set) (sound : IsSound set) (threads : 
       → TopsRun (Routine c) → (under : Option Frame) (o : Outcome)
       → Comes set world.shared t under (Routine c) o → o.full ≡ false
   unfilled_on h c is tops under o comes =
-      let kept : Keeps set known threads world past = keeps set typable sound threads events v rep t x found in
       let holding : Holding set known world.shared past (Routine c) =
       subst (λ (f : Frame). Holding set known world.shared past f) is
-      (top_holding set known world past kept.stands kept.held t h) in
+      (top_holding set known world past its_keeps.stands its_keeps.held t h) in
       let apart : OwnApart set known world.shared (Routine c) =
       subst (λ (f : Frame). OwnApart set known world.shared f) is
-      (own_apart set known world past (good set typable sound threads events v rep t x found)
-      kept.stands kept.held kept.claims t h) in
+      (own_apart set known world past its_good its_keeps.stands its_keeps.held its_keeps.claims t h)
+      in
       never_full set known world.shared past c holding apart t under o tops.top comes
 
   executed_on : (a : Activation) (i : Instr)
@@ -104,7 +106,8 @@ module _ (set : Set) (typable : IsTypable set) (sound : IsSound set) (threads : 
       → instruction_at set a.driver a.routine a.position ≡ Some i → Executed a i
   executed a i is at =
       let steps : (h : StepsFrame set world t)
-      × AlikeFrame set known world.shared None (Routine (meant_routine (named v.shared) a)) h.frame =
+      × AlikeFrame set known world.shared None (Routine (meant_routine (named v.shared) a)) h.frame
+      =
       run_steps set typable sound threads events v rep t x found (SlotRoutine a) is in
       executed_on a i at steps.0 steps.0.frame refl steps.1 (tops_run steps.0)
 
