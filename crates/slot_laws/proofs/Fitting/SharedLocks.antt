@@ -1,5 +1,5 @@
--- The lock that a routine takes or frees is there, and its thread doesn't own the one that it takes;
--- nor the system cancel spin lock, where the I/O manager takes that to cancel a packet.
+-- The lock that a routine takes or frees is there, and its thread doesn't own the one it takes; nor
+-- the system cancel spin lock, where the I/O manager takes that to cancel a packet.
 use Rattle.std.proofs.Common.{◌≡◌, ℕ, List, None, Some, true, false, refl, sym, ◌∙◌, ap}
 use Rattle.std.specs.Prelude.{slice_get}
 use Rattle.model.specs.declared.event.Event.{Event}
