@@ -1,1 +1,3 @@
+pub mod Devices
 pub mod Stacks
+pub mod Worlds

@@ -1,10 +1,13 @@
 -- A step of a thread, as the machine does it where the thread stands.
-use Rattle.std.specs.Prelude.{ℕ, ◌-◌, List, length, Option, None, Some, slice_get, take}
+use Rattle.std.specs.Prelude.{ℕ, ◌-◌, List, length, Option, None, Some, slice_set, take}
 use Rattle.model.specs.declared.event.Reply.{Reply}
-use Rattle.model.specs.declared.event.Reply.TheVariants.{Idle}
+use Rattle.model.specs.declared.event.Reply.TheVariants.{Idle, Refused}
+use Rattle.model.specs.declared.view.ThreadView.{ThreadView}
 use Rattle.model.specs.Set.{Set}
-use Rattle.slot_laws.specs.SlotStep.{SlotOutcome, ends_or, frame_step, frames_after, level_over, top_frame}
-use Rattle.slot_laws.specs.Slots.{SlotFrame, SlotShared, SlotThread}
+use Rattle.model.specs.View.{thread_view}
+use Rattle.slot_laws.specs.Rep.{meant_thread, named}
+use Rattle.slot_laws.specs.SlotStep.{SlotAnswer, SlotOutcome, ends_or, frame_step, frames_after, level_over, stays, top_frame}
+use Rattle.slot_laws.specs.Slots.{SlotFrame, SlotShared, SlotThread, SlotWorld}
 
 -- what a thread's step leaves: the shared part, the thread, and the reply
 pub record Moved : Type 0 where
@@ -34,3 +37,20 @@ abbrev pub thread_moves : Set → SlotShared → ℕ → SlotThread → Moved
 thread_moves set s t thread =
     top_moves set s t thread (take (length thread.frames - 1) thread.frames)
     (top_frame thread.frames)
+
+-- the world in which a thread has moved in its place, if it is there
+abbrev pub placed : SlotWorld → ℕ → Moved → SlotAnswer
+placed v t m =
+    record {
+      world = record { threads = slice_set v.threads t m.thread; shared = m.shared };
+      reply = m.reply;
+    }
+
+abbrev pub stepped_on : Set → SlotWorld → ℕ → Option SlotThread → SlotAnswer
+stepped_on set v t None = stays v Refused
+stepped_on set v t (Some x) = placed v t (thread_moves set v.shared t x)
+
+-- what there is to tell of a thread, if it is there
+abbrev pub told_of : SlotWorld → Option SlotThread → Option ThreadView
+told_of v None = None
+told_of v (Some x) = Some (thread_view (meant_thread (named v.shared) x))

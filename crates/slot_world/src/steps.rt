@@ -5,8 +5,7 @@ ghost use Rattle.slot_frames.specs.Left.{left_of};
 ghost use Rattle.slot_laws.specs.Fits.{FrameFits};
 ghost use Rattle.slot_laws.specs.SlotStep.{frame_step, top_frame};
 
-use crate::manager;
-use crate::routine;
+use crate::{manager, routine};
 use driver_set::DriverSet;
 use slot_frames::{Frame, Managing, Ran};
 use slot_parts::Shared;

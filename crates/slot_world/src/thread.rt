@@ -53,11 +53,13 @@ fn told_of(frame: &Frame, shared: &Shared) -> FrameView
 {
     match frame.manager() {
         Some(Managing::Completes(key)) => FrameView::Walk(shared.named(key)),
-        Some(Managing::Cancels {
-            key: _,
-            number,
-            next,
-        }) => FrameView::Cancel(Canceller {
+        Some(
+            Managing::Cancels {
+                key: _,
+                number,
+                next,
+            },
+        ) => FrameView::Cancel(Canceller {
             packet: number,
             next,
         }),

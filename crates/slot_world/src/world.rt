@@ -10,6 +10,7 @@ ghost use Rattle.slot_laws.specs.Fits.{EventFits};
 ghost use Rattle.slot_laws.specs.ShownSlots.{meant};
 ghost use Rattle.slot_laws.specs.SlotEvents.{cancel_slot, dpc_slot, interrupt_slot, opening_slots, startio_slot};
 ghost use Rattle.slot_laws.specs.SlotStep.{slot_step};
+ghost use Rattle.slot_world.specs.Threads.{stepped_on, told_of};
 
 use crate::thread::Thread;
 use driver_set::{Device, DriverSet};
@@ -106,6 +107,16 @@ impl Slots {
         ensures { record { world = self.new; reply = result }
             ≡ slot_step set.now self.old thread }
     {
+        self.step_on(set, thread)
+    }
+
+    /// The same where the thread stands.
+    fn step_on(&mut self, set: &DriverSet, thread: u8) -> Reply
+        requires { EventFits set.now self.old (Event.Step thread) }
+        ensures { let on = slice_get self.old.threads thread in
+            record { world = self.new; reply = result }
+            ≡ stepped_on set.now self.old thread on }
+    {
         match self.thread_list.get_mut(thread as usize) {
             Some(stepped) => stepped.step(set, &mut self.shared, thread),
             None => Reply::Refused,
@@ -115,6 +126,13 @@ impl Slots {
     /// What there is to tell of a thread, if there is one of this number.
     pub fn thread(&self, number: u8) -> Option<ThreadView>
         ensures { result ≡ thread_at (meant self.now) number }
+    {
+        self.view_of(number)
+    }
+
+    /// The same of the thread where it stands.
+    fn view_of(&self, number: u8) -> Option<ThreadView>
+        ensures { result ≡ told_of self.now (slice_get self.now.threads number) }
     {
         match self.thread_list.get(number as usize) {
             Some(thread) => Some(thread.view(&self.shared)),
@@ -181,7 +199,7 @@ impl Slots {
         let Some(level) = irql_of(level) else {
             return Reply::Refused;
         };
-        if !idle || packet >= self.shared.issued() {
+        if !idle || !self.shared.is_issued(packet) {
             return Reply::Refused;
         }
         let Some(key) = self.shared.find(packet) else {
@@ -250,13 +268,17 @@ impl Slots {
         let Some(routine) = set.startio(device) else {
             return Reply::Refused;
         };
-        if !idle || !self.shared.has_device(device) {
+        if !idle {
             return Reply::Refused;
         }
-        let Some(key) = self.shared.start_io(device) else {
+        let Some(start) = self.shared.start_of(device) else {
+            return Reply::Refused;
+        };
+        let Some(key) = start.first_to_start() else {
             return Reply::Idle;
         };
         let packet = self.shared.named(key);
+        let _key = self.shared.start_io(device);
         let root = entered(driver_of(set, device), routine, device, Value::Ref(key));
         self.thread_list[thread as usize].begin(Irql::Dispatch, Frame::routine(root));
         Reply::Started(packet)

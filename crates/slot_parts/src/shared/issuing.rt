@@ -1,6 +1,6 @@
 //! Packets that are issued, and looked for by their numbers.
 
-ghost use Rattle.std.specs.Prelude.{◌≡◌, ◌≤◌, ℕ, IsTrue, length, slice_get};
+ghost use Rattle.std.specs.Prelude.{◌≡◌, ◌≤◌, ℕ, IsTrue, length, nat_lt, slice_get};
 ghost use Rattle.model.specs.declared.limits.TheConstants.{MAX_STACK};
 ghost use Rattle.model.specs.World.{place_of};
 ghost use Rattle.slot_laws.specs.Rep.{packets_in};
@@ -45,6 +45,13 @@ impl Shared {
         self.packet_table.issued()
     }
 
+    /// Whether a packet of this number was issued.
+    pub fn is_issued(&self, number: u64) -> bool
+        ensures { result ≡ nat_lt number self.now.issued }
+    {
+        number < self.issued()
+    }
+
     /// Issues a packet to a device of this stack size, 1 to 16, and answers the key of its slot,
     /// which had none. Its number is how many were issued before.
     pub fn issue(&mut self, device: u8, major: Major, argument: u64, stack: u8) -> u64
@@ -79,7 +86,7 @@ impl Shared {
                 marks: packet.marks(),
                 armer: packet.armer(),
             }),
-            None if number < self.issued() => PacketView::Topped,
+            None if self.is_issued(number) => PacketView::Topped,
             None => PacketView::Never,
         }
     }

@@ -1,20 +1,25 @@
 //! What devices have for StartIo: entries and current packets are keys.
 
-ghost use Rattle.std.specs.Prelude.{◌≡◌, ◌↔◌, ◌<◌, IsTrue, None, Some, length};
+ghost use Rattle.std.specs.Prelude.{◌≡◌, ◌<◌, IsSome, IsTrue, None, Some, length, option_map};
 
 use super::Shared;
+use devqueue::DeviceQueue;
 
 impl Shared {
     ghost use Rattle.model.specs.Queues.{has_room_for_next, has_room_to_start, head_of};
     ghost use Rattle.model.specs.Queues.{next_started, started, with_slot, without_first_to_start};
-    ghost use Rattle.slot_laws.specs.Slots.{with_slot_start};
+    ghost use Rattle.slot_laws.specs.Slots.{slot_start, with_slot_start};
     ghost use Rattle.slot_parts.specs.Devices.{start_in};
 
-    /// Whether there is such a device.
-    pub fn has_device(&self, device: u8) -> bool
-        ensures { IsTrue result ↔ (device < length self.now.starts) }
+    /// What a device has, if there is such a device.
+    pub fn start_of(&self, device: u8) -> Option<&DeviceQueue>
+        ensures start { option_map (λ start. start.now) result ≡ slot_start self.now device }
+        ensures there { IsSome (slot_start self.now device)
+            → device < length self.now.starts }
+        ensures known { IsSome (slot_start self.now device)
+            → slot_start self.now device ≡ Some (start_in self.now device) }
     {
-        (device as usize) < self.start_list.len()
+        self.start_list.get(device as usize)
     }
 
     /// IoStartPacket: the list that the key goes to has room.

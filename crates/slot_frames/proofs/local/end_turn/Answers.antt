@@ -1,4 +1,4 @@
-use Rattle.std.proofs.Common.{◌≡◌, ◌-◌, ℕ, List, Some, length, ap, refl, rules, ◌∙◌}
+use Rattle.std.proofs.Common.{◌≡◌, ◌-◌, ℕ, List, Some, length, ap, refl, rules}
 use Rattle.std.specs.Prelude.{slice_get}
 use Rattle.model.specs.declared.world.OpenLoop.{OpenLoop}
 use Rattle.slot_frames.proofs.Lists.{found_last, set_last}

@@ -90,6 +90,7 @@ returns-in-Returned c =
     (moved_gone c.args.set.now c.args.shared.now c.args.number thread c.in-Some.below.now
     c.in-Some.top.now split c.step.new.shared Stepped (Some c.in-Returned.status)
     c.in-Returned.ensures)
+
 pub returns-in-Ends : goal.returns-in-Ends
 returns-in-Ends c =
     let thread : SlotThread =
@@ -122,6 +123,5 @@ returns-in-TopsOut c =
           c.in-Some.top.now split c.step.new.frame,
     )
     (moved_gone c.args.set.now c.args.shared.now c.args.number thread c.in-Some.below.now
-    c.in-Some.top.now split c.step.new.shared 
+    c.in-Some.top.now split c.step.new.shared
     (Topped c.in-TopsOut.packet c.in-TopsOut.status c.in-TopsOut.info) None c.in-TopsOut.ensures)
-
