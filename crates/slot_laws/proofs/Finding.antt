@@ -99,22 +99,23 @@ module _ (name : ℕ → ℕ) (s : SlotShared) (r : Shared) (keyed : Keyed name 
 module _ (set : Set) (typable : IsTypable set) (sound : IsSound set) (threads : ℕ)
     (events : List Event) (v : SlotWorld) (rep : Means set v (run set threads events).world)
     (t : ℕ) (x : SlotThread) (found : slice_get v.threads t ≡ Some x) where
-  abbrev states : States
+  abbrev pub states : States
   states = (led set typable sound).0
 
-  good : IsGood set states
+  pub good : IsGood set states
   good = record { sound = sound; led = (led set typable sound).1 }
 
-  abbrev w : World
+  abbrev pub w : World
   w = (run set threads events).world
 
-  keeps : Keeps set states threads w (run set threads events).past
+  pub keeps : Keeps set states threads w (run set threads events).past
   keeps = (lasts set states good threads events).keeps
 
-  alike : AlikeThreads set states w.shared (map (meant_thread (named v.shared)) v.threads) w.threads
+  pub alike : AlikeThreads set states w.shared (map (meant_thread (named v.shared)) v.threads)
+      w.threads
   alike = alike_before set typable sound threads events v rep (named v.shared) (λ j live. refl)
 
-  keys : Keyed (named v.shared) v.shared w.shared
+  pub keys : Keyed (named v.shared) v.shared w.shared
   keys = keyed_before set typable sound threads events v rep
 
   one_there : (o : Option Thread) → slice_get w.threads t ≡ o
@@ -124,7 +125,7 @@ module _ (set : Set) (typable : IsTypable set) (sound : IsSound set) (threads : 
   one_there None there h = absurd h
   one_there (Some y) there h = (y, there, h)
 
-  run_thread : (y : Thread) × (slice_get w.threads t ≡ Some y)
+  pub run_thread : (y : Thread) × (slice_get w.threads t ≡ Some y)
       × AlikeThread set states w.shared (meant_thread (named v.shared) x) y
   run_thread =
       one_there (slice_get w.threads t) refl
@@ -134,7 +135,14 @@ module _ (set : Set) (typable : IsTypable set) (sound : IsSound set) (threads : 
       (alike_at set states w.shared (map (meant_thread (named v.shared)) v.threads) w.threads t
       alike))
 
-  -- its frame in the run
+  -- its frame in the run, and the step that it does there
+  pub run_steps : (f : SlotFrame) → top_frame x.frames ≡ Some f
+      → (h : StepsFrame set w t)
+      × AlikeFrame set states w.shared None (meant_frame (named v.shared) f) h.frame
+  run_steps f is =
+      steps_frame set states threads w (run set threads events).past good keeps v rep.shared
+      rep.order rep.cancels alike t x run_thread.0 found run_thread.1 run_thread.2 f is
+
   record RunFrame (f : SlotFrame) : Type 0 where
     frame : Frame
     top : OnTop set states w.shared frame
@@ -145,8 +153,7 @@ module _ (set : Set) (typable : IsTypable set) (sound : IsSound set) (threads : 
   run_frame f is =
       let h : (h : StepsFrame set w t)
       × AlikeFrame set states w.shared None (meant_frame (named v.shared) f) h.frame =
-      steps_frame set states threads w (run set threads events).past good keeps v rep.shared
-      rep.order rep.cancels alike t x run_thread.0 found run_thread.1 run_thread.2 f is in
+      run_steps f is in
       record {
         frame = h.0.frame;
         top = on_top set states w (run set threads events).past good keeps.stands t h.0;

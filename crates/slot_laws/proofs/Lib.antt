@@ -22,4 +22,5 @@ pub mod Begins
 pub mod Issues
 pub mod Issuing
 pub mod Finding
+pub mod Fitting
 pub mod Shown

@@ -59,7 +59,7 @@ right_of [] _ h = h
 right_of (f ∷ frames) reply h = h
 
 -- the lock that an instruction takes is told by the device
-lock_same : (a b : Activation) → a.device ≡ b.device → (i : Instr)
+pub lock_same : (a b : Activation) → a.device ≡ b.device → (i : Instr)
     → lock_taken a i ≡ lock_taken b i
 lock_same a b is (Acquire lock) = rw is refl
 lock_same a b is AcquireCancel = refl
@@ -139,12 +139,12 @@ module _ (set : Set) (states : States) (threads : ℕ) (w : World) (past : List 
         (λ gone. lives n _ (walks_gone n gone) refl top.stands gone)
 
   -- what is known of it
-  record Tops (g : Frame) : Type 0 where
-    top : OnTop set states r g
-    says : (l : Lock) → owner_of r.locks l ≡ Some (Some t) → frame_says states g l ≡ true
-    lives : (n : ℕ) → g ≡ Walk n → is_some (packet_of r n) ≡ true
+  pub record Tops (g : Frame) : Type 0 where
+    pub top : OnTop set states r g
+    pub says : (l : Lock) → owner_of r.locks l ≡ Some (Some t) → frame_says states g l ≡ true
+    pub lives : (n : ℕ) → g ≡ Walk n → is_some (packet_of r n) ≡ true
 
-  tops_at : (h : StepsFrame set w t) → Tops h.frame
+  pub tops_at : (h : StepsFrame set w t) → Tops h.frame
   tops_at h =
       record {
         top = on_top set states w past good keeps.stands t h;
@@ -157,7 +157,7 @@ module _ (set : Set) (states : States) (threads : ℕ) (w : World) (past : List 
     below_it = option_map (meant_frame name) under
 
     -- it takes no lock that the thread owns
-    takes_free : (a c : Activation) → AlikeActivation set states None (meant_routine name a) c
+    pub takes_free : (a c : Activation) → AlikeActivation set states None (meant_routine name a) c
         → Tops (Routine c) → (i : Instr)
         → instruction_at set a.driver a.routine a.position ≡ Some i → (lock : Lock)
         → lock_taken a i ≡ Some lock → owner_of r.locks lock ≡ Some (Some t) → ⊥

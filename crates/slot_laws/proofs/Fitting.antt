@@ -1,0 +1,5 @@
+pub mod SharedTop
+pub mod SharedCells
+pub mod SharedLocks
+pub mod SharedQueues
+pub mod SharedStarts
