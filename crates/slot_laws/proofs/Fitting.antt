@@ -3,3 +3,4 @@ pub mod SharedCells
 pub mod SharedLocks
 pub mod SharedQueues
 pub mod SharedStarts
+pub mod LocalTop
