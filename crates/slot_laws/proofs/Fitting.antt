@@ -4,3 +4,4 @@ pub mod SharedLocks
 pub mod SharedQueues
 pub mod SharedStarts
 pub mod LocalTop
+pub mod LocalOperands
