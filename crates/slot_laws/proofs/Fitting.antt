@@ -5,3 +5,4 @@ pub mod SharedQueues
 pub mod SharedStarts
 pub mod LocalTop
 pub mod LocalOperands
+pub mod Events
