@@ -3,6 +3,7 @@
 //! the set. Nothing runs here: each law is the contract of a function that does nothing.
 #![tactic(auto)]
 
+ghost use Rattle.slot_laws.specs.Fits.{EventsFit};
 ghost use Rattle.slot_laws.specs.GoOn.{FreeSlotsMeanTheBeginning, SlotEventsShowRuns};
 ghost use Rattle.slot_laws.specs.ShownSlots.{SlotsShowWhatTheyMean};
 
@@ -17,6 +18,15 @@ pub fn free_slots_mean_the_beginning()
 /// that is free.
 pub fn slot_events_show_runs()
     ensures { SlotEventsShowRuns }
+{}
+
+/// Of an accepted set: where slots mean the world of a run, each event finds what it looks for. The
+/// thread that steps has room for another frame; a routine on top of it has an instruction, with
+/// numbers and keys of used slots in the registers that this reads, and a queue, lock, loop or
+/// lower device wherever this wants one, with room for what is put there. So who carries events
+/// out on slots need test none of it.
+pub fn events_fit()
+    ensures { EventsFit }
 {}
 
 /// Slots show each world that they mean, in the way that a machine of accepted sets shows one.
