@@ -37,7 +37,8 @@ module _ (set : Set) (v : SlotWorld) (others : List (Option Packet))
   cancel_same : (f : SlotFrame) → CancelStands s f → CancelStands r f
   cancel_same (SlotRoutine a) h = tt
   cancel_same (SlotWalk k) h = tt
-  cancel_same (SlotCancel k n step) h = (h.0, λ j p there number. h.1 j p (sym (at j) ∙ there) number)
+  cancel_same (SlotCancel k n step) h =
+      (h.0, λ j p there number. h.1 j p (sym (at j) ∙ there) number)
 
   pub means_same : (w : World) → Means set v w → Means set (with_slots v others) w
   means_same w means =
