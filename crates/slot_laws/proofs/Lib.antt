@@ -24,3 +24,5 @@ pub mod Issuing
 pub mod Finding
 pub mod Fitting
 pub mod Shown
+pub mod Padded
+pub mod Doing

@@ -3,6 +3,7 @@
 //! the set. Nothing runs here: each law is the contract of a function that does nothing.
 #![tactic(auto)]
 
+ghost use Rattle.slot_laws.specs.Done.{DoneShowsRuns};
 ghost use Rattle.slot_laws.specs.Fits.{EventsFit};
 ghost use Rattle.slot_laws.specs.GoOn.{FreeSlotsMeanTheBeginning, SlotEventsShowRuns};
 ghost use Rattle.slot_laws.specs.ShownSlots.{SlotsShowWhatTheyMean};
@@ -18,6 +19,12 @@ pub fn free_slots_mean_the_beginning()
 /// that is free.
 pub fn slot_events_show_runs()
     ensures { SlotEventsShowRuns }
+{}
+
+/// The same of an event that was carried out where slots may be added: a request's packet is in any
+/// slot that had none, be it a new one, and every other event did exactly what the slots say.
+pub fn done_events_show_runs()
+    ensures { DoneShowsRuns }
 {}
 
 /// Of an accepted set: where slots mean the world of a run, each event finds what it looks for. The
