@@ -1,86 +1,87 @@
--- A machine that keeps a world whole shows it.
-use Rattle.std.proofs.Common.{◌≡◌, ℕ, zero, suc, List, [], ◌∷◌, map, length, Option, refl, sym, ap, ◌∙◌, subst}
-use Rattle.std.specs.Prelude.{slice_get, slice_index_or}
-use Rattle.model.specs.declared.world.Frame.{Frame}
-use Rattle.model.specs.declared.world.Frame.TheVariants.{Routine, Walk, Cancel as CancelFrame}
-use Rattle.model.specs.declared.world.Thread.{Thread}
-use Rattle.model.specs.declared.world.Value.{Value}
-use Rattle.model.specs.declared.world.Value.TheVariants.{Blank, Num, Ref, Status as StatusValue}
+-- Slots that mean the world of a run show it, and mean the world of each run that they show.
+use Rattle.std.proofs.Common.{◌≡◌, ℕ, List, [], ◌∷◌, map, length, ap, refl, sym, ◌∙◌, subst}
+use Rattle.model.specs.declared.world.Packet.{Packet}
 use Rattle.model.specs.Run.{run}
 use Rattle.model.specs.Set.{Set}
-use Rattle.model.specs.Shown.{Reads, ShowsFrame, ShowsFrames, ShowsThreads, ShowsWorld, blank_register, whole, whole_frame, whole_register, whole_thread}
-use Rattle.model.specs.World.{Shared, World, opening}
-use Rattle.checked.specs.Step.{State, machine_of}
-use Rattle.machine.specs.Runs.{IsRun, IsShown}
+use Rattle.model.specs.Shown.{ShownPacket, ShowsWorld, shown_packet}
+use Rattle.model.specs.World.{World}
+use Rattle.slot_laws.specs.GoOn.{FreeSlotsMeanTheBeginning}
+use Rattle.slot_laws.specs.Rep.{Means, slotted}
+use Rattle.slot_laws.specs.ShownSlots.{SlotsShowWhatTheyMean, shown_slots}
+use Rattle.slot_laws.specs.SlotEvents.{opening_slots}
+use Rattle.slot_laws.specs.Slots.{SlotWorld}
+use Rattle.machine.specs.Runs.{IsMeant, IsShown}
 
-reads_whole : (v : Value) → Reads (whole_register v) v
-reads_whole Blank = tt
-reads_whole (Num n) = refl
-reads_whole (Ref n) = refl
-reads_whole (StatusValue status) = refl
+-- packets that show the same are in slots the same
+same_slotted : (p q : Packet) → shown_packet (slotted p) ≡ shown_packet q → slotted p ≡ slotted q
+same_slotted p q h =
+    let number : p.number ≡ q.number = ap (λ (x : ShownPacket). x.number) h in
+    let depth : p.depth ≡ q.depth = ap (λ (x : ShownPacket). x.depth) h in
+    let locations : p.locations.items ≡ q.locations.items =
+    ap (λ (x : ShownPacket). x.locations) h in
+    let status : p.status ≡ q.status = ap (λ (x : ShownPacket). x.status) h in
+    let info : p.info ≡ q.info = ap (λ (x : ShownPacket). x.info) h in
+    let returned : p.pending_returned ≡ q.pending_returned =
+    ap (λ (x : ShownPacket). x.pending_returned) h in
+    let cancel : p.cancel ≡ q.cancel = ap (λ (x : ShownPacket). x.cancel) h in
+    let armer : p.armer ≡ q.armer = ap (λ (x : ShownPacket). x.armer) h in
+    rw (number, depth, locations, status, info, returned, cancel, armer) refl
 
-register_whole : (values : List Value) (r : ℕ)
-    → slice_index_or (map whole_register values) r blank_register
-    ≡ whole_register (slice_index_or values r Blank)
-register_whole [] r = refl
-register_whole (v ∷ values) zero = refl
-register_whole (v ∷ values) (suc r) = register_whole values r
+all_slotted : (ps qs : List Packet)
+    → map shown_packet (map slotted ps) ≡ map shown_packet qs → map slotted ps ≡ map slotted qs
+all_slotted [] [] h = refl
+all_slotted [] (q ∷ qs) h = cc
+all_slotted (p ∷ ps) [] h = cc
+all_slotted (p ∷ ps) (q ∷ qs) h =
+    let first : shown_packet (slotted p) ≡ shown_packet q = cc in
+    let others : map shown_packet (map slotted ps) ≡ map shown_packet qs = cc in
+    rw (same_slotted p q first, all_slotted ps qs others) refl
 
-module _ (set : Set) (s : Shared) where
-  frame_whole : (above : Option Frame) (f : Frame) → ShowsFrame set s above (whole_frame f) f
-  frame_whole above (Routine a) =
-      record {
-        driver = refl;
-        routine = refl;
-        device = refl;
-        position = refl;
-        loops = refl;
-        registers = λ r taken. rw (register_whole a.registers r)
-            (reads_whole (slice_index_or a.registers r Blank));
-      }
-  frame_whole above (Walk n) = λ live. refl
-  frame_whole above (CancelFrame c) = refl
-
-  frames_whole : (frames : List Frame) → ShowsFrames set s (map whole_frame frames) frames
-  frames_whole [] = tt
-  frames_whole (f ∷ frames) = (frame_whole (slice_get frames 0) f, frames_whole frames)
-
-  threads_whole : (threads : List Thread) → ShowsThreads set s (map whole_thread threads) threads
-  threads_whole [] = tt
-  threads_whole (thread ∷ threads) =
-      ((refl, frames_whole thread.frames.items), threads_whole threads)
-
-pub whole_shows : (set : Set) (w : World) → ShowsWorld (whole set w) w
-whole_shows set w =
+-- what slots mean tells what they show, but for whether the I/O manager has a packet, of which they
+-- have nothing
+pub means_shown : (set : Set) (v : SlotWorld) (w other : World) → Means set v w
+    → ShowsWorld (shown_slots set v) other → Means set v other
+means_shown set v w other means shows =
     record {
-      threads = threads_whole set w.shared w.threads;
-      packets = refl;
-      issued = refl;
-      locks = refl;
-      cells = refl;
-      queues = refl;
-      starts = refl;
-      dpcs = refl;
+      shared =
+          record {
+            packets =
+                means.shared.packets
+                ∙ all_slotted w.shared.packets other.shared.packets
+                (ap (map shown_packet) (sym means.shared.packets) ∙ shows.packets);
+            issued = shows.issued;
+            locks = shows.locks;
+            cells = shows.cells;
+            queues = shows.queues;
+            starts = shows.starts;
+            dpcs = shows.dpcs;
+          };
+      threads = shows.threads;
+      order = means.order;
+      whole = means.whole;
+      cancels = means.cancels;
     }
 
 -- before the first event
-pub opening_shown : (set given : Set) (w : World) (threads : ℕ) → given ≡ set
-    → w ≡ opening (length given.devices) threads
-    → ShowsWorld (whole set w) (opening (length set.devices) threads)
-opening_shown set given w threads same is =
-    let first : World = opening (length set.devices) threads in
-    let begun : w ≡ first =
-    is ∙ ap (λ (given : Set). opening (length given.devices) threads) same in
-    subst (λ (w : World). ShowsWorld (whole set w) first) (sym begun) (whole_shows set first)
+pub opening_meant : FreeSlotsMeanTheBeginning → (set given : Set) (v : SlotWorld) (threads : ℕ)
+    → given ≡ set → v ≡ opening_slots (length given.devices) threads 0
+    → Means set v (run set threads []).world
+opening_meant law set given v threads same is =
+    let begun : v ≡ opening_slots (length set.devices) threads 0 =
+    is ∙ ap (λ (given : Set). opening_slots (length given.devices) threads 0) same in
+    subst (λ (v : SlotWorld). Means set v (run set threads []).world) (sym begun)
+    (law set threads 0)
 
--- a machine that is kept whole and shows some run shows it with parts left out, too
-pub run_shown : (set : Set) (state : State) → IsRun (machine_of set state)
-    → IsShown (whole set state.world)
-run_shown set state is =
-    let reached : World = (run set is.threads is.events).world in
+pub begun_meant : (set : Set) (v : SlotWorld) (threads : ℕ) → Means set v (run set threads []).world
+    → IsMeant set v
+begun_meant set v threads means = record { threads = threads; events = []; means = means }
+
+-- slots that mean the world of some run show that
+pub run_shown : SlotsShowWhatTheyMean → (set : Set) (v : SlotWorld) → IsMeant set v
+    → IsShown (shown_slots set v)
+run_shown law set v is =
     record {
       threads = is.threads;
       events = is.events;
-      shows = subst (λ (w : World). ShowsWorld (whole set w) reached) (sym is.shows.world)
-          (whole_shows set reached);
+      shows = law set v (run set is.threads is.events).world is.means;
     }

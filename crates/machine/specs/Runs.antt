@@ -4,18 +4,21 @@ use Rattle.model.specs.declared.event.Event.{Event}
 use Rattle.model.specs.declared.event.Event.TheVariants.{Step}
 use Rattle.model.specs.declared.event.Reply.{Reply}
 use Rattle.model.specs.declared.event.Reply.TheVariants.{Refused}
-use Rattle.model.specs.Machine.{Machine, Shows, ShowsWhole}
+use Rattle.model.specs.Machine.{Shows}
 use Rattle.model.specs.Run.{run}
+use Rattle.model.specs.Set.{Set}
 use Rattle.model.specs.Shown.{Shown}
 use Rattle.model.specs.World.{World}
 use Rattle.run_laws.specs.NeverStops.{LetsGoOn}
 use Rattle.run_laws.specs.Rules.{KeepsTheRules}
+use Rattle.slot_laws.specs.Rep.{Means}
+use Rattle.slot_laws.specs.Slots.{SlotWorld}
 
--- a machine that keeps its world whole shows some run
-pub record IsRun (m : Machine) : Type 0 where
+-- slots mean the world of some run of a set
+pub record IsMeant (set : Set) (v : SlotWorld) : Type 0 where
   pub threads : ℕ
   pub events : List Event
-  pub shows : ShowsWhole m threads events
+  pub means : Means set v (run set threads events).world
 
 -- what a machine shows is some run
 pub record IsShown (m : Shown) : Type 0 where

@@ -11,11 +11,14 @@ ghost use Rattle.model.specs.Machine.{Applies, Shows};
 ghost use Rattle.model.specs.View.{due_at, packet_at, thread_at};
 ghost use Rattle.run_laws.specs.Rules.{KeepsTheRules};
 
-use checked::State;
 use model::event::{Event, Reply};
 use model::memory::OutOfMemory;
 use model::view::{PacketView, ThreadView};
-use run_laws::{accepted_runs_keep_the_rules, alike_runs_go_on_alike};
+use run_laws::accepted_runs_keep_the_rules;
+use slot_laws::{
+    done_events_show_runs, events_fit, free_slots_mean_the_beginning, slots_show_what_they_mean,
+};
+use slot_world::Slots;
 use std::alloc::Global;
 use std::marker::Model;
 use verifier::Accepted;
@@ -34,22 +37,22 @@ pub struct Steps {
 #[derive(Drop)]
 pub struct World {
     accepted: Accepted,
-    state: State,
+    slots: Slots,
 }
 
 impl Model for World {
-    ghost use Rattle.checked.specs.Step.{machine_of};
-    ghost use Rattle.machine.specs.Runs.{IsRun};
-    ghost use Rattle.model.specs.Shown.{Shown, whole};
+    ghost use Rattle.machine.specs.Runs.{IsMeant};
+    ghost use Rattle.model.specs.Shown.{Shown};
     ghost use Rattle.model.specs.Sound.{IsSound};
     ghost use Rattle.model.specs.Typable.{IsTypable};
+    ghost use Rattle.slot_laws.specs.ShownSlots.{shown_slots};
 
     ghost Value = { Shown };
 
-    ghost view = { λ w. whole w.accepted w.state.world };
+    ghost view = { λ w. shown_slots w.accepted w.slots };
 
     ghost invariant = { λ w. IsTypable w.accepted
-        × (IsSound w.accepted × IsRun (machine_of w.accepted w.state)) };
+        × (IsSound w.accepted × IsMeant w.accepted w.slots) };
 }
 
 impl World {
@@ -69,9 +72,12 @@ impl World {
         ensures back { IfErr result (λ refused. refused.0 ≡ accepted) }
     {
         accepted_runs_keep_the_rules();
-        match State::new(alloc, accepted.set(), threads) {
-            Ok(state) => Ok(World { accepted, state }),
-            Err(refused) => Err((accepted, refused)),
+        free_slots_mean_the_beginning();
+        slots_show_what_they_mean();
+        let devices = accepted.set().devices().len();
+        match Slots::new(alloc, devices, threads) {
+            Ok(slots) => Ok(World { accepted, slots }),
+            Err(_refused) => Err((accepted, OutOfMemory)),
         }
     }
 
@@ -85,8 +91,10 @@ impl World {
         ensures steps { StepsThreads self.old event.now result }
     {
         accepted_runs_keep_the_rules();
-        alike_runs_go_on_alike();
-        self.state.apply(self.accepted.set(), event)
+        events_fit();
+        done_events_show_runs();
+        slots_show_what_they_mean();
+        self.slots.apply(self.accepted.set(), event)
     }
 
     /// Makes steps of a thread, at most `count`: it ends after the first that replies otherwise than
@@ -121,14 +129,16 @@ impl World {
         ensures { TellsOf self.now (λ w. thread_at w number) result }
     {
         accepted_runs_keep_the_rules();
-        self.state.thread(number)
+        slots_show_what_they_mean();
+        self.slots.thread(number)
     }
 
     /// What there is to tell of the packet of a number.
     pub fn packet(&self, number: u64) -> PacketView
         ensures { TellsOf self.now (λ w. packet_at w number) result }
     {
-        self.state.packet(number)
+        slots_show_what_they_mean();
+        self.slots.packet(number)
     }
 
     /// What is due of a device: whether its start list has a packet, so that its StartIo routine
@@ -136,6 +146,7 @@ impl World {
     pub fn due(&self, device: u8) -> (bool, bool)
         ensures { TellsOf self.now (λ w. due_at w device) result }
     {
-        self.state.due(device)
+        slots_show_what_they_mean();
+        self.slots.due(device)
     }
 }

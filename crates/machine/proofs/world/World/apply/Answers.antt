@@ -1,27 +1,40 @@
 use Rattle.std.proofs.Common.{[], ◌∷◌, ◌++◌, subst}
-use Rattle.checked.specs.Step.{machine_of}
-use Rattle.model.specs.Machine.{Applies, AppliesWhole}
+use Rattle.model.specs.Machine.{Applies}
 use Rattle.model.specs.Set.{Set}
-use Rattle.model.specs.Shown.{Shown, whole}
-use Rattle.machine.proofs.Applying.{applies_shown, goes_on, steps_threads}
+use Rattle.model.specs.Shown.{Shown}
+use Rattle.slot_laws.specs.Done.{EventDone}
+use Rattle.slot_laws.specs.ShownSlots.{shown_slots}
+use Rattle.machine.proofs.Applying.{answered, applies_shown, goes_on, meant_after, steps_threads}
 use Rattle.machine.specs.Runs.{GoesOn, RulesKept, StepsThreads}
 use Rattle.machine.proofs.world.World.apply.Goals as goal
 
--- the machine that is kept whole applies the event
-applied : (c : goal.After-apply)
-    → AppliesWhole (machine_of c.self.inside.accepted c.self.inside.state) c.args.event.now
-    (machine_of c.self.inside.accepted c.apply.new.self) c.apply.result
-applied c =
-    subst (λ (s : Set). AppliesWhole (machine_of s c.self.inside.state) c.args.event.now
-    (machine_of s c.apply.new.self) c.apply.result) c.set.ensures.same c.apply.ensures
+-- the event was carried out on the slots of the accepted set
+done : (c : goal.After-apply)
+    → EventDone c.self.inside.accepted c.self.inside.slots c.args.event.now
+    (answered c.apply.new.self c.apply.result)
+done c =
+    subst (λ (s : Set). EventDone s c.self.inside.slots c.args.event.now
+    (answered c.apply.new.self c.apply.result)) c.set.ensures.same c.apply.ensures
+
+pub invariant_of-self : goal.invariant_of-self
+invariant_of-self c = (
+  c.self.invariant.0,
+  (
+    c.self.invariant.1.0,
+    meant_after c.done_events_show_runs.ensures c.self.inside.accepted c.self.invariant.0
+        c.self.invariant.1.0 c.self.inside.slots c.apply.new.self c.args.event.now c.apply.result
+        c.self.invariant.1.1 (done c),
+  ),
+)
 
 pub returns-clause-applies : goal.returns-clause-applies
 returns-clause-applies c =
     subst (λ (m : Shown). Applies m c.args.event.now
-    (whole c.self.inside.accepted c.apply.new.self.world) c.apply.result) c.self.view_is
-    (applies_shown c.alike_runs_go_on_alike.ensures c.self.inside.accepted
-    c.self.invariant.0 c.self.invariant.1.0 c.self.inside.state c.apply.new.self c.args.event.now
-    c.apply.result c.self.invariant.1.1 (applied c))
+    (shown_slots c.self.inside.accepted c.apply.new.self) c.apply.result) c.self.view_is
+    (applies_shown c.done_events_show_runs.ensures c.self.inside.accepted c.self.invariant.0
+    c.self.invariant.1.0 c.self.inside.slots c.apply.new.self c.args.event.now c.apply.result
+    c.self.invariant.1.1 (done c)
+    c.slots_show_what_they_mean.ensures)
 
 pub returns-clause-rules : goal.returns-clause-rules
 returns-clause-rules c =
@@ -32,13 +45,15 @@ returns-clause-rules c =
 pub returns-clause-goes_on : goal.returns-clause-goes_on
 returns-clause-goes_on c =
     subst (λ (m : Shown). GoesOn m c.apply.result) c.self.view_is
-    (goes_on c.alike_runs_go_on_alike.ensures c.self.inside.accepted
-    c.self.invariant.0 c.self.invariant.1.0 c.self.inside.state c.apply.new.self c.args.event.now
-    c.apply.result c.self.invariant.1.1 (applied c) c.accepted_runs_keep_the_rules.ensures)
+    (goes_on c.done_events_show_runs.ensures c.self.inside.accepted c.self.invariant.0
+    c.self.invariant.1.0 c.self.inside.slots c.apply.new.self c.args.event.now c.apply.result
+    c.self.invariant.1.1 (done c)
+    c.accepted_runs_keep_the_rules.ensures)
 
 pub returns-clause-steps : goal.returns-clause-steps
 returns-clause-steps c =
     subst (λ (m : Shown). StepsThreads m c.args.event.now c.apply.result) c.self.view_is
-    (steps_threads c.alike_runs_go_on_alike.ensures c.self.inside.accepted
-    c.self.invariant.0 c.self.invariant.1.0 c.self.inside.state c.apply.new.self c.args.event.now
-    c.apply.result c.self.invariant.1.1 (applied c) c.accepted_runs_keep_the_rules.ensures)
+    (steps_threads c.done_events_show_runs.ensures c.self.inside.accepted c.self.invariant.0
+    c.self.invariant.1.0 c.self.inside.slots c.apply.new.self c.args.event.now c.apply.result
+    c.self.invariant.1.1 (done c)
+    c.accepted_runs_keep_the_rules.ensures)

@@ -1,18 +1,39 @@
-use Rattle.std.proofs.Common.{ap, subst}
-use Rattle.checked.specs.Step.{State}
+use Rattle.std.proofs.Common.{◌∙◌, List, [], ap, length, subst}
+use Rattle.model.specs.declared.set.Device.{Device}
+use Rattle.model.specs.Run.{run}
 use Rattle.model.specs.Set.{Set}
 use Rattle.model.specs.Sound.{IsSound}
-use Rattle.machine.proofs.Whole.{opening_shown}
+use Rattle.slot_laws.specs.Rep.{Means}
+use Rattle.slot_laws.specs.SlotEvents.{opening_slots}
+use Rattle.machine.proofs.Whole.{begun_meant, opening_meant}
 use Rattle.machine.proofs.world.World.new.Goals as goal
+
+-- the slots mean the world before the first event
+begun : (c : goal.In-Ok) → Means c.args.accepted c.in-Ok.slots
+    (run c.args.accepted c.args.threads []).world
+begun c =
+    opening_meant c.free_slots_mean_the_beginning.ensures c.args.accepted c.set.result.now
+    c.in-Ok.slots c.args.threads c.set.ensures.same
+    (c.in-Ok.ensures
+    ∙ ap (λ (devices : List Device). opening_slots (length devices) c.args.threads 0)
+    c.devices-devices.ensures.devices)
+
+pub invariant_of-result : goal.invariant_of-result
+invariant_of-result c = (
+  c.set.ensures.typable,
+  (
+    subst (λ (s : Set). IsSound s) c.set.ensures.same c.devices-devices.ensures.sound,
+    begun_meant c.args.accepted c.in-Ok.slots c.args.threads (begun c),
+  ),
+)
 
 pub returns-in-Ok-clause-shows : goal.returns-in-Ok-clause-shows
 returns-in-Ok-clause-shows c =
-    opening_shown c.args.accepted c.set.result.now c.in-Ok.state.world c.args.threads
-    c.set.ensures.same
-    (ap (λ (state : State). state.world) c.in-Ok.ensures.state)
+    c.slots_show_what_they_mean.ensures c.args.accepted c.in-Ok.slots
+    (run c.args.accepted c.args.threads []).world (begun c)
 
 pub returns-in-Ok-clause-rules : goal.returns-in-Ok-clause-rules
 returns-in-Ok-clause-rules c = λ events.
     c.accepted_runs_keep_the_rules.ensures c.args.accepted c.set.ensures.typable
-    (subst (λ (s : Set). IsSound s) c.set.ensures.same c.new.ensures.sound) c.args.threads
-    events
+    (subst (λ (s : Set). IsSound s) c.set.ensures.same c.devices-devices.ensures.sound)
+    c.args.threads events

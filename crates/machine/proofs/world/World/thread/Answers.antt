@@ -1,6 +1,7 @@
 use Rattle.std.proofs.Common.{subst, ◌∙◌}
 use Rattle.model.specs.Shown.{Shown}
 use Rattle.model.specs.View.{thread_at}
+use Rattle.slot_laws.specs.ShownSlots.{meant}
 use Rattle.machine.proofs.Telling.{tells_thread}
 use Rattle.machine.proofs.Whole.{run_shown}
 use Rattle.machine.specs.Runs.{TellsOf}
@@ -10,10 +11,13 @@ pub returns : goal.returns
 returns c =
     subst (λ (m : Shown). TellsOf m (λ w. thread_at w c.args.number) c.thread.result) c.self.view_is
     (record {
-      shown = run_shown c.self.inside.accepted c.self.inside.state c.self.invariant.1.1;
+      shown =
+          run_shown c.slots_show_what_they_mean.ensures c.self.inside.accepted c.self.inside.slots
+          c.self.invariant.1.1;
       tells = λ threads events shows.
           c.thread.ensures
-          ∙ tells_thread c.self.inside.accepted c.self.inside.state.world threads events shows _
+          ∙ tells_thread c.self.inside.accepted (meant c.self.inside.slots) threads events shows
+          _
           (c.accepted_runs_keep_the_rules.ensures c.self.inside.accepted c.self.invariant.0
           c.self.invariant.1.0 threads events).holders c.args.number;
     })
