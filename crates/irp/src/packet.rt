@@ -277,7 +277,7 @@ impl Packet {
     pub fn complete(&mut self, status: Status)
         ensures { self.new ≡ completed self.old status }
     {
-        self.status = status;
+        self.set_status(status);
         self.give_back();
     }
 
