@@ -1,3 +1,4 @@
+pub mod Alone
 pub mod Frames
 pub mod Left
 pub mod Lending

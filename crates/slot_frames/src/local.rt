@@ -1,16 +1,19 @@
 //! Instructions that change nothing but their routine.
 
-ghost use Rattle.std.specs.Prelude.{◌≡◌, ◌<◌, ◌++◌, ◌∷◌, [], ◌+◌, IsSome, length, nat_eq, nat_lt, if◌then◌else◌};
+ghost use Rattle.std.specs.Prelude.{◌≡◌, ◌<◌, ◌++◌, ◌∷◌, [], ◌+◌, ℕ, IsSome, IsTrue, Option, false, length, nat_eq, nat_lt, if◌then◌else◌};
 ghost use Rattle.model.specs.declared.limits.TheConstants.{MAX_INSTRUCTIONS, MAX_LOOPS};
 ghost use Rattle.model.specs.declared.world.OpenLoop.{OpenLoop};
 ghost use Rattle.model.specs.declared.world.Value.TheVariants.{Num};
 ghost use Rattle.model.specs.World.{at_label, innermost, next, with_loops, with_register};
 ghost use Rattle.slot_frames.specs.Turns.{turned_on};
+ghost use Rattle.model.specs.Set.{Set};
+ghost use Rattle.slot_frames.specs.Alone.{FitsAlone};
 ghost use Rattle.slot_laws.specs.Fits.{HasNumber};
-ghost use Rattle.slot_laws.specs.SlotStep.{difference_at, number_at, sum_at};
+ghost use Rattle.slot_laws.specs.Slots.{SlotFrame, SlotShared};
+ghost use Rattle.slot_laws.specs.SlotStep.{difference_at, goes_on, instruction_step, number_at, sum_at};
 
 use crate::reading::number;
-use driver_set::{Register, Turns};
+use driver_set::{Instr, Register, Turns};
 use model::world::{Activation, OpenLoop, Value};
 
 /// The register becomes this value.
@@ -110,4 +113,30 @@ pub fn end_turn(a: &mut Activation)
     }
     innermost.turns -= 1;
     a.position = innermost.start;
+}
+
+/// Executes an instruction that changes nothing but its routine. False, and nothing has changed,
+/// where it is another one.
+pub fn execute(instruction: Instr, a: &mut Activation) -> bool
+    requires near { a.old.position < MAX_INSTRUCTIONS }
+    requires fits { FitsAlone a.old instruction }
+    ensures goes { IsTrue result → (set : Set) (s : SlotShared) (t : ℕ) (under : Option SlotFrame)
+        → goes_on s a.new ≡ instruction_step set s t under a.old instruction }
+    ensures same { (a.new.driver ≡ a.old.driver) × (a.new.routine ≡ a.old.routine) }
+    ensures other { result ≡ false → a.new ≡ a.old }
+{
+    match instruction {
+        Instr::Const(r, number) => set(r, Value::Num(u64::from(number)), a),
+        Instr::Move(r, s) => set(r, a.registers[s.index()], a),
+        Instr::Clear(r) => set(r, Value::Blank, a),
+        Instr::Add(r, s) => add(r, s, a),
+        Instr::Subtract(r, s) => subtract(r, s, a),
+        Instr::JumpIfZero(r, label) => jump_if_zero(r, label, a),
+        Instr::JumpIfLess(r, s, label) => jump_if_less(r, s, label, a),
+        Instr::Jump(label) => a.position = label,
+        Instr::Loop(turns) => open_loop(turns, a),
+        Instr::End => end_turn(a),
+        _ => return false,
+    }
+    true
 }

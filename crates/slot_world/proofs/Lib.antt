@@ -1,3 +1,5 @@
 pub mod Devices
+pub mod GoingOn
+pub mod Runs
 pub mod Stacks
 pub mod Worlds

@@ -3,16 +3,17 @@
 //! finds what it looks for.
 #![tactic(auto)]
 
-pub mod cells;
-pub mod forwarding;
-pub mod locks;
-pub mod manager;
-pub mod packets;
-pub mod queues;
-pub mod reading;
-pub mod routine;
-pub mod starting;
-pub mod steps;
+mod cells;
+mod forwarding;
+mod locks;
+mod manager;
+mod packets;
+mod queues;
+mod reading;
+mod routine;
+mod running;
+mod starting;
+mod steps;
 mod thread;
 pub mod world;
 

@@ -1,14 +1,15 @@
 //! A thread: its frames, and their steps.
 
-ghost use Rattle.std.specs.Prelude.{◌≡◌, ◌-◌, ◌∷◌, [], Some, length, take, true};
+ghost use Rattle.std.specs.Prelude.{◌≡◌, ◌≤◌, ◌-◌, ◌∷◌, [], Some, length, take, true};
 ghost use Rattle.model.specs.View.{frame_view, thread_view};
 ghost use Rattle.slot_laws.specs.Rep.{meant_frame, meant_thread, named};
 ghost use Rattle.slot_laws.specs.Fits.{ThreadFits};
 ghost use Rattle.slot_laws.specs.SlotEvents.{has_none, idle_slots, rooted_slot};
 ghost use Rattle.slot_laws.specs.SlotStep.{ends_or, told_frames};
+ghost use Rattle.slot_world.specs.GoingOn.{GoesOn, GoingOnFits};
 ghost use Rattle.slot_world.specs.Threads.{standing_on, thread_moves};
 
-use crate::steps;
+use crate::{running, steps};
 use arrayvec::ArrayVec;
 use driver_set::DriverSet;
 use model::event::Reply;
@@ -140,6 +141,19 @@ impl Thread {
             Reply::Stepped => Reply::Finished,
             _ => reply,
         }
+    }
+
+    /// Lets the routine on top, if one stands there, go on by itself for at most so many steps, and
+    /// answers how many.
+    pub fn go_on(&mut self, set: &DriverSet, shared: &Shared, number: u8, count: usize) -> usize
+        requires { GoingOnFits set.now shared.now number self.old }
+        ensures few { result ≤ count }
+        ensures goes { GoesOn set.now shared.now number self.old result self.new }
+    {
+        let Some((top, below)) = self.frames.as_mut_slice().split_last_mut() else {
+            return 0;
+        };
+        running::go_on(top, set, shared, number, below, count)
     }
 
     /// A step of the top frame of the thread of this number, if it has one.

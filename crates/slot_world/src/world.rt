@@ -1,6 +1,6 @@
 //! The world of a run, and what an event does to it.
 
-ghost use Rattle.std.specs.Prelude.{◌≡◌, ◌≤◌, IfOk, IfSome, Some, slice_get};
+ghost use Rattle.std.specs.Prelude.{◌≡◌, ◌≤◌, ◌<◌, ℕ, IfOk, IfSome, Some, slice_get};
 ghost use Rattle.model.specs.declared.limits.TheConstants.{MAX_STACK};
 ghost use Rattle.model.specs.Events.{irql_of as irql_of_level};
 ghost use Rattle.model.specs.Set.{dpc_of, startio_of};
@@ -10,6 +10,8 @@ ghost use Rattle.slot_laws.specs.Fits.{EventFits};
 ghost use Rattle.slot_laws.specs.ShownSlots.{meant};
 ghost use Rattle.slot_laws.specs.SlotEvents.{cancel_slot, dpc_slot, interrupt_slot, opening_slots, startio_slot};
 ghost use Rattle.slot_laws.specs.SlotStep.{slot_step};
+ghost use Rattle.model.specs.declared.event.Reply.TheVariants.{Stepped};
+ghost use Rattle.slot_world.specs.GoingOn.{after, reply_after};
 ghost use Rattle.slot_world.specs.Threads.{stepped_on, told_of};
 
 use crate::thread::Thread;
@@ -110,7 +112,23 @@ impl Slots {
         self.step_on(set, thread)
     }
 
-    /// The same where the thread stands.
+    /// Lets the routine on the top of a thread go on by itself for at most so many steps, and answers
+    /// how many: each of them changes that routine alone, and replies that the thread stepped.
+    pub fn go_on(&mut self, set: &DriverSet, thread: u8, count: usize) -> usize
+        requires { (k : ℕ)
+            → EventFits set.now (after set.now self.old thread k) (Event.Step thread) }
+        ensures few { result ≤ count }
+        ensures world { self.new ≡ after set.now self.old thread result }
+        ensures replies { (k : ℕ) → k < result
+            → reply_after set.now self.old thread k ≡ Stepped }
+    {
+        let Some(runner) = self.thread_list.get_mut(thread as usize) else {
+            return 0;
+        };
+        runner.go_on(set, &self.shared, thread, count)
+    }
+
+    /// A step of a thread where it stands.
     fn step_on(&mut self, set: &DriverSet, thread: u8) -> Reply
         requires { EventFits set.now self.old (Event.Step thread) }
         ensures { let on = slice_get self.old.threads thread in
