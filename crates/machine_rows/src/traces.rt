@@ -1,8 +1,5 @@
 //! Each row by the machine of accepted sets, and the lines of its replies.
 
-ghost use Rattle.std.specs.Prelude.{◌≤◌};
-ghost use Rattle.model.specs.declared.limits.TheConstants.{MAX_THREADS};
-
 use crate::rows::{ROWS, Row};
 use asm::assemble;
 use interleave::parse::parse_schedule;
@@ -33,7 +30,7 @@ fn accepted_sets_run(rt: HostRuntime) -> Result<(), Fail> {
         let name = row.name;
         for pace in [Pace::EventByEvent, Pace::StepsAtOnce] {
             let replies = replies_of(&rt, alloc, row, pace)?;
-            let lines = lines_of(&rt, alloc, replies.as_slice())?;
+            let lines = lines_of(alloc, replies.as_slice())?;
             assert!(rt; lines.bytes() == row.trace, "{name}");
         }
     }
@@ -49,9 +46,9 @@ fn replies_of<R: Abort>(
 ) -> Result<Vec<Reply>, AllocError> {
     let set = assemble(alloc, row.set).ok().expect(rt, row.name);
     let accepted = verify(alloc, set).ok().expect(rt, row.name);
-    let schedule = parse_schedule(alloc, row.schedule)
-        .ok()
-        .expect(rt, row.name);
+    let Ok(schedule) = parse_schedule(alloc, row.schedule) else {
+        panic!(rt; "a schedule")
+    };
     let mut world = World::new(alloc, accepted, schedule.threads)
         .ok()
         .expect(rt, row.name);
@@ -94,7 +91,8 @@ fn apply_often(
     Ok(())
 }
 
-/// A thread steps so often, as far as it goes by itself at once.
+/// A thread steps so often. Where it stops to step by itself, the steps that are left are asked for
+/// again.
 fn step_on(
     world: &mut World,
     thread: u8,
@@ -102,9 +100,12 @@ fn step_on(
     replies: &mut Vec<Reply>,
 ) -> Result<(), AllocError> {
     let mut left = count;
-    while left > 0 {
+    for _ in 0..count {
+        if left == 0 {
+            break;
+        }
         let steps = world.steps(thread, left);
-        push_often(replies, Reply::Stepped, steps.made - 1)?;
+        push_often(replies, Reply::Stepped, steps.made.saturating_sub(1))?;
         replies.push(steps.last)?;
         left -= steps.made;
     }
@@ -119,12 +120,14 @@ fn push_often(replies: &mut Vec<Reply>, reply: Reply, count: usize) -> Result<()
     Ok(())
 }
 
-/// The lines of these replies, which one block holds.
-fn lines_of<R: Abort>(rt: &R, alloc: Global, replies: &[Reply]) -> Result<Lines, AllocError> {
+/// The lines of these replies, as far as one block holds them.
+fn lines_of(alloc: Global, replies: &[Reply]) -> Result<Lines, AllocError> {
     let mut lines = Lines::new(alloc)?;
     let mut number = EventNumber::first();
     for reply in replies {
-        assert!(rt; lines.has_room());
+        if !lines.has_room() {
+            break;
+        }
         lines.reply(&number, reply);
         number.advance();
     }
