@@ -64,8 +64,33 @@ pub(crate) fn is_faulty(alloc: Global, text: &str, told: &str) -> bool {
     is_judged_so(alloc, text, 2, "", told)
 }
 
-/// Whether the trace of a schedule ends and writes so.
+/// Whether the trace of a schedule ends and writes so. Where an accepted set runs to its end, the
+/// machine that tests everything has to write the same.
 pub(crate) fn runs_so(
+    alloc: Global,
+    set: &str,
+    schedule: &str,
+    verification: Verification,
+    status: u8,
+    out: &str,
+    err: &str,
+) -> bool {
+    let is_accepted = status == 0 && matches!(verification, Verification::Required);
+    traces_so(alloc, set, schedule, verification, status, out, err)
+        && (!is_accepted
+            || traces_so(
+                alloc,
+                set,
+                schedule,
+                Verification::Skipped,
+                status,
+                out,
+                err,
+            ))
+}
+
+/// Whether the trace of a schedule by one machine ends and writes so.
+fn traces_so(
     alloc: Global,
     set: &str,
     schedule: &str,

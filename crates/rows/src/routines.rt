@@ -161,19 +161,24 @@ fn set_with(alloc: Global, code: &str) -> Result<String, AllocError> {
     )
 }
 
-/// Whether the library answers as it should.
+/// Whether the library answers as it should. A set that is accepted is run as one.
 fn is_worked(alloc: Global, worked: &Worked) -> bool {
     let Ok(set) = set_with(alloc, worked.code) else {
         return false;
     };
     let (judged, verdict) = worked.verdict;
     let (ended, trace) = worked.trace;
+    let verification = if judged == 0 {
+        Verification::Required
+    } else {
+        Verification::Skipped
+    };
     is_judged_so(alloc, set.as_str(), judged, verdict, "")
         && runs_so(
             alloc,
             set.as_str(),
             worked.schedule,
-            Verification::Skipped,
+            verification,
             ended,
             trace,
             "",
