@@ -1,8 +1,8 @@
 -- Lines in their usual form are read as the exact reading says.
-use Rattle.std.proofs.Common.{◌≡◌, ℕ, ◌+◌, ◌-◌, ◌*◌, ◌<◌, ◌≤◌, ◌^◌, nat_eq, nat_lt, true, false, Bool, ◌||◌, ◌&&◌, not, List, [], ◌∷◌, ◌++◌, length, get_or, drop, take, is_some, inl, inr, Option, Some, None, Result, Ok, IfSome, MatchOption, refl, sym, ap, ◌∙◌, arith, append_assoc, length-drop, codes}
+use Rattle.std.proofs.Common.{◌≡◌, ℕ, ◌+◌, ◌-◌, ◌*◌, ◌<◌, ◌≤◌, ◌^◌, nat_eq, nat_lt, true, false, Bool, ◌||◌, ◌&&◌, not, List, [], ◌∷◌, ◌++◌, length, get_or, take, is_some, Option, Some, None, Result, Ok, IfSome, MatchOption, Bor, ◌≢◌, refl, sym, ◌∙◌, arith, append_assoc, codes}
 use Rattle.std.proofs.lemmas.Int.Digits.{digits_value_more}
 use Rattle.std.proofs.lemmas.List.{append-nil, take_more}
-use Rattle.std.proofs.lemmas.Bool.{and_parts, eqb-true, ne_eqb, lt-ltb, le-leb}
+use Rattle.std.proofs.lemmas.Bool.{and_parts, ne_eqb, lt-ltb, le-leb}
 use Rattle.std.proofs.lemmas.Bool.Decides.{nat_tests}
 use Rattle.std.specs.Char.{is_digit, digit_value}
 use Rattle.std.specs.List.{list_all, prefix_len}
@@ -135,13 +135,14 @@ read_line word reading line operands (Some r) is begins parts reads =
     rw (parts, reads.parts)
     (read_plain word reads.words is reads.plain ∙ begins reads.words ∙ reads.says)
 
--- what holds of a value, where there is one
-pub if_some : {A : Type 0} {N : Type 0} {P : A → Type 0} (o : Option A) → MatchOption o N P
-    → IfSome o P
-if_some None none = tt
-if_some (Some a) holds = holds
+-- what stands behind a word, where the bytes begin with it
+pub behind : (bytes word : List ℕ) (r : Option (Bor (List ℕ)))
+    → MatchOption r ((rest : List ℕ) → bytes ≢ word ++ rest) (λ rest. bytes ≡ word ++ rest.now)
+    → IfSome r (λ rest. bytes ≡ word ++ rest.now)
+behind bytes word None none = tt
+behind bytes word (Some rest) is = is
 
--- a word apart from where it stands, each of whose bytes is checked
+-- a token by its tests
 pub plain_word : (word : List ℕ) → nat_eq (length word) 0 ≡ false
     → list_all is_inner word ≡ true → is_token word ≡ true → IsPlain word
 plain_word word some inner token = record { some = some; inner = inner; token = token }

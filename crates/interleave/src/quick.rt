@@ -30,22 +30,22 @@ pub fn quick_line(line: &[u8]) -> Result<Option<Repeated>, ScheduleKind>
 fn usual_line(line: &[u8]) -> Option<Repeated>
     ensures { IfSome result (λ r. event_line line.now ≡ Ok (Some r)) }
 {
-    if let Some(rest) = after_word(line, b"step".as_slice()) {
+    if let Some(rest) = after_word(line, b"step") {
         return steps(Operands { rest });
     }
-    if let Some(rest) = after_word(line, b"issue".as_slice()) {
+    if let Some(rest) = after_word(line, b"issue") {
         return request(Operands { rest });
     }
-    if let Some(rest) = after_word(line, b"cancel".as_slice()) {
+    if let Some(rest) = after_word(line, b"cancel") {
         return cancel(Operands { rest });
     }
-    if let Some(rest) = after_word(line, b"interrupt".as_slice()) {
+    if let Some(rest) = after_word(line, b"interrupt") {
         return interrupt(Operands { rest });
     }
-    if let Some(rest) = after_word(line, b"dpc".as_slice()) {
+    if let Some(rest) = after_word(line, b"dpc") {
         return dpc(Operands { rest });
     }
-    if let Some(rest) = after_word(line, b"startio".as_slice()) {
+    if let Some(rest) = after_word(line, b"startio") {
         return startio(Operands { rest });
     }
     None
@@ -203,15 +203,15 @@ impl Operands<'_> {
     fn major(&mut self) -> Option<Major>
         ensures { IfSome result (λ m. TakesMajor self.old m self.new) }
     {
-        if let Some(rest) = after_word(self.rest, b" READ".as_slice()) {
+        if let Some(rest) = after_word(self.rest, b" READ") {
             self.rest = rest;
             return Some(Major::Read);
         }
-        if let Some(rest) = after_word(self.rest, b" WRITE".as_slice()) {
+        if let Some(rest) = after_word(self.rest, b" WRITE") {
             self.rest = rest;
             return Some(Major::Write);
         }
-        if let Some(rest) = after_word(self.rest, b" CONTROL".as_slice()) {
+        if let Some(rest) = after_word(self.rest, b" CONTROL") {
             self.rest = rest;
             return Some(Major::Control);
         }
