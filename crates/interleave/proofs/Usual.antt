@@ -12,6 +12,7 @@ use Rattle.model.specs.declared.status.Major.{Major}
 use Rattle.model.specs.declared.status.Major.TheVariants.{Read, Write, Control}
 use Rattle.text.specs.Class.{is_name, is_word, is_number, is_prefixed, is_token, label_name}
 use Rattle.text.specs.Cut.{closed, parts_from, code_of, is_blank, is_clean, is_written, tokens_of}
+use Rattle.text.specs.Major.{major_of}
 use Rattle.text.specs.Number.{number_in}
 use Rattle.text.specs.declared.number.Numeral.TheVariants.{Number}
 use Rattle.interleave.specs.Line.{cancel_line, dpc_line, event_line, event_of, interrupt_line, issue_line, number_within, startio_line, step_line}
@@ -319,32 +320,25 @@ takes_number bytes operand rest space n parts blank is small = record {
   writes = digits_number is.digits n is.some is.all is.writes small;
 }
 
--- a space and the word of a major function
-pub read_taken : {bytes rest : List ℕ} → bytes ≡ codes " READ" ++ rest
-    → TakesMajor bytes Read rest
-read_taken {bytes} {rest} parts = record {
-  word = codes "READ";
-  parts = parts;
-  plain = record { some = refl; inner = refl; token = refl };
-  names = refl;
-}
+-- the word of a major function
+abbrev pub name_of : Major → List ℕ
+name_of Read = codes "READ"
+name_of Write = codes "WRITE"
+name_of Control = codes "CONTROL"
 
-pub write_taken : {bytes rest : List ℕ} → bytes ≡ codes " WRITE" ++ rest
-    → TakesMajor bytes Write rest
-write_taken {bytes} {rest} parts = record {
-  word = codes "WRITE";
-  parts = parts;
-  plain = record { some = refl; inner = refl; token = refl };
-  names = refl;
-}
+name_plain : (m : Major) → IsPlain (name_of m) × (major_of (name_of m) ≡ Some m)
+name_plain Read = (record { some = refl; inner = refl; token = refl }, refl)
+name_plain Write = (record { some = refl; inner = refl; token = refl }, refl)
+name_plain Control = (record { some = refl; inner = refl; token = refl }, refl)
 
-pub control_taken : {bytes rest : List ℕ} → bytes ≡ codes " CONTROL" ++ rest
-    → TakesMajor bytes Control rest
-control_taken {bytes} {rest} parts = record {
-  word = codes "CONTROL";
+-- a space and such a word
+pub major_taken : {bytes rest : List ℕ} {m : Major} → bytes ≡ 32 ∷ name_of m ++ rest
+    → TakesMajor bytes m rest
+major_taken {bytes} {rest} {m} parts = record {
+  word = name_of m;
   parts = parts;
-  plain = record { some = refl; inner = refl; token = refl };
-  names = refl;
+  plain = (name_plain m).0;
+  names = (name_plain m).1;
 }
 
 -- one more digit

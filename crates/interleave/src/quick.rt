@@ -199,7 +199,7 @@ impl Operands<'_> {
     }
 
     /// Takes the word of a major function.
-    #[tactic(auto, using(crate::proofs::Usual::read_taken, crate::proofs::Usual::write_taken, crate::proofs::Usual::control_taken))]
+    #[tactic(auto, using(crate::proofs::Usual::major_taken))]
     fn major(&mut self) -> Option<Major>
         ensures { IfSome result (λ m. TakesMajor self.old m self.new) }
     {
