@@ -1,4 +1,4 @@
 pub mod Bytes
 pub mod Limits
 pub mod Meanings
-pub mod Stepping
+pub mod Usual

@@ -1,5 +1,5 @@
-pub mod Digits
 pub mod Events
 pub mod Line
 pub mod Listing
 pub mod Meaning
+pub mod Usual

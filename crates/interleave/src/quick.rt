@@ -1,13 +1,15 @@
-//! Lines that step a thread, read in one pass: a schedule has more of them than of all others.
+//! Lines of events in their usual form, read in one pass: most lines of a schedule have it.
 
-ghost use Rattle.std.specs.Prelude.{◌≡◌, ◌+◌, ◌<◌, ◌≤◌, IfSome, Ok, Some, length, take};
+ghost use Rattle.std.specs.Prelude.{◌≡◌, ◌+◌, ◌<◌, ◌≤◌, ◌↔◌, ◌++◌, [], IfSome, IsTrue, Ok, Some, length, take};
 ghost use Rattle.std.specs.Str.Parse.{digits_value};
-ghost use Rattle.interleave.specs.Digits.{BeginsWith, Digits, IsCount};
-ghost use Rattle.interleave.specs.Line.{event_line};
+ghost use Rattle.interleave.specs.Line.{cancel_line, dpc_line, event_line, interrupt_line, issue_line, startio_line, step_line};
+ghost use Rattle.interleave.specs.Usual.{BeginsWith, Digits, IsCount, Reads, TakesMajor, TakesNumber};
 
 use crate::read::{MAX_REPEATS, Repeated, event_line};
 use crate::schedule::ScheduleKind;
 use model::event::Event;
+use model::status::Major;
+use std::marker::Model;
 
 /// What `event_line` answers to a line.
 ///
@@ -23,41 +25,212 @@ pub fn quick_line(line: &[u8]) -> Result<Option<Repeated>, ScheduleKind>
     }
 }
 
-/// The steps that a line stands for, if it is `step T` or `step T K` to the byte, with both numbers
-/// in decimal digits and in range.
+/// The events that a line stands for, if it has the usual form: a word and its operands, each after
+/// one space, with numbers in decimal digits and in range, and nothing behind them.
 fn usual_line(line: &[u8]) -> Option<Repeated>
     ensures { IfSome result (λ r. event_line line.now ≡ Ok (Some r)) }
 {
-    let operands = match line {
-        [b's', b't', b'e', b'p', b' ', operands @ ..] => operands,
-        _ => return None,
-    };
-    let thread = number_at_head(operands)?;
-    if thread.number > 255 {
-        return None;
+    if let Some(rest) = after_word(line, b"step") {
+        return steps(Operands { rest });
     }
-    let event = Event::Step {
-        thread: thread.number as u8,
-    };
-    let count = times(thread.rest)?;
+    if let Some(rest) = after_word(line, b"issue") {
+        return request(Operands { rest });
+    }
+    if let Some(rest) = after_word(line, b"cancel") {
+        return cancel(Operands { rest });
+    }
+    if let Some(rest) = after_word(line, b"interrupt") {
+        return interrupt(Operands { rest });
+    }
+    if let Some(rest) = after_word(line, b"dpc") {
+        return dpc(Operands { rest });
+    }
+    if let Some(rest) = after_word(line, b"startio") {
+        return startio(Operands { rest });
+    }
+    None
+}
+
+/// `T`, or `T K`.
+fn steps(mut operands: Operands) -> Option<Repeated>
+    ensures { IfSome result (λ r. Reads step_line operands.entry r) }
+{
+    let thread = operands.byte()?;
+    let count = times(operands)?;
+    let event = Event::Step { thread };
     Some(Repeated { event, count })
 }
 
-/// How often a thread steps, by what stands after its number: nothing, or a space and a number.
-fn times(bytes: &[u8]) -> Option<usize>
-    ensures { IfSome result (λ count. IsCount bytes.now count) }
+/// How often a thread steps, by what stands after its number: nothing, or how often.
+#[tactic(auto, using(crate::proofs::Usual::counts))]
+fn times(mut operands: Operands) -> Option<usize>
+    ensures { IfSome result (λ count. IsCount operands.entry count) }
 {
-    let Some((space, operand)) = bytes.split_first() else {
+    if operands.are_done() {
         return Some(1);
+    }
+    let count = operands.number()?;
+    if !operands.are_done() || count == 0 || count > MAX_REPEATS {
+        return None;
+    }
+    Some(count as usize)
+}
+
+/// `T D MAJOR ARG`.
+#[tactic(auto, using(crate::proofs::Usual::issue_read))]
+fn request(mut operands: Operands) -> Option<Repeated>
+    ensures { IfSome result (λ r. Reads issue_line operands.entry r) }
+{
+    let thread = operands.byte()?;
+    let device = operands.byte()?;
+    let major = operands.major()?;
+    let argument = operands.number()?;
+    if !operands.are_done() {
+        return None;
+    }
+    let event = Event::Issue {
+        thread,
+        device,
+        major,
+        argument,
     };
-    if *space != b' ' {
+    Some(Repeated { event, count: 1 })
+}
+
+/// `T N LEVEL`.
+#[tactic(auto, using(crate::proofs::Usual::cancel_read))]
+fn cancel(mut operands: Operands) -> Option<Repeated>
+    ensures { IfSome result (λ r. Reads cancel_line operands.entry r) }
+{
+    let thread = operands.byte()?;
+    let packet = operands.number()?;
+    let level = operands.byte()?;
+    if !operands.are_done() {
         return None;
     }
-    let count = number_at_head(operand)?;
-    if !count.rest.is_empty() || count.number == 0 || count.number > MAX_REPEATS {
+    let event = Event::Cancel {
+        thread,
+        packet,
+        level,
+    };
+    Some(Repeated { event, count: 1 })
+}
+
+/// `D`.
+#[tactic(auto, using(crate::proofs::Usual::interrupt_read))]
+fn interrupt(mut operands: Operands) -> Option<Repeated>
+    ensures { IfSome result (λ r. Reads interrupt_line operands.entry r) }
+{
+    let device = operands.byte()?;
+    if !operands.are_done() {
         return None;
     }
-    Some(count.number as usize)
+    let event = Event::Interrupt { device };
+    Some(Repeated { event, count: 1 })
+}
+
+/// `T D` of a DPC.
+#[tactic(auto, using(crate::proofs::Usual::dpc_read))]
+fn dpc(mut operands: Operands) -> Option<Repeated>
+    ensures { IfSome result (λ r. Reads dpc_line operands.entry r) }
+{
+    let thread = operands.byte()?;
+    let device = operands.byte()?;
+    if !operands.are_done() {
+        return None;
+    }
+    let event = Event::Dpc { thread, device };
+    Some(Repeated { event, count: 1 })
+}
+
+/// `T D` of a start.
+#[tactic(auto, using(crate::proofs::Usual::startio_read))]
+fn startio(mut operands: Operands) -> Option<Repeated>
+    ensures { IfSome result (λ r. Reads startio_line operands.entry r) }
+{
+    let thread = operands.byte()?;
+    let device = operands.byte()?;
+    if !operands.are_done() {
+        return None;
+    }
+    let event = Event::StartIo { thread, device };
+    Some(Repeated { event, count: 1 })
+}
+
+/// The bytes of a line behind its word that are not read yet. What an operand is read from begins
+/// with one space, and reading stops where the operand does.
+#[derive(Drop)]
+struct Operands<'a> {
+    rest: &'a [u8],
+}
+
+impl<'a> Model for Operands<'a> {
+    ghost use Rattle.std.specs.Prelude.{List, ℕ};
+
+    ghost Value = { List ℕ };
+
+    ghost view = { λ operands. operands.rest.now };
+}
+
+impl Operands<'_> {
+    /// Takes a number of 8 bits.
+    fn byte(&mut self) -> Option<u8>
+        ensures { IfSome result (λ n. TakesNumber self.old n self.new) }
+    {
+        let number = self.number()?;
+        if number > 255 {
+            return None;
+        }
+        Some(number as u8)
+    }
+
+    /// Takes a number that isn't far out of any range.
+    #[tactic(auto, using(crate::proofs::Usual::takes_number))]
+    fn number(&mut self) -> Option<u64>
+        ensures { IfSome result (λ n. TakesNumber self.old n self.new) }
+    {
+        let (space, bytes) = self.rest.split_first()?;
+        if *space != b' ' {
+            return None;
+        }
+        let found = number_at_head(bytes)?;
+        self.rest = found.rest;
+        Some(found.number)
+    }
+
+    /// Takes the word of a major function.
+    #[tactic(auto, using(crate::proofs::Usual::major_taken))]
+    fn major(&mut self) -> Option<Major>
+        ensures { IfSome result (λ m. TakesMajor self.old m self.new) }
+    {
+        if let Some(rest) = after_word(self.rest, b" READ") {
+            self.rest = rest;
+            return Some(Major::Read);
+        }
+        if let Some(rest) = after_word(self.rest, b" WRITE") {
+            self.rest = rest;
+            return Some(Major::Write);
+        }
+        if let Some(rest) = after_word(self.rest, b" CONTROL") {
+            self.rest = rest;
+            return Some(Major::Control);
+        }
+        None
+    }
+
+    /// Whether nothing stands behind the operands that were read.
+    fn are_done(&self) -> bool
+        ensures { IsTrue result ↔ (self.now ≡ []) }
+    {
+        self.rest.is_empty()
+    }
+}
+
+/// What stands behind this word, if the bytes begin with it.
+fn after_word<'a>(bytes: &'a [u8], word: &[u8]) -> Option<&'a [u8]>
+    ensures { IfSome result (λ rest. bytes.now ≡ word.now ++ rest.now) }
+{
+    bytes.strip_prefix(word)
 }
 
 /// A number, and what stands after its digits.
@@ -66,6 +239,9 @@ struct Numbered<'a> {
     number: u64,
     rest: &'a [u8],
 }
+
+/// Numbers that take another digit, at most: ten times as much is below 2^64.
+const MOST_TO_GROW: u64 = 1_000_000_000_000_000_000;
 
 /// The number that the digits at the head of these bytes write, if there is one and it isn't far
 /// out of range.
@@ -76,7 +252,7 @@ fn number_at_head(bytes: &[u8]) -> Option<Numbered<'_>>
     for (i, byte) in bytes.iter().enumerate() {
         match digit(*byte) {
             Some(digit) => {
-                if number > MAX_REPEATS {
+                if number > MOST_TO_GROW {
                     return None;
                 }
                 number = number * 10 + digit;

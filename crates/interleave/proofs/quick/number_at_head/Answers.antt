@@ -1,5 +1,5 @@
 use Rattle.std.proofs.Common.{arith}
-use Rattle.interleave.proofs.Stepping.{digits_more, number_more}
+use Rattle.interleave.proofs.Usual.{digits_more, number_more}
 use Rattle.interleave.proofs.quick.number_at_head.Goals as goal
 
 pub loop-i-preserved : goal.loop-i-preserved

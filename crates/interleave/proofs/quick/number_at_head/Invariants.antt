@@ -1,6 +1,6 @@
 use Rattle.std.proofs.Common.{◌≡◌, take}
 use Rattle.std.specs.Str.Parse.{digits_value}
-use Rattle.interleave.specs.Digits.{Digits}
+use Rattle.interleave.specs.Usual.{Digits}
 use Rattle.interleave.proofs.quick.number_at_head.Given as goal
 
 -- the bytes so far are digits, and write the number
