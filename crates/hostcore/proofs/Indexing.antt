@@ -1,17 +1,17 @@
 -- An index of a history, where an entry is added to it.
 use Rattle.std.proofs.Common.{◌≡◌, ℕ, zero, suc, List, [], ◌∷◌, ◌++◌, length, Bool, true, false, Option, None, Some, refl, sym, subst, ap, ◌∙◌}
-use Rattle.std.specs.Prelude.{◌&&◌, is_none, nat_eq, option_map, slice_get, if◌then◌else◌}
-use Rattle.std.proofs.lemmas.Bool.{cond_both, eqb-true}
+use Rattle.std.specs.Prelude.{nat_eq, option_map, slice_get, if◌then◌else◌}
 use Rattle.std.proofs.lemmas.List.{map-append}
 use Rattle.std.proofs.lemmas.List.Folds.{find-append}
-use Rattle.indexmap.specs.IndexMap.{IndexMap, get}
+use Rattle.std.specs.Option.{option_or}
+use Rattle.hindex.specs.Noted.{Noted, get}
 use Rattle.model.specs.declared.event.Reply.{Reply}
 use Rattle.model.specs.declared.event.Reply.TheVariants.{Topped}
 use Rattle.model.specs.declared.history.Entry.{Entry}
 use Rattle.model.specs.declared.history.Name.{Name}
 use Rattle.model.specs.declared.history.TopOut.{TopOut}
 use Rattle.model.specs.History.{entry_named, has_name, is_name, or_else, replies_of, top_out_in, top_out_of}
-use Rattle.hostcore.specs.Indexed.{IsIndexed, IsPlaceOf, Notes, PutsFirst, told_top}
+use Rattle.hostcore.specs.Indexed.{IsIndexed, IsPlaceOf, Notes, Puts, told_top}
 
 -- where entries stand in a longer list
 get_left : (history : List Entry) (k : ℕ) (x e : Entry) → slice_get history k ≡ Some x
@@ -44,61 +44,26 @@ place_stays history e q None is other = named_new history e q is ∙ rw (other r
 place_stays history e q (Some k) is other =
     (is.0, get_left history k is.0 e is.1, named_stays history e is.0 q is.2)
 
-and_left : (a b : Bool) → (a && b) ≡ true → a ≡ true
-and_left true b h = refl
-and_left false b h = cc
-
-and_right : (a b : Bool) → (a && b) ≡ true → b ≡ true
-and_right true b h = h
-and_right false b h = cc
-
-names_same : (a b : Name) → is_name a b ≡ true → a ≡ b
-names_same a b h =
-    let submitters : a.submitter ≡ b.submitter = eqb-true _ _ (and_left _ _ h) in
-    let counts : a.count ≡ b.count = eqb-true _ _ (and_right _ _ h) in
-    rw (submitters, counts) refl
-
-unplaced : (o : Option ℕ) → is_none o ≡ true → o ≡ None
-unplaced None h = refl
-unplaced (Some k) h = cc
-
-placed : (o : Option ℕ) → is_none o ≡ false → o ≡ None → ⊥
-placed None h none = cc
-placed (Some k) h none = cc
-
-module _ {S : Type 0} (history : List Entry) (e : Entry) (before after : IndexMap Name ℕ S)
+module _ (history : List Entry) (e : Entry) (before after : Noted Name ℕ)
     (name : Name) (has : e.name ≡ Some name)
     (places : (q : Name) → IsPlaceOf history q (get is_name before q))
-    (puts : PutsFirst is_name before after name (length history)) where
-  placed_new : (q : Name) → is_none (get is_name before name) ≡ true → is_name name q ≡ true
-      → IsPlaceOf (history ++ e ∷ []) q (Some (length history))
-  placed_new q none same =
-      let none_there : get is_name before q ≡ None =
-      subst (λ (x : Name). get is_name before x ≡ None) (names_same name q same)
-      (unplaced _ none) in
-      let unnamed : entry_named history q ≡ None =
-      subst (λ (o : Option ℕ). IsPlaceOf history q o) none_there (places q) in
-      (e, get_end history e, named_new history e q unnamed ∙ rw (has, same) refl)
+    (puts : Puts is_name before after name (length history)) where
+  placed_new : (q : Name) (same : Bool) → entry_named history q ≡ None → is_name name q ≡ same
+      → IsPlaceOf (history ++ e ∷ []) q (if same then Some (length history) else None)
+  placed_new q true unnamed is =
+      (e, get_end history e, named_new history e q unnamed ∙ rw (has, is) refl)
+  placed_new q false unnamed not = named_new history e q unnamed ∙ rw (has, not) refl
 
-  placed_old : (q : Name) (b same : Bool) → is_none (get is_name before name) ≡ b
-      → is_name name q ≡ same → (b && same) ≡ false
-      → IsPlaceOf (history ++ e ∷ []) q (get is_name before q)
-  placed_old q b false none other not_both =
-      place_stays history e q (get is_name before q) (places q) (λ gone. rw has other)
-  placed_old q true true none other not_both = cc
-  placed_old q false true none other not_both =
-      place_stays history e q (get is_name before q) (places q)
-      (λ gone.
-      absurd (placed _ none
-      (subst (λ (x : Name). get is_name before x ≡ None) (sym (names_same name q other)) gone)))
+  placed_by : (q : Name) (o : Option ℕ) → IsPlaceOf history q o
+      → IsPlaceOf (history ++ e ∷ []) q
+      (option_or o (if is_name name q then Some (length history) else None))
+  placed_by q None is = placed_new q (is_name name q) is refl
+  placed_by q (Some k) is = place_stays history e q (Some k) is (λ gone. cc)
 
   pub placed_more : (q : Name) → IsPlaceOf (history ++ e ∷ []) q (get is_name after q)
   placed_more q =
       subst (λ (o : Option ℕ). IsPlaceOf (history ++ e ∷ []) q o) (sym (puts q))
-      (cond_both (is_none (get is_name before name) && is_name name q) (Some (length history))
-      (get is_name before q) (λ o. IsPlaceOf (history ++ e ∷ []) q o)
-      (λ both. placed_new q (and_left _ _ both) (and_right _ _ both))
-      (λ not_both. placed_old q _ _ refl refl not_both))
+      (placed_by q (get is_name before q) (places q))
 
 -- an entry without a name leaves all places as they were
 pub placed_same : (history : List Entry) (e : Entry) (q : Name) (o : Option ℕ)
@@ -143,15 +108,11 @@ told (Topped packet status info) top n h =
     ≡ (if nat_eq t.packet n then Some t else None)) is refl
 told _ top n h = cc
 
-untopped : (o : Option TopOut) → is_none o ≡ true → o ≡ None
-untopped None h = refl
-untopped (Some top) h = cc
+or_same : (o other : Option TopOut) → option_or o other ≡ or_else o other
+or_same None other = refl
+or_same (Some top) other = refl
 
-or_kept : (o other : Option TopOut) → is_none o ≡ false → or_else o other ≡ o
-or_kept None other h = cc
-or_kept (Some top) other h = refl
-
-module _ {S : Type 0} (history : List Entry) (e : Entry) (before after : IndexMap ℕ TopOut S)
+module _ (history : List Entry) (e : Entry) (before after : Noted ℕ TopOut)
     (tops : (n : ℕ) → get nat_eq before n ≡ top_out_of (replies_of history) n) where
   -- an entry that tells of no packet leaves them as they were
   pub tops_same : (n : ℕ) → told_top e.reply ≡ None
@@ -164,7 +125,7 @@ module _ {S : Type 0} (history : List Entry) (e : Entry) (before after : IndexMa
       ∙ or_none _))
 
   module _ (top : TopOut) (tells : told_top e.reply ≡ Some top)
-      (puts : PutsFirst nat_eq before after top.packet top) where
+      (puts : Puts nat_eq before after top.packet top) where
     more_is : (n : ℕ) → top_out_of (replies_of (history ++ e ∷ [])) n
         ≡ or_else (get nat_eq before n) (if nat_eq top.packet n then Some top else None)
     more_is n =
@@ -172,31 +133,14 @@ module _ {S : Type 0} (history : List Entry) (e : Entry) (before after : IndexMa
         ∙ (ap (λ (o : Option TopOut). or_else o (top_out_in e.reply n)) (sym (tops n))
         ∙ ap (λ (o : Option TopOut). or_else (get nat_eq before n) o) (told e.reply top n tells))
 
-    put_is : (n : ℕ) (none same : Bool) → is_none (get nat_eq before top.packet) ≡ none
-        → nat_eq top.packet n ≡ same
-        → (if none && same then Some top else get nat_eq before n)
-        ≡ or_else (get nat_eq before n) (if same then Some top else None)
-    put_is n true true none same =
-        let gone : get nat_eq before n ≡ None =
-        subst (λ (k : ℕ). get nat_eq before k ≡ None) (eqb-true top.packet n same)
-        (untopped _ none) in
-        rw gone refl
-    put_is n false true none same =
-        let kept : is_none (get nat_eq before n) ≡ false =
-        subst (λ (k : ℕ). is_none (get nat_eq before k) ≡ false) (eqb-true top.packet n same)
-        none in
-        sym (or_kept _ _ kept)
-    put_is n true false none same = sym (or_none _)
-    put_is n false false none same = sym (or_none _)
-
     pub tops_put : (n : ℕ)
         → get nat_eq after n ≡ top_out_of (replies_of (history ++ e ∷ [])) n
     tops_put n =
         puts n
-        ∙ (put_is n (is_none (get nat_eq before top.packet)) (nat_eq top.packet n) refl refl
+        ∙ (or_same (get nat_eq before n) (if nat_eq top.packet n then Some top else None)
         ∙ sym (more_is n))
 
-placed_noted : {S : Type 0} (history : List Entry) (e : Entry) (places places' : IndexMap Name ℕ S)
+placed_noted : (history : List Entry) (e : Entry) (places places' : Noted Name ℕ)
     → ((q : Name) → IsPlaceOf history q (get is_name places q))
     → (o : Option Name) → e.name ≡ o
     → Notes is_name places places' (option_map (λ name. (name, length history)) o)
@@ -207,7 +151,7 @@ placed_noted history e places places' is None name notes q =
 placed_noted history e places places' is (Some x) name notes q =
     placed_more history e places places' x name is notes q
 
-topped_noted : {S : Type 0} (history : List Entry) (e : Entry) (tops tops' : IndexMap ℕ TopOut S)
+topped_noted : (history : List Entry) (e : Entry) (tops tops' : Noted ℕ TopOut)
     → ((n : ℕ) → get nat_eq tops n ≡ top_out_of (replies_of history) n)
     → (o : Option TopOut) → told_top e.reply ≡ o
     → Notes nat_eq tops tops' (option_map (λ (top : TopOut). (top.packet, top)) o)
@@ -218,8 +162,8 @@ topped_noted history e tops tops' is (Some top) tells notes n =
     tops_put history e tops tops' is top tells notes n
 
 -- the index, once the entry's name and its top-out are noted
-pub indexed_more : {S : Type 0} (history : List Entry) (e : Entry)
-    (places places' : IndexMap Name ℕ S) (tops tops' : IndexMap ℕ TopOut S)
+pub indexed_more : (history : List Entry) (e : Entry)
+    (places places' : Noted Name ℕ) (tops tops' : Noted ℕ TopOut)
     → IsIndexed history places tops
     → Notes is_name places places' (option_map (λ name. (name, length history)) e.name)
     → Notes nat_eq tops tops' (option_map (λ (top : TopOut). (top.packet, top)) (told_top e.reply))

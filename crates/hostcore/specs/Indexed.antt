@@ -1,6 +1,7 @@
 -- How a history is indexed.
-use Rattle.std.specs.Prelude.{ℕ, ◌≡◌, ◌&&◌, Bool, List, Option, None, Some, is_none, nat_eq, slice_get, if◌then◌else◌}
-use Rattle.indexmap.specs.IndexMap.{IndexMap, get}
+use Rattle.std.specs.Prelude.{ℕ, ◌≡◌, Bool, List, Option, None, Some, nat_eq, slice_get, if◌then◌else◌}
+use Rattle.std.specs.Option.{option_or}
+use Rattle.hindex.specs.Noted.{Noted, get}
 use Rattle.model.specs.declared.event.Reply.{Reply}
 use Rattle.model.specs.declared.event.Reply.TheVariants.{Started, Stepped, Finished, Topped, Waited, Idle, Refused, Bug, Wrong}
 use Rattle.model.specs.declared.history.Entry.{Entry}
@@ -27,21 +28,19 @@ told_top Refused = None
 told_top (Bug bug) = None
 told_top (Wrong place) = None
 
--- a value is put at a key that had none
-abbrev pub PutsFirst : {K V S : Type 0} → (K → K → Bool) → IndexMap K V S → IndexMap K V S → K → V
-    → Type 0
-PutsFirst {K} eq before after key value =
-    (q : K)
-    → get eq after q
-    ≡ (if is_none (get eq before key) && eq key q then Some value else get eq before q)
+-- a value is noted of a key, and found where none was noted before
+abbrev pub Puts : {K V : Type 0} → (K → K → Bool) → Noted K V → Noted K V → K → V → Type 0
+Puts {K} eq before after key value =
+    (q : K) → get eq after q
+    ≡ option_or (get eq before q) (if eq key q then Some value else None)
 
-abbrev pub Notes : {K V S : Type 0} → (K → K → Bool) → IndexMap K V S → IndexMap K V S
-    → Option (K × V) → Type 0
+abbrev pub Notes : {K V : Type 0} → (K → K → Bool) → Noted K V → Noted K V → Option (K × V)
+    → Type 0
 Notes {K} eq before after None = (q : K) → get eq after q ≡ get eq before q
-Notes eq before after (Some noted) = PutsFirst eq before after noted.0 noted.1
+Notes eq before after (Some note) = Puts eq before after note.0 note.1
 
 -- the places of all names, and how all packets topped out
-pub record IsIndexed {S : Type 0} (history : List Entry) (places : IndexMap Name ℕ S)
-    (tops : IndexMap ℕ TopOut S) : Type 0 where
+pub record IsIndexed (history : List Entry) (places : Noted Name ℕ) (tops : Noted ℕ TopOut)
+    : Type 0 where
   pub placed : (name : Name) → IsPlaceOf history name (get is_name places name)
   pub topped : (n : ℕ) → get nat_eq tops n ≡ top_out_of (replies_of history) n

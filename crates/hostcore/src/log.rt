@@ -1,16 +1,16 @@
 //! The stored history of a core.
 
 ghost use Rattle.std.specs.Prelude.{◌≡◌, ◌≤◌, ◌<◌, ◌+◌, ◌++◌, ◌∷◌, [], false, length, nat_eq, option_map, IfOk};
-ghost use Rattle.indexmap.specs.IndexMap.{get, spare};
+ghost use Rattle.hindex.specs.Noted.{get, noted, room};
+ghost use Rattle.model.specs.declared.limits.TheConstants.{MAX_HISTORY};
 ghost use Rattle.model.specs.History.{entry_named, is_name, outcome_named, packet_named, request_started};
-ghost use Rattle.hostcore.specs.Indexed.{IsPlaceOf, Notes, PutsFirst, told_top};
+ghost use Rattle.hostcore.specs.Indexed.{IsPlaceOf, Notes, told_top};
 
-use indexmap::IndexMap;
+use hindex::Index;
 use model::event::{Event, Reply};
 use model::history::{Entry, Name, Outcome, TopOut};
 use model::limits::MAX_ISSUED;
 use std::alloc::{AllocError, Global};
-use std::hash::Hash;
 use std::marker::Model;
 
 /// The entries of a history, with room for all that it may have, and where to find them: the place
@@ -19,14 +19,14 @@ use std::marker::Model;
 pub struct Log {
     most: usize,
     entries: Vec<Entry>,
-    places: IndexMap<Name, usize>,
-    tops: IndexMap<u64, TopOut>,
+    places: Index<Name, usize>,
+    tops: Index<u64, TopOut>,
 }
 
 impl Model for Log {
-    ghost use Rattle.std.specs.Prelude.{◌≤◌, ◌+◌, length};
+    ghost use Rattle.std.specs.Prelude.{◌≡◌, ◌≤◌, length};
     ghost use Rattle.std.specs.Vec.{vec_capacity};
-    ghost use Rattle.indexmap.specs.IndexMap.{spare};
+    ghost use Rattle.hindex.specs.Noted.{noted, room};
     ghost use Rattle.hostcore.specs.Core.{Log as LogOf};
     ghost use Rattle.hostcore.specs.Indexed.{IsIndexed};
 
@@ -36,8 +36,8 @@ impl Model for Log {
 
     ghost invariant = { λ l. (length l.entries.items ≤ l.most)
         × (l.most ≤ vec_capacity l.entries)
-        × (l.most ≤ length l.entries.items + spare l.places)
-        × (l.most ≤ length l.entries.items + spare l.tops)
+        × (room l.places ≡ l.most) × (length (noted l.places) ≤ length l.entries.items)
+        × (room l.tops ≡ l.most) × (length (noted l.tops) ≤ length l.entries.items)
         × IsIndexed l.entries.items l.places l.tops };
 }
 
@@ -69,75 +69,43 @@ fn told_top(reply: &Reply) -> Option<TopOut>
     }
 }
 
-/// Puts a value at a key that has none; at one that has, nothing changes.
-fn put_first<K: Eq + Hash + Copy, V: Copy>(map: &mut IndexMap<K, V>, key: K, value: V)
-    requires room { 0 < spare map.old }
-    ensures put { PutsFirst K.eq map.old map.new key value }
-    ensures room { spare map.old ≤ spare map.new + 1 }
-{
-    if map.get(&key).is_none() {
-        let _put = map.insert(key, value);
-    }
-}
-
-/// Notes the place of an entry that has a name, unless the name has a place.
-fn note_name(places: &mut IndexMap<Name, usize>, name: Option<Name>, place: usize)
-    requires room { 0 < spare places.old }
+/// Notes the place of an entry that has a name.
+fn note_name(places: &mut Index<Name, usize>, name: Option<Name>, place: usize)
+    requires room { length (noted places.old) < room places.old }
     ensures noted { Notes is_name places.old places.new (option_map (λ name. (name, place)) name) }
-    ensures room { spare places.old ≤ spare places.new + 1 }
+    ensures longer { length (noted places.new) ≤ length (noted places.old) + 1 }
+    ensures room { room places.new ≡ room places.old }
 {
     if let Some(name) = name {
-        put_first(places, name, place);
+        places.note(name, place);
     }
 }
 
-/// Notes how a packet topped out, if the reply says that one did, and none said so before.
-fn note_top(tops: &mut IndexMap<u64, TopOut>, reply: &Reply)
-    requires room { 0 < spare tops.old }
+/// Notes how a packet topped out, if the reply says that one did.
+fn note_top(tops: &mut Index<u64, TopOut>, reply: &Reply)
+    requires room { length (noted tops.old) < room tops.old }
     ensures noted { Notes nat_eq tops.old tops.new
         (option_map (λ top. (top.packet, top)) (told_top reply.now)) }
-    ensures room { spare tops.old ≤ spare tops.new + 1 }
+    ensures longer { length (noted tops.new) ≤ length (noted tops.old) + 1 }
+    ensures room { room tops.new ≡ room tops.old }
 {
     if let Some(top) = told_top(reply) {
-        put_first(tops, top.packet, top);
+        tops.note(top.packet, top);
     }
-}
-
-/// The place of a name. The names of one submitter mostly enter in their order; those need no search.
-fn place_at(places: &IndexMap<Name, usize>, name: Name) -> Option<usize>
-    ensures { result ≡ get is_name places.now name }
-{
-    if let Some((stands, place)) = places.get_index(name.count as usize) {
-        if *stands == name {
-            return Some(*place);
-        }
-    }
-    places.get(&name).copied()
-}
-
-/// How a packet topped out. Packets mostly do in the order of their issue; those need no search.
-fn top_at(tops: &IndexMap<u64, TopOut>, packet: u64) -> Option<TopOut>
-    ensures { result ≡ get nat_eq tops.now packet }
-{
-    if let Some((stands, top)) = tops.get_index(packet as usize) {
-        if *stands == packet {
-            return Some(*top);
-        }
-    }
-    tops.get(&packet).copied()
 }
 
 impl Log {
     /// An empty history that may have so many entries. An error where memory for all of them is
     /// refused; no other call needs any.
     pub fn new(alloc: Global, most: usize) -> Result<Log, AllocError>
+        requires short { most ≤ MAX_HISTORY }
         ensures { IfOk result (λ log. log ≡ record { most = most; entries = [] }) }
     {
         Ok(Log {
             most,
             entries: Vec::with_capacity(alloc, most)?,
-            places: IndexMap::with_capacity(alloc, most)?,
-            tops: IndexMap::with_capacity(alloc, most)?,
+            places: Index::with_room(alloc, most)?,
+            tops: Index::with_room(alloc, most)?,
         })
     }
 
@@ -169,7 +137,7 @@ impl Log {
     fn place_of(&self, name: Name) -> Option<usize>
         ensures { IsPlaceOf self.now.entries name result }
     {
-        place_at(&self.places, name)
+        self.places.get(name)
     }
 
     /// The first entry with a name.
@@ -199,7 +167,7 @@ impl Log {
         let reply = entry.reply;
         match request_started(&entry) {
             Some(packet) => {
-                let topped = Some(top_at(&self.tops, packet)?);
+                let topped = Some(self.tops.get(packet)?);
                 Some(Outcome { reply, topped })
             }
             None => Some(Outcome {

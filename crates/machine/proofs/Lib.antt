@@ -3,3 +3,4 @@ pub mod Walking
 pub mod Telling
 pub mod Applying
 pub mod Stepping
+pub mod GoingOn

@@ -1,7 +1,7 @@
 -- Steps of one thread that are made one after another.
-use Rattle.std.proofs.Common.{◌≡◌, ◌∙◌, ◌+◌, ◌<◌, ℕ, List, [], ◌∷◌, ◌++◌, ap, arith, inl, inr, refl, sym, subst}
+use Rattle.std.proofs.Common.{◌≡◌, ◌∙◌, ◌+◌, ◌-◌, ◌<◌, ℕ, List, [], ◌∷◌, ◌++◌, ap, arith, inl, inr, refl, sym, subst}
 use Rattle.std.proofs.lemmas.Bool.{cases_lt}
-use Rattle.std.proofs.lemmas.List.{append-nil, append_assoc, replicate_more}
+use Rattle.std.proofs.lemmas.List.{append-nil, append_assoc, replicate-append-replicate, replicate_more}
 use Rattle.model.specs.declared.event.Event.{Event}
 use Rattle.model.specs.declared.event.Event.TheVariants.{Step}
 use Rattle.model.specs.declared.event.Reply.{Reply}
@@ -10,15 +10,7 @@ use Rattle.model.specs.Machine.{Applies, Shows, reply_to}
 use Rattle.model.specs.Set.{Set}
 use Rattle.model.specs.Shown.{Shown}
 use Rattle.machine.specs.Runs.{GoesOn, StepsThreads}
-use Rattle.machine.specs.Steps.{MakesSteps, steps_of}
-
--- so many steps were made, and each replied that it stepped
-pub record Stepping (before : Shown) (t made : ℕ) (m : Shown) : Type 0 where
-  pub set : m.set ≡ before.set
-  pub shows : (threads : ℕ) (events : List Event) → Shows before threads events
-      → Shows m threads (events ++ steps_of t made)
-  pub each : (threads : ℕ) (events : List Event) (k : ℕ) → Shows before threads events
-      → k < made → reply_to before.set threads (events ++ steps_of t k) (Step t) ≡ Stepped
+use Rattle.machine.specs.Steps.{MakesSteps, Stepping, steps_of}
 
 pub none_made : (m : Shown) (t : ℕ) → Stepping m t 0 m
 none_made m t =
@@ -103,3 +95,41 @@ all_stepped before m t made h =
       last = λ threads events k shows is.
           sym (h.each threads events k shows (omega (arith, is)));
     }
+
+-- steps after steps
+module _ (before m n : Shown) (t made more : ℕ) (h : Stepping before t made m)
+    (g : Stepping m t more n) where
+  joined : (events : List Event) (k : ℕ)
+      → (events ++ steps_of t made) ++ steps_of t k ≡ events ++ steps_of t (made + k)
+  joined events k =
+      append_assoc events (steps_of t made) (steps_of t k)
+      ∙ ap (λ (es : List Event). events ++ es) (replicate-append-replicate made k (Step t))
+
+  each_joined : (threads : ℕ) (events : List Event) (k : ℕ) → Shows before threads events
+      → k < made + more → reply_to before.set threads (events ++ steps_of t k) (Step t) ≡ Stepped
+  each_joined threads events k shows lt =
+      elim (cases_lt k made) [
+        | inl below ↦ h.each threads events k shows below
+        | inr past ↦
+            let same : made + (k - made) ≡ k = omega (arith, past) in
+            let replied : reply_to m.set threads ((events ++ steps_of t made)
+            ++ steps_of t (k - made)) (Step t) ≡ Stepped =
+            g.each threads (events ++ steps_of t made) (k - made) (h.shows threads events shows)
+            (omega (arith, lt, past)) in
+            subst (λ (i : ℕ). reply_to before.set threads (events ++ steps_of t i) (Step t)
+            ≡ Stepped) same
+            (subst (λ (es : List Event). reply_to before.set threads es (Step t) ≡ Stepped)
+            (joined events (k - made))
+            (subst (λ (s : Set). reply_to s threads ((events ++ steps_of t made)
+            ++ steps_of t (k - made)) (Step t) ≡ Stepped) h.set replied))
+      ]
+
+  pub stepped_more : Stepping before t (made + more) n
+  stepped_more =
+      record {
+        set = g.set ∙ h.set;
+        shows = λ threads events shows.
+            subst (λ (es : List Event). Shows n threads es) (joined events more)
+            (g.shows threads (events ++ steps_of t made) (h.shows threads events shows));
+        each = each_joined;
+      }

@@ -2,7 +2,7 @@
 
 ghost use Rattle.std.specs.Prelude.{◌≡◌, ◌≢◌, ◌≤◌, ◌<◌, List, [], IfOk, IfErr};
 ghost use Rattle.machine.specs.Runs.{GoesOn, RulesKept, StepsThreads, TellsOf};
-ghost use Rattle.machine.specs.Steps.{MakesSteps};
+ghost use Rattle.machine.specs.Steps.{MakesSteps, Stepping};
 ghost use Rattle.model.specs.declared.event.Event.{Event};
 ghost use Rattle.model.specs.declared.event.Event.TheVariants.{Step};
 ghost use Rattle.model.specs.declared.event.Reply.TheVariants.{Stepped};
@@ -109,19 +109,31 @@ impl World {
         ensures steps { StepsThreads self.old (Step thread) result.last }
     {
         let event = Event::Step { thread };
-        for made in 0..count {
-            let reply = self.apply(&event);
-            if !matches!(reply, Reply::Stepped) {
-                return Steps {
-                    made: made + 1,
-                    last: reply,
-                };
+        let mut made = 0;
+        while made < count {
+            let last = self.apply(&event);
+            made += 1;
+            if !matches!(last, Reply::Stepped) {
+                return Steps { made, last };
             }
+            made += self.go_on(thread, count - made);
         }
         Steps {
-            made: count,
+            made,
             last: Reply::Stepped,
         }
+    }
+
+    /// Lets the routine on the top of a thread go on by itself for at most so many steps, and answers
+    /// how many were made.
+    fn go_on(&mut self, thread: u8, count: usize) -> usize
+        ensures few { result ≤ count }
+        ensures steps { Stepping self.old thread result self.new }
+    {
+        events_fit();
+        done_events_show_runs();
+        slots_show_what_they_mean();
+        self.slots.go_on(self.accepted.set(), thread, count)
     }
 
     /// What there is to tell of a thread, if there is one of this number.

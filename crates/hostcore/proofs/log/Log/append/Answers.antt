@@ -1,4 +1,4 @@
-use Rattle.std.proofs.Common.{◌≡◌, ℕ, ◌+◌, ◌<◌, arith, false, length, rules, subst, sym}
+use Rattle.std.proofs.Common.{◌≡◌, ◌∙◌, ℕ, ◌+◌, ◌<◌, arith, false, length, rules, subst, sym}
 use Rattle.std.specs.Prelude.{nat_eq, option_map}
 use Rattle.std.proofs.lemmas.List.{length-append}
 use Rattle.model.specs.History.{is_name}
@@ -24,8 +24,10 @@ invariant_of-self c =
     (option_map (λ name. (name, k)) c.args.entry.name)) place c.note_name.ensures.noted in (
       omega (arith, long, less),
       rw c.push_reserved.ensures.capacity c.self.invariant.1,
-      omega (arith, long, c.self.invariant.2, c.note_name.ensures.room),
-      omega (arith, long, c.self.invariant.3, c.note_top.ensures.room),
+      c.note_name.ensures.room ∙ c.self.invariant.2,
+      omega (arith, long, c.self.invariant.3, c.note_name.ensures.longer),
+      c.note_top.ensures.room ∙ c.self.invariant.4,
+      omega (arith, long, c.self.invariant.5, c.note_top.ensures.longer),
       rw c.push_reserved.ensures.items
-          (indexed_more _ _ _ _ _ _ c.self.invariant.4 noted c.note_top.ensures.noted),
+          (indexed_more _ _ _ _ _ _ c.self.invariant.6 noted c.note_top.ensures.noted),
     )

@@ -6,4 +6,4 @@ pub returns : goal.returns
 returns c =
     rw (sym c.self.view_is)
     (subst (λ (o : Option ℕ). IsPlaceOf c.self.inside.entries.items c.args.name o)
-    (sym c.place_at.ensures) (c.self.invariant.4.placed c.args.name))
+    (sym c.get.ensures) (c.self.invariant.6.placed c.args.name))

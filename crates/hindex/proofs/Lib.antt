@@ -1,0 +1,3 @@
+pub mod Links
+pub mod Walk
+pub mod Noting
