@@ -1,7 +1,8 @@
 #!/usr/bin/env python3
 """measure.py [--runs N] [--encoder ENCODER] PROGRAM OTHER ..: times programs that answer the same commands, on
 inputs at the limits, each writing to /dev/null, in turn. Prints the least of N times of each (5 if left out), in
-milliseconds, and its ratio to that of the first. All must answer the same bytes, but where several workers serve
+milliseconds, and its ratio to that of the first; at the end, how many times what `trace` takes for as many
+events `host` takes with one worker. All must answer the same bytes, but where several workers serve
 commands in an order of their own: then as many lines, and histories that agree. The images are those that 'ENCODER
 encode TEXT IMAGE' makes of texts; without an encoder the rows of images are left out. With --only WORD the rows whose
 names have this word."""
@@ -78,6 +79,15 @@ def half_cancelled(requests, live, request, completion, cancel):
         lines += completion * (live // 2)
     return lines
 
+def a_line_each(lines):
+    """A schedule with a line for each event."""
+    for line in lines:
+        words = line.split()
+        if words[0] == 'step' and len(words) == 3:
+            yield from ['step ' + words[1]] * int(words[2])
+        else:
+            yield line
+
 def events_with(live, request, completion):
     """300,000 events: so many packets are issued, and then the oldest is completed and another one issued, again and again."""
     turn = completion + request
@@ -124,6 +134,17 @@ def host_cases():
     for commands, workers in (16384, 1), (32768, 1), (65536, 1), (65536, 2), (65536, 4), (65536, 8), (65536, 32):
         yield 'host of %s commands, %d worker%s' % (f'{commands:,}', workers, 's' if 1 < workers else ''), commands, workers
 
+# The rows that a run of `host` is compared with, and that run.
+TRACES = 'trace of the events of 65,536 commands, a line each', 'trace of the events of 65,536 commands'
+HOST = 'host of 65,536 commands, 1 worker'
+
+def print_ratios(taken):
+    """Of each program, how many times what `trace` takes `host` takes for as many events."""
+    for trace in TRACES:
+        if HOST in taken and trace in taken:
+            ratios = ', '.join('%.2f' % (host / plain) for host, plain in zip(taken[HOST], taken[trace]))
+            print('%s, in times of the %s: %s' % (HOST, trace, ratios))
+
 def image_cases():
     """Of each image its name, and the text of its set."""
     yield 'check of the image of the largest set', largest_set()
@@ -162,8 +183,9 @@ def rows(folder, encoder):
             words.append(written(folder, 'schedule', schedule))
         yield name, words
     text, request, completion, cancel = through_a_cancelable_queue()
-    yield 'trace of the events of 65,536 commands', ['trace', written(folder, 'set', text), written(folder, 'schedule',
-        half_cancelled(32768, 2, request, completion, cancel))]
+    events = half_cancelled(32768, 2, request, completion, cancel)
+    for name, lines in (TRACES[0], a_line_each(events)), (TRACES[1], events):
+        yield name, ['trace', written(folder, 'set', text), written(folder, 'schedule', lines)]
     for name, commands, workers in host_cases():
         yield name, ['host', written(folder, 'set', text), written(folder, 'script', served_commands(commands)), '--workers', str(workers)]
     if encoder is not None:
@@ -181,16 +203,19 @@ def main():
     given = parser.parse_args()
     programs = [os.path.abspath(program) for program in given.programs]
     differ = False
+    taken = {}
     with tempfile.TemporaryDirectory() as folder:
         for name, words in rows(folder, given.encoder):
             if given.only not in name:
                 continue
             answers = [answer(program, words) for program in programs]
             times = [1000 * min(each) for each in zip(*([spent(program, words) for program in programs] for _ in range(given.runs)))]
+            taken[name] = times
             others = ''.join('%9.1f (%5.2f)' % (one, one / times[0]) for one in times[1:])
             same = all(likeness(words, one) == likeness(words, answers[0]) for one in answers)
             differ = differ or not same
-            print('%-48s %8.1f ms%s  %s' % (name, times[0], others, 'same answer' if same else 'ANSWERS DIFFER'), flush=True)
+            print('%-54s %8.1f ms%s  %s' % (name, times[0], others, 'same answer' if same else 'ANSWERS DIFFER'), flush=True)
+    print_ratios(taken)
     sys.exit(1 if differ else 0)
 
 main()
