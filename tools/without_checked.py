@@ -31,11 +31,12 @@ def copy(folder, crates):
         shutil.copytree(os.path.join(TOP, 'crates', name), os.path.join(folder, 'crates', name), ignore=shutil.ignore_patterns('out', 'must-fail'))
 
 def passes(folder, crate, *words):
-    """Whether a command passes in a crate's folder; what it says is told where it doesn't."""
+    """Whether a command passes in a crate's folder, with its tests if it runs them; what it says is told where it doesn't."""
     done = subprocess.run(['rt', *words], cwd=os.path.join(folder, 'crates', crate), stdout=subprocess.PIPE, stderr=subprocess.STDOUT, text=True)
-    if done.returncode != 0:
+    passed = done.returncode == 0 and (words == ('check',) or 'test result: ok.' in done.stdout)
+    if not passed:
         print('%s: rt %s:\n%s' % (crate, ' '.join(words), done.stdout))
-    return done.returncode == 0
+    return passed
 
 def all_pass(folder, prove):
     """Whether the machine and its rows pass, where there is nothing else."""
