@@ -21,6 +21,9 @@ pub fn usual_line<'a>(raw: &'a [u8]) -> Option<Line<'a>>
     ensures line { IfSome result (λ line. read_line raw.now ≡ Ok line) }
     ensures fits { IfSome result (λ line. BodyFits line.body) }
 {
+    if !matches!(*raw.first()?, b'a'..=b'z' | b'_') {
+        return None;
+    }
     match step(raw) {
         Some(body) => Some(Line { label: None, body }),
         None => labelled(raw),
@@ -71,7 +74,6 @@ fn step<'a>(bytes: &'a [u8]) -> Option<Body<'a>>
 }
 
 /// An instruction whose word begins with `a`.
-#[tactic(auto, using(crate::proofs::Steps::add_read, crate::proofs::Steps::acquire_read, crate::proofs::Steps::acqc_read, crate::proofs::Steps::arm_read))]
 fn with_a<'a>(bytes: &'a [u8]) -> Option<Body<'a>>
     ensures read { IfSome result (ReadsStep bytes.now) }
     ensures fits { IfSome result BodyFits }
@@ -101,7 +103,6 @@ fn with_a<'a>(bytes: &'a [u8]) -> Option<Body<'a>>
 }
 
 /// An instruction whose word begins with `b`.
-#[tactic(auto, using(crate::proofs::Steps::begin_read))]
 fn with_b<'a>(bytes: &'a [u8]) -> Option<Body<'a>>
     ensures read { IfSome result (ReadsStep bytes.now) }
     ensures fits { IfSome result BodyFits }
@@ -115,7 +116,7 @@ fn with_b<'a>(bytes: &'a [u8]) -> Option<Body<'a>>
 }
 
 /// An instruction whose word begins with `c`.
-#[tactic(auto, using(crate::proofs::Steps::const_read, crate::proofs::Steps::clear_read, crate::proofs::Steps::complete_read, crate::proofs::Steps::call_read, crate::proofs::Steps::calls_none))]
+#[tactic(auto, using(crate::proofs::Steps::calls_none, crate::proofs::Steps::call_read))]
 fn with_c<'a>(bytes: &'a [u8]) -> Option<Body<'a>>
     ensures read { IfSome result (ReadsStep bytes.now) }
     ensures fits { IfSome result BodyFits }
@@ -150,7 +151,6 @@ fn with_c<'a>(bytes: &'a [u8]) -> Option<Body<'a>>
 }
 
 /// An instruction whose word begins with `d`.
-#[tactic(auto, using(crate::proofs::Steps::disarm_read))]
 fn with_d<'a>(bytes: &'a [u8]) -> Option<Body<'a>>
     ensures read { IfSome result (ReadsStep bytes.now) }
     ensures fits { IfSome result BodyFits }
@@ -165,7 +165,6 @@ fn with_d<'a>(bytes: &'a [u8]) -> Option<Body<'a>>
 }
 
 /// An instruction whose word begins with `e`.
-#[tactic(auto, using(crate::proofs::Steps::end_read))]
 fn with_e<'a>(bytes: &'a [u8]) -> Option<Body<'a>>
     ensures read { IfSome result (ReadsStep bytes.now) }
     ensures fits { IfSome result BodyFits }
@@ -178,7 +177,6 @@ fn with_e<'a>(bytes: &'a [u8]) -> Option<Body<'a>>
 }
 
 /// An instruction whose word begins with `g`.
-#[tactic(auto, using(crate::proofs::Steps::get_read))]
 fn with_g<'a>(bytes: &'a [u8]) -> Option<Body<'a>>
     ensures read { IfSome result (ReadsStep bytes.now) }
     ensures fits { IfSome result BodyFits }
@@ -194,7 +192,6 @@ fn with_g<'a>(bytes: &'a [u8]) -> Option<Body<'a>>
 }
 
 /// An instruction whose word begins with `i`.
-#[tactic(auto, using(crate::proofs::Steps::insert_read, crate::proofs::Steps::ifcancel_read, crate::proofs::Steps::ifpending_read))]
 fn with_i<'a>(bytes: &'a [u8]) -> Option<Body<'a>>
     ensures read { IfSome result (ReadsStep bytes.now) }
     ensures fits { IfSome result BodyFits }
@@ -221,7 +218,6 @@ fn with_i<'a>(bytes: &'a [u8]) -> Option<Body<'a>>
 }
 
 /// An instruction whose word begins with `j`.
-#[tactic(auto, using(crate::proofs::Steps::jz_read, crate::proofs::Steps::jlt_read, crate::proofs::Steps::jmp_read))]
 fn with_j<'a>(bytes: &'a [u8]) -> Option<Body<'a>>
     ensures read { IfSome result (ReadsStep bytes.now) }
     ensures fits { IfSome result BodyFits }
@@ -248,7 +244,6 @@ fn with_j<'a>(bytes: &'a [u8]) -> Option<Body<'a>>
 }
 
 /// An instruction whose word begins with `l`.
-#[tactic(auto, using(crate::proofs::Steps::loop_read, crate::proofs::Steps::loadp_read, crate::proofs::Steps::load_read))]
 fn with_l<'a>(bytes: &'a [u8]) -> Option<Body<'a>>
     ensures read { IfSome result (ReadsStep bytes.now) }
     ensures fits { IfSome result BodyFits }
@@ -274,7 +269,6 @@ fn with_l<'a>(bytes: &'a [u8]) -> Option<Body<'a>>
 }
 
 /// An instruction whose word begins with `m`.
-#[tactic(auto, using(crate::proofs::Steps::mov_read, crate::proofs::Steps::mark_read))]
 fn with_m<'a>(bytes: &'a [u8]) -> Option<Body<'a>>
     ensures read { IfSome result (ReadsStep bytes.now) }
     ensures fits { IfSome result BodyFits }
@@ -294,7 +288,6 @@ fn with_m<'a>(bytes: &'a [u8]) -> Option<Body<'a>>
 }
 
 /// An instruction whose word begins with `n`.
-#[tactic(auto, using(crate::proofs::Steps::next_read))]
 fn with_n<'a>(bytes: &'a [u8]) -> Option<Body<'a>>
     ensures read { IfSome result (ReadsStep bytes.now) }
     ensures fits { IfSome result BodyFits }
@@ -307,7 +300,6 @@ fn with_n<'a>(bytes: &'a [u8]) -> Option<Body<'a>>
 }
 
 /// An instruction whose word begins with `p`.
-#[tactic(auto, using(crate::proofs::Steps::put_read, crate::proofs::Steps::pass_read))]
 fn with_p<'a>(bytes: &'a [u8]) -> Option<Body<'a>>
     ensures read { IfSome result (ReadsStep bytes.now) }
     ensures fits { IfSome result BodyFits }
@@ -327,7 +319,6 @@ fn with_p<'a>(bytes: &'a [u8]) -> Option<Body<'a>>
 }
 
 /// An instruction whose word begins with `r`.
-#[tactic(auto, using(crate::proofs::Steps::ret_read, crate::proofs::Steps::release_read, crate::proofs::Steps::relc_read, crate::proofs::Steps::remove_read, crate::proofs::Steps::lower_read))]
 fn with_r<'a>(bytes: &'a [u8]) -> Option<Body<'a>>
     ensures read { IfSome result (ReadsStep bytes.now) }
     ensures fits { IfSome result BodyFits }
@@ -362,7 +353,6 @@ fn with_r<'a>(bytes: &'a [u8]) -> Option<Body<'a>>
 }
 
 /// An instruction whose word begins with `s`.
-#[tactic(auto, using(crate::proofs::Steps::storep_read, crate::proofs::Steps::sub_read, crate::proofs::Steps::start_read, crate::proofs::Steps::store_read))]
 fn with_s<'a>(bytes: &'a [u8]) -> Option<Body<'a>>
     ensures read { IfSome result (ReadsStep bytes.now) }
     ensures fits { IfSome result BodyFits }
@@ -394,7 +384,6 @@ fn with_s<'a>(bytes: &'a [u8]) -> Option<Body<'a>>
 }
 
 /// An instruction whose word begins with `t`.
-#[tactic(auto, using(crate::proofs::Steps::take_read))]
 fn with_t<'a>(bytes: &'a [u8]) -> Option<Body<'a>>
     ensures read { IfSome result (ReadsStep bytes.now) }
     ensures fits { IfSome result BodyFits }
@@ -409,7 +398,6 @@ fn with_t<'a>(bytes: &'a [u8]) -> Option<Body<'a>>
 }
 
 /// An instruction whose word begins with `u`.
-#[tactic(auto, using(crate::proofs::Steps::unlink_read))]
 fn with_u<'a>(bytes: &'a [u8]) -> Option<Body<'a>>
     ensures read { IfSome result (ReadsStep bytes.now) }
     ensures fits { IfSome result BodyFits }

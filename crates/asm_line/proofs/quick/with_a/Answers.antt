@@ -1,0 +1,22 @@
+use Rattle.asm_line.proofs.Steps.{acqc_read, acquire_read, add_read, arm_read}
+use Rattle.asm_line.proofs.quick.with_a.Goals as goal
+
+pub returns-in-Some-clause-read : goal.returns-in-Some-clause-read
+returns-in-Some-clause-read c =
+    rw (c.plain.ensures) (add_read
+    c.in-Some.ensures c.in_ok-register.ensures.read c.in_ok-other.ensures.read c.in_ok-end.ensures)
+
+pub returns-in-Some-behind-clause-read : goal.returns-in-Some-behind-clause-read
+returns-in-Some-behind-clause-read c =
+    rw (c.plain-in-Some-behind.ensures) (acquire_read
+    c.in-Some-behind.ensures c.in_ok-lock.ensures.read c.in_ok-end-2.ensures)
+
+pub returns-in-Some-behind-2-clause-read : goal.returns-in-Some-behind-2-clause-read
+returns-in-Some-behind-2-clause-read c =
+    rw (c.plain-in-Some-behind-2.ensures) (acqc_read
+    c.in-Some-behind-2.ensures c.in_ok-end-3.ensures)
+
+pub returns-in-Some-behind-3-clause-read : goal.returns-in-Some-behind-3-clause-read
+returns-in-Some-behind-3-clause-read c =
+    rw (c.queued.ensures) (arm_read
+    c.in-Some-behind-3.ensures c.in_ok-register-2.ensures.read c.in_ok-queue.ensures c.in_ok-end-4.ensures)

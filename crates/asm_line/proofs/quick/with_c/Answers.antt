@@ -1,0 +1,17 @@
+use Rattle.asm_line.proofs.Steps.{clear_read, complete_read, const_read}
+use Rattle.asm_line.proofs.quick.with_c.Goals as goal
+
+pub returns-in-Some-clause-read : goal.returns-in-Some-clause-read
+returns-in-Some-clause-read c =
+    rw (c.plain.ensures) (const_read
+    c.in-Some.ensures c.in_ok-register.ensures.read c.in_ok-constant.ensures.read c.in_ok-end.ensures)
+
+pub returns-in-Some-behind-clause-read : goal.returns-in-Some-behind-clause-read
+returns-in-Some-behind-clause-read c =
+    rw (c.plain-in-Some-behind.ensures) (clear_read
+    c.in-Some-behind.ensures c.in_ok-register-2.ensures.read c.in_ok-end-2.ensures)
+
+pub returns-in-Some-behind-2-clause-read : goal.returns-in-Some-behind-2-clause-read
+returns-in-Some-behind-2-clause-read c =
+    rw (c.plain-in-Some-behind-2.ensures) (complete_read
+    c.in-Some-behind-2.ensures c.in_ok-register-3.ensures.read c.in_ok-status.ensures c.in_ok-end-3.ensures)

@@ -1,0 +1,27 @@
+use Rattle.asm_line.proofs.Steps.{lower_read, relc_read, release_read, remove_read, ret_read}
+use Rattle.asm_line.proofs.quick.with_r.Goals as goal
+
+pub returns-in-Some-clause-read : goal.returns-in-Some-clause-read
+returns-in-Some-clause-read c =
+    rw (c.plain.ensures) (lower_read
+    c.in-Some.ensures c.in_ok-register.ensures.read c.in_ok-end.ensures)
+
+pub returns-in-Some-behind-clause-read : goal.returns-in-Some-behind-clause-read
+returns-in-Some-behind-clause-read c =
+    rw (c.plain-in-Some-behind.ensures) (ret_read
+    c.in-Some-behind.ensures c.in_ok-returned.ensures.read c.in_ok-end-2.ensures)
+
+pub returns-in-Some-behind-2-clause-read : goal.returns-in-Some-behind-2-clause-read
+returns-in-Some-behind-2-clause-read c =
+    rw (c.plain-in-Some-behind-2.ensures) (release_read
+    c.in-Some-behind-2.ensures c.in_ok-lock.ensures.read c.in_ok-end-3.ensures)
+
+pub returns-in-Some-behind-3-clause-read : goal.returns-in-Some-behind-3-clause-read
+returns-in-Some-behind-3-clause-read c =
+    rw (c.plain-in-Some-behind-3.ensures) (relc_read
+    c.in-Some-behind-3.ensures c.in_ok-end-4.ensures)
+
+pub returns-in-Some-behind-4-clause-read : goal.returns-in-Some-behind-4-clause-read
+returns-in-Some-behind-4-clause-read c =
+    rw (c.removing.ensures) (remove_read
+    c.in-Some-behind-4.ensures c.in_ok-register-2.ensures.read c.in_ok-queue.ensures c.in_ok-label.ensures c.in_ok-end-5.ensures)
