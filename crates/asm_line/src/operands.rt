@@ -1,6 +1,6 @@
 //! The operands of a line in its usual form: each stands after one space.
 
-ghost use Rattle.std.specs.Prelude.{◌≡◌, ◌+◌, ◌<◌, ◌≤◌, ◌↔◌, ◌++◌, ◌∷◌, [], IfSome, IsTrue, None, length, take, if◌then◌else◌};
+ghost use Rattle.std.specs.Prelude.{◌≡◌, ◌+◌, ◌<◌, ◌≤◌, ◌++◌, ◌∷◌, [], IfSome, None, length, take, if◌then◌else◌};
 ghost use Rattle.std.specs.Str.Parse.{digits_value};
 ghost use Rattle.model.specs.declared.limits.TheConstants.{CELLS, MAX_TURNS, REGISTERS, SPIN_LOCKS};
 ghost use Rattle.model.specs.Sound.{FormFits};
@@ -218,18 +218,11 @@ impl<'a> Operands<'a> {
         }
     }
 
-    /// Whether nothing stands behind the operands that were read.
-    pub fn is_done(&self) -> bool
-        ensures { IsTrue result ↔ (self.now ≡ []) }
-    {
-        self.rest.is_empty()
-    }
-
     /// Sees that nothing stands behind the operands that were read.
     pub fn end(&self) -> Option<()>
         ensures { IfSome result (λ _. self.now ≡ []) }
     {
-        if self.is_done() { Some(()) } else { None }
+        if self.rest.is_empty() { Some(()) } else { None }
     }
 }
 

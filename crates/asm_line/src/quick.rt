@@ -52,47 +52,282 @@ fn step<'a>(bytes: &'a [u8]) -> Option<Body<'a>>
     ensures read { IfSome result (ReadsStep bytes.now) }
     ensures fits { IfSome result BodyFits }
 {
+    match plain(bytes) {
+        Some(instr) => Some(unnamed(instr)),
+        None => naming(bytes),
+    }
+}
+
+/// An instruction that uses no name.
+fn plain(bytes: &[u8]) -> Option<Instr>
+    ensures read { IfSome result (λ i. ReadsStep bytes.now (Step (Some i) unnamed)) }
+    ensures fits { IfSome result (λ i. BodyFits (Step (Some i) unnamed)) }
+{
     match *bytes.first()? {
-        b'a' => with_a(bytes),
-        b'b' => with_b(bytes),
-        b'c' => with_c(bytes),
-        b'd' => with_d(bytes),
-        b'e' => with_e(bytes),
-        b'g' => with_g(bytes),
-        b'i' => with_i(bytes),
-        b'j' => with_j(bytes),
-        b'l' => with_l(bytes),
-        b'm' => with_m(bytes),
-        b'n' => with_n(bytes),
-        b'p' => with_p(bytes),
-        b'r' => with_r(bytes),
-        b's' => with_s(bytes),
-        b't' => with_t(bytes),
-        b'u' => with_u(bytes),
+        b'a' => plain_a(bytes),
+        b'b' => plain_b(bytes),
+        b'c' => plain_c(bytes),
+        b'e' => plain_e(bytes),
+        b'g' => plain_g(bytes),
+        b'l' => plain_l(bytes),
+        b'm' => plain_m(bytes),
+        b'n' => plain_n(bytes),
+        b'p' => plain_p(bytes),
+        b'r' => plain_r(bytes),
+        b's' => plain_s(bytes),
         _ => None,
     }
 }
 
-/// An instruction whose word begins with `a`.
-fn with_a<'a>(bytes: &'a [u8]) -> Option<Body<'a>>
+/// An instruction that uses a name.
+fn naming<'a>(bytes: &'a [u8]) -> Option<Body<'a>>
     ensures read { IfSome result (ReadsStep bytes.now) }
     ensures fits { IfSome result BodyFits }
+{
+    match *bytes.first()? {
+        b'a' => naming_a(bytes),
+        b'c' => naming_c(bytes),
+        b'd' => naming_d(bytes),
+        b'i' => naming_i(bytes),
+        b'j' => naming_j(bytes),
+        b'r' => naming_r(bytes),
+        b't' => naming_t(bytes),
+        b'u' => naming_u(bytes),
+        _ => None,
+    }
+}
+
+/// An instruction whose word begins with `a` and that uses no name.
+fn plain_a(bytes: &[u8]) -> Option<Instr>
+    ensures read { IfSome result (λ i. ReadsStep bytes.now (Step (Some i) unnamed)) }
+    ensures fits { IfSome result (λ i. BodyFits (Step (Some i) unnamed)) }
 {
     if let Some(mut at) = behind(bytes, b"add") {
         let register = at.register()?;
         let other = at.register()?;
         at.end()?;
-        return Some(plain(Instr::Add(register, other)));
+        return Some(Instr::Add(register, other));
     }
     if let Some(mut at) = behind(bytes, b"acquire") {
         let lock = at.spin_lock()?;
         at.end()?;
-        return Some(plain(Instr::Acquire(lock)));
+        return Some(Instr::Acquire(lock));
     }
     if let Some(at) = behind(bytes, b"acqc") {
         at.end()?;
-        return Some(plain(Instr::AcquireCancel));
+        return Some(Instr::AcquireCancel);
     }
+    None
+}
+
+/// An instruction whose word begins with `b` and that uses no name.
+fn plain_b(bytes: &[u8]) -> Option<Instr>
+    ensures read { IfSome result (λ i. ReadsStep bytes.now (Step (Some i) unnamed)) }
+    ensures fits { IfSome result (λ i. BodyFits (Step (Some i) unnamed)) }
+{
+    if let Some(mut at) = behind(bytes, b"begin") {
+        let register = at.register()?;
+        at.end()?;
+        return Some(Instr::Begin(register));
+    }
+    None
+}
+
+/// An instruction whose word begins with `c` and that uses no name.
+fn plain_c(bytes: &[u8]) -> Option<Instr>
+    ensures read { IfSome result (λ i. ReadsStep bytes.now (Step (Some i) unnamed)) }
+    ensures fits { IfSome result (λ i. BodyFits (Step (Some i) unnamed)) }
+{
+    if let Some(mut at) = behind(bytes, b"const") {
+        let register = at.register()?;
+        let constant = at.constant()?;
+        at.end()?;
+        return Some(Instr::Const(register, constant));
+    }
+    if let Some(mut at) = behind(bytes, b"clear") {
+        let register = at.register()?;
+        at.end()?;
+        return Some(Instr::Clear(register));
+    }
+    if let Some(mut at) = behind(bytes, b"complete") {
+        let register = at.register()?;
+        let status = at.status()?;
+        at.end()?;
+        return Some(Instr::Complete(register, status));
+    }
+    if let Some(mut at) = behind(bytes, b"call") {
+        let register = at.register()?;
+        at.end()?;
+        return Some(Instr::Call(register, None));
+    }
+    None
+}
+
+/// An instruction whose word begins with `e` and that uses no name.
+fn plain_e(bytes: &[u8]) -> Option<Instr>
+    ensures read { IfSome result (λ i. ReadsStep bytes.now (Step (Some i) unnamed)) }
+    ensures fits { IfSome result (λ i. BodyFits (Step (Some i) unnamed)) }
+{
+    if let Some(at) = behind(bytes, b"end") {
+        at.end()?;
+        return Some(Instr::End);
+    }
+    None
+}
+
+/// An instruction whose word begins with `g` and that uses no name.
+fn plain_g(bytes: &[u8]) -> Option<Instr>
+    ensures read { IfSome result (λ i. ReadsStep bytes.now (Step (Some i) unnamed)) }
+    ensures fits { IfSome result (λ i. BodyFits (Step (Some i) unnamed)) }
+{
+    if let Some(mut at) = behind(bytes, b"get") {
+        let register = at.register()?;
+        let other = at.register()?;
+        let field = at.field()?;
+        at.end()?;
+        return Some(Instr::Get(register, other, field));
+    }
+    None
+}
+
+/// An instruction whose word begins with `l` and that uses no name.
+fn plain_l(bytes: &[u8]) -> Option<Instr>
+    ensures read { IfSome result (λ i. ReadsStep bytes.now (Step (Some i) unnamed)) }
+    ensures fits { IfSome result (λ i. BodyFits (Step (Some i) unnamed)) }
+{
+    if let Some(mut at) = behind(bytes, b"loop") {
+        let turns = at.turns()?;
+        at.end()?;
+        return Some(Instr::Loop(turns));
+    }
+    if let Some(mut at) = behind(bytes, b"loadp") {
+        let register = at.register()?;
+        let cell = at.paged_cell()?;
+        at.end()?;
+        return Some(Instr::LoadPaged(register, cell));
+    }
+    if let Some(mut at) = behind(bytes, b"load") {
+        let register = at.register()?;
+        let cell = at.cell()?;
+        at.end()?;
+        return Some(Instr::Load(register, cell));
+    }
+    None
+}
+
+/// An instruction whose word begins with `m` and that uses no name.
+fn plain_m(bytes: &[u8]) -> Option<Instr>
+    ensures read { IfSome result (λ i. ReadsStep bytes.now (Step (Some i) unnamed)) }
+    ensures fits { IfSome result (λ i. BodyFits (Step (Some i) unnamed)) }
+{
+    if let Some(mut at) = behind(bytes, b"mov") {
+        let register = at.register()?;
+        let other = at.register()?;
+        at.end()?;
+        return Some(Instr::Move(register, other));
+    }
+    if let Some(mut at) = behind(bytes, b"mark") {
+        let register = at.register()?;
+        at.end()?;
+        return Some(Instr::Mark(register));
+    }
+    None
+}
+
+/// An instruction whose word begins with `n` and that uses no name.
+fn plain_n(bytes: &[u8]) -> Option<Instr>
+    ensures read { IfSome result (λ i. ReadsStep bytes.now (Step (Some i) unnamed)) }
+    ensures fits { IfSome result (λ i. BodyFits (Step (Some i) unnamed)) }
+{
+    if let Some(at) = behind(bytes, b"next") {
+        at.end()?;
+        return Some(Instr::Next);
+    }
+    None
+}
+
+/// An instruction whose word begins with `p` and that uses no name.
+fn plain_p(bytes: &[u8]) -> Option<Instr>
+    ensures read { IfSome result (λ i. ReadsStep bytes.now (Step (Some i) unnamed)) }
+    ensures fits { IfSome result (λ i. BodyFits (Step (Some i) unnamed)) }
+{
+    if let Some(mut at) = behind(bytes, b"put") {
+        let register = at.register()?;
+        let other = at.register()?;
+        at.end()?;
+        return Some(Instr::Put(register, other));
+    }
+    if let Some(mut at) = behind(bytes, b"pass") {
+        let register = at.register()?;
+        at.end()?;
+        return Some(Instr::Pass(register));
+    }
+    None
+}
+
+/// An instruction whose word begins with `r` and that uses no name.
+fn plain_r(bytes: &[u8]) -> Option<Instr>
+    ensures read { IfSome result (λ i. ReadsStep bytes.now (Step (Some i) unnamed)) }
+    ensures fits { IfSome result (λ i. BodyFits (Step (Some i) unnamed)) }
+{
+    if let Some(mut at) = behind(bytes, b"ret lower") {
+        let register = at.register()?;
+        at.end()?;
+        return Some(Instr::Ret(Return::Lower(register)));
+    }
+    if let Some(mut at) = behind(bytes, b"ret") {
+        let returned = at.returned()?;
+        at.end()?;
+        return Some(Instr::Ret(returned));
+    }
+    if let Some(mut at) = behind(bytes, b"release") {
+        let lock = at.spin_lock()?;
+        at.end()?;
+        return Some(Instr::Release(lock));
+    }
+    if let Some(at) = behind(bytes, b"relc") {
+        at.end()?;
+        return Some(Instr::ReleaseCancel);
+    }
+    None
+}
+
+/// An instruction whose word begins with `s` and that uses no name.
+fn plain_s(bytes: &[u8]) -> Option<Instr>
+    ensures read { IfSome result (λ i. ReadsStep bytes.now (Step (Some i) unnamed)) }
+    ensures fits { IfSome result (λ i. BodyFits (Step (Some i) unnamed)) }
+{
+    if let Some(mut at) = behind(bytes, b"storep") {
+        let cell = at.paged_cell()?;
+        let register = at.register()?;
+        at.end()?;
+        return Some(Instr::StorePaged(cell, register));
+    }
+    if let Some(mut at) = behind(bytes, b"sub") {
+        let register = at.register()?;
+        let other = at.register()?;
+        at.end()?;
+        return Some(Instr::Subtract(register, other));
+    }
+    if let Some(mut at) = behind(bytes, b"start") {
+        let register = at.register()?;
+        at.end()?;
+        return Some(Instr::Start(register));
+    }
+    if let Some(mut at) = behind(bytes, b"store") {
+        let cell = at.cell()?;
+        let register = at.register()?;
+        at.end()?;
+        return Some(Instr::Store(cell, register));
+    }
+    None
+}
+
+/// An instruction whose word begins with `a` and that uses a name.
+fn naming_a<'a>(bytes: &'a [u8]) -> Option<Body<'a>>
+    ensures read { IfSome result (ReadsStep bytes.now) }
+    ensures fits { IfSome result BodyFits }
+{
     if let Some(mut at) = behind(bytes, b"arm") {
         let register = at.register()?;
         let queue = at.queue()?;
@@ -102,47 +337,13 @@ fn with_a<'a>(bytes: &'a [u8]) -> Option<Body<'a>>
     None
 }
 
-/// An instruction whose word begins with `b`.
-fn with_b<'a>(bytes: &'a [u8]) -> Option<Body<'a>>
+/// An instruction whose word begins with `c` and that uses a name.
+fn naming_c<'a>(bytes: &'a [u8]) -> Option<Body<'a>>
     ensures read { IfSome result (ReadsStep bytes.now) }
     ensures fits { IfSome result BodyFits }
 {
-    if let Some(mut at) = behind(bytes, b"begin") {
-        let register = at.register()?;
-        at.end()?;
-        return Some(plain(Instr::Begin(register)));
-    }
-    None
-}
-
-/// An instruction whose word begins with `c`.
-#[tactic(auto, using(crate::proofs::Steps::calls_none, crate::proofs::Steps::call_read))]
-fn with_c<'a>(bytes: &'a [u8]) -> Option<Body<'a>>
-    ensures read { IfSome result (ReadsStep bytes.now) }
-    ensures fits { IfSome result BodyFits }
-{
-    if let Some(mut at) = behind(bytes, b"const") {
-        let register = at.register()?;
-        let constant = at.constant()?;
-        at.end()?;
-        return Some(plain(Instr::Const(register, constant)));
-    }
-    if let Some(mut at) = behind(bytes, b"clear") {
-        let register = at.register()?;
-        at.end()?;
-        return Some(plain(Instr::Clear(register)));
-    }
-    if let Some(mut at) = behind(bytes, b"complete") {
-        let register = at.register()?;
-        let status = at.status()?;
-        at.end()?;
-        return Some(plain(Instr::Complete(register, status)));
-    }
     if let Some(mut at) = behind(bytes, b"call") {
         let register = at.register()?;
-        if at.is_done() {
-            return Some(plain(Instr::Call(register, None)));
-        }
         let routine = at.called()?;
         at.end()?;
         return Some(calling(Instr::Call(register, None), routine));
@@ -150,8 +351,8 @@ fn with_c<'a>(bytes: &'a [u8]) -> Option<Body<'a>>
     None
 }
 
-/// An instruction whose word begins with `d`.
-fn with_d<'a>(bytes: &'a [u8]) -> Option<Body<'a>>
+/// An instruction whose word begins with `d` and that uses a name.
+fn naming_d<'a>(bytes: &'a [u8]) -> Option<Body<'a>>
     ensures read { IfSome result (ReadsStep bytes.now) }
     ensures fits { IfSome result BodyFits }
 {
@@ -164,35 +365,8 @@ fn with_d<'a>(bytes: &'a [u8]) -> Option<Body<'a>>
     None
 }
 
-/// An instruction whose word begins with `e`.
-fn with_e<'a>(bytes: &'a [u8]) -> Option<Body<'a>>
-    ensures read { IfSome result (ReadsStep bytes.now) }
-    ensures fits { IfSome result BodyFits }
-{
-    if let Some(at) = behind(bytes, b"end") {
-        at.end()?;
-        return Some(plain(Instr::End));
-    }
-    None
-}
-
-/// An instruction whose word begins with `g`.
-fn with_g<'a>(bytes: &'a [u8]) -> Option<Body<'a>>
-    ensures read { IfSome result (ReadsStep bytes.now) }
-    ensures fits { IfSome result BodyFits }
-{
-    if let Some(mut at) = behind(bytes, b"get") {
-        let register = at.register()?;
-        let other = at.register()?;
-        let field = at.field()?;
-        at.end()?;
-        return Some(plain(Instr::Get(register, other, field)));
-    }
-    None
-}
-
-/// An instruction whose word begins with `i`.
-fn with_i<'a>(bytes: &'a [u8]) -> Option<Body<'a>>
+/// An instruction whose word begins with `i` and that uses a name.
+fn naming_i<'a>(bytes: &'a [u8]) -> Option<Body<'a>>
     ensures read { IfSome result (ReadsStep bytes.now) }
     ensures fits { IfSome result BodyFits }
 {
@@ -217,8 +391,8 @@ fn with_i<'a>(bytes: &'a [u8]) -> Option<Body<'a>>
     None
 }
 
-/// An instruction whose word begins with `j`.
-fn with_j<'a>(bytes: &'a [u8]) -> Option<Body<'a>>
+/// An instruction whose word begins with `j` and that uses a name.
+fn naming_j<'a>(bytes: &'a [u8]) -> Option<Body<'a>>
     ensures read { IfSome result (ReadsStep bytes.now) }
     ensures fits { IfSome result BodyFits }
 {
@@ -243,105 +417,11 @@ fn with_j<'a>(bytes: &'a [u8]) -> Option<Body<'a>>
     None
 }
 
-/// An instruction whose word begins with `l`.
-fn with_l<'a>(bytes: &'a [u8]) -> Option<Body<'a>>
+/// An instruction whose word begins with `r` and that uses a name.
+fn naming_r<'a>(bytes: &'a [u8]) -> Option<Body<'a>>
     ensures read { IfSome result (ReadsStep bytes.now) }
     ensures fits { IfSome result BodyFits }
 {
-    if let Some(mut at) = behind(bytes, b"loop") {
-        let turns = at.turns()?;
-        at.end()?;
-        return Some(plain(Instr::Loop(turns)));
-    }
-    if let Some(mut at) = behind(bytes, b"loadp") {
-        let register = at.register()?;
-        let cell = at.paged_cell()?;
-        at.end()?;
-        return Some(plain(Instr::LoadPaged(register, cell)));
-    }
-    if let Some(mut at) = behind(bytes, b"load") {
-        let register = at.register()?;
-        let cell = at.cell()?;
-        at.end()?;
-        return Some(plain(Instr::Load(register, cell)));
-    }
-    None
-}
-
-/// An instruction whose word begins with `m`.
-fn with_m<'a>(bytes: &'a [u8]) -> Option<Body<'a>>
-    ensures read { IfSome result (ReadsStep bytes.now) }
-    ensures fits { IfSome result BodyFits }
-{
-    if let Some(mut at) = behind(bytes, b"mov") {
-        let register = at.register()?;
-        let other = at.register()?;
-        at.end()?;
-        return Some(plain(Instr::Move(register, other)));
-    }
-    if let Some(mut at) = behind(bytes, b"mark") {
-        let register = at.register()?;
-        at.end()?;
-        return Some(plain(Instr::Mark(register)));
-    }
-    None
-}
-
-/// An instruction whose word begins with `n`.
-fn with_n<'a>(bytes: &'a [u8]) -> Option<Body<'a>>
-    ensures read { IfSome result (ReadsStep bytes.now) }
-    ensures fits { IfSome result BodyFits }
-{
-    if let Some(at) = behind(bytes, b"next") {
-        at.end()?;
-        return Some(plain(Instr::Next));
-    }
-    None
-}
-
-/// An instruction whose word begins with `p`.
-fn with_p<'a>(bytes: &'a [u8]) -> Option<Body<'a>>
-    ensures read { IfSome result (ReadsStep bytes.now) }
-    ensures fits { IfSome result BodyFits }
-{
-    if let Some(mut at) = behind(bytes, b"put") {
-        let register = at.register()?;
-        let other = at.register()?;
-        at.end()?;
-        return Some(plain(Instr::Put(register, other)));
-    }
-    if let Some(mut at) = behind(bytes, b"pass") {
-        let register = at.register()?;
-        at.end()?;
-        return Some(plain(Instr::Pass(register)));
-    }
-    None
-}
-
-/// An instruction whose word begins with `r`.
-fn with_r<'a>(bytes: &'a [u8]) -> Option<Body<'a>>
-    ensures read { IfSome result (ReadsStep bytes.now) }
-    ensures fits { IfSome result BodyFits }
-{
-    if let Some(mut at) = behind(bytes, b"ret lower") {
-        let register = at.register()?;
-        at.end()?;
-        return Some(plain(Instr::Ret(Return::Lower(register))));
-    }
-    if let Some(mut at) = behind(bytes, b"ret") {
-        let returned = at.returned()?;
-        at.end()?;
-        return Some(plain(Instr::Ret(returned)));
-    }
-    if let Some(mut at) = behind(bytes, b"release") {
-        let lock = at.spin_lock()?;
-        at.end()?;
-        return Some(plain(Instr::Release(lock)));
-    }
-    if let Some(at) = behind(bytes, b"relc") {
-        at.end()?;
-        return Some(plain(Instr::ReleaseCancel));
-    }
     if let Some(mut at) = behind(bytes, b"remove") {
         let register = at.register()?;
         let queue = at.queue()?;
@@ -352,39 +432,8 @@ fn with_r<'a>(bytes: &'a [u8]) -> Option<Body<'a>>
     None
 }
 
-/// An instruction whose word begins with `s`.
-fn with_s<'a>(bytes: &'a [u8]) -> Option<Body<'a>>
-    ensures read { IfSome result (ReadsStep bytes.now) }
-    ensures fits { IfSome result BodyFits }
-{
-    if let Some(mut at) = behind(bytes, b"storep") {
-        let cell = at.paged_cell()?;
-        let register = at.register()?;
-        at.end()?;
-        return Some(plain(Instr::StorePaged(cell, register)));
-    }
-    if let Some(mut at) = behind(bytes, b"sub") {
-        let register = at.register()?;
-        let other = at.register()?;
-        at.end()?;
-        return Some(plain(Instr::Subtract(register, other)));
-    }
-    if let Some(mut at) = behind(bytes, b"start") {
-        let register = at.register()?;
-        at.end()?;
-        return Some(plain(Instr::Start(register)));
-    }
-    if let Some(mut at) = behind(bytes, b"store") {
-        let cell = at.cell()?;
-        let register = at.register()?;
-        at.end()?;
-        return Some(plain(Instr::Store(cell, register)));
-    }
-    None
-}
-
-/// An instruction whose word begins with `t`.
-fn with_t<'a>(bytes: &'a [u8]) -> Option<Body<'a>>
+/// An instruction whose word begins with `t` and that uses a name.
+fn naming_t<'a>(bytes: &'a [u8]) -> Option<Body<'a>>
     ensures read { IfSome result (ReadsStep bytes.now) }
     ensures fits { IfSome result BodyFits }
 {
@@ -397,8 +446,8 @@ fn with_t<'a>(bytes: &'a [u8]) -> Option<Body<'a>>
     None
 }
 
-/// An instruction whose word begins with `u`.
-fn with_u<'a>(bytes: &'a [u8]) -> Option<Body<'a>>
+/// An instruction whose word begins with `u` and that uses a name.
+fn naming_u<'a>(bytes: &'a [u8]) -> Option<Body<'a>>
     ensures read { IfSome result (ReadsStep bytes.now) }
     ensures fits { IfSome result BodyFits }
 {
@@ -411,8 +460,8 @@ fn with_u<'a>(bytes: &'a [u8]) -> Option<Body<'a>>
     None
 }
 
-/// An instruction that uses no name.
-fn plain<'a>(instr: Instr) -> Body<'a>
+/// A step that uses no name.
+fn unnamed<'a>(instr: Instr) -> Body<'a>
     ensures { result ≡ Step (Some instr) unnamed }
 {
     Body::Step(
