@@ -1,1 +1,3 @@
 pub mod Usual
+pub mod Plain
+pub mod Steps

@@ -170,7 +170,7 @@ digit_is_name_byte b h =
     let digit : is_ascii_digit b ≡ true = grind (arith, nat_tests) in
     or_right (is_name_start b) (is_ascii_digit b) digit
 
-digits_are_name_bytes : (bs : List ℕ) → list_all (λ b. is_digit b 10) bs ≡ true
+pub digits_are_name_bytes : (bs : List ℕ) → list_all (λ b. is_digit b 10) bs ≡ true
     → list_all is_name_byte bs ≡ true
 digits_are_name_bytes [] h = refl
 digits_are_name_bytes (b ∷ bs) h =

@@ -12,6 +12,7 @@ ghost use Rattle.asm_line.specs.declared.line.LineFault.{LineFault};
 use crate::cursor::Cursor;
 use crate::instruction::instruction;
 use crate::line::{Body, Line, LineFault};
+use crate::quick::usual_line;
 use text::class::{MAX_NAME, is, label_name};
 use text::cut::is_clean;
 use text::piece::Piece;
@@ -23,6 +24,17 @@ use text::token::Tokens;
 ///
 /// `Lex` where a byte or token is of no form, `UnknownWord` where the line is of none.
 pub fn read_line<'a>(raw: &'a [u8]) -> Result<Line<'a>, LineFault>
+    ensures line { result ≡ read_line raw.now }
+    ensures fits { IfOk result (λ line. BodyFits line.body) }
+{
+    match usual_line(raw) {
+        Some(line) => Ok(line),
+        None => exact_line(raw),
+    }
+}
+
+/// The line of these bytes, whatever its form.
+fn exact_line<'a>(raw: &'a [u8]) -> Result<Line<'a>, LineFault>
     ensures line { result ≡ read_line raw.now }
     ensures fits { IfOk result (λ line. BodyFits line.body) }
 {

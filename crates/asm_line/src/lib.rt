@@ -6,6 +6,8 @@ mod cursor;
 pub mod form;
 mod instruction;
 pub mod line;
+mod operands;
+mod quick;
 mod words;
 
 pub use form::read_line;

@@ -1,10 +1,11 @@
 -- One step of cutting, at an index of the text.
-use Rattle.std.proofs.Common.{◌≡◌, ◌≢◌, ℕ, ◌+◌, ◌-◌, ◌<◌, ◌≤◌, Bool, true, false, nat_eq, suc, List, [], ◌∷◌, ◌++◌, length, get_or, take, drop, refl, sym, arith, length-append, length-drop, length-take, get_or-drop}
+use Rattle.std.proofs.Common.{zero, ◌∙◌, ◌≡◌, ◌≢◌, ℕ, ◌+◌, ◌-◌, ◌<◌, ◌≤◌, Bool, true, false, nat_eq, suc, List, [], ◌∷◌, ◌++◌, length, get_or, take, drop, refl, sym, arith, length-append, length-drop, length-take, get_or-drop}
 use Rattle.std.proofs.lemmas.List.{drop_more, drop_all, take_all, take_more}
-use Rattle.std.proofs.lemmas.Bool.{ne_eqb, cond_both}
+use Rattle.std.proofs.lemmas.Bool.{eqb-true, ne_eqb, cond_both}
 use Rattle.std.specs.Prelude.{Some, None, nat_lt}
 use Rattle.std.specs.List.{position_or_len}
 use Rattle.std.proofs.lemmas.Bool.Decides.{nat_tests}
+use Rattle.memchr.specs.Find.{is_byte, NoneBefore, Nowhere, Passes}
 use Rattle.text.specs.Cut.{closed, code_of, comment_at, lines_from, lines_of, parts_from, tokens_of, is_blank}
 
 -- the bytes from s up to i
@@ -27,15 +28,23 @@ held_rest : (bytes : List ℕ) (s i : ℕ) → s ≤ i → length bytes ≤ i �
 held_rest bytes s i below ended =
     take_all (i - s) (drop s bytes) (omega (arith, length-drop s bytes))
 
--- a turn of the loop over a text, at an LF, at another byte, and behind its last byte
-pub line_cut : (bytes : List ℕ) (i : ℕ) (lines : List (List ℕ)) → i < length bytes
+-- the bytes from i on
+abbrev pub rest_at : List ℕ → ℕ → List ℕ
+rest_at bytes i = take (length bytes - i) (drop i bytes)
+
+all_rest : (bytes : List ℕ) (i : ℕ) → rest_at bytes i ≡ drop i bytes
+all_rest bytes i =
+    take_all (length bytes - i) (drop i bytes) (omega (arith, length-drop i bytes))
+
+-- a step of the cutting of a text, at an LF, at another byte, and behind its last byte
+line_cut : (bytes : List ℕ) (i : ℕ) (lines : List (List ℕ)) → i < length bytes
     → get_or bytes i 0 ≡ 10
     → lines_from (take i bytes) (drop i bytes) ≡ lines
     → lines ≡ take i bytes ∷ lines_of (drop (i + 1) bytes)
 line_cut bytes i lines inside feed before =
     let now = rw (drop_more bytes i 0 inside, feed) at before in sym now
 
-pub line_on : (bytes : List ℕ) (i : ℕ) (lines : List (List ℕ)) → i < length bytes
+line_on : (bytes : List ℕ) (i : ℕ) (lines : List (List ℕ)) → i < length bytes
     → get_or bytes i 0 ≢ 10
     → lines_from (take i bytes) (drop i bytes) ≡ lines
     → lines_from (take (i + 1) bytes) (drop (i + 1) bytes) ≡ lines
@@ -43,9 +52,32 @@ line_on bytes i lines inside other before =
     let now = rw (drop_more bytes i 0 inside, ne_eqb (get_or bytes i 0) 10 other) at before in
     rw (take_more bytes i 0 inside) now
 
-pub line_end : (bytes : List ℕ) (i : ℕ) → length bytes ≤ i
+line_end : (bytes : List ℕ) (i : ℕ) → length bytes ≤ i
     → lines_from (take i bytes) (drop i bytes) ≡ closed bytes
 line_end bytes i ended = rw (take_all i bytes ended, drop_all i bytes ended) refl
+
+-- no byte of the first k is an LF
+no_cut : (bytes : List ℕ) (k : ℕ) → k ≤ length bytes → Nowhere (Passes (is_byte 10) bytes) 0 k
+    → lines_from (take k bytes) (drop k bytes) ≡ lines_of bytes
+no_cut bytes zero within none = refl
+no_cut bytes (suc k) within none =
+    let before = no_cut bytes k (omega (arith, within)) (λ j low high. none j low (omega arith)) in
+    let other : get_or bytes k 0 ≢ 10 = λ is. none k (omega arith) (omega arith) (rw is refl) in
+    let next : suc k ≡ k + 1 = omega arith in
+    rw next (line_on bytes k (lines_of bytes) (omega (arith, within)) other before)
+
+-- the first LF ends the first line, and without one all bytes are a line
+pub line_found : (bytes : List ℕ) (i : ℕ) → NoneBefore (Passes (is_byte 10) bytes) 0 (length bytes) i
+    → Passes (is_byte 10) bytes i → lines_of bytes ≡ take i bytes ∷ lines_of (rest_at bytes (i + 1))
+line_found bytes i first is =
+    rw (all_rest bytes (i + 1)) (line_cut bytes i (lines_of bytes) first.high (eqb-true (get_or bytes i 0) 10 is)
+    (no_cut bytes i (omega (arith, first.high)) first.before))
+
+pub line_last : (bytes : List ℕ) → Nowhere (Passes (is_byte 10) bytes) 0 (length bytes)
+    → lines_of bytes ≡ closed bytes
+line_last bytes none =
+    sym (no_cut bytes (length bytes) (omega arith) none)
+    ∙ line_end bytes (length bytes) (omega arith)
 
 -- a text has no more lines than bytes
 few_from : (held bytes : List ℕ) → length (lines_from held bytes) ≤ length held + length bytes
@@ -87,14 +119,6 @@ code_on b bs other =
 
 blank_is_code : (b : ℕ) → is_blank b ≡ true → b ≢ 59
 blank_is_code b blank same = let never = rw same at blank in cc
-
--- the bytes from i on
-abbrev pub rest_at : List ℕ → ℕ → List ℕ
-rest_at bytes i = take (length bytes - i) (drop i bytes)
-
-all_rest : (bytes : List ℕ) (i : ℕ) → rest_at bytes i ≡ drop i bytes
-all_rest bytes i =
-    take_all (length bytes - i) (drop i bytes) (omega (arith, length-drop i bytes))
 
 held_length : (bytes : List ℕ) (s i : ℕ) → s < i → i < length bytes → 0 < length (held_at bytes s i)
 held_length bytes s i begun inside =

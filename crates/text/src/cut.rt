@@ -1,8 +1,9 @@
 //! A text cut into lines.
 
 ghost use Rattle.std.specs.Prelude.{◌≡◌, ◌≤◌, ◌∷◌, [], List, ℕ, MatchOption, length};
-ghost use Rattle.text.specs.Cut.{is_clean, is_written, lines_of};
+ghost use Rattle.text.specs.Cut.{closed, is_clean, is_written, lines_of};
 
+use memchr::memchr;
 use std::marker::Model;
 
 /// The lines of a text that are not read yet, in order, without their LF. Bytes after the last LF
@@ -39,21 +40,26 @@ impl<'a> Lines<'a> {
 }
 
 /// The first line of a text, and what stands after its LF.
-#[tactic(auto, using(crate::proofs::Cuts::line_cut, crate::proofs::Cuts::line_end))]
+#[tactic(auto, using(crate::proofs::Cuts::line_last))]
 fn first_line(text: &[u8]) -> Option<(&[u8], &[u8])>
     ensures { MatchOption result (lines_of text.now ≡ [])
         (λ split. lines_of text.now ≡ split.0.now ∷ lines_of split.1.now) }
 {
-    #[tactic(auto, using(crate::proofs::Cuts::line_on))]
-    for (i, byte) in text.iter().enumerate() {
-        if *byte == b'\n' {
-            return Some((&text[..i], &text[i + 1..]));
-        }
+    match memchr(b'\n', text) {
+        Some(i) => Some((&text[..i], &text[i + 1..])),
+        None => last_line(text),
     }
-    if text.is_empty() {
+}
+
+/// The last line of a text, if it has a byte; nothing stands behind it.
+fn last_line(line: &[u8]) -> Option<(&[u8], &[u8])>
+    ensures { MatchOption result (closed line.now ≡ [])
+        (λ split. closed line.now ≡ split.0.now ∷ lines_of split.1.now) }
+{
+    if line.is_empty() {
         None
     } else {
-        Some((text, &[]))
+        Some((line, &[]))
     }
 }
 

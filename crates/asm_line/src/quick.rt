@@ -1,0 +1,531 @@
+//! Lines of instructions in their usual form, read in one pass: most lines of a driver text have
+//! it.
+
+ghost use Rattle.std.specs.Prelude.{◌≡◌, IfSome, None, Ok, Some};
+ghost use Rattle.model.specs.Sound.{queue_named};
+ghost use Rattle.asm_line.specs.Line.{read_line, BodyFits};
+ghost use Rattle.asm_line.specs.Usual.{unnamed, with_label, with_queue, with_routine, ReadsStep};
+ghost use Rattle.asm_line.specs.declared.line.Body.TheVariants.{Step};
+
+use crate::line::{Body, Line, UsedNames};
+use crate::operands::{after_word, behind, word_at_head};
+use model::instr::{Instr, Return};
+use text::class::is_name;
+use text::piece::Piece;
+
+/// The line of these bytes, if it has the usual form: the word of an instruction and its operands,
+/// each after one space, with numbers in decimal digits and in range, and nothing behind them;
+/// before them there may be a label and a space.
+#[tactic(auto, using(crate::proofs::Plain::unlabelled_line))]
+pub fn usual_line<'a>(raw: &'a [u8]) -> Option<Line<'a>>
+    ensures line { IfSome result (λ line. read_line raw.now ≡ Ok line) }
+    ensures fits { IfSome result (λ line. BodyFits line.body) }
+{
+    if !matches!(*raw.first()?, b'a'..=b'z' | b'_') {
+        return None;
+    }
+    match step(raw) {
+        Some(body) => Some(Line { label: None, body }),
+        None => labelled(raw),
+    }
+}
+
+/// A step that has a label.
+#[tactic(auto, using(crate::proofs::Plain::labelled_line))]
+fn labelled<'a>(raw: &'a [u8]) -> Option<Line<'a>>
+    ensures line { IfSome result (λ line. read_line raw.now ≡ Ok line) }
+    ensures fits { IfSome result (λ line. BodyFits line.body) }
+{
+    let label = word_at_head(raw);
+    if !is_name(label.word) {
+        return None;
+    }
+    let body = step(after_word(label.rest, b": ")?)?;
+    Some(Line {
+        label: Some(Piece::of(label.word)),
+        body,
+    })
+}
+
+/// What an instruction's word and its operands say.
+fn step<'a>(bytes: &'a [u8]) -> Option<Body<'a>>
+    ensures read { IfSome result (ReadsStep bytes.now) }
+    ensures fits { IfSome result BodyFits }
+{
+    match plain(bytes) {
+        Some(instr) => Some(unnamed(instr)),
+        None => naming(bytes),
+    }
+}
+
+/// An instruction that uses no name.
+fn plain(bytes: &[u8]) -> Option<Instr>
+    ensures read { IfSome result (λ i. ReadsStep bytes.now (Step (Some i) unnamed)) }
+    ensures fits { IfSome result (λ i. BodyFits (Step (Some i) unnamed)) }
+{
+    match *bytes.first()? {
+        b'a' => plain_a(bytes),
+        b'b' => plain_b(bytes),
+        b'c' => plain_c(bytes),
+        b'e' => plain_e(bytes),
+        b'g' => plain_g(bytes),
+        b'l' => plain_l(bytes),
+        b'm' => plain_m(bytes),
+        b'n' => plain_n(bytes),
+        b'p' => plain_p(bytes),
+        b'r' => plain_r(bytes),
+        b's' => plain_s(bytes),
+        _ => None,
+    }
+}
+
+/// An instruction that uses a name.
+fn naming<'a>(bytes: &'a [u8]) -> Option<Body<'a>>
+    ensures read { IfSome result (ReadsStep bytes.now) }
+    ensures fits { IfSome result BodyFits }
+{
+    match *bytes.first()? {
+        b'a' => naming_a(bytes),
+        b'c' => naming_c(bytes),
+        b'd' => naming_d(bytes),
+        b'i' => naming_i(bytes),
+        b'j' => naming_j(bytes),
+        b'r' => naming_r(bytes),
+        b't' => naming_t(bytes),
+        b'u' => naming_u(bytes),
+        _ => None,
+    }
+}
+
+/// An instruction whose word begins with `a` and that uses no name.
+fn plain_a(bytes: &[u8]) -> Option<Instr>
+    ensures read { IfSome result (λ i. ReadsStep bytes.now (Step (Some i) unnamed)) }
+    ensures fits { IfSome result (λ i. BodyFits (Step (Some i) unnamed)) }
+{
+    if let Some(mut at) = behind(bytes, b"add") {
+        let register = at.register()?;
+        let other = at.register()?;
+        at.end()?;
+        return Some(Instr::Add(register, other));
+    }
+    if let Some(mut at) = behind(bytes, b"acquire") {
+        let lock = at.spin_lock()?;
+        at.end()?;
+        return Some(Instr::Acquire(lock));
+    }
+    if let Some(at) = behind(bytes, b"acqc") {
+        at.end()?;
+        return Some(Instr::AcquireCancel);
+    }
+    None
+}
+
+/// An instruction whose word begins with `b` and that uses no name.
+fn plain_b(bytes: &[u8]) -> Option<Instr>
+    ensures read { IfSome result (λ i. ReadsStep bytes.now (Step (Some i) unnamed)) }
+    ensures fits { IfSome result (λ i. BodyFits (Step (Some i) unnamed)) }
+{
+    if let Some(mut at) = behind(bytes, b"begin") {
+        let register = at.register()?;
+        at.end()?;
+        return Some(Instr::Begin(register));
+    }
+    None
+}
+
+/// An instruction whose word begins with `c` and that uses no name.
+fn plain_c(bytes: &[u8]) -> Option<Instr>
+    ensures read { IfSome result (λ i. ReadsStep bytes.now (Step (Some i) unnamed)) }
+    ensures fits { IfSome result (λ i. BodyFits (Step (Some i) unnamed)) }
+{
+    if let Some(mut at) = behind(bytes, b"const") {
+        let register = at.register()?;
+        let constant = at.constant()?;
+        at.end()?;
+        return Some(Instr::Const(register, constant));
+    }
+    if let Some(mut at) = behind(bytes, b"clear") {
+        let register = at.register()?;
+        at.end()?;
+        return Some(Instr::Clear(register));
+    }
+    if let Some(mut at) = behind(bytes, b"complete") {
+        let register = at.register()?;
+        let status = at.status()?;
+        at.end()?;
+        return Some(Instr::Complete(register, status));
+    }
+    if let Some(mut at) = behind(bytes, b"call") {
+        let register = at.register()?;
+        at.end()?;
+        return Some(Instr::Call(register, None));
+    }
+    None
+}
+
+/// An instruction whose word begins with `e` and that uses no name.
+fn plain_e(bytes: &[u8]) -> Option<Instr>
+    ensures read { IfSome result (λ i. ReadsStep bytes.now (Step (Some i) unnamed)) }
+    ensures fits { IfSome result (λ i. BodyFits (Step (Some i) unnamed)) }
+{
+    if let Some(at) = behind(bytes, b"end") {
+        at.end()?;
+        return Some(Instr::End);
+    }
+    None
+}
+
+/// An instruction whose word begins with `g` and that uses no name.
+fn plain_g(bytes: &[u8]) -> Option<Instr>
+    ensures read { IfSome result (λ i. ReadsStep bytes.now (Step (Some i) unnamed)) }
+    ensures fits { IfSome result (λ i. BodyFits (Step (Some i) unnamed)) }
+{
+    if let Some(mut at) = behind(bytes, b"get") {
+        let register = at.register()?;
+        let other = at.register()?;
+        let field = at.field()?;
+        at.end()?;
+        return Some(Instr::Get(register, other, field));
+    }
+    None
+}
+
+/// An instruction whose word begins with `l` and that uses no name.
+fn plain_l(bytes: &[u8]) -> Option<Instr>
+    ensures read { IfSome result (λ i. ReadsStep bytes.now (Step (Some i) unnamed)) }
+    ensures fits { IfSome result (λ i. BodyFits (Step (Some i) unnamed)) }
+{
+    if let Some(mut at) = behind(bytes, b"loop") {
+        let turns = at.turns()?;
+        at.end()?;
+        return Some(Instr::Loop(turns));
+    }
+    if let Some(mut at) = behind(bytes, b"loadp") {
+        let register = at.register()?;
+        let cell = at.paged_cell()?;
+        at.end()?;
+        return Some(Instr::LoadPaged(register, cell));
+    }
+    if let Some(mut at) = behind(bytes, b"load") {
+        let register = at.register()?;
+        let cell = at.cell()?;
+        at.end()?;
+        return Some(Instr::Load(register, cell));
+    }
+    None
+}
+
+/// An instruction whose word begins with `m` and that uses no name.
+fn plain_m(bytes: &[u8]) -> Option<Instr>
+    ensures read { IfSome result (λ i. ReadsStep bytes.now (Step (Some i) unnamed)) }
+    ensures fits { IfSome result (λ i. BodyFits (Step (Some i) unnamed)) }
+{
+    if let Some(mut at) = behind(bytes, b"mov") {
+        let register = at.register()?;
+        let other = at.register()?;
+        at.end()?;
+        return Some(Instr::Move(register, other));
+    }
+    if let Some(mut at) = behind(bytes, b"mark") {
+        let register = at.register()?;
+        at.end()?;
+        return Some(Instr::Mark(register));
+    }
+    None
+}
+
+/// An instruction whose word begins with `n` and that uses no name.
+fn plain_n(bytes: &[u8]) -> Option<Instr>
+    ensures read { IfSome result (λ i. ReadsStep bytes.now (Step (Some i) unnamed)) }
+    ensures fits { IfSome result (λ i. BodyFits (Step (Some i) unnamed)) }
+{
+    if let Some(at) = behind(bytes, b"next") {
+        at.end()?;
+        return Some(Instr::Next);
+    }
+    None
+}
+
+/// An instruction whose word begins with `p` and that uses no name.
+fn plain_p(bytes: &[u8]) -> Option<Instr>
+    ensures read { IfSome result (λ i. ReadsStep bytes.now (Step (Some i) unnamed)) }
+    ensures fits { IfSome result (λ i. BodyFits (Step (Some i) unnamed)) }
+{
+    if let Some(mut at) = behind(bytes, b"put") {
+        let register = at.register()?;
+        let other = at.register()?;
+        at.end()?;
+        return Some(Instr::Put(register, other));
+    }
+    if let Some(mut at) = behind(bytes, b"pass") {
+        let register = at.register()?;
+        at.end()?;
+        return Some(Instr::Pass(register));
+    }
+    None
+}
+
+/// An instruction whose word begins with `r` and that uses no name.
+fn plain_r(bytes: &[u8]) -> Option<Instr>
+    ensures read { IfSome result (λ i. ReadsStep bytes.now (Step (Some i) unnamed)) }
+    ensures fits { IfSome result (λ i. BodyFits (Step (Some i) unnamed)) }
+{
+    if let Some(mut at) = behind(bytes, b"ret lower") {
+        let register = at.register()?;
+        at.end()?;
+        return Some(Instr::Ret(Return::Lower(register)));
+    }
+    if let Some(mut at) = behind(bytes, b"ret") {
+        let returned = at.returned()?;
+        at.end()?;
+        return Some(Instr::Ret(returned));
+    }
+    if let Some(mut at) = behind(bytes, b"release") {
+        let lock = at.spin_lock()?;
+        at.end()?;
+        return Some(Instr::Release(lock));
+    }
+    if let Some(at) = behind(bytes, b"relc") {
+        at.end()?;
+        return Some(Instr::ReleaseCancel);
+    }
+    None
+}
+
+/// An instruction whose word begins with `s` and that uses no name.
+fn plain_s(bytes: &[u8]) -> Option<Instr>
+    ensures read { IfSome result (λ i. ReadsStep bytes.now (Step (Some i) unnamed)) }
+    ensures fits { IfSome result (λ i. BodyFits (Step (Some i) unnamed)) }
+{
+    if let Some(mut at) = behind(bytes, b"storep") {
+        let cell = at.paged_cell()?;
+        let register = at.register()?;
+        at.end()?;
+        return Some(Instr::StorePaged(cell, register));
+    }
+    if let Some(mut at) = behind(bytes, b"sub") {
+        let register = at.register()?;
+        let other = at.register()?;
+        at.end()?;
+        return Some(Instr::Subtract(register, other));
+    }
+    if let Some(mut at) = behind(bytes, b"start") {
+        let register = at.register()?;
+        at.end()?;
+        return Some(Instr::Start(register));
+    }
+    if let Some(mut at) = behind(bytes, b"store") {
+        let cell = at.cell()?;
+        let register = at.register()?;
+        at.end()?;
+        return Some(Instr::Store(cell, register));
+    }
+    None
+}
+
+/// An instruction whose word begins with `a` and that uses a name.
+fn naming_a<'a>(bytes: &'a [u8]) -> Option<Body<'a>>
+    ensures read { IfSome result (ReadsStep bytes.now) }
+    ensures fits { IfSome result BodyFits }
+{
+    if let Some(mut at) = behind(bytes, b"arm") {
+        let register = at.register()?;
+        let queue = at.queue()?;
+        at.end()?;
+        return Some(queued(Instr::Arm(register, 0), queue));
+    }
+    None
+}
+
+/// An instruction whose word begins with `c` and that uses a name.
+fn naming_c<'a>(bytes: &'a [u8]) -> Option<Body<'a>>
+    ensures read { IfSome result (ReadsStep bytes.now) }
+    ensures fits { IfSome result BodyFits }
+{
+    if let Some(mut at) = behind(bytes, b"call") {
+        let register = at.register()?;
+        let routine = at.called()?;
+        at.end()?;
+        return Some(calling(Instr::Call(register, None), routine));
+    }
+    None
+}
+
+/// An instruction whose word begins with `d` and that uses a name.
+fn naming_d<'a>(bytes: &'a [u8]) -> Option<Body<'a>>
+    ensures read { IfSome result (ReadsStep bytes.now) }
+    ensures fits { IfSome result BodyFits }
+{
+    if let Some(mut at) = behind(bytes, b"disarm") {
+        let register = at.register()?;
+        let label = at.label()?;
+        at.end()?;
+        return Some(jump(Instr::Disarm(register, 0), label));
+    }
+    None
+}
+
+/// An instruction whose word begins with `i` and that uses a name.
+fn naming_i<'a>(bytes: &'a [u8]) -> Option<Body<'a>>
+    ensures read { IfSome result (ReadsStep bytes.now) }
+    ensures fits { IfSome result BodyFits }
+{
+    if let Some(mut at) = behind(bytes, b"insert") {
+        let register = at.register()?;
+        let queue = at.queue()?;
+        at.end()?;
+        return Some(queued(Instr::Insert(register, 0), queue));
+    }
+    if let Some(mut at) = behind(bytes, b"ifcancel") {
+        let register = at.register()?;
+        let label = at.label()?;
+        at.end()?;
+        return Some(jump(Instr::IfCancel(register, 0), label));
+    }
+    if let Some(mut at) = behind(bytes, b"ifpending") {
+        let register = at.register()?;
+        let label = at.label()?;
+        at.end()?;
+        return Some(jump(Instr::IfPending(register, 0), label));
+    }
+    None
+}
+
+/// An instruction whose word begins with `j` and that uses a name.
+fn naming_j<'a>(bytes: &'a [u8]) -> Option<Body<'a>>
+    ensures read { IfSome result (ReadsStep bytes.now) }
+    ensures fits { IfSome result BodyFits }
+{
+    if let Some(mut at) = behind(bytes, b"jz") {
+        let register = at.register()?;
+        let label = at.label()?;
+        at.end()?;
+        return Some(jump(Instr::JumpIfZero(register, 0), label));
+    }
+    if let Some(mut at) = behind(bytes, b"jlt") {
+        let register = at.register()?;
+        let other = at.register()?;
+        let label = at.label()?;
+        at.end()?;
+        return Some(jump(Instr::JumpIfLess(register, other, 0), label));
+    }
+    if let Some(mut at) = behind(bytes, b"jmp") {
+        let label = at.label()?;
+        at.end()?;
+        return Some(jump(Instr::Jump(0), label));
+    }
+    None
+}
+
+/// An instruction whose word begins with `r` and that uses a name.
+fn naming_r<'a>(bytes: &'a [u8]) -> Option<Body<'a>>
+    ensures read { IfSome result (ReadsStep bytes.now) }
+    ensures fits { IfSome result BodyFits }
+{
+    if let Some(mut at) = behind(bytes, b"remove") {
+        let register = at.register()?;
+        let queue = at.queue()?;
+        let label = at.label()?;
+        at.end()?;
+        return Some(removing(Instr::Remove(register, 0, 0), queue, label));
+    }
+    None
+}
+
+/// An instruction whose word begins with `t` and that uses a name.
+fn naming_t<'a>(bytes: &'a [u8]) -> Option<Body<'a>>
+    ensures read { IfSome result (ReadsStep bytes.now) }
+    ensures fits { IfSome result BodyFits }
+{
+    if let Some(mut at) = behind(bytes, b"take") {
+        let register = at.register()?;
+        let label = at.label()?;
+        at.end()?;
+        return Some(jump(Instr::Take(register, 0), label));
+    }
+    None
+}
+
+/// An instruction whose word begins with `u` and that uses a name.
+fn naming_u<'a>(bytes: &'a [u8]) -> Option<Body<'a>>
+    ensures read { IfSome result (ReadsStep bytes.now) }
+    ensures fits { IfSome result BodyFits }
+{
+    if let Some(mut at) = behind(bytes, b"unlink") {
+        let register = at.register()?;
+        let queue = at.queue()?;
+        at.end()?;
+        return Some(queued(Instr::Unlink(register, 0), queue));
+    }
+    None
+}
+
+/// A step that uses no name.
+fn unnamed<'a>(instr: Instr) -> Body<'a>
+    ensures { result ≡ Step (Some instr) unnamed }
+{
+    Body::Step(
+        Some(instr),
+        UsedNames {
+            label: None,
+            routine: None,
+            queue: None,
+        },
+    )
+}
+
+/// An instruction that jumps to a label.
+fn jump<'a>(instr: Instr, label: Piece<'a>) -> Body<'a>
+    ensures { result ≡ Step (Some instr) (with_label label.entry unnamed) }
+{
+    Body::Step(
+        Some(instr),
+        UsedNames {
+            label: Some(label),
+            routine: None,
+            queue: None,
+        },
+    )
+}
+
+/// An instruction that touches a queue.
+fn queued<'a>(instr: Instr, queue: Piece<'a>) -> Body<'a>
+    ensures { result ≡ Step (Some instr) (with_queue queue.entry unnamed) }
+{
+    Body::Step(
+        Some(instr),
+        UsedNames {
+            label: None,
+            routine: None,
+            queue: Some(queue),
+        },
+    )
+}
+
+/// An instruction that touches a queue, and jumps to a label.
+fn removing<'a>(instr: Instr, queue: Piece<'a>, label: Piece<'a>) -> Body<'a>
+    ensures { result ≡ Step (Some instr) (with_label label.entry (with_queue queue.entry unnamed)) }
+{
+    Body::Step(
+        Some(instr),
+        UsedNames {
+            label: Some(label),
+            routine: None,
+            queue: Some(queue),
+        },
+    )
+}
+
+/// An instruction that sets a routine.
+fn calling<'a>(instr: Instr, routine: Piece<'a>) -> Body<'a>
+    ensures { result ≡ Step (Some instr) (with_routine routine.entry unnamed) }
+{
+    Body::Step(
+        Some(instr),
+        UsedNames {
+            label: None,
+            routine: Some(routine),
+            queue: None,
+        },
+    )
+}
