@@ -1,8 +1,10 @@
-//! The loops of a routine, as the pass over it needs them at each position. Two scans, each of one
-//! step a position: since a loop is named by the position of its `loop`, the loops round it are
-//! those noted there, and only the innermost one is noted anywhere.
+//! The loops of a routine, as the pass over it needs them at each position. One scan, of one step a
+//! position: since a loop is named by the position of its `loop`, the loops round it are those noted
+//! there, and only the innermost one is noted anywhere. A loop without an `end` has no body, which
+//! shows at the routine's end alone: where there is one, two scans more are made.
 
 ghost use Rattle.std.specs.Prelude.{◌≡◌, ◌<◌, ◌≤◌, ℕ, length, false, IfOk, IfSome, slice_index_or};
+ghost use Rattle.std.specs.Prelude.{None};
 
 use model::instr::Instr;
 use std::alloc::{AllocError, Global};
@@ -30,9 +32,73 @@ pub struct Place {
 ghost use Rattle.model.specs.Set.{flow_of};
 ghost use Rattle.verifier.specs.Survey.{open_next, flags_next, round_next};
 ghost use Rattle.verifier.specs.Survey.{AreOpen, AreFlagged, ArePlaced, AreShallow};
+ghost use Rattle.verifier.specs.Survey.{round_after, ArePaired};
 
 /// The place of each position of a routine.
 pub fn survey(alloc: Global, code: &[Instr]) -> Result<Vec<Place>, AllocError>
+    ensures { IfOk result (λ places. ArePlaced code.now (length code.now) places.items) }
+{
+    let paired = pair(alloc, code)?;
+    match paired.unclosed {
+        None => Ok(paired.places),
+        Some(_) => survey_unclosed(alloc, code),
+    }
+}
+
+/// What the places of a routine are if each of its loops has an `end`, and a loop that has none.
+#[derive(Drop)]
+struct Paired {
+    places: Vec<Place>,
+    unclosed: Option<usize>,
+}
+
+/// Reads a routine as if each of its loops had an `end`.
+fn pair(alloc: Global, code: &[Instr]) -> Result<Paired, AllocError>
+    ensures { IfOk result (λ paired. paired.unclosed ≡ None
+        → ArePlaced code.now (length code.now) paired.places.items) }
+{
+    let mut places = Vec::with_capacity(alloc, code.len())?;
+    let mut round = Round {
+        innermost: None,
+        depth: 0,
+    };
+    for at in 0..code.len() {
+        let next = round_after(&code[at], at, round, &places);
+        let place = Place {
+            opened: round.innermost,
+            closed: true,
+            round,
+        };
+        places.push(place)?;
+        round = next;
+    }
+    Ok(Paired {
+        places,
+        unclosed: round.innermost,
+    })
+}
+
+/// The open loops after an instruction at a position, from the places before it.
+fn round_after(instr: &Instr, at: usize, round: Round, places: &[Place]) -> Round
+    requires before { IfSome round.innermost (λ q. q < length places.now) }
+    requires shallow { round.depth ≤ length places.now }
+    ensures { result ≡ round_after (flow_of instr.now) at round places.now }
+{
+    match *instr {
+        Instr::Loop(_) => Round {
+            innermost: Some(at),
+            depth: round.depth + 1,
+        },
+        Instr::End => match round.innermost {
+            None => round,
+            Some(q) => places[q].round,
+        },
+        _ => round,
+    }
+}
+
+/// The place of each position of a routine, some loops of which may have no `end`.
+fn survey_unclosed(alloc: Global, code: &[Instr]) -> Result<Vec<Place>, AllocError>
     ensures { IfOk result (λ places. ArePlaced code.now (length code.now) places.items) }
 {
     let length = code.len();
