@@ -2,10 +2,11 @@
 
 ghost use Rattle.std.specs.Prelude.{◌≡◌, ◌≤◌, ◌<◌, ◌↔◌, length, IsTrue, IfSome, All, ℕ, slice_get};
 ghost use Rattle.model.specs.Sound.{IsSound, DeviceFits, DevicesFit, DriverFits, RoutineFits};
-ghost use Rattle.model.specs.Sound.{LabelFits, OperandFits, CallFits, CallsFit};
+ghost use Rattle.model.specs.Sound.{OperandFits, CallsFit};
 ghost use Rattle.model.specs.Sound.{HandlerFits, HasSort, IsDispatch, IsCompletion};
 ghost use Rattle.model.specs.Sound.{StartIoFits, IsStartIo, DpcFits, IsDpc};
-ghost use Rattle.model.specs.Sound.{QueueFits, QueuesFit, GuardFits, IsCancel, CancelFits};
+ghost use Rattle.model.specs.Sound.{QueuesFit, GuardFits, IsCancel, CancelFits};
+ghost use Rattle.driver_set.specs.Standing.{NamesFit, InstrFits, RoutineStands};
 
 use model::instr::{Instr, Return};
 use model::limits::{
@@ -13,15 +14,6 @@ use model::limits::{
     MAX_TURNS, REGISTERS, SPIN_LOCKS,
 };
 use model::set::{Device, Driver, Queue, Routine, Sort};
-
-fn label_fits(positions: usize, instr: &Instr) -> bool
-    ensures { IsTrue result ↔ LabelFits positions instr.now }
-{
-    match instr.label() {
-        Some(label) => (label as usize) < positions,
-        None => true,
-    }
-}
 
 /// Whether an instruction's operands are within their limits. Their types keep them there.
 fn operand_fits(instr: &Instr) -> bool
@@ -67,29 +59,6 @@ fn operand_fits(instr: &Instr) -> bool
         | Instr::Ret(Return::WithStatus(_) | Return::Continue | Return::Stop | Return::Void) =>
             true,
     }
-}
-
-fn labels_fit(code: &[Instr]) -> bool
-    ensures { IsTrue result ↔ All (LabelFits (length code.now)) code.now }
-{
-    let positions = code.len();
-    code.iter().all(|instr| label_fits(positions, instr))
-}
-
-fn operands_fit(code: &[Instr]) -> bool
-    ensures always { IsTrue result }
-    ensures fit { All OperandFits code.now }
-{
-    code.iter().all(|instr| operand_fits(instr))
-}
-
-fn routine_fits(routine: &Routine) -> bool
-    ensures { IsTrue result ↔ RoutineFits routine.now }
-{
-    let code = routine.code.as_slice();
-    // the types of the operands keep them within their limits, so nothing is tested
-    prove!(operands_fit(code));
-    code.len() <= MAX_INSTRUCTIONS && labels_fit(code)
 }
 
 /// Whether the routine of a number is a dispatch routine.
@@ -169,42 +138,6 @@ fn dpc_fits(routines: &[Routine], dpc: Option<u8>) -> bool
     }
 }
 
-fn call_fits(routines: &[Routine], instr: &Instr) -> bool
-    ensures { IsTrue result ↔ CallFits routines.now instr.now }
-{
-    match *instr {
-        Instr::Call(_, Some(number)) => is_completion(routines, number),
-        _ => true,
-    }
-}
-
-fn calls_fit(routines: &[Routine], routine: &Routine) -> bool
-    ensures { IsTrue result ↔ CallsFit routines.now routine.now }
-{
-    let code = routine.code.as_slice();
-    code.iter().all(|instr| call_fits(routines, instr))
-}
-
-/// Whether the queue that an instruction names is one of this many.
-fn queue_fits(queues: usize, instr: &Instr) -> bool
-    ensures { IsTrue result ↔ QueueFits queues instr.now }
-{
-    match *instr {
-        Instr::Insert(_, queue)
-        | Instr::Remove(_, queue, _)
-        | Instr::Unlink(_, queue)
-        | Instr::Arm(_, queue) => (queue as usize) < queues,
-        _ => true,
-    }
-}
-
-fn queues_fit(queues: usize, routine: &Routine) -> bool
-    ensures { IsTrue result ↔ QueuesFit queues routine.now }
-{
-    let code = routine.code.as_slice();
-    code.iter().all(|instr| queue_fits(queues, instr))
-}
-
 /// Whether the guard of a queue is one of the spin locks. Its type keeps it there.
 fn guard_fits(queue: &Queue) -> bool
     ensures always { IsTrue result }
@@ -235,22 +168,64 @@ fn cancels_fit(routines: &[Routine], queues: &[Queue]) -> bool
     queues.iter().all(|queue| cancel_fits(routines, queue))
 }
 
-fn routines_fit(routines: &[Routine]) -> bool
-    ensures { IsTrue result ↔ All RoutineFits routines.now }
+/// Whether what an instruction names is there: one of so many positions of its routine, a completion
+/// routine of its driver, one of so many queues.
+fn names_fit(positions: usize, routines: &[Routine], queues: usize, instr: &Instr) -> bool
+    ensures { IsTrue result ↔ NamesFit positions routines.now queues instr.now }
 {
-    routines.iter().all(|routine| routine_fits(routine))
+    match *instr {
+        Instr::JumpIfZero(_, label)
+        | Instr::JumpIfLess(_, _, label)
+        | Instr::Jump(label)
+        | Instr::Disarm(_, label)
+        | Instr::IfCancel(_, label)
+        | Instr::Take(_, label)
+        | Instr::IfPending(_, label) => (label as usize) < positions,
+        Instr::Remove(_, queue, label) => {
+            (label as usize) < positions && (queue as usize) < queues
+        }
+        Instr::Insert(_, queue) | Instr::Unlink(_, queue) | Instr::Arm(_, queue) => {
+            (queue as usize) < queues
+        }
+        Instr::Call(_, Some(number)) => is_completion(routines, number),
+        _ => true,
+    }
 }
 
-fn all_calls_fit(routines: &[Routine]) -> bool
-    ensures { IsTrue result ↔ All (CallsFit routines.now) routines.now }
+fn instr_fits(positions: usize, routines: &[Routine], queues: usize, instr: &Instr) -> bool
+    ensures { IsTrue result ↔ InstrFits positions routines.now queues instr.now }
 {
-    routines.iter().all(|routine| calls_fit(routines, routine))
+    // the types of the operands keep them within their limits, so nothing is tested
+    prove!(operand_fits(instr));
+    names_fit(positions, routines, queues, instr)
 }
 
-fn all_queues_fit(queues: usize, routines: &[Routine]) -> bool
-    ensures { IsTrue result ↔ All (QueuesFit queues) routines.now }
+fn code_fits(routines: &[Routine], queues: usize, code: &[Instr]) -> bool
+    ensures { IsTrue result ↔ All (InstrFits (length code.now) routines.now queues) code.now }
 {
-    routines.iter().all(|routine| queues_fit(queues, routine))
+    let positions = code.len();
+    code.iter()
+        .all(|instr| instr_fits(positions, routines, queues, instr))
+}
+
+/// Whether a routine of a driver with these routines and so many queues fits: one look at each of
+/// its instructions.
+fn routine_fits(routines: &[Routine], queues: usize, routine: &Routine) -> bool
+    ensures { IsTrue result ↔ RoutineStands routines.now queues routine.now }
+{
+    let code = routine.code.as_slice();
+    code.len() <= MAX_INSTRUCTIONS && code_fits(routines, queues, code)
+}
+
+/// Whether the routines of a driver with so many queues fit.
+fn routines_fit(routines: &[Routine], queues: usize) -> bool
+    ensures { IsTrue result ↔ (All RoutineFits routines.now
+        × All (CallsFit routines.now) routines.now
+        × All (QueuesFit queues) routines.now) }
+{
+    routines
+        .iter()
+        .all(|routine| routine_fits(routines, queues, routine))
 }
 
 fn driver_fits(driver: &Driver) -> bool
@@ -261,16 +236,14 @@ fn driver_fits(driver: &Driver) -> bool
     // the type of a guard keeps it within its limits, so nothing is tested
     prove!(guards_fit(queues));
     routines.len() <= MAX_ROUTINES
-        && routines_fit(routines)
+        && routines_fit(routines, queues.len())
         && handler_fits(routines, driver.read)
         && handler_fits(routines, driver.write)
         && handler_fits(routines, driver.control)
         && startio_fits(routines, driver.startio)
         && dpc_fits(routines, driver.dpc)
-        && all_calls_fit(routines)
         && queues.len() <= MAX_QUEUES
         && cancels_fit(routines, queues)
-        && all_queues_fit(queues.len(), routines)
 }
 
 fn lower_fits(number: usize, lower: Option<u8>) -> bool

@@ -10,3 +10,4 @@ pub mod Steps
 pub mod Fields
 pub mod Faults
 pub mod Verdicts
+pub mod Pairs

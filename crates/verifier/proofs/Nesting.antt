@@ -116,6 +116,17 @@ chained_few code bound (q ∷ loops) h =
     kept_few (is_closed code q) bound q (filter (is_closed code) loops) h.0
     (chained_few code q loops h.2)
 
+open_few : (code : List Instr) (bound : ℕ) (loops : List ℕ) → AreChained code bound loops
+    → length loops ≤ bound
+open_few code bound [] h = omega arith
+open_few code bound (q ∷ loops) h =
+    let low : q < bound = h.0 in
+    let few : length loops ≤ q = open_few code q loops h.2 in
+    omega arith
+
+pub few_open : (code : List Instr) (p : ℕ) → length (open_at code p) ≤ p
+few_open code p = open_few code p (open_at code p) (chained code p)
+
 pub few_round : (code : List Instr) (p : ℕ) → length (loops_round code p) ≤ p
 few_round code p = chained_few code p (open_at code p) (chained code p)
 

@@ -12,17 +12,17 @@ use Rattle.verifier.specs.Survey.{first_of, round_of, round_from, round_next, pl
 use Rattle.verifier.proofs.Nesting.{first_open, few_round, round_none, round_closed, round_unclosed}
 
 -- a list with one element more
-got_below : {X : Type 0} (xs ys : List X) (p : ℕ) → p < length xs
+pub got_below : {X : Type 0} (xs ys : List X) (p : ℕ) → p < length xs
     → slice_get (xs ++ ys) p ≡ slice_get xs p
 got_below [] ys p low = absurd (omega arith)
 got_below (x ∷ xs) ys zero low = refl
 got_below (x ∷ xs) ys (suc p) low = got_below xs ys p (omega arith)
 
-got_last : {X : Type 0} (xs : List X) (y : X) → slice_get (xs ++ y ∷ []) (length xs) ≡ Some y
+pub got_last : {X : Type 0} (xs : List X) (y : X) → slice_get (xs ++ y ∷ []) (length xs) ≡ Some y
 got_last [] y = refl
 got_last (x ∷ xs) y = got_last xs y
 
-long_last : {X : Type 0} (xs : List X) (y : X) → length (xs ++ y ∷ []) ≡ length xs + 1
+pub long_last : {X : Type 0} (xs : List X) (y : X) → length (xs ++ y ∷ []) ≡ length xs + 1
 long_last [] y = refl
 long_last (x ∷ xs) y = let rest : length (xs ++ y ∷ []) ≡ length xs + 1 =
     long_last xs y in omega arith

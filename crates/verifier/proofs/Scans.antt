@@ -11,7 +11,7 @@ use Rattle.model.specs.Set.{Flow, Onward, Branches, Jumps, Opens, Closes, Leaves
 use Rattle.verifier.specs.Survey.{first_of, outer, open_next, flags_ended, flags_next, AreOpen, AreFlagged, IsScanned}
 use Rattle.verifier.proofs.Nesting.{first_open, none_open, unopened}
 
-open_more : (code : List Instr) (at : ℕ) (i : Instr) → slice_get code at ≡ Some i
+pub open_more : (code : List Instr) (at : ℕ) (i : Instr) → slice_get code at ≡ Some i
     → open_at code (at + 1) ≡ open_by (flow_of i) at (open_at code at)
 open_more code at i here =
     let next : at + 1 ≡ suc at = omega arith in

@@ -89,3 +89,36 @@ pub record IsScanned
   pub table : AreOpen code at opened
   pub flagged : AreFlagged code at flags
   pub first : inner ≡ first_of (open_at code at)
+
+-- the places below a position, if each loop that is open there has an `end`
+abbrev pub paired_at : List Instr → ℕ → Place
+paired_at code p = record {
+  opened = first_of (open_at code p);
+  closed = true;
+  round = round_of (open_at code p);
+}
+
+-- what a scan that takes each loop for closed knows before a position
+pub record ArePaired (code : List Instr) (at : ℕ) (places : List Place) (round : Round) : Type 0
+  where
+    pub long : length places ≡ at
+    pub each : (p : ℕ) → p < at → slice_get places p ≡ Some (paired_at code p)
+    pub rounds : round ≡ round_of (open_at code at)
+
+-- the open loops after an instruction, from the places before it
+abbrev pub round_in : Option Place → Round
+round_in None = record { innermost = None; depth = 0 }
+round_in (Some place) = place.round
+
+abbrev pub round_ended : Option ℕ → Round → List Place → Round
+round_ended None round places = round
+round_ended (Some q) round places = round_in (slice_get places q)
+
+abbrev pub round_after : Flow → ℕ → Round → List Place → Round
+round_after Onward at round places = round
+round_after (Branches label) at round places = round
+round_after (Jumps label) at round places = round
+round_after (Opens turns) at round places =
+    record { innermost = Some at; depth = round.depth + 1 }
+round_after Closes at round places = round_ended round.innermost round places
+round_after Leaves at round places = round

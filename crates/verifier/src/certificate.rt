@@ -22,7 +22,7 @@ pub fn turns_at(code: &[Instr], places: &[Place], sums: &[u32], at: usize) -> u3
 {
     match places[at].round.innermost {
         None => 1,
-        Some(q) => turns_within(code, sums, q),
+        Some(q) => turns_within(code, sums, q as usize),
     }
 }
 

@@ -40,7 +40,7 @@ fn is_misplaced(code: &[Instr], places: &[Place], at: usize) -> bool
     }
     let place = &places[at];
     match *instr {
-        Instr::Loop(_) => !place.closed || place.round.depth >= MAX_LOOPS,
+        Instr::Loop(_) => !place.closed || place.round.depth as usize >= MAX_LOOPS,
         Instr::End => place.opened.is_none(),
         _ => false,
     }

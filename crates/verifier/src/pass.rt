@@ -1,8 +1,9 @@
 //! One forward pass over a routine. It keeps a table of the states that arrive at each position;
 //! since nothing leads back, the table is final at a position when the pass comes there.
 
-ghost use Rattle.std.specs.Prelude.{◌≡◌, ◌≢◌, ◌+◌, ◌<◌, length, false, slice_get, IsTrue};
+ghost use Rattle.std.specs.Prelude.{◌≡◌, ◌≢◌, ◌+◌, ◌<◌, ◌≤◌, length, false, slice_get, IsTrue};
 ghost use Rattle.std.specs.Prelude.{IfOk, IfErr, OnOk};
+ghost use Rattle.model.specs.declared.limits.TheConstants.{MAX_INSTRUCTIONS};
 
 use crate::certificate::turns_at;
 use crate::loops::{Place, survey};
@@ -69,6 +70,7 @@ impl<'a> Pass<'a> {
         entry: Abs,
     ) -> Result<Pass<'a>, AllocError>
         requires some { length routine.now.code ≢ 0 }
+        requires short { length routine.now.code ≤ MAX_INSTRUCTIONS }
         requires entered { entry_state (member set.now driver number routine.now) ≡ Some entry }
         ensures { IfOk result
             (λ pass. pass ≡ progress (member set.now driver number routine.now) 0) }
@@ -163,7 +165,7 @@ impl<'a> Pass<'a> {
     {
         match self.routine.code.as_slice()[self.at] {
             Instr::End => match self.places[self.at].opened {
-                Some(q) => is_only(&self.table, q, state),
+                Some(q) => is_only(&self.table, q as usize, state),
                 None => false,
             },
             _ => true,

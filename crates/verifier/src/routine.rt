@@ -1,8 +1,9 @@
 //! The verdict on one routine.
 
-ghost use Rattle.std.specs.Prelude.{◌≡◌, ◌<◌, length, if◌then◌else◌, IfOk, IfErr, OnOk};
+ghost use Rattle.std.specs.Prelude.{◌≡◌, ◌<◌, ◌≤◌, length, if◌then◌else◌, IfOk, IfErr, OnOk};
 ghost use Rattle.model.specs.Certificate.{certificate};
 ghost use Rattle.model.specs.LocalRule.{entry_state};
+ghost use Rattle.model.specs.declared.limits.TheConstants.{MAX_INSTRUCTIONS};
 ghost use Rattle.model.specs.Paths.{is_malformed};
 ghost use Rattle.model.specs.Set.{member};
 ghost use Rattle.model.specs.Sound.{RoutineFits};
@@ -66,7 +67,8 @@ fn entry(set: &DriverSet, driver: u8, number: u8, routine: &Routine) -> Option<A
 
 /// The least rule that is broken at the start of a routine that can't be entered.
 fn rule_at_entry(alloc: Global, code: &[Instr]) -> Result<Rule, AllocError>
-    requires { 0 < length code.now }
+    requires some { 0 < length code.now }
+    requires short { length code.now ≤ MAX_INSTRUCTIONS }
     ensures { IfOk result
         (λ rule. rule ≡ (if is_malformed code.now 0 then Rule.Malformed else Rule.Sort)) }
 {
