@@ -1,7 +1,7 @@
 //! What a refusal's evidence takes from the survey of a routine.
 
 ghost use Rattle.std.specs.Prelude.{◌≡◌, ◌+◌, ◌<◌, ◌≤◌, ℕ, length, slice_get, IfOk};
-ghost use Rattle.model.specs.declared.limits.TheConstants.{MAX_CERTIFICATE};
+ghost use Rattle.model.specs.declared.limits.TheConstants.{MAX_CERTIFICATE, MAX_INSTRUCTIONS};
 ghost use Rattle.model.specs.Certificate.{certificate_to};
 ghost use Rattle.model.specs.Loops.{open_at};
 ghost use Rattle.verifier.specs.Pass.{AreSums};
@@ -14,16 +14,21 @@ use std::alloc::{AllocError, Global};
 
 /// The innermost loop that is open before a position of a routine, by the position of its `loop`.
 pub fn innermost_loop(alloc: Global, code: &[Instr], at: usize) -> Result<Option<usize>, AllocError>
+    requires few { length code.now ≤ MAX_INSTRUCTIONS }
     requires within { at < length code.now }
     ensures { IfOk result (λ innermost. innermost ≡ slice_get (open_at code.now at) 0) }
 {
     let places = survey(alloc, code)?;
-    Ok(places[at].opened)
+    match places[at].opened {
+        Some(innermost) => Ok(Some(innermost as usize)),
+        None => Ok(None),
+    }
 }
 
 /// The certificate of a routine up to a position and with it, where it doesn't pass the limit
 /// before.
 pub fn certificate_through(alloc: Global, code: &[Instr], at: usize) -> Result<u32, AllocError>
+    requires few { length code.now ≤ MAX_INSTRUCTIONS }
     requires within { at < length code.now }
     requires short { (p : ℕ) → p ≤ at → certificate_to code.now p ≤ MAX_CERTIFICATE }
     ensures { IfOk result (λ sum. sum ≡ certificate_to code.now (at + 1)) }
