@@ -1,4 +1,4 @@
--- What the two scans over a routine know of its loops when they come to a position.
+-- What the scans over a routine know of its loops when they come to a position.
 use Rattle.std.specs.Prelude.{ℕ, ◌≡◌, ◌<◌, ◌≤◌, ◌+◌, true, false, Bool, List, length, Option, None, Some, nat_eq, slice_get, slice_set, slice_index_or, if◌then◌else◌}
 use Rattle.std.specs.List.{list_any}
 use Rattle.model.specs.declared.instr.Instr.{Instr}
