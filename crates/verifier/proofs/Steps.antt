@@ -205,7 +205,7 @@ sum_short code sums at sum summed right short p low (inl same) =
     (subst (λ (n : ℕ). n ≤ MAX_CERTIFICATE) right short)
 sum_short code sums at sum summed right short p low (inr differs) = summed.short p (omega arith)
 
-sums_more : (code : List Instr) (sums : List ℕ) (at sum : ℕ) → AreSums code at sums
+pub sums_more : (code : List Instr) (sums : List ℕ) (at sum : ℕ) → AreSums code at sums
     → at < length code → sum ≡ certificate_to code (suc at)
     → sum ≤ MAX_CERTIFICATE → AreSums code (at + 1) (slice_set sums (at + 1) sum)
 sums_more code sums at sum summed within right short = record {

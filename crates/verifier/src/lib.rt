@@ -10,7 +10,10 @@ mod named;
 mod pass;
 mod routine;
 mod seen;
+mod survey;
 pub mod verdict;
 
 pub use model::abs::{Refusal, Rule};
+pub use routine::entry;
+pub use survey::{certificate_through, innermost_loop};
 pub use verdict::{Accepted, verify};

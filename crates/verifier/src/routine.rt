@@ -57,8 +57,8 @@ pub fn check_routine(
     Ok(pass.certificate())
 }
 
-/// The state in which a routine is entered, if it may be.
-fn entry(set: &DriverSet, driver: u8, number: u8, routine: &Routine) -> Option<Abs>
+/// The state in which a routine of a driver of a set, both by number, is entered, if it may be.
+pub fn entry(set: &DriverSet, driver: u8, number: u8, routine: &Routine) -> Option<Abs>
     ensures { result ≡ entry_state (member set.now driver number routine.now) }
 {
     entry_state(routine.sort, cancels_for(set, driver, number))
