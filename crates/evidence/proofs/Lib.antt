@@ -1,0 +1,5 @@
+pub mod Lists
+pub mod Table
+pub mod Forward
+pub mod Passing
+pub mod Known
