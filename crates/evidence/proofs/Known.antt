@@ -1,5 +1,5 @@
 -- What the way to a place knows, at its start and one position on.
-use Rattle.std.proofs.Common.{◌≡◌, ◌∙◌, ℕ, suc, ◌<◌, ◌≤◌, ◌+◌, ◌⊎◌, inl, inr, List, [], ◌∷◌, length, Option, None, Some, replicate, slice_index_or, refl, arith, sym, subst, ap}
+use Rattle.std.proofs.Common.{◌≡◌, ◌∙◌, ℕ, ◌<◌, ◌≤◌, ◌+◌, ◌⊎◌, inl, inr, List, [], ◌∷◌, length, Option, None, Some, replicate, slice_index_or, refl, arith, sym, subst}
 use Rattle.std.specs.Prelude.{slice_get}
 use Rattle.std.proofs.lemmas.Bool.{cases_lt}
 use Rattle.std.proofs.lemmas.Option.{get_or_from_slice_get, slice_get_within}
@@ -11,9 +11,9 @@ use Rattle.model.specs.Set.{Member}
 use Rattle.model.specs.Typable.{IsFineAt}
 use Rattle.verifier.specs.Pass.{FromBelow, IsHandedOn}
 use Rattle.evidence.specs.declared.arrivals.Arrival.{Arrival}
-use Rattle.evidence.specs.Table.{HasArrival, noted, passed_on, AreKnown, IsReached, IsTraced}
+use Rattle.evidence.specs.Table.{HasArrival, noted, passed_on, AreKnown, IsCoveredAt, IsReached, IsTraced}
 use Rattle.evidence.proofs.Forward.{leads_up}
-use Rattle.evidence.proofs.Table.{IsGrown, noted_grown, noted_there, noted_traced}
+use Rattle.evidence.proofs.Table.{noted_grown, noted_there, noted_traced}
 use Rattle.evidence.proofs.Passing.{IsPassing, passing}
 
 -- what arrives at a position comes from below it
@@ -147,3 +147,21 @@ known_entered m s entered within =
       covered = covered_some m (noted blank 0 (at_entry s))
           (noted_there blank 0 (at_entry s) (omega arith));
     }
+
+-- what arrives up to the place is noted
+below_more : (m : Member) (low high p : ℕ) (s : Abs) → low ≤ high → FromBelow m low p s
+    → FromBelow m high p s
+below_more m low high p s least (inl h) = inl h
+below_more m low high p s least (inr h) =
+    inr (record {
+      from = h.from;
+      below = (let lower : h.from < low = h.below in omega arith);
+      before = h.before;
+      arrives = h.arrives;
+      leads = h.leads;
+    })
+
+pub known_covered : (m : Member) (place p : ℕ) (table : List (Option Arrival))
+    → AreKnown m place table → p ≤ place → p < length m.routine.code → IsCoveredAt m table p
+known_covered m place p table known low within = λ s arrives.
+    known.covered p s within (below_more m p place p s low (below_of_arrives m p s arrives))

@@ -3,3 +3,10 @@ pub mod Table
 pub mod Forward
 pub mod Passing
 pub mod Known
+pub mod Walked
+pub mod OwnRules
+pub mod Cases
+pub mod Showing
+pub mod Others
+pub mod Ending
+pub mod Refusals

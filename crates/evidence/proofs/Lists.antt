@@ -1,7 +1,7 @@
 -- Reading a list after a write.
 use Rattle.std.specs.Prelude.{drop}
 use Rattle.std.proofs.Math.Seq.{take-append_seam}
-use Rattle.std.proofs.Common.{◌≡◌, ◌∙◌, ◌++◌, take, ℕ, zero, suc, ◌<◌, ◌+◌, List, [], ◌∷◌, length, Some, slice_set, slice_index_or, refl, arith, sym, subst, ap}
+use Rattle.std.proofs.Common.{◌≡◌, ◌∙◌, ◌++◌, take, ℕ, zero, suc, ◌<◌, List, [], ◌∷◌, length, Some, slice_set, refl, arith, ap}
 use Rattle.std.specs.Prelude.{slice_get}
 use Rattle.std.proofs.lemmas.Option.{slice_get-get_or}
 use Rattle.std.proofs.lemmas.List.{get_or-set_same, length-set}

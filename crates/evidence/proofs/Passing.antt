@@ -1,20 +1,15 @@
 -- One position more on the way to a place.
-use Rattle.std.proofs.Common.{◌≡◌, ◌∙◌, ℕ, suc, ◌<◌, ◌≤◌, ◌+◌, ◌⊎◌, inl, inr, List, [], ◌∷◌, length, Option, None, Some, Result, Ok, Err, false, replicate, refl, arith, sym, subst, ap}
+use Rattle.std.proofs.Common.{◌≡◌, ℕ, ◌<◌, ◌+◌, inl, inr, List, ◌∷◌, length, Option, None, Some, Result, Ok, Err, false, refl, arith, sym, subst, ap}
 use Rattle.std.specs.Prelude.{slice_get}
-use Rattle.std.proofs.lemmas.Bool.{cases_lt}
-use Rattle.std.proofs.lemmas.Option.{get_or_from_slice_get, slice_get_within}
-use Rattle.std.proofs.lemmas.List.{get_or-replicate, length-replicate}
 use Rattle.model.specs.declared.abs.Abs.{Abs}
 use Rattle.model.specs.declared.abs.Outs.{Outs}
 use Rattle.model.specs.declared.abs.Rule.{Rule}
 use Rattle.model.specs.declared.instr.Instr.{Instr}
-use Rattle.model.specs.LocalRule.{entry_state, local_rule}
-use Rattle.model.specs.Paths.{Along, Arrives, HandsOn, Leads, LeadsFrom, is_malformed}
+use Rattle.model.specs.LocalRule.{local_rule}
+use Rattle.model.specs.Paths.{Arrives, HandsOn, Leads, LeadsFrom, is_malformed}
 use Rattle.model.specs.Set.{Member, label_of}
-use Rattle.model.specs.Typable.{IsFineAt}
-use Rattle.verifier.specs.Pass.{FromBelow, IsHandedOn}
 use Rattle.evidence.specs.declared.arrivals.Arrival.{Arrival}
-use Rattle.evidence.specs.Table.{HasArrival, noted, noted_out, noted_outs, noted_result, passed_by, passed_on, AreKnown, ComesFrom, FollowsFrom, IsReached, IsTraced}
+use Rattle.evidence.specs.Table.{HasArrival, noted, noted_out, noted_outs, noted_result, passed_by, passed_on, IsReached, IsTraced}
 use Rattle.evidence.proofs.Forward.{leads_up}
 use Rattle.evidence.proofs.Table.{IsGrown, grown_none, grown_twice, noted_grown, noted_there, noted_traced}
 
@@ -97,11 +92,13 @@ leads_by : (m : Member) (from : ℕ) (i : Instr) (s : Abs) (outs : Outs) (p : �
     → is_malformed m.routine.code from ≡ false → slice_get m.routine.code from ≡ Some i
     → local_rule s i m.routine.sort m.set m.driver ≡ Ok outs
     → HandsOn (Ok outs) (label_of i) from p x → Leads m from s p x
-leads_by m from i s outs p x formed here rule hands =
-    (formed, subst (λ (o : Option Instr). LeadsFrom m o from s p x) (sym here)
-    (subst (λ (r : Result Outs Rule). HandsOn r (label_of i) from p x) (sym rule) hands))
+leads_by m from i s outs p x formed here rule hands = (
+  formed,
+  subst (λ (o : Option Instr). LeadsFrom m o from s p x) (sym here)
+      (subst (λ (r : Result Outs Rule). HandsOn r (label_of i) from p x) (sym rule) hands),
+)
 
-hands_by : (m : Member) (from : ℕ) (i : Instr) (s : Abs) (given : Result Outs Rule) (p : ℕ)
+pub hands_by : (m : Member) (from : ℕ) (i : Instr) (s : Abs) (given : Result Outs Rule) (p : ℕ)
     (x : Abs) → slice_get m.routine.code from ≡ Some i
     → local_rule s i m.routine.sort m.set m.driver ≡ given
     → Leads m from s p x → HandsOn given (label_of i) from p x

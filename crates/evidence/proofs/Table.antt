@@ -1,18 +1,13 @@
 -- How the table of the first arrivals grows.
-use Rattle.std.proofs.Common.{◌≡◌, ◌∙◌, ℕ, suc, ◌<◌, ◌≤◌, ◌+◌, ◌⊎◌, inl, inr, List, [], ◌∷◌, length, Option, None, Some, Result, Ok, Err, slice_set, slice_index_or, false, true, refl, arith, sym, subst, ap}
+use Rattle.std.proofs.Common.{◌≡◌, ◌∙◌, ℕ, ◌<◌, ◌⊎◌, inl, inr, List, length, Option, None, Some, slice_set, slice_index_or, refl, sym, subst}
 use Rattle.std.specs.Prelude.{slice_get}
 use Rattle.std.proofs.lemmas.Bool.{cases_eq}
 use Rattle.std.proofs.lemmas.Option.{slice_get-get_or, slice_get_within}
 use Rattle.std.proofs.lemmas.List.{length-set}
 use Rattle.model.specs.declared.abs.Abs.{Abs}
-use Rattle.model.specs.declared.abs.Outs.{Outs}
-use Rattle.model.specs.declared.abs.Rule.{Rule}
-use Rattle.model.specs.declared.instr.Instr.{Instr}
-use Rattle.model.specs.LocalRule.{local_rule}
-use Rattle.model.specs.Paths.{Arrives, HandsOn, Leads, LeadsFrom}
-use Rattle.model.specs.Set.{Member, label_of}
+use Rattle.model.specs.Set.{Member}
 use Rattle.evidence.specs.declared.arrivals.Arrival.{Arrival}
-use Rattle.evidence.specs.Table.{HasArrival, noted_by, noted, noted_out, noted_outs, noted_result, passed_by, passed_on, ComesFrom, IsReached, IsTraced}
+use Rattle.evidence.specs.Table.{HasArrival, noted_by, noted, ComesFrom, IsReached, IsTraced}
 use Rattle.evidence.proofs.Lists.{set_same, set_other}
 
 -- a table keeps what another one has

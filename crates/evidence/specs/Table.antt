@@ -1,6 +1,6 @@
 -- What is noted of the positions of a routine on the way to a place: of each the first arrival that
 -- was found, and where it came from.
-use Rattle.std.specs.Prelude.{ℕ, ◌≡◌, ◌≢◌, ◌+◌, ◌<◌, List, length, Option, None, Some, Result, Ok, Err, slice_get, slice_set}
+use Rattle.std.specs.Prelude.{ℕ, ◌≡◌, ◌+◌, ◌<◌, List, length, Option, None, Some, Result, Ok, Err, slice_get, slice_set}
 use Rattle.model.specs.declared.abs.Abs.{Abs}
 use Rattle.model.specs.declared.abs.Outs.{Outs}
 use Rattle.model.specs.declared.abs.Rule.{Rule}
@@ -63,6 +63,12 @@ pub record FollowsFrom (m : Member) (table : List (Option Arrival)) (q p : ℕ) 
   pub there : slice_get table q ≡ Some (Some before)
   pub leads : Leads m q before.state p s
 
+-- what is noted at a position hands a state on to another one
+pub record Hands (m : Member) (table : List (Option Arrival)) (q p : ℕ) (s : Abs) : Type 0 where
+  pub before : Arrival
+  pub there : slice_get table q ≡ Some (Some before)
+  pub leads : Leads m q before.state p s
+
 -- where an arrival came from: the routine's entry, or an arrival below it
 abbrev pub ComesFrom : Member → List (Option Arrival) → ℕ → Abs → Option ℕ → Type 0
 ComesFrom m table p s None = (p ≡ 0) × (entry_state m ≡ Some s)
@@ -77,6 +83,10 @@ pub record IsReached (m : Member) (table : List (Option Arrival)) (p : ℕ) (a :
 abbrev pub IsTraced : Member → List (Option Arrival) → Type 0
 IsTraced m table = (p : ℕ) (a : Arrival) → slice_get table p ≡ Some (Some a)
     → IsReached m table p a
+
+-- an arrival is noted at a position where anything arrives
+abbrev pub IsCoveredAt : Member → List (Option Arrival) → ℕ → Type 0
+IsCoveredAt m table at = (s : Abs) → Arrives m at s → HasArrival table at
 
 -- when the way to a place has come to a position, all positions below it are fine, each arrival
 -- noted is one, and there is one where anything arrives from below

@@ -3,8 +3,11 @@
 #![tactic(auto)]
 
 mod arrivals;
+mod differing;
+mod evidence;
 mod subject;
 mod trail;
 
+pub use evidence::{Evidence, evidence_at, evidence_of};
 pub use subject::Subject;
-pub use trail::{Path, Step};
+pub use trail::{Path, Step, path_to};

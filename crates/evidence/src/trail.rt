@@ -1,10 +1,12 @@
 //! Paths through a routine, with the states that arrive along them.
 
-ghost use Rattle.std.specs.Prelude.{◌≡◌, IfOk};
-ghost use Rattle.evidence.specs.Path.{IsPath};
-ghost use Rattle.evidence.specs.Table.{ComesFrom, IsTraced};
+ghost use Rattle.std.specs.Prelude.{◌≡◌, ◌<◌, length, None, IfOk, IfSome};
+ghost use Rattle.model.specs.declared.abs.Abs.{Abs};
+ghost use Rattle.model.specs.Paths.{Arrives};
+ghost use Rattle.evidence.specs.Path.{IsPath, IsPathTo};
+ghost use Rattle.evidence.specs.Table.{AreFine, ComesFrom, IsCoveredAt, IsTraced};
 
-use crate::arrivals::Arrival;
+use crate::arrivals::{Arrival, arrivals_to};
 use crate::subject::Subject;
 use absstate::Abs;
 use model::items::Items;
@@ -57,4 +59,34 @@ impl<'a> Arrivals<'a> {
             last,
         })
     }
+
+    /// A path to a position up to the place, if anything arrives there.
+    pub fn path_to(&self, alloc: Global, at: u16) -> Result<Option<Path>, AllocError>
+        requires within { at < length self.now.table.items }
+        requires traced { IsTraced self.now.subject self.now.table.items }
+        requires covered { IsCoveredAt self.now.subject self.now.table.items at }
+        ensures path { IfOk result
+            (λ found. IfSome found (λ path. IsPathTo self.now.subject at path)) }
+        ensures none { IfOk result
+            (λ found. found ≡ None → (s : Abs) → Arrives self.now.subject at s → ⊥) }
+    {
+        let Some(arrival) = self.table[at as usize] else {
+            return Ok(None);
+        };
+        let state = arrival.state;
+        let path = self.path(alloc, Step { at, state }, arrival.from)?;
+        Ok(Some(path))
+    }
+}
+
+/// A path to a position of a routine, if anything arrives there, where no fault stands before it.
+pub fn path_to(alloc: Global, subject: Subject, at: u16) -> Result<Option<Path>, AllocError>
+    requires within { at < length subject.routine.code }
+    requires fine { AreFine subject at }
+    ensures path { IfOk result (λ found. IfSome found (λ path. IsPathTo subject.entry at path)) }
+    ensures none { IfOk result (λ found. found ≡ None → (s : Abs) → Arrives subject.entry at s → ⊥) }
+{
+    let table = arrivals_to(alloc, &subject, at)?;
+    let arrivals = Arrivals { subject, table };
+    arrivals.path_to(alloc, at)
 }
