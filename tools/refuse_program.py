@@ -81,7 +81,11 @@ def run(program, words, folder, library, number):
     """What the program answers, with the growth of this number refused, and how many it asked for."""
     counted = os.path.join(folder, 'counted')
     how = {**os.environ, 'LD_PRELOAD': library, 'REFUSED_GROWTH': str(number), 'COUNTED_GROWTHS': counted}
+    if os.path.exists(counted):
+        os.remove(counted)
     done = subprocess.run([program, *words.split()], cwd=folder, env=how, stdin=subprocess.DEVNULL, capture_output=True, text=True, timeout=60)
+    if not os.path.exists(counted):
+        return (done.returncode, done.stdout, done.stderr + '(it ended without a count)'), 0
     return (done.returncode, done.stdout, done.stderr), int(open(counted).read())
 
 def is_whole(wanted, found):
