@@ -1,0 +1,12 @@
+pub mod Lists
+pub mod Table
+pub mod Forward
+pub mod Passing
+pub mod Known
+pub mod Walked
+pub mod OwnRules
+pub mod Cases
+pub mod Showing
+pub mod Others
+pub mod Ending
+pub mod Refusals

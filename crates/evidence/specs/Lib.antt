@@ -1,0 +1,3 @@
+pub mod Path
+pub mod Table
+pub mod Evidence
