@@ -104,8 +104,6 @@ QUIET = {
     **{'%s-%s' % (machine, row): ['replies', *ROWS[row]] for machine in ('checked', 'world') for row in ROWS},
     'calls-of-a-core': ['counted 3 history 3', 'full 2', 'replies', '0 started 0', '1 stepped',
                         '2 topped 0 0x00000000 0', '3 refused', '4 refused'],
-    'commands-of-a-core': ['owed true collected 0 handed back true', 'busy false due false false counted 5', 'replies',
-                           '0 started 0', '1 stepped', '2 topped 0 0x00000000 0', '3 finished', '4 refused'],
     'calls-of-a-queue': ['put 2 taken 1 left 1'],
 }
 IMAGE = 'c8e5a1d2010ae4ad0f912069ed5201ca'  # of the set of CALLS, as the tests have it
