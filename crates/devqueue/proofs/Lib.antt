@@ -1,1 +1,7 @@
 pub mod Unlinked
+pub mod Nodes
+pub mod Paths
+pub mod Shown
+pub mod Linking
+pub mod Free
+pub mod Seen

@@ -3,6 +3,9 @@
 
 pub mod device_queue;
 pub mod guarded;
+pub mod links;
+mod rings;
 
 pub use device_queue::DeviceQueue;
 pub use guarded::Guarded;
+pub use links::Links;
