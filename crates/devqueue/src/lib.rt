@@ -1,4 +1,5 @@
-//! The queues of a device, as lists of packet numbers, with what it has for StartIo.
+//! The queues of a device, as lists of packet numbers, with what it has for StartIo; and lists that
+//! are linked through their slots.
 #![tactic(auto)]
 
 pub mod device_queue;
