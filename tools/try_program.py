@@ -19,6 +19,7 @@ FILES = {
     'early.script': b'interrupt 0\ncancel 0 0\n',
     'none.script': b'; no command\n',
 }
+LISTED = b'driver d0\ndispatch READ f0\nroutine f0 dispatch\ncomplete r0 SUCCESS\nret SUCCESS\nendr\nendd\ndevice v0 d0 1\n'
 ACCEPTED = b'accepted\ndriver 0 routine 0 dispatch certificate 2\n'
 REFUSED = b'refused V5 DoubleCompletion driver 0 routine 0 at 1\n'
 TRACED = b'0 started 0\n1 stepped\n2 topped 0 0x00000000 0\n3 finished\n4 idle\n'
@@ -34,6 +35,10 @@ CASES = [
     ('check short.image', 2, b'', b'image fault 2 Truncated\n'),
     ('check nothing.drv', 2, b'', b'read failed\n'),
     ('check .', 2, b'', b'read failed\n'),
+    ('list good.drv', 0, LISTED, b''),
+    ('list open.drv', 2, b'', b'text fault 6 Unclosed line 2\n'),
+    ('list nothing.drv', 2, b'', b'read failed\n'),
+    ('version', 0, b'drvhost 0.1.0\n', b''),
     ('trace good.drv good.sched', 0, TRACED, b''),
     ('trace good.drv good.sched --unchecked', 0, TRACED, b''),
     ('trace twice.drv good.sched', 1, REFUSED, b''),

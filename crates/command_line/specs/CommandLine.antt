@@ -5,7 +5,7 @@ use Rattle.clap.specs.declared.builder.ArgAction.TheVariants.{Set, SetTrue}
 use Rattle.clap.specs.declared.builder.value_parser.ValueParser.TheVariants.{Signed}
 use Rattle.interleave.specs.Line.{number_within}
 use Rattle.command_line.specs.declared.job.Job.{Job}
-use Rattle.command_line.specs.declared.job.Job.TheVariants.{Check, Trace, Host}
+use Rattle.command_line.specs.declared.job.Job.TheVariants.{Check, List as ListJob, Version, Trace, Host}
 use Rattle.command_line.specs.declared.job.JobFault.{JobFault}
 use Rattle.command_line.specs.declared.job.JobFault.TheVariants.{Usage, Memory}
 use Rattle.drvhost_parts.specs.declared.verification.Verification.{Verification}
@@ -23,6 +23,14 @@ unchecked_flag =
 -- `check FILE`
 abbrev pub check_command : App
 check_command = with_rule (new_app (codes "check")) (file_argument (codes "FILE"))
+
+-- `list FILE`
+abbrev pub list_command : App
+list_command = with_rule (new_app (codes "list")) (file_argument (codes "FILE"))
+
+-- `version`
+abbrev pub version_command : App
+version_command = new_app (codes "version")
 
 -- `trace FILE SCHEDULE [--unchecked]`
 abbrev pub trace_command : App
@@ -55,13 +63,20 @@ bare_program =
     record named_program
     { top = record named_program.top { no_binary_name = true; subcommand_required = true } }
 
--- with the subcommands that start no thread, and with all
+-- with the subcommands that start no thread, with all that judge a set or run it, with all that name
+-- files, and with all
 abbrev pub unthreaded_program : App
 unthreaded_program =
     with_subcommand (with_subcommand bare_program check_command.top) trace_command.top
 
+abbrev pub judging_program : App
+judging_program = with_subcommand unthreaded_program host_command.top
+
+abbrev pub program_of_files : App
+program_of_files = with_subcommand judging_program list_command.top
+
 abbrev pub program : App
-program = with_subcommand unthreaded_program host_command.top
+program = with_subcommand program_of_files version_command.top
 
 -- what the flag's value says
 pub record IsFlag (value : Option Text) (verification : Verification) : Type 0 where
@@ -72,6 +87,9 @@ pub record IsFlag (value : Option Text) (verification : Verification) : Type 0 w
 abbrev pub NamesTask : Text × List Row → Job → Type 0
 NamesTask found (Check set) = (found.0 ≡ codes "check")
     × (first_of (codes "FILE") found.1 ≡ Some set.now)
+NamesTask found (ListJob set) = (found.0 ≡ codes "list")
+    × (first_of (codes "FILE") found.1 ≡ Some set.now)
+NamesTask found Version = found.0 ≡ codes "version"
 NamesTask found (Trace set schedule verification) =
     (found.0 ≡ codes "trace") × (first_of (codes "FILE") found.1 ≡ Some set.now)
     × (first_of (codes "SCHEDULE") found.1 ≡ Some schedule.now)

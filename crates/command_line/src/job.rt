@@ -6,7 +6,7 @@ ghost use Rattle.clap.specs.declared.builder.command.Command.TheViews.{out-Comma
 ghost use Rattle.drvhost_parts.specs.Device.{CanCount, Says};
 ghost use Rattle.interleave.specs.Line.{number_within};
 ghost use Rattle.model.specs.declared.limits.TheConstants.{MAX_THREADS};
-ghost use Rattle.command_line.specs.CommandLine.{check_command, file_argument, host_command, job_fault_status, job_fault_told, program, text_told, trace_command, unchecked_flag, unthreaded_program, usage, workers_option, IsFlag, Names, NamesTask};
+ghost use Rattle.command_line.specs.CommandLine.{check_command, file_argument, host_command, job_fault_status, job_fault_told, judging_program, list_command, program, program_of_files, text_told, trace_command, unchecked_flag, unthreaded_program, usage, version_command, workers_option, IsFlag, Names, NamesTask};
 
 use clap::builder::ValueParser;
 use clap::error::ErrorKind;
@@ -29,6 +29,9 @@ const NAME: &str = "drvhost";
 /// How the program is used, where there is nothing better to say.
 const USAGE: &str = "Usage: drvhost <COMMAND>";
 
+/// What the file of a driver set is, in the texts of help.
+const SET: &str = "The text or the image of the driver set";
+
 /// A task for the program, with the names of its files.
 #[derive(Clone, Copy)]
 pub enum Job<'a> {
@@ -36,6 +39,12 @@ pub enum Job<'a> {
     Check {
         set: &'a str,
     },
+    /// `list FILE`
+    List {
+        set: &'a str,
+    },
+    /// `version`
+    Version,
     /// `trace FILE SCHEDULE [--unchecked]`
     Trace {
         set: &'a str,
@@ -198,12 +207,30 @@ fn refused(alloc: Global, error: &clap::Error) -> JobFault
 fn program<'a>(alloc: Global) -> Result<Command<'a>, AllocError>
     ensures { IfOk result (λ command. app_of command ≡ program) }
 {
+    let version = version_command(alloc);
+    let program = program_of_files(alloc)?;
+    program.subcommand(version)
+}
+
+/// The part of it whose words name files.
+fn program_of_files<'a>(alloc: Global) -> Result<Command<'a>, AllocError>
+    ensures { IfOk result (λ command. app_of command ≡ program_of_files) }
+{
+    let list = list_command(alloc)?;
+    let program = judging_program(alloc)?;
+    program.subcommand(list)
+}
+
+/// The part of it that judges sets, and runs them.
+fn judging_program<'a>(alloc: Global) -> Result<Command<'a>, AllocError>
+    ensures { IfOk result (λ command. app_of command ≡ judging_program) }
+{
     let host = host_command(alloc)?;
     let program = unthreaded_program(alloc)?;
     program.subcommand(host)
 }
 
-/// The part of it that starts no thread.
+/// The part of that which starts no thread.
 fn unthreaded_program<'a>(alloc: Global) -> Result<Command<'a>, AllocError>
     ensures { IfOk result (λ command. app_of command ≡ unthreaded_program) }
 {
@@ -220,16 +247,32 @@ fn check_command<'a>(alloc: Global) -> Result<Command<'a>, AllocError>
     ensures app { IfOk result (λ command. app_of command ≡ check_command) }
     ensures local { IfOk result (λ command. (fields_of command).has_globals ≡ false) }
 {
-    let set = file(alloc, "FILE", "The text of the driver set");
+    let set = file(alloc, "FILE", SET);
     let command = Command::new(alloc, "check").about("Accepts or refuses a driver set");
     command.arg(set)
+}
+
+fn list_command<'a>(alloc: Global) -> Result<Command<'a>, AllocError>
+    ensures app { IfOk result (λ command. app_of command ≡ list_command) }
+    ensures local { IfOk result (λ command. (fields_of command).has_globals ≡ false) }
+{
+    let set = file(alloc, "FILE", SET);
+    let command = Command::new(alloc, "list").about("Writes a driver set as a text");
+    command.arg(set)
+}
+
+fn version_command<'a>(alloc: Global) -> Command<'a>
+    ensures app { app_of result ≡ version_command }
+    ensures local { (fields_of result).has_globals ≡ false }
+{
+    Command::new(alloc, "version").about("Writes the program's name and its version")
 }
 
 fn trace_command<'a>(alloc: Global) -> Result<Command<'a>, AllocError>
     ensures app { IfOk result (λ command. app_of command ≡ trace_command) }
     ensures local { IfOk result (λ command. (fields_of command).has_globals ≡ false) }
 {
-    let set = file(alloc, "FILE", "The text of the driver set");
+    let set = file(alloc, "FILE", SET);
     let schedule = file(alloc, "SCHEDULE", "The threads and the events");
     let unchecked = unchecked_flag(alloc);
     let command = Command::new(alloc, "trace").about(
@@ -242,7 +285,7 @@ fn host_command<'a>(alloc: Global) -> Result<Command<'a>, AllocError>
     ensures app { IfOk result (λ command. app_of command ≡ host_command) }
     ensures local { IfOk result (λ command. (fields_of command).has_globals ≡ false) }
 {
-    let set = file(alloc, "FILE", "The text of the driver set");
+    let set = file(alloc, "FILE", SET);
     let script = file(alloc, "SCRIPT", "The requests, cancels and interrupts");
     let workers = workers_option(alloc);
     let command = Command::new(alloc, "host").about(
@@ -295,6 +338,8 @@ fn named<'a>(matches: &ArgMatches<'a>) -> Option<Job<'a>>
         "check" => check_named(inner),
         "trace" => trace_named(inner),
         "host" => host_named(inner),
+        "list" => list_named(inner),
+        "version" => Some(Job::Version),
         _ => None,
     }
 }
@@ -306,6 +351,15 @@ fn check_named<'a>(matches: &ArgMatches<'a>) -> Option<Job<'a>>
 {
     let set = argument(matches, "FILE")?;
     Some(Job::Check { set })
+}
+
+fn list_named<'a>(matches: &ArgMatches<'a>) -> Option<Job<'a>>
+    ensures some { IfSome result (NamesTask (codes "list", rows_of (found_of matches.now))) }
+    ensures none { IfNone result
+        ((job : Job) → NamesTask (codes "list", rows_of (found_of matches.now)) job → ⊥) }
+{
+    let set = argument(matches, "FILE")?;
+    Some(Job::List { set })
 }
 
 fn trace_named<'a>(matches: &ArgMatches<'a>) -> Option<Job<'a>>

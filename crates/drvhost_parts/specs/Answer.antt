@@ -1,8 +1,9 @@
--- What `check`, `trace` and `host` answer for the bytes of their files.
-use Rattle.std.specs.Prelude.{ℕ, ⊤, nat_eq, ◌≡◌, ◌+◌, ◌⊎◌, ◌++◌, Bool, true, false, if◌then◌else◌, List, [], ◌∷◌, length, None, Option, Some, Result, Ok, Err}
+-- What `check`, `trace`, `host`, `list` and `version` answer for the bytes of their files.
+use Rattle.std.specs.Prelude.{ℕ, ⊤, nat_eq, ◌≡◌, ◌+◌, ◌⊎◌, ◌++◌, Bool, true, false, if◌then◌else◌, List, [], ◌∷◌, codes, length, None, Option, Some, Result, Ok, Err}
 use Rattle.std.specs.List.{list_any, starts_with}
 use Rattle.asm.specs.declared.fault.AsmFault.{AsmFault}
 use Rattle.asm.specs.Reading.{set_in}
+use Rattle.asm_listing.specs.Listing.{listing}
 use Rattle.image.specs.declared.fault.ImageFault.{ImageFault}
 use Rattle.image.specs.Reading.{IsFaultOf}
 use Rattle.image.specs.Spelling.{Spells}
@@ -159,6 +160,14 @@ IsTraced Skipped IsRun set answer = IsRun set answer
 abbrev pub IsToRun : Verification → Set → Type 0
 IsToRun Required set = IsTypable set
 IsToRun Skipped set = ⊤
+
+-- the listing of a set
+abbrev pub IsListing : Set → Answer → Type 0
+IsListing set answer = answer ≡ ended Complete (listing set)
+
+-- the program's name and its version
+abbrev pub IsVersion : Answer → Type 0
+IsVersion answer = answer ≡ ended Complete (codes "drvhost 0.1.0\n")
 
 -- what `check` answers for the bytes of its file
 abbrev pub IsCheck : List ℕ → Answer → Type 0

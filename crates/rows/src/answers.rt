@@ -22,6 +22,14 @@ const TWICE: &[u8] =
     b"driver d\ndispatch READ f\nroutine f dispatch\ncomplete r0 SUCCESS\ncomplete r0 SUCCESS\n\
       ret SUCCESS\nendr\nendd\ndevice v d 1\n";
 
+/// The listings of `good.drv` and `twice.drv`.
+const LISTED: &[u8] =
+    b"driver d0\ndispatch READ f0\nroutine f0 dispatch\ncomplete r0 SUCCESS\nret SUCCESS\nendr\n\
+      endd\ndevice v0 d0 1\n";
+const TWICE_LISTED: &[u8] =
+    b"driver d0\ndispatch READ f0\nroutine f0 dispatch\ncomplete r0 SUCCESS\n\
+      complete r0 SUCCESS\nret SUCCESS\nendr\nendd\ndevice v0 d0 1\n";
+
 const REFUSED: &[u8] = b"refused V5 DoubleCompletion driver 0 routine 0 at 1\n";
 
 /// A driver with a queue whose packets may be cancelled. Its DPC routine completes them.
@@ -111,7 +119,7 @@ struct Case {
     failures: u64,
 }
 
-static CASES: [Case; 15] = [
+static CASES: [Case; 20] = [
     Case {
         words: &[
             "drvhost",
@@ -196,6 +204,46 @@ static CASES: [Case; 15] = [
         err: b"read failed\n",
         opened: 1,
         failures: 1,
+    },
+    Case {
+        words: &["drvhost", "list", "good.drv"],
+        status: 0,
+        out: LISTED,
+        err: b"",
+        opened: 1,
+        failures: 0,
+    },
+    Case {
+        words: &["drvhost", "list", "twice.drv"],
+        status: 0,
+        out: TWICE_LISTED,
+        err: b"",
+        opened: 1,
+        failures: 0,
+    },
+    Case {
+        words: &["drvhost", "list", "open.drv"],
+        status: 2,
+        out: b"",
+        err: b"text fault 6 Unclosed line 2\n",
+        opened: 1,
+        failures: 0,
+    },
+    Case {
+        words: &["drvhost", "list", "no.drv"],
+        status: 2,
+        out: b"",
+        err: b"read failed\n",
+        opened: 1,
+        failures: 1,
+    },
+    Case {
+        words: &["drvhost", "version"],
+        status: 0,
+        out: b"drvhost 0.1.0\n",
+        err: b"",
+        opened: 0,
+        failures: 0,
     },
     Case {
         words: &["drvhost", "trace", "good.drv", "good.sched"],
@@ -314,12 +362,14 @@ fn told_of<R: Threads + Wait + Sync>(
 #[test]
 fn wrong_words(rt: HostRuntime) {
     let alloc = rt.alloc();
-    let all: [&[&str]; 10] = [
+    let all: [&[&str]; 12] = [
         &[],
         &["drvhost"],
         &["drvhost", "run", "good.drv"],
         &["drvhost", "check"],
         &["drvhost", "check", "good.drv", "good.sched"],
+        &["drvhost", "list"],
+        &["drvhost", "version", "good.drv"],
         &["check", "good.drv"],
         &["drvhost", "host", "good.drv", "none.script"],
         &[

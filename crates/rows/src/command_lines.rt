@@ -11,6 +11,10 @@ fn tasks(rt: HostRuntime) -> Result<(), Fail> {
     let alloc = rt.alloc();
     let job = Job::of(alloc, &["check", "a.set"])?;
     assert!(rt; matches!(job, Job::Check { set: "a.set" }));
+    let job = Job::of(alloc, &["list", "a.set"])?;
+    assert!(rt; matches!(job, Job::List { set: "a.set" }));
+    let job = Job::of(alloc, &["version"])?;
+    assert!(rt; matches!(job, Job::Version));
     let job = Job::of(alloc, &["trace", "a.set", "b.schedule"])?;
     assert!(rt;
         matches!(
