@@ -8,6 +8,10 @@ pub returns-in-List-clause-answers : goal.returns-in-List-clause-answers
 returns-in-List-clause-answers g c =
     rw c.in-List.is c.list_file.ensures.answers
 
+pub returns-in-Version-clause-answers : goal.returns-in-Version-clause-answers
+returns-in-Version-clause-answers g c =
+    rw c.in-Version.is (c.version.ensures (g.F.Files.failures c.args.files.now))
+
 pub returns-in-Trace-clause-answers : goal.returns-in-Trace-clause-answers
 returns-in-Trace-clause-answers g c = rw c.in-Trace.is c.run_files.ensures.answers
 
