@@ -26,6 +26,7 @@ const TWICE: &[u8] =
 const LISTED: &[u8] =
     b"driver d0\ndispatch READ f0\nroutine f0 dispatch\ncomplete r0 SUCCESS\nret SUCCESS\nendr\n\
       endd\ndevice v0 d0 1\n";
+
 const TWICE_LISTED: &[u8] =
     b"driver d0\ndispatch READ f0\nroutine f0 dispatch\ncomplete r0 SUCCESS\n\
       complete r0 SUCCESS\nret SUCCESS\nendr\nendd\ndevice v0 d0 1\n";
