@@ -1,12 +1,11 @@
 -- The block of a number when the number goes up.
-use Rattle.std.proofs.Common.{◌≡◌, ◌≤◌, ◌<◌, ℕ, subst, ◌+◌, ◌-◌, ◌*◌, ◌/◌, ◌%◌, ◌^◌, List, [], ◌∷◌, ◌++◌, length, get_or, slice_set, take, drop, codes, arith, ap, sym, refl, ◌∙◌, inl, inr, append_assoc, length-append, length-take-le, take_at}
+use Rattle.std.proofs.Common.{◌≡◌, ◌≤◌, ◌<◌, ℕ, subst, ◌+◌, ◌-◌, ◌*◌, ◌/◌, ◌%◌, ◌^◌, List, [], ◌∷◌, ◌++◌, length, get_or, slice_set, take, drop, codes, arith, ap, sym, refl, ◌∙◌, inl, inr, append_assoc, length-append, take_at}
 use Rattle.std.proofs.lemmas.Bool.{cases_lt}
 use Rattle.std.proofs.lemmas.Fmt.{decimal_digit, decimal_step, decimal_step_wide, length-decimal-le_wide}
-use Rattle.std.proofs.lemmas.List.{get_or_at, length-set, same_from_push, set_at, take-append-drop}
+use Rattle.std.proofs.lemmas.List.{get_or_at, same_from_push, set_at, take-append-drop}
 use Rattle.std.specs.Fmt.{decimal}
-use borrow.Rule.Slice.PartMut.{put_mid, same_len_mid}
-use Rattle.report.specs.EventNumber.{IsReady}
-use Rattle.report.proofs.WordLines.{placed}
+use Rattle.report.specs.Reply.{stepped_line}
+use Rattle.report.specs.Step.{IsReady}
 
 -- two numbers that differ in their last digit alone
 record Differ (m n : ℕ) : Type 0 where
@@ -65,84 +64,51 @@ ready_other m n place block r same one other =
       begins = r.begins;
     }
 
--- a longer block that begins with such a block
-ready_in : (n place : ℕ) (digits block : List ℕ) → IsReady n place digits
-    → IsReady n place (put_mid 0 20 block digits)
-ready_in n place digits block r =
-    record {
-      front = r.front;
-      other = r.other;
-      behind = r.behind ++ drop 20 block;
-      digits = r.digits;
-      long = r.long;
-      begins = ap (λ l. l ++ drop 20 block) r.begins
-          ∙ append_assoc r.front (r.other ∷ r.behind) (drop 20 block);
-    }
-
--- a number's digits stand at the beginning of a block, and a text behind them
-pub record IsWritten (n count : ℕ) (text block : List ℕ) : Type 0 where
-  pub line : take (count + length text) block ≡ decimal n ++ text
+-- the line of a step stands at the beginning of a block
+pub record IsWritten (n count : ℕ) (block : List ℕ) : Type 0 where
+  pub line : take (count + 9) block ≡ stepped_line n
   pub digits : count ≡ length (decimal n)
   pub short : count ≤ 20
 
--- the digits, with the last one in its place
-digits_in : (n place : ℕ) (block : List ℕ) → IsReady n place block
-    → take (place + 1) (slice_set block place (48 + n % 10)) ≡ decimal n
-digits_in n place block r =
+written : (n place : ℕ) (block : List ℕ) → IsReady n place block → place + 1 ≤ 20
+    → IsWritten n (place + 1) (slice_set block place (48 + n % 10))
+written n place block r short =
+    let word = codes " stepped\n" in
     let last : List ℕ = (48 + n % 10) ∷ [] in
-    let whole : slice_set block place (48 + n % 10) ≡ decimal n ++ r.behind =
+    let line : stepped_line n ≡ r.front ++ (48 + n % 10) ∷ word =
+    ap (λ ds. ds ++ word) r.digits ∙ append_assoc r.front last word in
+    let whole : slice_set block place (48 + n % 10) ≡ stepped_line n ++ r.behind =
     ap (λ b. slice_set b place (48 + n % 10)) r.begins
-    ∙ set_at r.front r.other r.behind (48 + n % 10) place r.long
-    ∙ sym (append_assoc r.front last r.behind) ∙ ap (λ l. l ++ r.behind) (sym r.digits) in
-    ap (take (place + 1)) whole ∙ take_at (decimal n) r.behind _ (digits_long n place block r)
-
-written : (n place size : ℕ) (block text room : List ℕ) → IsReady n place block → place + 1 ≤ 20
-    → length block ≡ 32 → size ≡ 12 → length room ≡ size → length text ≤ 12
-    → take (length text) room ≡ text
-    → IsWritten n (place + 1) text
-    (put_mid (place + 1) size (slice_set block place (48 + n % 10)) room)
-written n place size block text room r short long twelve wide fits begins =
-    let set = slice_set block place (48 + n % 10) in
-    let same : length set ≡ 32 = length-set block place (48 + n % 10) ∙ long in
+    ∙ set_at r.front r.other (word ++ r.behind) (48 + n % 10) place r.long
+    ∙ sym (append_assoc r.front ((48 + n % 10) ∷ word) r.behind)
+    ∙ ap (λ l. l ++ r.behind) (sym line) in
+    let long : length (stepped_line n) ≡ place + 1 + 9 =
+    omega (arith, digits_long n place block r, length-append (decimal n) word) in
     record {
-      line =
-          placed (place + 1) size (length text) set room text (omega (arith, same)) wide
-          (omega arith) begins
-          ∙ ap (λ l. l ++ text) (digits_in n place block r);
+      line = ap (take (place + 1 + 9)) whole ∙ take_at (stepped_line n) r.behind _ long;
       digits = sym (digits_long n place block r);
       short = short;
     }
 
 -- with another last digit
-pub written_as : (n digit place size : ℕ) (digits block text room : List ℕ)
-    → IsReady n place digits → n < 2 ^ 64 → digit < 10
-    → length digits ≡ 20 → length block ≡ 32 → size ≡ 12 → length room ≡ size
-    → length text ≤ 12
-    → take (length text) room ≡ text
-    → IsWritten (n / 10 * 10 + digit) (place + 1) text
-    (put_mid (place + 1) size (slice_set (put_mid 0 20 block digits) place (48 + digit)) room)
-written_as n digit place size digits block text room r small low twenty long twelve wide fits begins =
+pub written_as : (n digit place : ℕ) (block : List ℕ) → IsReady n place block → n < 2 ^ 64
+    → digit < 10
+    → IsWritten (n / 10 * 10 + digit) (place + 1) (slice_set block place (48 + digit))
+written_as n digit place block r small low =
     let m = n / 10 * 10 + digit in
     let same : m % 10 ≡ digit = omega arith in
-    let ready = ready_in m place digits block
-    (ready_other n m place digits r (omega arith) (omega arith) (omega arith)) in
-    let whole : length (put_mid 0 20 block digits) ≡ 32 =
-    same_len_mid 0 20 block digits
-    (twenty ∙ sym (length-take-le 20 block (omega (arith, long)))) ∙ long in
-    let P : ℕ → Type 0 = λ d. IsWritten m (place + 1) text
-    (put_mid (place + 1) size (slice_set (put_mid 0 20 block digits) place (48 + d)) room) in
-    subst P same
-    (written m place size (put_mid 0 20 block digits) text room ready
-    (place_short m place (put_mid 0 20 block digits) ready (omega arith)) whole twelve wide fits
-    begins)
+    let P : ℕ → Type 0 = λ d. IsWritten m (place + 1) (slice_set block place (48 + d)) in
+    let ready = ready_other n m place block r (omega arith) (omega arith) (omega arith) in
+    subst P same (written m place block ready (place_short m place block ready (omega arith)))
 
--- the block of a number whose digits it begins with
+-- the block of a number whose line it begins with
 pub ready_line : (n : ℕ) (block : List ℕ) → n < 2 ^ 64
-    → take (length (decimal n)) block ≡ decimal n
+    → take (length (decimal n) + 9) block ≡ decimal n ++ codes " stepped\n"
     → IsReady n (length (decimal n) - 1) block
-ready_line n block small digits =
+ready_line n block small line =
+    let word = codes " stepped\n" in
     let last : List ℕ = (48 + n % 10) ∷ [] in
-    let count = length (decimal n) in
+    let count = length (decimal n) + 9 in
     let behind = drop count block in
     let d = differ n n refl (omega arith) (omega arith) in
     let long : length (decimal n) ≡ length (d.front ++ last) = ap length d.one in
@@ -153,8 +119,9 @@ ready_line n block small digits =
       digits = d.one;
       long = omega (arith, long, length-append d.front last);
       begins =
-          sym (take-append-drop count block) ∙ ap (λ l. l ++ behind) digits
-          ∙ ap (λ l. l ++ behind) d.one ∙ append_assoc d.front last behind;
+          sym (take-append-drop count block) ∙ ap (λ l. l ++ behind) line
+          ∙ append_assoc (decimal n) word behind ∙ ap (λ l. l ++ (word ++ behind)) d.one
+          ∙ append_assoc d.front last (word ++ behind);
     }
 
 many_digits : (n place : ℕ) (block : List ℕ) → IsReady n place block → 0 < place → 10 ≤ n
@@ -221,7 +188,7 @@ pub ready_ten : (n place : ℕ) (block : List ℕ) → IsReady n place block →
     → IsReady (n + 1) place (slice_set block (place - 1) (get_or block (place - 1) 0 + 1))
 ready_ten n place block r small nine some below =
     let q = n / 10 in
-    let rest = r.other ∷ r.behind in
+    let rest = r.other ∷ (codes " stepped\n" ++ r.behind) in
     let high : 10 ≤ n = many_digits n place block r some in
     let fronts = same_from_push r.front (decimal q) (48 + n % 10) (48 + n % 10)
     (sym r.digits ∙ decimal_step n high (omega arith)) in

@@ -1,9 +1,8 @@
-pub mod EventNumber
 pub mod Line
 pub mod Lines
 pub mod Number
 pub mod Reply
-pub mod Word
+pub mod Step
 pub mod Verdict
 pub mod Fault
 pub mod Host

@@ -1,41 +1,43 @@
 //! The numbers of a run's events, counted up as they are written.
 
-ghost use Rattle.std.specs.Prelude.{◌≡◌, ◌+◌, ◌*◌, ◌/◌, ◌%◌, ◌^◌, ◌<◌, ◌≤◌, ◌++◌, decimal, length, take, ℕ};
-ghost use Rattle.report.specs.Word.{word_line, word_text};
+ghost use Rattle.std.specs.Prelude.{◌≡◌, ◌+◌, ◌*◌, ◌/◌, ◌%◌, ◌^◌, ◌<◌, ◌≤◌, ◌++◌, codes, decimal, length, take, ℕ};
+ghost use Rattle.report.specs.Reply.{stepped_line};
 
-use crate::word::{LONGEST_TEXT, Word};
 use itoa::Buffer;
 use std::marker::Model;
+
+/// What follows the number in the line of a step.
+pub(crate) const STEPPED: &[u8] = b" stepped\n";
 
 /// Digits of a number, at most.
 pub(crate) const LONGEST_NUMBER: usize = 20;
 
-/// Bytes of a number and of what follows it where the reply is one word, at most.
-pub(crate) const LONGEST_WORD_LINE: usize = 32;
+/// Bytes of the line of a step, at most.
+pub(crate) const LONGEST_STEP: usize = 32;
 
-/// The number of an event, with its digits. The last one alone changes from most numbers to the
-/// next.
+/// The number of an event, with the line of a step of that number: the common line of a run. Its
+/// last digit alone changes from most numbers to the next.
 #[derive(Drop)]
 pub struct EventNumber {
     number: u64,
     /// The last digit of the number.
     last_digit: u8,
-    /// Where that digit belongs among the digits.
+    /// Where that digit belongs in the line.
     place: usize,
-    /// The digits, but that another one may stand at that place.
-    digits: [u8; LONGEST_NUMBER],
+    /// The line, but that another digit may stand at that place.
+    line: [u8; LONGEST_STEP],
 }
 
 impl Model for EventNumber {
     ghost use Rattle.std.specs.Prelude.{◌≡◌, ◌%◌, ◌^◌, ◌<◌, ℕ};
-    ghost use Rattle.report.specs.EventNumber.{IsReady};
+    ghost use Rattle.report.specs.Step.{IsReady};
 
     ghost Value = { ℕ };
 
     ghost view = { λ n. n.number };
 
     ghost invariant = { λ n. (n.number < 2 ^ 64) × (n.last_digit ≡ n.number % 10)
-        × IsReady n.number n.place n.digits };
+        × IsReady n.number n.place n.line };
 }
 
 impl EventNumber {
@@ -55,7 +57,7 @@ impl EventNumber {
             number,
             last_digit: (number % 10) as u8,
             place: digits.len() - 1,
-            digits: at_the_beginning(digits),
+            line: step_line(digits),
         }
     }
 
@@ -68,7 +70,7 @@ impl EventNumber {
             number: self.number,
             last_digit: self.last_digit,
             place: self.place,
-            digits: self.digits,
+            line: self.line,
         }
     }
 
@@ -80,26 +82,18 @@ impl EventNumber {
         self.last_digit
     }
 
-    /// Writes the line of a word into a block: of the number with the digits of this one but for
+    /// Writes the line of a step into a block: of the number with the digits of this one but for
     /// the last, which is given. Answers how many digits the number has.
     #[inline]
-    pub(crate) fn write(
-        &self,
-        last_digit: u8,
-        word: Word,
-        block: &mut [u8; LONGEST_WORD_LINE],
-    ) -> usize
+    pub(crate) fn write(&self, last_digit: u8, block: &mut [u8; LONGEST_STEP]) -> usize
         requires { last_digit < 10 }
         ensures digits { result ≡ length (decimal (self.now / 10 * 10 + last_digit)) }
-        ensures line { take (result + length (word_text word)) block.new
-            ≡ word_line word (self.now / 10 * 10 + last_digit) }
+        ensures line { take (result + 9) block.new ≡ stepped_line (self.now / 10 * 10 + last_digit) }
         ensures short { result ≤ LONGEST_NUMBER }
     {
-        let end = self.place + 1;
-        block[..LONGEST_NUMBER].copy_from_slice(&self.digits);
+        *block = self.line;
         block[self.place] = b'0' + last_digit;
-        block[end..end + LONGEST_TEXT].copy_from_slice(&word.text());
-        end
+        self.place + 1
     }
 
     /// Goes on to the next number.
@@ -135,8 +129,8 @@ impl EventNumber {
     {
         let number = self.number + 1;
         let place = self.place;
-        if place > 0 && self.digits[place - 1] < b'9' {
-            self.digits[place - 1] += 1;
+        if place > 0 && self.line[place - 1] < b'9' {
+            self.line[place - 1] += 1;
             self.number = number;
             self.last_digit = 0;
         } else {
@@ -145,12 +139,14 @@ impl EventNumber {
     }
 }
 
-/// A block with these digits at its beginning.
-fn at_the_beginning(digits: &[u8]) -> [u8; LONGEST_NUMBER]
+/// The line of a step of a number with these digits, at the beginning of a block.
+fn step_line(digits: &[u8]) -> [u8; LONGEST_STEP]
     requires { length digits.now ≤ LONGEST_NUMBER }
-    ensures { take (length digits.now) result ≡ digits.now }
+    ensures { take (length digits.now + 9) result ≡ digits.now ++ codes " stepped\n" }
 {
-    let mut block = [0; LONGEST_NUMBER];
-    block[..digits.len()].copy_from_slice(digits);
-    block
+    let mut line = [0; LONGEST_STEP];
+    let end = digits.len();
+    line[..end].copy_from_slice(digits);
+    line[end..end + STEPPED.len()].copy_from_slice(STEPPED);
+    line
 }

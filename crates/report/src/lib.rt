@@ -9,7 +9,6 @@ pub mod fault;
 pub mod host;
 pub mod lines;
 pub mod reply;
+mod step;
 pub mod verdict;
-pub mod word;
-mod word_lines;
 mod words;

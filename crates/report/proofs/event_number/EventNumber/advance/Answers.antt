@@ -7,6 +7,6 @@ invariant_of-self c = (
   omega arith,
   omega arith,
   ready_other c.self.inside.number (c.self.inside.number + 1) c.self.inside.place
-      c.self.inside.digits c.self.invariant.2 (omega (arith, c.self.invariant.1)) (omega arith)
+      c.self.inside.line c.self.invariant.2 (omega (arith, c.self.invariant.1)) (omega arith)
       (omega arith),
 )

@@ -7,5 +7,5 @@ invariant_of-self c = (
   omega arith,
   omega arith,
   ready_other c.self.inside.number (c.self.inside.number + 9) c.self.inside.place
-      c.self.inside.digits c.self.invariant.2 (omega arith) (omega arith) (omega arith),
+      c.self.inside.line c.self.invariant.2 (omega arith) (omega arith) (omega arith),
 )

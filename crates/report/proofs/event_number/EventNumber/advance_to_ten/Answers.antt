@@ -6,6 +6,6 @@ pub invariant_of-self : goal.invariant_of-self
 invariant_of-self c = (
   omega arith,
   omega arith,
-  ready_ten c.self.inside.number c.self.inside.place c.self.inside.digits c.self.invariant.2
+  ready_ten c.self.inside.number c.self.inside.place c.self.inside.line c.self.invariant.2
       (omega arith) (omega arith) c.if-place-gt0.true c.if-self-place-lt57.true,
 )

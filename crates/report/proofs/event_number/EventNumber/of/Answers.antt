@@ -10,9 +10,9 @@ overflow_sub-result c =
 
 pub invariant_of-result : goal.invariant_of-result
 invariant_of-result c =
-    let line = rw (c.as_bytes-digits.ensures.value, c.format.ensures.text) at c.at_the_beginning.ensures in (
+    let line = rw (c.as_bytes-digits.ensures.value, c.format.ensures.text) at c.step_line.ensures in (
       omega arith,
       refl,
       rw (c.as_bytes-digits.ensures.value, c.format.ensures.text)
-          (ready_line c.args.number c.at_the_beginning.result (omega arith) line),
+          (ready_line c.args.number c.step_line.result (omega arith) line),
     )
