@@ -23,7 +23,7 @@ const TWICE: &[u8] =
       ret SUCCESS\nendr\nendd\ndevice v d 1\n";
 
 /// The listings of `good.drv` and `twice.drv`.
-const LISTED: &[u8] =
+pub(crate) const LISTED: &[u8] =
     b"driver d0\ndispatch READ f0\nroutine f0 dispatch\ncomplete r0 SUCCESS\nret SUCCESS\nendr\n\
       endd\ndevice v0 d0 1\n";
 
@@ -34,7 +34,7 @@ const TWICE_LISTED: &[u8] =
 const REFUSED: &[u8] = b"refused V5 DoubleCompletion driver 0 routine 0 at 1\n";
 
 /// A driver with a queue whose packets may be cancelled. Its DPC routine completes them.
-const QUEUES: &[u8] =
+pub(crate) const QUEUES: &[u8] =
     b"driver d\nqueue q l0 gone\ndispatch READ f\ndpc g\nroutine f dispatch\nmark r0\nacquire l0\n\
       insert r0 q\narm r0 q\nifcancel r0 was\nrelease l0\nret PENDING\nwas: disarm r0 lost\n\
       unlink r0 q\nrelease l0\ncomplete r0 CANCELLED\nret PENDING\nlost: release l0\nret PENDING\n\

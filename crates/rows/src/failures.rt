@@ -1,15 +1,22 @@
-//! Verdicts and runs of texts and of images, over devices that move few bytes a call, or fail at
-//! each call in turn.
+//! Verdicts, listings and runs of texts and of images, and scripts that one worker serves, over
+//! devices that move few bytes a call, or fail at each call in turn.
 
 ghost use Rattle.std.specs.Prelude.{◌≡◌};
 
+use crate::answers::{LISTED, QUEUES};
 use crate::devices::{Narrow, Slow};
 use crate::images::{EMPTY, ONE_READ};
 use drvhost_parts::check::check;
 use drvhost_parts::device::{Reader, Sink, Source};
+use drvhost_parts::host::host;
+use drvhost_parts::list::list;
 use drvhost_parts::trace::trace;
 use drvhost_parts::verification::Verification;
+use drvhost_parts::version::version;
 use std::alloc::Global;
+use std::sync::Wait;
+use std::thread::Threads;
+use workers::Gate;
 
 /// The set of `ONE_READ`.
 pub(crate) const TEXT: &[u8] =
@@ -23,11 +30,34 @@ pub(crate) const SCHEDULE: &[u8] = b"threads 1\nissue 0 0 READ 7\nstep 0 4\n";
 pub(crate) const LINES: &[u8] =
     b"0 started 0\n1 stepped\n2 topped 0 0x00000000 0\n3 finished\n4 idle\n";
 
+const SCRIPT: &[u8] = b"request 0 READ 0\ninterrupt 0\n";
+
+const SERVED: &[u8] = b"0 topped 0 0x00000000 0\n1 stepped\nhistory 17 agrees\n";
+
+/// A gate that lets all workers go on.
+struct Open;
+
+impl Gate for Open {
+    fn before(&self, _worker: u32, _count: u64) -> bool {
+        true
+    }
+}
+
+/// What is asked of a set.
+#[derive(Clone, Copy)]
+enum Job {
+    Check,
+    List,
+    /// A schedule is run.
+    Trace(&'static [u8], Verification),
+    /// A script is served by one worker.
+    Host(&'static [u8]),
+}
+
 /// A set, and what comes of it where no device fails.
 struct Case {
     set: &'static [u8],
-    /// None for a verdict.
-    trace: Option<(&'static [u8], Verification)>,
+    job: Job,
     status: u8,
     lines: &'static [u8],
     /// What the error writer is given.
@@ -41,7 +71,8 @@ struct Devices {
     step: usize,
     /// The calls of each before the one that fails.
     set: Option<usize>,
-    schedule: Option<usize>,
+    /// The schedule, or the script.
+    orders: Option<usize>,
     out: Option<usize>,
     err: Option<usize>,
 }
@@ -50,86 +81,122 @@ struct Devices {
 const WHOLE: Devices = Devices {
     step: 1,
     set: None,
-    schedule: None,
+    orders: None,
     out: None,
     err: None,
 };
 
-static CASES: [Case; 10] = [
+static CASES: [Case; 15] = [
     Case {
         set: TEXT,
-        trace: None,
+        job: Job::Check,
         status: 0,
         lines: VERDICT,
         told: b"",
     },
     Case {
         set: &ONE_READ,
-        trace: None,
+        job: Job::Check,
         status: 0,
         lines: VERDICT,
         told: b"",
     },
     Case {
         set: &EMPTY,
-        trace: None,
+        job: Job::Check,
         status: 1,
         lines: b"refused V1 Malformed driver 0 routine 0 at 0\n",
         told: b"",
     },
     Case {
         set: b"driver d\n",
-        trace: None,
+        job: Job::Check,
         status: 2,
         lines: b"",
         told: b"text fault 6 Unclosed line 2\n",
     },
     Case {
         set: b"DVB",
-        trace: None,
+        job: Job::Check,
         status: 2,
         lines: b"",
         told: b"image fault 2 Truncated\n",
     },
     Case {
         set: TEXT,
-        trace: Some((SCHEDULE, Verification::Required)),
+        job: Job::Trace(SCHEDULE, Verification::Required),
         status: 0,
         lines: LINES,
         told: b"",
     },
     Case {
         set: &ONE_READ,
-        trace: Some((SCHEDULE, Verification::Required)),
+        job: Job::Trace(SCHEDULE, Verification::Required),
         status: 0,
         lines: LINES,
         told: b"",
     },
     Case {
         set: &ONE_READ,
-        trace: Some((SCHEDULE, Verification::Skipped)),
+        job: Job::Trace(SCHEDULE, Verification::Skipped),
         status: 0,
         lines: LINES,
         told: b"",
     },
     Case {
         set: &EMPTY,
-        trace: Some((b"threads 32\nissue 31 0 WRITE 7\n", Verification::Skipped)),
+        job: Job::Trace(b"threads 32\nissue 31 0 WRITE 7\n", Verification::Skipped),
         status: 0,
         lines: b"0 refused\n",
         told: b"",
     },
     Case {
         set: &ONE_READ,
-        trace: Some((b"threads 33\n", Verification::Required)),
+        job: Job::Trace(b"threads 33\n", Verification::Required),
         status: 2,
         lines: b"",
         told: b"schedule fault 3 OutOfRange line 1\n",
     },
+    Case {
+        set: TEXT,
+        job: Job::List,
+        status: 0,
+        lines: LISTED,
+        told: b"",
+    },
+    Case {
+        set: &ONE_READ,
+        job: Job::List,
+        status: 0,
+        lines: LISTED,
+        told: b"",
+    },
+    Case {
+        set: b"DVB",
+        job: Job::List,
+        status: 2,
+        lines: b"",
+        told: b"image fault 2 Truncated\n",
+    },
+    Case {
+        set: QUEUES,
+        job: Job::Host(SCRIPT),
+        status: 0,
+        lines: SERVED,
+        told: b"",
+    },
+    Case {
+        set: &ONE_READ,
+        job: Job::Host(b"interrupt 0\ncancel 0 0\n"),
+        status: 2,
+        lines: b"",
+        told: b"script fault 3 OutOfRange line 2\n",
+    },
 ];
 
 /// The exit status of a case with such devices.
-fn answer(
+fn answer<R: Threads + Wait + Sync>(
+    rt: &R,
     alloc: Global,
     case: &Case,
     devices: &Devices,
@@ -141,17 +208,23 @@ fn answer(
     requires out { ⟦<Narrow as Sink>⟧.failures out.old ≡ 0 }
     requires err { ⟦<Narrow as Sink>⟧.failures err.old ≡ 0 }
 {
-    match case.trace {
-        None => check(alloc, set, out, err),
-        Some((schedule, verification)) => {
-            let mut schedule = Slow::new(schedule, devices.step, devices.schedule);
+    match case.job {
+        Job::Check => check(alloc, set, out, err),
+        Job::List => list(alloc, set, out, err),
+        Job::Trace(schedule, verification) => {
+            let mut schedule = Slow::new(schedule, devices.step, devices.orders);
             trace(alloc, set, &mut schedule, verification, out, err)
+        }
+        Job::Host(script) => {
+            let mut script = Slow::new(script, devices.step, devices.orders);
+            host(rt, alloc, set, &mut script, 1, &Open, out, err)
         }
     }
 }
 
 /// Whether a case with such devices ends and writes so, and tells so.
-fn is_answered(
+fn is_answered<R: Threads + Wait + Sync>(
+    rt: &R,
     alloc: Global,
     case: &Case,
     devices: &Devices,
@@ -162,7 +235,7 @@ fn is_answered(
     let mut set = Slow::new(case.set, devices.step, devices.set);
     let mut out = Narrow::new(alloc, devices.step, devices.out);
     let mut err = Narrow::new(alloc, devices.step, devices.err);
-    answer(alloc, case, devices, &mut set, &mut out, &mut err) == status
+    answer(rt, alloc, case, devices, &mut set, &mut out, &mut err) == status
         && set.failures() == devices.set.is_some() as u64
         && out.failures() == devices.out.is_some() as u64
         && err.failures() == devices.err.is_some() as u64
@@ -177,6 +250,7 @@ fn few_bytes_a_call(rt: HostRuntime) {
             let devices = Devices { step, ..WHOLE };
             assert!(rt;
                 is_answered(
+                    &rt,
                     rt.alloc(),
                     case,
                     &devices,
@@ -199,27 +273,30 @@ fn each_read_of_a_set_fails_in_turn(rt: HostRuntime) {
                 ..WHOLE
             };
             assert!(rt;
-                is_answered(rt.alloc(), case, &devices, 2, b"", b"read failed\n"),
+                is_answered(&rt, rt.alloc(), case, &devices, 2, b"", b"read failed\n"),
                 "{calls}"
             );
         }
     }
 }
 
+/// The same for a schedule, and for a script.
 #[test]
-fn each_read_of_a_schedule_fails_in_turn(rt: HostRuntime) {
+fn each_read_of_orders_fails_in_turn(rt: HostRuntime) {
     for case in CASES.iter() {
-        if let Some((schedule, _)) = case.trace {
-            for calls in 0..=schedule.len() {
-                let devices = Devices {
-                    schedule: Some(calls),
-                    ..WHOLE
-                };
-                assert!(rt;
-                    is_answered(rt.alloc(), case, &devices, 2, b"", b"read failed\n"),
-                    "{calls}"
-                );
-            }
+        let calls = match case.job {
+            Job::Trace(orders, _) | Job::Host(orders) => orders.len() + 1,
+            Job::Check | Job::List => 0,
+        };
+        for calls in 0..calls {
+            let devices = Devices {
+                orders: Some(calls),
+                ..WHOLE
+            };
+            assert!(rt;
+                is_answered(&rt, rt.alloc(), case, &devices, 2, b"", b"read failed\n"),
+                "{calls}"
+            );
         }
     }
 }
@@ -235,7 +312,15 @@ fn each_write_fails_in_turn(rt: HostRuntime) {
             };
             let written = &case.lines[..calls];
             assert!(rt;
-                is_answered(rt.alloc(), case, &devices, 2, written, b"write failed\n"),
+                is_answered(
+                    &rt,
+                    rt.alloc(),
+                    case,
+                    &devices,
+                    2,
+                    written,
+                    b"write failed\n"
+                ),
                 "{calls}"
             );
         }
@@ -253,10 +338,71 @@ fn no_one_to_tell(rt: HostRuntime) {
             };
             let told = &case.told[..calls];
             assert!(rt;
-                is_answered(rt.alloc(), case, &devices, case.status, case.lines, told),
+                is_answered(
+                    &rt,
+                    rt.alloc(),
+                    case,
+                    &devices,
+                    case.status,
+                    case.lines,
+                    told
+                ),
                 "{calls}"
             );
         }
+    }
+}
+
+/// The status is the one of a failed device, also where the error writer fails too.
+#[test]
+fn no_one_to_tell_of_a_failure(rt: HostRuntime) {
+    let alloc = rt.alloc();
+    for case in CASES.iter() {
+        for calls in 0..12 {
+            let devices = Devices {
+                set: Some(0),
+                err: Some(calls),
+                ..WHOLE
+            };
+            let told = &b"read failed\n"[..calls];
+            assert!(rt;
+                is_answered(&rt, alloc, case, &devices, 2, b"", told),
+                "{calls}"
+            );
+        }
+        for calls in 0..if case.lines.is_empty() { 0 } else { 13 } {
+            let devices = Devices {
+                out: Some(0),
+                err: Some(calls),
+                ..WHOLE
+            };
+            let told = &b"write failed\n"[..calls];
+            assert!(rt;
+                is_answered(&rt, alloc, case, &devices, 2, b"", told),
+                "{calls}"
+            );
+        }
+    }
+}
+
+/// The program's name and version need no file.
+#[test]
+fn each_write_of_the_version_fails_in_turn(rt: HostRuntime) {
+    let alloc = rt.alloc();
+    let line = b"drvhost 0.1.0\n";
+    for calls in 0..=line.len() {
+        let good = if calls < line.len() {
+            Some(calls)
+        } else {
+            None
+        };
+        let mut out = Narrow::new(alloc, 1, good);
+        let mut err = Narrow::new(alloc, 1, None);
+        let status = version(&mut out, &mut err);
+        assert_eq!(rt; status, if good.is_some() { 2 } else { 0 });
+        assert!(rt; out.written.as_slice() == &line[..calls]);
+        assert!(rt; err.written.is_empty() == good.is_none());
+        assert!(rt; b"write failed\n".starts_with(err.written.as_slice()));
     }
 }
 

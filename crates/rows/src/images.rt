@@ -18,7 +18,7 @@ pub(crate) const ONE_READ: [u8; 40] = [
 pub(crate) const EMPTY: [u8; 8] = [0x44, 0x56, 0x42, 0x31, 0x00, 0x00, 0x00, 0x00];
 
 /// A driver that queues what it is sent, with a cancel routine.
-const QUEUED: &str =
+pub(crate) const QUEUED: &str =
     "driver d\nqueue q l0 gone\ndispatch READ f\ndpc g\nroutine f dispatch\nmark r0\n\
      acquire l0\ninsert r0 q\narm r0 q\nifcancel r0 was\nrelease l0\nret PENDING\n\
      was: disarm r0 lost\nunlink r0 q\nrelease l0\ncomplete r0 CANCELLED\nret PENDING\n\

@@ -5,6 +5,8 @@
 #[cfg(test)]
 mod answers;
 #[cfg(test)]
+mod beginnings;
+#[cfg(test)]
 mod cancel_rules;
 #[cfg(test)]
 mod cancel_steps;
@@ -19,6 +21,8 @@ mod devices;
 #[cfg(test)]
 mod dpcs;
 #[cfg(test)]
+mod evidences;
+#[cfg(test)]
 mod failures;
 #[cfg(test)]
 mod faulty_cancels;
@@ -29,11 +33,15 @@ mod faulty_drivers;
 #[cfg(test)]
 mod faulty_queues;
 #[cfg(test)]
+mod gallery;
+#[cfg(test)]
 mod holds;
 #[cfg(test)]
 mod images;
 #[cfg(test)]
 mod limits;
+#[cfg(test)]
+mod links;
 #[cfg(test)]
 mod listings;
 #[cfg(test)]
@@ -58,3 +66,7 @@ mod stacks;
 mod texts;
 #[cfg(test)]
 mod worked;
+#[cfg(test)]
+mod wrong_drivers_first;
+#[cfg(test)]
+mod wrong_drivers_second;

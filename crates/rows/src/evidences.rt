@@ -1,0 +1,228 @@
+//! The evidence of refusals: where its paths lead, and in which states they arrive.
+
+ghost use Rattle.std.specs.Prelude.{◌≡◌, ◌⊎◌, IfSome};
+ghost use Rattle.model.specs.Typable.{IsFirstFault, at_start};
+
+use asm::assemble;
+use evidence::{Evidence, Path, Subject, evidence_at, evidence_of, path_to};
+use image::DriverSet;
+use model::abs::{Kind, Refusal, Rule};
+use std::alloc::{AllocError, Global};
+use verifier::verify;
+
+/// A path: its positions, and what its last step knows of registers 0 and 1.
+struct Way {
+    places: &'static [u16],
+    kinds: (Kind, Kind),
+}
+
+/// What is shown of a refusal.
+enum Shown {
+    Misplaced,
+    Unreached,
+    NotEntered,
+    Broken(Way),
+    /// The one or the other first.
+    Differing(Way, Way),
+    Unlike(Way, Way),
+    TooLong(Way, u32),
+}
+
+/// A routine of a sort with this code, the place where it is refused, and what is shown of that.
+struct Case {
+    text: &'static str,
+    at: u16,
+    rule: Rule,
+    shown: Shown,
+}
+
+static CASES: [Case; 8] = [
+    Case {
+        text: "driver d\ndispatch READ f\nroutine f dispatch\ncomplete r0 SUCCESS\nclear r1\nendr\n\
+            endd\ndevice v d 1\n",
+        at: 1,
+        rule: Rule::Malformed,
+        shown: Shown::Misplaced,
+    },
+    Case {
+        text: "driver d\ndispatch READ f\nroutine f dispatch\ncomplete r0 SUCCESS\nret SUCCESS\n\
+            ret SUCCESS\nendr\nendd\ndevice v d 1\n",
+        at: 2,
+        rule: Rule::Unreachable,
+        shown: Shown::Unreached,
+    },
+    Case {
+        text: "driver d\nroutine gone cancel\nrelc\ncomplete r0 CANCELLED\nret void\nendr\nendd\n\
+            device v d 1\n",
+        at: 0,
+        rule: Rule::Sort,
+        shown: Shown::NotEntered,
+    },
+    Case {
+        text: "driver d\ndispatch READ f\nroutine f dispatch\ncomplete r0 SUCCESS\n\
+            complete r0 SUCCESS\nret SUCCESS\nendr\nendd\ndevice v d 1\n",
+        at: 1,
+        rule: Rule::DoubleCompletion,
+        shown: Shown::Broken(Way {
+            places: &[0, 1],
+            kinds: (Kind::Blank, Kind::Blank),
+        }),
+    },
+    Case {
+        text: "driver d\ndispatch READ f\nroutine f dispatch\nconst r1 0\njz r1 x\n\
+            complete r0 SUCCESS\nret SUCCESS\nx: ret PENDING\nendr\nendd\ndevice v d 1\n",
+        at: 4,
+        rule: Rule::MarkIrpPending,
+        shown: Shown::Broken(Way {
+            places: &[0, 1, 4],
+            kinds: (Kind::New, Kind::Num),
+        }),
+    },
+    Case {
+        text: "driver d\ndispatch READ f\nroutine f dispatch\nconst r1 0\njz r1 x\nclear r1\n\
+            x: complete r0 SUCCESS\nret SUCCESS\nendr\nendd\ndevice v d 1\n",
+        at: 3,
+        rule: Rule::StatesDiffer,
+        shown: Shown::Differing(
+            Way {
+                places: &[0, 1, 3],
+                kinds: (Kind::New, Kind::Num),
+            },
+            Way {
+                places: &[0, 1, 2, 3],
+                kinds: (Kind::New, Kind::Blank),
+            },
+        ),
+    },
+    Case {
+        text: "driver d\ndispatch READ f\nroutine f dispatch\nloop 2\nconst r1 1\nend\n\
+            complete r0 SUCCESS\nret SUCCESS\nendr\nendd\ndevice v d 1\n",
+        at: 2,
+        rule: Rule::StatesDiffer,
+        shown: Shown::Unlike(
+            Way {
+                places: &[0],
+                kinds: (Kind::New, Kind::Blank),
+            },
+            Way {
+                places: &[0, 1, 2],
+                kinds: (Kind::New, Kind::Num),
+            },
+        ),
+    },
+    Case {
+        text: "driver d\ndispatch READ f\nroutine f dispatch\nloop 1000\nloop 1000\nclear r1\n\
+            clear r2\nend\nend\ncomplete r0 SUCCESS\nret SUCCESS\nendr\nendd\ndevice v d 1\n",
+        at: 2,
+        rule: Rule::TooLong,
+        shown: Shown::TooLong(
+            Way {
+                places: &[0, 1, 2],
+                kinds: (Kind::New, Kind::Blank),
+            },
+            1_001_001,
+        ),
+    },
+];
+
+/// The set that a text names, with its refusal.
+fn refused(alloc: Global, text: &str) -> Option<(DriverSet, Refusal)>
+    ensures { IfSome result
+        (λ e. (e.1 ≡ at_start Rule.Memory) ⊎ IsFirstFault e.0 e.1) }
+{
+    let set = assemble(alloc, text.as_bytes()).ok()?;
+    verify(alloc, set).err()
+}
+
+/// Whether a path is this one.
+fn is_way(path: &Path, way: &Way) -> bool {
+    let before = path.before.as_slice();
+    let kinds = &path.last.state.kinds;
+    before.len() + 1 == way.places.len()
+        && before
+            .iter()
+            .zip(way.places.iter())
+            .all(|(step, place)| step.at == *place)
+        && way.places.last() == Some(&path.last.at)
+        && kinds[0] == way.kinds.0
+        && kinds[1] == way.kinds.1
+}
+
+/// Whether evidence is this.
+fn is_shown(evidence: &Evidence, shown: &Shown) -> bool {
+    match (evidence, shown) {
+        (Evidence::Misplaced, Shown::Misplaced) => true,
+        (Evidence::Unreached, Shown::Unreached) => true,
+        (Evidence::NotEntered, Shown::NotEntered) => true,
+        (Evidence::Broken(path), Shown::Broken(way)) => is_way(path, way),
+        (Evidence::Differing(one, other), Shown::Differing(first, second)) => {
+            is_way(one, first) && is_way(other, second)
+                || is_way(one, second) && is_way(other, first)
+        }
+        (Evidence::Unlike(start, end), Shown::Unlike(first, last)) => {
+            is_way(start, first) && is_way(end, last)
+        }
+        (Evidence::TooLong(path, count), Shown::TooLong(way, sum)) => {
+            is_way(path, way) && count == sum
+        }
+        _ => false,
+    }
+}
+
+/// The evidence of a refusal by its routine, position and rule.
+fn evidence_there(
+    alloc: Global,
+    set: &DriverSet,
+    refusal: &Refusal,
+) -> Result<Option<Evidence>, AllocError>
+    requires { (refusal.now ≡ at_start Rule.Memory) ⊎ IsFirstFault set.now refusal.now }
+{
+    if set.devices().is_empty() {
+        return Ok(None);
+    }
+    match refusal.rule {
+        Rule::Memory => Ok(None),
+        rule => {
+            let Some(subject) = Subject::of(set, refusal.driver, refusal.routine) else {
+                return Ok(None);
+            };
+            let evidence = evidence_at(alloc, subject, refusal.at, rule)?;
+            Ok(Some(evidence))
+        }
+    }
+}
+
+/// Whether the case is refused at its place, and shown so.
+fn is_met(alloc: Global, case: &Case) -> bool {
+    let Some((set, refusal)) = refused(alloc, case.text) else {
+        return false;
+    };
+    let is_there = |found: Result<Option<Evidence>, AllocError>| match found {
+        Ok(Some(evidence)) => is_shown(&evidence, &case.shown),
+        _ => false,
+    };
+    refusal.driver == 0
+        && refusal.routine == 0
+        && refusal.at == case.at
+        && refusal.rule == case.rule
+        && is_there(evidence_of(alloc, &set, &refusal))
+        && is_there(evidence_there(alloc, &set, &refusal))
+}
+
+#[test]
+fn refusals_are_shown(rt: HostRuntime) {
+    for case in CASES.iter() {
+        assert!(rt; is_met(rt.alloc(), case), "{}", case.text);
+    }
+}
+
+/// A set without devices has no routine to show.
+#[test]
+fn nothing_is_shown_of_an_empty_set(rt: HostRuntime) {
+    let alloc = rt.alloc();
+    let Some((set, refusal)) = refused(alloc, "") else {
+        panic!(rt; "it is refused");
+    };
+    let shown = evidence_of(alloc, &set, &refusal);
+    assert!(rt; matches!(shown, Ok(None)));
+}
