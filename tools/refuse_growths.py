@@ -11,7 +11,7 @@ import hashlib, os, re, shutil, subprocess, sys, tempfile
 TOP = os.path.dirname(os.path.dirname(os.path.abspath(__file__)))
 SOURCES = os.path.join(TOP, 'tools/growths')
 PROGRAM = 'growths'
-STANDS_ON = 'asm image verifier checked machine interleave hostcore intake workers report model'.split()
+STANDS_ON = 'asm image verifier checked machine interleave hostcore intake workers devqueue report model'.split()
 REFUSED = 20_000  # the number of the allocation that is refused
 
 def listed():
@@ -93,7 +93,7 @@ CALLS = {
     'World::new': (['replies', *TAKEN], NO_MEMORY, LENT, False),
     'run': (['replies', '0 finished'], NO_MEMORY, LENT, False),
     'Core::new': (['history 0 counted 2 history 2', 'replies', '0 started 0', '1 stepped'], NO_MEMORY, LENT, False),
-    # `Links::new` stands here once there is one.
+    'Links::new': (['unlinked false true', 'list 0 slot 2', 'list 0 slot 3', 'list 0 empty', 'list 1 slot 0'], NO_MEMORY, [], False),
     'Intake::new': (['submitters 1 takers 2', 'put 2 taken 1 left 1'], NO_MEMORY, [], False),
     'serve': (['started 1 takers 1 counted 17', 'held 0 full false', 'replies', *SERVED],
               ['started 0 takers 1 counted 0', 'held 0 full false', 'replies'], [], False),

@@ -64,12 +64,16 @@ FILES = {
 }
 ACCEPTED = ('accepted\ndriver 0 routine 0 dispatch certificate 14\ndriver 0 routine 1 dpc certificate 8\n'
             'driver 0 routine 2 cancel certificate 6\n')
+LISTED = 'driver d0\ndispatch READ f0\nroutine f0 dispatch\ncomplete r0 SUCCESS\nret SUCCESS\nendr\nendd\ndevice v0 d0 1\n'
 # words, and the whole answer: exit status, standard output, error output
 CASES = [
     ('check set', 0, ACCEPTED, ''),
     ('check image', 0, 'accepted\ndriver 0 routine 0 dispatch certificate 2\n', ''),
     ('check twice', 1, 'refused V5 DoubleCompletion driver 0 routine 1 at 5\n', ''),
     ('check open', 2, '', 'text fault 6 Unclosed line 2\n'),
+    ('list image', 0, LISTED, ''),
+    ('list open', 2, '', 'text fault 6 Unclosed line 2\n'),
+    ('version', 0, 'drvhost 0.1.0\n', ''),
     ('trace set schedule', 0, TRACED, ''),
     ('trace set schedule --unchecked', 0, TRACED, ''),
     ('host set script --workers 1', 0, '0 topped 0 0x00000000 0\n1 stepped\nhistory 17 agrees\n', ''),
@@ -122,4 +126,5 @@ def main():
     print('%d growths refused, %d told as want of memory, %d wrong' % tuple(total))
     return 1 if total[2] else 0
 
-sys.exit(main())
+if __name__ == '__main__':
+    sys.exit(main())
