@@ -7,10 +7,12 @@ use Rattle.std.specs.Prelude.{IfSome, MatchOption}
 use Rattle.interleave.specs.declared.read.Repeated.{Repeated}
 use Rattle.model.specs.declared.event.Event.{Event}
 use Rattle.model.specs.declared.event.Reply.{Reply}
-use Rattle.model.specs.declared.event.Reply.TheVariants.{Stepped}
+use Rattle.model.specs.declared.event.Reply.TheVariants.{Started, Stepped, Finished, Topped, Waited, Idle, Refused, Bug, Wrong}
 use Rattle.model.specs.Run.{Run, begun, run, run_from, step}
 use Rattle.model.specs.Set.{Set}
-use Rattle.report.specs.Reply.{reply_line, stepped_line, stepped_lines}
+use Rattle.report.specs.declared.word.Word.{Word}
+use Rattle.report.specs.Reply.{reply_line}
+use Rattle.report.specs.Word.{word_line, word_lines, word_of}
 use Rattle.drvhost_parts.specs.declared.fault.End.TheVariants.{Complete, Stopped}
 use Rattle.drvhost_parts.specs.declared.fault.Fault.TheVariants.{Write}
 use Rattle.drvhost_parts.specs.declared.running.Replies.{Replies}
@@ -83,12 +85,32 @@ pub some_taken : (next : Option Repeated) (events later : List Event) → Taken 
 some_taken None events later taken = tt
 some_taken (Some run) events later taken = taken.0
 
--- the lines of steps
-pub lines_stepped : (number count : ℕ)
-    → reply_lines number (replicate count Stepped) ≡ stepped_lines number count
-lines_stepped number zero = refl
-lines_stepped number (suc count) =
-    ap (λ lines. stepped_line number ++ lines) (lines_stepped (number + 1) count)
+-- the line of what may be a word
+abbrev line_as : ℕ → Option Word → List ℕ
+line_as number None = []
+line_as number (Some w) = word_line w number
+
+-- the line of a reply that is a word
+word_is_reply : (w : Word) (reply : Reply) → word_of reply ≡ Some w → (number : ℕ)
+    → reply_line number reply ≡ word_line w number
+word_is_reply w Stepped is number = ap (λ (x : Option Word). line_as number x) is
+word_is_reply w Finished is number = ap (λ (x : Option Word). line_as number x) is
+word_is_reply w Waited is number = ap (λ (x : Option Word). line_as number x) is
+word_is_reply w Idle is number = ap (λ (x : Option Word). line_as number x) is
+word_is_reply w Refused is number = ap (λ (x : Option Word). line_as number x) is
+word_is_reply w (Started packet) is number = let none : None ≡ Some w = is in cc
+word_is_reply w (Topped packet status info) is number = let none : None ≡ Some w = is in cc
+word_is_reply w (Bug bug) is number = let none : None ≡ Some w = is in cc
+word_is_reply w (Wrong place) is number = let none : None ≡ Some w = is in cc
+
+-- the lines of replies that are all the same word
+pub lines_word : (w : Word) (reply : Reply) → word_of reply ≡ Some w → (number count : ℕ)
+    → reply_lines number (replicate count reply) ≡ word_lines w number count
+lines_word w reply is number zero = refl
+lines_word w reply is number (suc count) =
+    ap (λ lines. lines ++ reply_lines (number + 1) (replicate count reply))
+    (word_is_reply w reply is number)
+    ∙ ap (λ lines. word_line w number ++ lines) (lines_word w reply is (number + 1) count)
 
 -- the replies after one
 abbrev after_reply : Set → Run → List Event → Reply → List Reply

@@ -1,8 +1,8 @@
 //! Runs that are followed to their end, and the lines of their replies.
 
-ghost use Rattle.std.specs.Prelude.{◌≡◌, ◌↔◌, ◌+◌, ◌++◌, ◌<◌, ◌≤◌, ◌^◌, [], IfErr, IfSome, IsTrue, Ok, OnErr, OnOk, replicate};
+ghost use Rattle.std.specs.Prelude.{◌≡◌, ◌+◌, ◌++◌, ◌<◌, ◌≤◌, ◌^◌, [], IfErr, IfSome, Ok, OnErr, OnOk, replicate};
 ghost use Rattle.interleave.specs.Listing.{IsWithinLimits};
-ghost use Rattle.report.specs.Reply.{stepped_lines};
+ghost use Rattle.report.specs.Word.{word_lines};
 ghost use Rattle.drvhost_parts.specs.Answer.{is_last, ran, reply_lines};
 ghost use Rattle.drvhost_parts.specs.Device.{Adds, CanCount, TakesBeginning};
 ghost use Rattle.drvhost_parts.specs.Fault.{Goes, reads_failed, writes_failed};
@@ -18,6 +18,7 @@ use interleave::schedule::Schedule;
 use model::event::{Event, Reply};
 use report::event_number::EventNumber;
 use report::lines::Lines;
+use report::word::Word;
 
 /// Runs the events of a schedule, up to one that stops the run, and adds their lines. Lines that
 /// fill their room are written.
@@ -83,8 +84,10 @@ fn add_replies<O: Sink>(
     ensures fault { IfErr result (λ fault. fault ≡ Fault.Write) }
     ensures writes { O.failures out.new ≡ O.failures out.old + writes_failed result }
 {
-    if is_step(reply) {
-        return add_steps(number, count as u64, lines, out);
+    if count > 1 {
+        if let Some(word) = Word::of(reply) {
+            return add_words(number, word, count as u64, lines, out);
+        }
     }
     for _ in 0..count {
         make_room(lines, out)?;
@@ -94,9 +97,10 @@ fn add_replies<O: Sink>(
     Ok(())
 }
 
-/// Adds the lines of so many steps in a row.
-fn add_steps<O: Sink>(
+/// Adds the lines of so many events in a row that all replied this word.
+fn add_words<O: Sink>(
     number: &mut EventNumber,
+    word: Word,
     count: u64,
     lines: &mut Lines,
     out: &mut O,
@@ -105,26 +109,18 @@ fn add_steps<O: Sink>(
     requires out { CanCount (O.failures out.old) }
     ensures number { OnOk result (number.new ≡ number.old + count) }
     ensures added { OnOk result (Adds (O.contents out.old) (O.contents out.new) lines.old lines.new
-        (stepped_lines number.old count)) }
+        (word_lines word number.old count)) }
     ensures broken { OnErr result (TakesBeginning (O.contents out.old) (O.contents out.new)
-        (lines.old ++ stepped_lines number.old count)) }
+        (lines.old ++ word_lines word number.old count)) }
     ensures fault { IfErr result (λ fault. fault ≡ Fault.Write) }
     ensures writes { O.failures out.new ≡ O.failures out.old + writes_failed result }
 {
     let mut left = count;
     while left > 0 {
         make_room(lines, out)?;
-        left -= lines.steps(number, left);
+        left -= lines.words(number, word, left);
     }
     Ok(())
-}
-
-/// Whether a reply says that a step was made, and no more.
-#[inline]
-fn is_step(reply: &Reply) -> bool
-    ensures { IsTrue result ↔ (reply.now ≡ Reply.Stepped) }
-{
-    matches!(reply, Reply::Stepped)
 }
 
 /// Whether the run ends with this reply: a bug check, or a wrong operand.

@@ -203,16 +203,17 @@ fn tell_commands<O: Sink>(
     let mut number = EventNumber::first();
     for told in commands {
         make_room(lines, out)?;
-        tell_command(&number, told, lines);
+        tell_command(&mut number, told, lines);
         number.advance();
     }
     Ok(())
 }
 
 /// Adds the line of the command of a number.
-fn tell_command(number: &EventNumber, told: &Option<Reply>, lines: &mut Lines)
+fn tell_command(number: &mut EventNumber, told: &Option<Reply>, lines: &mut Lines)
     requires { HasRoom lines.old }
-    ensures { lines.new ≡ lines.old ++ command_line number.now told.now }
+    ensures line { lines.new ≡ lines.old ++ command_line number.old told.now }
+    ensures number { number.new ≡ number.old }
 {
     match told {
         Some(reply) => lines.reply(number, reply),

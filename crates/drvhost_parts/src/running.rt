@@ -65,7 +65,7 @@ impl Machine for World {
     #[inline]
     fn repeat(&mut self, event: &Event, count: usize) -> Replies {
         match *event {
-            Event::Step { thread } => step(self, thread, count),
+            Event::Step { thread } if count > 1 => step(self, thread, count),
             _ => once(self, event, count),
         }
     }
@@ -94,6 +94,7 @@ fn step(world: &mut World, thread: u8, count: usize) -> Replies
 }
 
 /// Applies an event. If nothing has changed by it, nothing changes by the others.
+#[inline]
 fn once(world: &mut World, event: &Event, count: usize) -> Replies
     requires { 1 ≤ count }
     ensures some { 1 ≤ result.times }

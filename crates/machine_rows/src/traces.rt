@@ -128,7 +128,7 @@ fn lines_of(alloc: Global, replies: &[Reply]) -> Result<Lines, AllocError> {
         if !lines.has_room() {
             break;
         }
-        lines.reply(&number, reply);
+        lines.reply(&mut number, reply);
         number.advance();
     }
     Ok(lines)

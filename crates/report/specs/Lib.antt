@@ -1,8 +1,9 @@
+pub mod ReadyLine
 pub mod Line
 pub mod Lines
 pub mod Number
 pub mod Reply
-pub mod Step
+pub mod Word
 pub mod Verdict
 pub mod Fault
 pub mod Host

@@ -1,5 +1,5 @@
 -- The line of a trace for an event: its number, and what the run answered to it.
-use Rattle.std.specs.Prelude.{ℕ, zero, suc, ◌+◌, List, [], ◌∷◌, ◌++◌, codes}
+use Rattle.std.specs.Prelude.{ℕ, List, [], ◌∷◌, ◌++◌, codes}
 use Rattle.std.specs.Fmt.{decimal}
 use Rattle.model.specs.declared.event.Lock.{Lock}
 use Rattle.model.specs.declared.event.Lock.TheVariants.{SystemCancel, Spin}
@@ -48,12 +48,3 @@ reply_words (Wrong place) = codes "wrong" ∷ place_text place ∷ []
 -- the line of the event of a number
 abbrev pub reply_line : ℕ → Reply → List ℕ
 reply_line number reply = line_of (decimal number ∷ reply_words reply)
-
--- the line of a step
-abbrev pub stepped_line : ℕ → List ℕ
-stepped_line number = decimal number ++ codes " stepped\n"
-
--- the lines of so many steps, the first of which has this number
-abbrev pub stepped_lines : ℕ → ℕ → List ℕ
-stepped_lines number zero = []
-stepped_lines number (suc count) = stepped_line number ++ stepped_lines (number + 1) count

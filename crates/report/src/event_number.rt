@@ -1,22 +1,14 @@
 //! The numbers of a run's events, counted up as they are written.
 
-ghost use Rattle.std.specs.Prelude.{◌≡◌, ◌+◌, ◌*◌, ◌/◌, ◌%◌, ◌^◌, ◌<◌, ◌≤◌, ◌++◌, codes, decimal, length, take, ℕ};
-ghost use Rattle.report.specs.Reply.{stepped_line};
+ghost use Rattle.std.specs.Prelude.{◌≡◌, ◌+◌, ◌%◌, ◌^◌, ◌<◌, ℕ};
 
+use crate::ready_line::{LONGEST_WORD_LINE, ReadyLine, line_of, put_word};
+use crate::word::Word;
 use itoa::Buffer;
 use std::marker::Model;
 
-/// What follows the number in the line of a step.
-pub(crate) const STEPPED: &[u8] = b" stepped\n";
-
-/// Digits of a number, at most.
-pub(crate) const LONGEST_NUMBER: usize = 20;
-
-/// Bytes of the line of a step, at most.
-pub(crate) const LONGEST_STEP: usize = 32;
-
-/// The number of an event, with the line of a step of that number: the common line of a run. Its
-/// last digit alone changes from most numbers to the next.
+/// The number of an event, with the line of an event of that number that replied a word: the common
+/// line of a run. Its last digit alone changes from most numbers to the next, and its word seldom.
 #[derive(Drop)]
 pub struct EventNumber {
     number: u64,
@@ -24,20 +16,23 @@ pub struct EventNumber {
     last_digit: u8,
     /// Where that digit belongs in the line.
     place: usize,
+    /// The word of the line.
+    word: Word,
     /// The line, but that another digit may stand at that place.
-    line: [u8; LONGEST_STEP],
+    line: [u8; LONGEST_WORD_LINE],
 }
 
 impl Model for EventNumber {
     ghost use Rattle.std.specs.Prelude.{◌≡◌, ◌%◌, ◌^◌, ◌<◌, ℕ};
-    ghost use Rattle.report.specs.Step.{IsReady};
+    ghost use Rattle.report.specs.ReadyLine.{IsReady};
+    ghost use Rattle.report.specs.Word.{word_text};
 
     ghost Value = { ℕ };
 
     ghost view = { λ n. n.number };
 
     ghost invariant = { λ n. (n.number < 2 ^ 64) × (n.last_digit ≡ n.number % 10)
-        × IsReady n.number n.place n.line };
+        × IsReady n.number n.place (word_text n.word) n.line };
 }
 
 impl EventNumber {
@@ -45,10 +40,10 @@ impl EventNumber {
     pub fn first() -> EventNumber
         ensures { result ≡ 0 }
     {
-        EventNumber::of(0)
+        EventNumber::of(0, Word::Stepped)
     }
 
-    fn of(number: u64) -> EventNumber
+    fn of(number: u64, word: Word) -> EventNumber
         ensures { result ≡ number }
     {
         let mut buffer = Buffer::new();
@@ -57,20 +52,8 @@ impl EventNumber {
             number,
             last_digit: (number % 10) as u8,
             place: digits.len() - 1,
-            line: step_line(digits),
-        }
-    }
-
-    /// This number once more.
-    #[inline]
-    pub(crate) fn copy(&self) -> EventNumber
-        ensures { result ≡ self.now }
-    {
-        EventNumber {
-            number: self.number,
-            last_digit: self.last_digit,
-            place: self.place,
-            line: self.line,
+            word,
+            line: line_of(digits, word),
         }
     }
 
@@ -82,18 +65,25 @@ impl EventNumber {
         self.last_digit
     }
 
-    /// Writes the line of a step into a block: of the number with the digits of this one but for
-    /// the last, which is given. Answers how many digits the number has.
+    /// The line of this number and of the word that was written last.
     #[inline]
-    pub(crate) fn write(&self, last_digit: u8, block: &mut [u8; LONGEST_STEP]) -> usize
-        requires { last_digit < 10 }
-        ensures digits { result ≡ length (decimal (self.now / 10 * 10 + last_digit)) }
-        ensures line { take (result + 9) block.new ≡ stepped_line (self.now / 10 * 10 + last_digit) }
-        ensures short { result ≤ LONGEST_NUMBER }
+    pub(crate) fn line(&self) -> ReadyLine
+        ensures { result.number ≡ self.now }
     {
-        *block = self.line;
-        block[self.place] = b'0' + last_digit;
-        self.place + 1
+        ReadyLine::of(self.number, self.word, self.place, self.line)
+    }
+
+    /// The line of this number and of a word.
+    #[inline]
+    pub(crate) fn line_with(&mut self, word: Word) -> ReadyLine
+        ensures same { self.new ≡ self.old }
+        ensures line { result ≡ record { number = self.old; word = word } }
+    {
+        if !self.word.is(word) {
+            put_word(&mut self.line, self.place + 1, word);
+            self.word = word;
+        }
+        ReadyLine::of(self.number, word, self.place, self.line)
     }
 
     /// Goes on to the next number.
@@ -134,19 +124,7 @@ impl EventNumber {
             self.number = number;
             self.last_digit = 0;
         } else {
-            *self = EventNumber::of(number);
+            *self = EventNumber::of(number, self.word);
         }
     }
-}
-
-/// The line of a step of a number with these digits, at the beginning of a block.
-fn step_line(digits: &[u8]) -> [u8; LONGEST_STEP]
-    requires { length digits.now ≤ LONGEST_NUMBER }
-    ensures { take (length digits.now + 9) result ≡ digits.now ++ codes " stepped\n" }
-{
-    let mut line = [0; LONGEST_STEP];
-    let end = digits.len();
-    line[..end].copy_from_slice(digits);
-    line[end..end + STEPPED.len()].copy_from_slice(STEPPED);
-    line
 }

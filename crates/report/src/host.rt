@@ -17,7 +17,8 @@ impl Lines {
         requires { HasRoom self.old }
         ensures { self.new ≡ self.old ++ left_line number.now }
     {
-        self.word(number, b" left\n");
+        self.event_number(number);
+        self.text(b" left\n");
     }
 
     /// Adds the line of a history of so many entries that the replay of its events agrees with.

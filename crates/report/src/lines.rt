@@ -1,11 +1,13 @@
 //! Lines of output that gather before they are written.
 
-ghost use Rattle.std.specs.Prelude.{◌≡◌, ◌+◌, ◌%◌, ◌^◌, ◌<◌, ◌≤◌, ◌↔◌, ◌++◌, [], IfOk, IsTrue, decimal, length, take};
+ghost use Rattle.std.specs.Prelude.{◌≡◌, ◌+◌, ◌-◌, ◌%◌, ◌^◌, ◌<◌, ◌≤◌, ◌↔◌, ◌++◌, [], IfOk, IsTrue, decimal, length, take};
 ghost use Rattle.report.specs.Lines.{HasRoom};
-ghost use Rattle.report.specs.Reply.{stepped_line, stepped_lines};
+ghost use Rattle.report.specs.Word.{word_line, word_lines};
 
-use crate::event_number::{EventNumber, LONGEST_NUMBER, LONGEST_STEP, STEPPED};
-use crate::step::{LONGEST_TEN, write_step, write_ten};
+use crate::event_number::EventNumber;
+use crate::ready_line::{LONGEST_NUMBER, LONGEST_WORD_LINE};
+use crate::word::Word;
+use crate::word_lines::{LONGEST_TEN, write_line, write_ten};
 use itoa::Buffer;
 use std::alloc::{AllocError, Global};
 use std::marker::Model;
@@ -89,76 +91,81 @@ impl Lines {
         self.used = end;
     }
 
-    /// Adds the line of a step of a number.
+    /// Adds the line of the event of a number that replied a word.
     #[inline]
-    pub(crate) fn stepped(&mut self, number: &EventNumber)
-        requires { length self.old + LONGEST_STEP ≤ ROOM }
-        ensures { self.new ≡ self.old ++ stepped_line number.now }
+    pub(crate) fn one_word(&mut self, number: &mut EventNumber, word: Word)
+        requires { length self.old + LONGEST_WORD_LINE ≤ ROOM }
+        ensures line { self.new ≡ self.old ++ word_line word number.old }
+        ensures number { number.new ≡ number.old }
     {
-        let digits = write_step(&mut self.buffer, self.used, number, number.last_digit());
-        self.used += digits + STEPPED.len();
+        let line = number.line_with(word);
+        let digits = write_line(&mut self.buffer, self.used, &line, number.last_digit());
+        self.used += digits + word.length();
     }
 
-    /// Adds the lines of so many steps, from a number on, as long as there is room for one line
-    /// more. Answers how many, and goes on to the number behind them.
-    pub fn steps(&mut self, number: &mut EventNumber, count: u64) -> u64
+    /// Adds the lines of so many events that all replied this word, from a number on, as long as
+    /// there is room for one line more. Answers how many, and goes on to the number behind them.
+    pub fn words(&mut self, number: &mut EventNumber, word: Word, count: u64) -> u64
         requires room { HasRoom self.old }
         requires some { 0 < count }
         requires fits { number.old + count < 2 ^ 64 }
         ensures some { 0 < result }
         ensures most { result ≤ count }
         ensures full { result < count → ROOM < length self.new + LONGEST_LINE }
-        ensures lines { self.new ≡ self.old ++ stepped_lines number.old result }
+        ensures lines { self.new ≡ self.old ++ word_lines word number.old result }
         ensures number { number.new ≡ number.old + result }
+        ensures left { word_lines word number.old count
+            ≡ word_lines word number.old result ++ word_lines word number.new (count - result) }
     {
-        let mut told = self.some_steps(number, count);
+        let mut told = self.some_words(number, word, count);
         while told < count && self.has_room() {
-            told += self.some_steps(number, count - told);
+            told += self.some_words(number, word, count - told);
         }
         told
     }
 
-    /// Adds the line of one step or those of ten, at most so many. Answers how many, and goes on to
-    /// the number behind them.
-    fn some_steps(&mut self, number: &mut EventNumber, most: u64) -> u64
+    /// Adds the line of one such event or those of ten, at most so many. Answers how many, and goes
+    /// on to the number behind them.
+    fn some_words(&mut self, number: &mut EventNumber, word: Word, most: u64) -> u64
         requires room { HasRoom self.old }
         requires some { 0 < most }
         requires fits { number.old + most < 2 ^ 64 }
         ensures some { 0 < result }
         ensures most { result ≤ most }
-        ensures lines { self.new ≡ self.old ++ stepped_lines number.old result }
+        ensures lines { self.new ≡ self.old ++ word_lines word number.old result }
         ensures number { number.new ≡ number.old + result }
     {
         if most >= 10 && number.last_digit() == 0 && self.used + LONGEST_TEN <= ROOM {
-            self.ten_steps(number);
+            self.ten_words(number, word);
             return 10;
         }
-        self.stepped(number);
+        self.one_word(number, word);
         number.advance();
         1
     }
 
-    /// Adds the lines of ten steps, of a number that ends in 0 and of the nine after it, and goes
-    /// on to the number behind them.
-    fn ten_steps(&mut self, number: &mut EventNumber)
+    /// Adds the lines of ten such events, of a number that ends in 0 and of the nine after it, and
+    /// goes on to the number behind them.
+    fn ten_words(&mut self, number: &mut EventNumber, word: Word)
         requires ten { number.old % 10 ≡ 0 }
         requires fits { number.old + 10 < 2 ^ 64 }
         requires room { length self.old + LONGEST_TEN ≤ ROOM }
-        ensures lines { self.new ≡ self.old ++ stepped_lines number.old 10 }
+        ensures lines { self.new ≡ self.old ++ word_lines word number.old 10 }
         ensures number { number.new ≡ number.old + 10 }
     {
-        self.used = write_ten(&mut self.buffer, self.used, number);
+        self.used = write_ten(&mut self.buffer, self.used, number, word);
         number.advance_by_ten();
     }
 
     /// Adds the number of an event.
     #[inline]
     pub(crate) fn event_number(&mut self, number: &EventNumber)
-        requires { length self.old + LONGEST_STEP ≤ ROOM }
+        requires { length self.old + LONGEST_WORD_LINE ≤ ROOM }
         ensures added { self.new ≡ self.old ++ decimal number.now }
         ensures grown { length self.new ≤ length self.old + LONGEST_NUMBER }
     {
-        let digits = write_step(&mut self.buffer, self.used, number, number.last_digit());
+        let line = number.line();
+        let digits = write_line(&mut self.buffer, self.used, &line, number.last_digit());
         self.used += digits;
     }
 

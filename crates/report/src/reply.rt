@@ -8,12 +8,10 @@ ghost use Rattle.report.specs.Reply.{of_device_text, reply_line, subject_words};
 
 use crate::event_number::EventNumber;
 use crate::lines::{Lines, ROOM};
+use crate::word::Word;
 use crate::words::{bug_check_text, status_text};
 use model::event::{Bug, Lock, OfDevice, Place, Reply, Subject};
 use model::status::Status;
-
-/// Bytes of a reply that is a word, at most.
-pub(crate) const LONGEST_WORD: usize = 16;
 
 /// Bytes of what a bug check is about, at most.
 const LONGEST_SUBJECT: usize = 70;
@@ -24,16 +22,17 @@ const LONGEST_OF_DEVICE: usize = 60;
 impl Lines {
     /// Adds the line of the event of a number: the number, and what the run answered.
     #[inline]
-    pub fn reply(&mut self, number: &EventNumber, reply: &Reply)
+    pub fn reply(&mut self, number: &mut EventNumber, reply: &Reply)
         requires { HasRoom self.old }
-        ensures { self.new ≡ self.old ++ reply_line number.now reply.now }
+        ensures line { self.new ≡ self.old ++ reply_line number.old reply.now }
+        ensures number { number.new ≡ number.old }
     {
         match *reply {
-            Reply::Stepped => self.stepped(number),
-            Reply::Finished => self.word(number, b" finished\n"),
-            Reply::Waited => self.word(number, b" waited\n"),
-            Reply::Idle => self.word(number, b" idle\n"),
-            Reply::Refused => self.word(number, b" refused\n"),
+            Reply::Stepped => self.one_word(number, Word::Stepped),
+            Reply::Finished => self.one_word(number, Word::Finished),
+            Reply::Waited => self.one_word(number, Word::Waited),
+            Reply::Idle => self.one_word(number, Word::Idle),
+            Reply::Refused => self.one_word(number, Word::Refused),
             Reply::Started(packet) => self.started(number, packet),
             Reply::Topped {
                 packet,
@@ -43,16 +42,6 @@ impl Lines {
             Reply::Bug(bug) => self.bug(number, bug),
             Reply::Wrong(place) => self.wrong(number, place),
         }
-    }
-
-    /// Adds a number and the rest of its line.
-    pub(crate) fn word(&mut self, number: &EventNumber, rest: &[u8])
-        requires room { HasRoom self.old }
-        requires short { length rest.now ≤ LONGEST_WORD }
-        ensures { self.new ≡ self.old ++ (decimal number.now ++ rest.now) }
-    {
-        self.event_number(number);
-        self.text(rest);
     }
 
     fn started(&mut self, number: &EventNumber, packet: u64)

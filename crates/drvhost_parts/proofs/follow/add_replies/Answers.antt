@@ -1,7 +1,7 @@
-use Rattle.std.proofs.Common.{◌≡◌, ◌-◌, ap, arith, refl, replicate, rules}
+use Rattle.std.proofs.Common.{◌≡◌, ◌∙◌, ◌-◌, ap, arith, replicate, rules, sym}
 use Rattle.std.proofs.lemmas.Result.{err_from_is_err_and}
 use Rattle.drvhost_parts.specs.Answer.{reply_lines}
-use Rattle.drvhost_parts.proofs.Following.{lines_stepped, next_reply}
+use Rattle.drvhost_parts.proofs.Following.{lines_word, next_reply}
 use Rattle.drvhost_parts.proofs.Judging.{certified_all, certified_broken, certified_line, certified_room}
 use Rattle.drvhost_parts.proofs.follow.add_replies.Goals as goal
 
@@ -24,7 +24,7 @@ loop-preserved g c =
       few = search rules;
       fine = search rules;
       certified =
-          rw (c.advance.ensures, c.reply.ensures)
+          rw (c.advance.ensures, c.reply.ensures.number, c.reply.ensures.line)
           (certified_line _ _ _ _ _ _ _ _
           (certified_room _ _ _ _ _ _ _ _ c.loop.invariant.certified
           c.in_ok-make_room.ensures.written)
@@ -32,16 +32,14 @@ loop-preserved g c =
           c.loop-test.true));
     }
 
-pub returns-then-is_step-clause-added : goal.returns-then-is_step-clause-added
-returns-then-is_step-clause-added g c =
-    rw (
-      c.if-is_step.ensures.0 refl,
-      lines_stepped c.args.number.now c.args.count,
-    ) c.add_steps.ensures.added
+pub returns-in-Some-clause-added : goal.returns-in-Some-clause-added
+returns-in-Some-clause-added g c =
+    rw (lines_word c.in-Some.word c.args.reply.now (sym c.of.ensures ∙ c.in-Some.is)
+    c.args.number.now c.args.count)
+    c.add_words.ensures.added
 
-pub returns-then-is_step-clause-broken : goal.returns-then-is_step-clause-broken
-returns-then-is_step-clause-broken g c =
-    rw (
-      c.if-is_step.ensures.0 refl,
-      lines_stepped c.args.number.now c.args.count,
-    ) c.add_steps.ensures.broken
+pub returns-in-Some-clause-broken : goal.returns-in-Some-clause-broken
+returns-in-Some-clause-broken g c =
+    rw (lines_word c.in-Some.word c.args.reply.now (sym c.of.ensures ∙ c.in-Some.is)
+    c.args.number.now c.args.count)
+    c.add_words.ensures.broken

@@ -19,7 +19,7 @@ loop-told-preserved g c =
       numbered = search rules;
       fine = search rules;
       certified =
-          rw (c.tell_command.ensures, number)
+          rw (c.tell_command.ensures.line, number)
           (certified_line _ _ _ _ _ _ _ _
           (certified_room _ _ _ _ _ _ _ _ c.loop-told.invariant.certified
           c.in_ok-make_room.ensures.written) next);

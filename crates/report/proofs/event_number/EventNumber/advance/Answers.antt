@@ -1,5 +1,6 @@
 use Rattle.std.proofs.Common.{◌+◌, arith}
 use Rattle.report.proofs.Digits.{ready_other}
+use Rattle.report.specs.Word.{word_text}
 use Rattle.report.proofs.event_number.EventNumber.advance.Goals as goal
 
 pub invariant_of-self : goal.invariant_of-self
@@ -7,6 +8,6 @@ invariant_of-self c = (
   omega arith,
   omega arith,
   ready_other c.self.inside.number (c.self.inside.number + 1) c.self.inside.place
-      c.self.inside.line c.self.invariant.2 (omega (arith, c.self.invariant.1)) (omega arith)
+      (word_text c.self.inside.word) c.self.inside.line c.self.invariant.2 (omega (arith, c.self.invariant.1)) (omega arith)
       (omega arith),
 )

@@ -1,5 +1,6 @@
 use Rattle.std.proofs.Common.{◌+◌, arith}
 use Rattle.report.proofs.Digits.{ready_other}
+use Rattle.report.specs.Word.{word_text}
 use Rattle.report.proofs.event_number.EventNumber.advance_by_ten.Goals as goal
 
 pub invariant_of-self : goal.invariant_of-self
@@ -7,5 +8,5 @@ invariant_of-self c = (
   omega arith,
   omega arith,
   ready_other c.self.inside.number (c.self.inside.number + 9) c.self.inside.place
-      c.self.inside.line c.self.invariant.2 (omega arith) (omega arith) (omega arith),
+      (word_text c.self.inside.word) c.self.inside.line c.self.invariant.2 (omega arith) (omega arith) (omega arith),
 )

@@ -1,4 +1,4 @@
 use Rattle.report.proofs.lines.Lines.reply.Goals as goal
 
-pub returns-in-Topped : goal.returns-in-Topped
-returns-in-Topped c = rw c.in-Topped.is c.topped.ensures
+pub returns-in-Topped-clause-line : goal.returns-in-Topped-clause-line
+returns-in-Topped-clause-line c = rw c.in-Topped.is c.topped.ensures

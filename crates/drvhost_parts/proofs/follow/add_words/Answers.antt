@@ -1,8 +1,7 @@
 use Rattle.std.proofs.Common.{arith, rules}
 use Rattle.std.proofs.lemmas.Result.{err_from_is_err_and}
-use Rattle.report.proofs.Steps.{stepped_split}
 use Rattle.drvhost_parts.proofs.Judging.{certified_broken, certified_line, certified_room}
-use Rattle.drvhost_parts.proofs.follow.add_steps.Goals as goal
+use Rattle.drvhost_parts.proofs.follow.add_words.Goals as goal
 
 pub returns-in_err-make_room-clause-broken : goal.returns-in_err-make_room-clause-broken
 returns-in_err-make_room-clause-broken g c =
@@ -17,8 +16,8 @@ loop-left-preserved g c =
       numbered = omega (arith, c.loop-left.invariant.numbered);
       fine = search rules;
       certified =
-          rw (c.steps-left.ensures.lines, c.steps-left.ensures.number)
+          rw c.words-left.ensures.lines
           (certified_line _ _ _ _ _ _ _ _
           (certified_room _ _ _ _ _ _ _ _ c.loop-left.invariant.certified
-          c.in_ok-make_room.ensures.written) (stepped_split _ _ _ c.steps-left.ensures.most));
+          c.in_ok-make_room.ensures.written) c.words-left.ensures.left);
     }

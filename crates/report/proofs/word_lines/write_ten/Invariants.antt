@@ -1,6 +1,6 @@
 use Rattle.std.proofs.Common.{◌≡◌, ◌≤◌, ◌+◌, ◌*◌, ◌++◌, length, take}
-use Rattle.report.specs.Reply.{stepped_lines}
-use Rattle.report.proofs.step.write_ten.Given as goal
+use Rattle.report.specs.Word.{word_lines}
+use Rattle.report.proofs.word_lines.write_ten.Given as goal
 
 abbrev pub invariant-loop-last_digit : goal.invariant-loop-last_digit
 invariant-loop-last_digit l =
@@ -9,5 +9,5 @@ invariant-loop-last_digit l =
       end : l.at ≤ l.fn.start + 32 * l.last_digit;
       lines :
           take l.at l.buffer
-          ≡ take l.fn.start l.fn.buffer ++ stepped_lines l.fn.number l.last_digit;
+          ≡ take l.fn.start l.fn.buffer ++ word_lines l.fn.word l.fn.number l.last_digit;
     }

@@ -1,7 +1,7 @@
 use Rattle.std.proofs.Common.{◌≡◌, ◌+◌}
-use Rattle.report.specs.Reply.{stepped_lines}
+use Rattle.report.specs.Word.{word_lines}
 use Rattle.drvhost_parts.proofs.Judging.{Certified}
-use Rattle.drvhost_parts.proofs.follow.add_steps.Given as goal
+use Rattle.drvhost_parts.proofs.follow.add_words.Given as goal
 
 abbrev pub invariant-loop-left : goal.invariant-loop-left
 invariant-loop-left g l =
@@ -9,7 +9,7 @@ invariant-loop-left g l =
       numbered : l.number + l.left ≡ l.fn.number + l.count;
       fine : g.O.Sink.failures l.out ≡ g.O.Sink.failures l.initial.out;
       certified :
-          Certified (stepped_lines l.fn.number l.count) (stepped_lines l.number l.left)
+          Certified (word_lines l.fn.word l.fn.number l.count) (word_lines l.fn.word l.number l.left)
           (g.O.Sink.contents l.initial.out) (g.O.Sink.contents l.out) l.initial.lines l.lines;
     }
 

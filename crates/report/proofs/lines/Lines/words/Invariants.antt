@@ -1,6 +1,6 @@
 use Rattle.std.proofs.Common.{◌≡◌, ◌≤◌, ◌<◌, ◌+◌, ◌-◌, ◌++◌}
-use Rattle.report.specs.Reply.{stepped_lines}
-use Rattle.report.proofs.lines.Lines.steps.Given as goal
+use Rattle.report.specs.Word.{word_lines}
+use Rattle.report.proofs.lines.Lines.words.Given as goal
 
 abbrev pub invariant-loop-told : goal.invariant-loop-told
 invariant-loop-told l =
@@ -8,7 +8,7 @@ invariant-loop-told l =
       some : 0 < l.told;
       most : l.told ≤ l.count;
       number : l.number ≡ l.fn.number + l.told;
-      lines : l.self ≡ l.fn.self ++ stepped_lines l.fn.number l.told;
+      lines : l.self ≡ l.fn.self ++ word_lines l.fn.word l.fn.number l.told;
     }
 
 abbrev pub decreases-loop-told : goal.decreases-loop-told
