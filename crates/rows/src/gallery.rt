@@ -1,6 +1,5 @@
 //! The wrong drivers of the folder gallery: their verdicts, what they do without one, and what the
-//! mended ones do. Each rule of the verifier but want of memory is broken by one, and each bug check
-//! is met.
+//! mended ones do.
 
 use crate::case::{is_judged_so, runs_so};
 use crate::wrong_drivers_first::FIRST;
@@ -27,39 +26,6 @@ pub(crate) struct Mended {
     pub(crate) driver: &'static str,
     pub(crate) lines: &'static str,
 }
-
-/// All rules but want of memory.
-static RULES: [&str; 19] = [
-    "refused V1 Malformed ",
-    "refused V2 Unreachable ",
-    "refused V3 StatesDiffer ",
-    "refused V4 WrongKind ",
-    "refused V5 DoubleCompletion ",
-    "refused V6 MarkIrpPending ",
-    "refused V7 CancelSpinLock ",
-    "refused V8 SpinLock ",
-    "refused V9 LockHeld ",
-    "refused V10 Level ",
-    "refused V11 Guard ",
-    "refused V12 CancelState ",
-    "refused V13 Dropped ",
-    "refused V14 Token ",
-    "refused V15 Sort ",
-    "refused V16 Completion ",
-    "refused V17 StackTooSmall ",
-    "refused V18 NoLower ",
-    "refused V19 TooLong ",
-];
-
-/// All bug checks.
-static BUG_CHECKS: [&str; 6] = [
-    " bug 0x0A ",
-    " bug 0x0F ",
-    " bug 0x10 ",
-    " bug 0x35 ",
-    " bug 0x44 ",
-    " bug 0x48 ",
-];
 
 /// Whether a driver is refused, runs and is mended as the folder says.
 fn is_as_stored(alloc: Global, wrong: &WrongDriver) -> bool {
@@ -96,21 +62,5 @@ fn is_mended(alloc: Global, wrong: &WrongDriver) -> bool {
 fn wrong_drivers(rt: HostRuntime) {
     for wrong in FIRST.iter().chain(SECOND.iter()) {
         assert!(rt; is_as_stored(rt.alloc(), wrong), "{}", wrong.name);
-    }
-}
-
-#[test]
-fn each_rule_is_broken(rt: HostRuntime) {
-    for rule in RULES.iter() {
-        let mut all = FIRST.iter().chain(SECOND.iter());
-        assert!(rt; all.any(|wrong| wrong.refused.starts_with(*rule)), "{rule}");
-    }
-}
-
-#[test]
-fn each_bug_check_is_met(rt: HostRuntime) {
-    for bug in BUG_CHECKS.iter() {
-        let mut all = FIRST.iter().chain(SECOND.iter());
-        assert!(rt; all.any(|wrong| wrong.lines.contains(*bug)), "{bug}");
     }
 }
