@@ -1,0 +1,177 @@
+//! Refusals explained, and the routines of an accepted set by name.
+
+ghost use Rattle.std.specs.Prelude.{◌≡◌, ◌⊎◌};
+ghost use Rattle.model.specs.Typable.{IsFirstFault, at_start};
+
+use crate::names::Names;
+use crate::path::add_path;
+use crate::place::{Scene, sort_word};
+use crate::rules::{Lesson, lesson_of, not_entered, of_set};
+use crate::source::Source;
+use crate::state::{add_differences, add_state};
+use absstate::Abs;
+use asm_source::instruction_lines;
+use driver_set::DriverSet;
+use evidence::{Evidence, Path, evidence_of};
+use model::abs::{Refusal, Rule};
+use model::instr::Instr;
+use model::set::{Driver, Routine};
+use std::alloc::{AllocError, Global};
+
+/// A refusal of a set that a text names, told in words: where it stands in the text, the path that
+/// leads there with the state that arrives, and why the rule is broken.
+///
+/// # Errors
+///
+/// When memory runs out.
+pub fn explanation(
+    alloc: Global,
+    text: &[u8],
+    set: &DriverSet,
+    refusal: &Refusal,
+) -> Result<String, AllocError>
+    requires { (refusal.now ≡ at_start Rule.Memory) ⊎ IsFirstFault set.now refusal.now }
+{
+    let mut prose = String::new(alloc);
+    let Some(evidence) = evidence_of(alloc, set, refusal)? else {
+        add_lesson(&mut prose, of_set(refusal.rule))?;
+        return Ok(prose);
+    };
+    if let Some(routine) = routine_of(set, refusal) {
+        let scene = scene_of(alloc, text, refusal, routine)?;
+        add_evidence(&mut prose, &scene, routine, &evidence)?;
+    }
+    Ok(prose)
+}
+
+/// The routine of a refusal.
+fn routine_of<'s>(set: &'s DriverSet, refusal: &Refusal) -> Option<&'s Routine> {
+    let driver = set.drivers().get(refusal.driver as usize)?;
+    driver.routines.as_slice().get(refusal.routine as usize)
+}
+
+/// The routine of a refusal as its text has it.
+fn scene_of<'t>(
+    alloc: Global,
+    text: &'t [u8],
+    refusal: &Refusal,
+    routine: &Routine,
+) -> Result<Scene<'t>, AllocError> {
+    let source = Source::of(alloc, text)?;
+    let names = Names::of(alloc, &source, refusal.driver)?;
+    let lines = instruction_lines(alloc, text, refusal.driver, refusal.routine)?;
+    Ok(Scene {
+        refusal: *refusal,
+        sort: routine.sort,
+        source,
+        names,
+        lines,
+    })
+}
+
+/// Adds where a refusal stands, what leads there, and why the rule is broken.
+fn add_evidence(
+    prose: &mut String,
+    scene: &Scene<'_>,
+    routine: &Routine,
+    evidence: &Evidence,
+) -> Result<(), AllocError> {
+    scene.add_place(prose)?;
+    match evidence {
+        Evidence::Misplaced | Evidence::Unreached => add_why(prose, scene, routine, None),
+        Evidence::NotEntered => add_lesson(prose, not_entered()),
+        Evidence::Broken(path) => {
+            add_arrival(prose, scene, "a path there:\n", path)?;
+            add_why(prose, scene, routine, Some(&path.last.state))
+        }
+        Evidence::TooLong(path, count) => {
+            add_arrival(prose, scene, "a path there:\n", path)?;
+            write!(prose, "up to there: {count} instructions\n")?;
+            add_why(prose, scene, routine, None)
+        }
+        Evidence::Differing(one, other) => {
+            add_arrival(prose, scene, "one path there:\n", one)?;
+            add_arrival(prose, scene, "another path there:\n", other)?;
+            add_differences(prose, &scene.names, &one.last.state, &other.last.state)?;
+            add_why(prose, scene, routine, None)
+        }
+        Evidence::Unlike(start, end) => {
+            add_arrival(prose, scene, "the path to the loop:\n", start)?;
+            add_arrival(prose, scene, "the path to its end:\n", end)?;
+            add_differences(prose, &scene.names, &start.last.state, &end.last.state)?;
+            add_why(prose, scene, routine, None)
+        }
+    }
+}
+
+/// Adds a path and the state that arrives along it.
+fn add_arrival(
+    prose: &mut String,
+    scene: &Scene<'_>,
+    title: &str,
+    path: &Path,
+) -> Result<(), AllocError> {
+    prose.push_str(title)?;
+    add_path(prose, scene, path)?;
+    prose.push_str("what is known where it arrives:\n")?;
+    add_state(prose, &scene.names, &path.last.state)
+}
+
+/// Adds why the rule is broken by the instruction at the place.
+fn add_why(
+    prose: &mut String,
+    scene: &Scene<'_>,
+    routine: &Routine,
+    state: Option<&Abs>,
+) -> Result<(), AllocError> {
+    let Refusal { at, rule, .. } = scene.refusal;
+    match routine.code.as_slice().get(at as usize) {
+        Some(instr) => add_lesson(prose, lesson_of(rule, instr, routine.sort, state)),
+        None => add_lesson(prose, lesson_of(rule, &Instr::Next, routine.sort, state)),
+    }
+}
+
+/// Adds why a rule is broken, where that is written, and how to mend it.
+fn add_lesson(prose: &mut String, lesson: Lesson) -> Result<(), AllocError> {
+    let Lesson { why, source, mend } = lesson;
+    write!(prose, "why: {why}\n")?;
+    write!(prose, "see: {source}\n")?;
+    write!(prose, "mend it: {mend}\n")
+}
+
+/// The routines of a set that a text names, a line each: where they stand, their sort and their
+/// names.
+///
+/// # Errors
+///
+/// When memory runs out.
+pub fn roll(alloc: Global, text: &[u8], set: &DriverSet) -> Result<String, AllocError> {
+    let mut prose = String::new(alloc);
+    let source = Source::of(alloc, text)?;
+    let mut number: u8 = 0;
+    for driver in set.drivers() {
+        let names = Names::of(alloc, &source, number)?;
+        add_roll(&mut prose, &names, number, driver)?;
+        number = number.saturating_add(1);
+    }
+    Ok(prose)
+}
+
+/// Adds the lines of a driver's routines.
+fn add_roll(
+    prose: &mut String,
+    names: &Names<'_>,
+    number: u8,
+    driver: &Driver,
+) -> Result<(), AllocError> {
+    let mut place: u8 = 0;
+    for routine in driver.routines.as_slice() {
+        write!(prose, "driver {number} routine {place}: ")?;
+        crate::names::add_name(prose, names.driver.as_ref(), "driver", number)?;
+        prose.push_str(", ")?;
+        names.add_routine(prose, place)?;
+        write!(prose, " ({})\n", sort_word(routine.sort))?;
+        place = place.saturating_add(1);
+    }
+    Ok(())
+}
