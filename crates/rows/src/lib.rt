@@ -33,15 +33,11 @@ mod faulty_drivers;
 #[cfg(test)]
 mod faulty_queues;
 #[cfg(test)]
-mod gallery;
-#[cfg(test)]
 mod holds;
 #[cfg(test)]
 mod images;
 #[cfg(test)]
 mod limits;
-#[cfg(test)]
-mod links;
 #[cfg(test)]
 mod listings;
 #[cfg(test)]
@@ -66,7 +62,3 @@ mod stacks;
 mod texts;
 #[cfg(test)]
 mod worked;
-#[cfg(test)]
-mod wrong_drivers_first;
-#[cfg(test)]
-mod wrong_drivers_second;
