@@ -4,3 +4,4 @@ pub mod Fault
 pub mod Repeats
 pub mod Ends
 pub mod Laws
+pub mod Outside

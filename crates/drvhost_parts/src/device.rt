@@ -73,9 +73,11 @@ impl<R: Read> Reader<R> {
 }
 
 impl<R: Read> Source for Reader<R> {
-    ghost failures = { λ source. source.failures };
+    ghost use Rattle.drvhost_parts.specs.Outside.{reader_failures, reader_supply};
 
-    ghost supply = { λ source. supply_of R.remaining source.reader };
+    ghost failures = { λ source. reader_failures source };
+
+    ghost supply = { λ source. reader_supply R.remaining source };
 
     fn failures(&self) -> u64 {
         self.failures
@@ -120,9 +122,11 @@ impl<W: Write> Writer<W> {
 }
 
 impl<W: Write> Sink for Writer<W> {
-    ghost failures = { λ sink. sink.failures };
+    ghost use Rattle.drvhost_parts.specs.Outside.{writer_contents, writer_failures};
 
-    ghost contents = { λ sink. W.contents sink.writer };
+    ghost failures = { λ sink. writer_failures sink };
+
+    ghost contents = { λ sink. writer_contents W.contents sink };
 
     fn failures(&self) -> u64 {
         self.failures
