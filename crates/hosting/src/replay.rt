@@ -1,6 +1,7 @@
 //! The replay of a history on the reference machine.
 
-ghost use Rattle.std.specs.Prelude.{◌≡◌, ℕ, IsTrue, [], true};
+ghost use Rattle.std.specs.Prelude.{◌≡◌, ◌↔◌, ℕ, IsTrue, [], true};
+ghost use Rattle.model.specs.declared.event.Reply.TheVariants.{Topped};
 ghost use Rattle.model.specs.Machine.{ShowsWhole};
 ghost use Rattle.hosting.specs.Replay.{IsReplay};
 ghost use Rattle.run_laws.specs.NeverStops.{LetsGoOn};
@@ -8,6 +9,7 @@ ghost use Rattle.run_laws.specs.NeverStops.{LetsGoOn};
 use checked::Checked;
 use model::event::Reply;
 use model::history::Entry;
+use model::status::Status;
 
 /// Whether two replies are the same and let the run go on.
 fn is_same(one: &Reply, other: &Reply) -> bool
@@ -15,25 +17,32 @@ fn is_same(one: &Reply, other: &Reply) -> bool
     ensures goes_on { IsTrue result → LetsGoOn one.now }
     ensures all { one.now ≡ other.now → LetsGoOn one.now → result ≡ true }
 {
-    match (*one, *other) {
-        (Reply::Started(one), Reply::Started(other)) => one == other,
-        (
-            Reply::Topped {
-                packet,
-                status,
-                info,
-            },
-            Reply::Topped {
-                packet: other_packet,
-                status: other_status,
-                info: other_info,
-            },
-        ) => packet == other_packet && status == other_status && info == other_info,
-        (Reply::Stepped, Reply::Stepped)
-        | (Reply::Finished, Reply::Finished)
-        | (Reply::Waited, Reply::Waited)
-        | (Reply::Idle, Reply::Idle)
-        | (Reply::Refused, Reply::Refused) => true,
+    match one {
+        Reply::Started(packet) => matches!(other, Reply::Started(told) if packet == told),
+        Reply::Topped {
+            packet,
+            status,
+            info,
+        } => is_topped(other, *packet, *status, *info),
+        Reply::Stepped => matches!(other, Reply::Stepped),
+        Reply::Finished => matches!(other, Reply::Finished),
+        Reply::Waited => matches!(other, Reply::Waited),
+        Reply::Idle => matches!(other, Reply::Idle),
+        Reply::Refused => matches!(other, Reply::Refused),
+        Reply::Bug(_) | Reply::Wrong(_) => false,
+    }
+}
+
+/// Whether a reply tells that this packet topped out, with this status and information.
+fn is_topped(reply: &Reply, packet: u64, status: Status, info: u64) -> bool
+    ensures { IsTrue result ↔ (reply.now ≡ Topped packet status info) }
+{
+    match reply {
+        Reply::Topped {
+            packet: told,
+            status: told_status,
+            info: told_info,
+        } => packet == *told && status == *told_status && info == *told_info,
         _ => false,
     }
 }
