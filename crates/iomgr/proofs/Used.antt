@@ -18,7 +18,8 @@ under_other (slot ∷ lying) (suc key) zero differs = refl
 under_other (slot ∷ lying) (suc key) (suc other) differs =
     under_other lying key other (λ e. differs (ap suc e))
 
-within : (lying : List (Option Packet)) (key : ℕ) → IsSome (under lying key) → key < length lying
+pub within : (lying : List (Option Packet)) (key : ℕ) → IsSome (under lying key)
+    → key < length lying
 within [] key some = absurd (false≢true some)
 within (slot ∷ lying) zero some = omega arith
 within (slot ∷ lying) (suc key) some = omega (arith, within lying key some)

@@ -1,6 +1,6 @@
 //! A list of packets that don't move.
 
-ghost use Rattle.std.specs.Prelude.{◌≡◌, ◌<◌, IfOk, IfSome, Some, length, option_map, slice_get};
+ghost use Rattle.std.specs.Prelude.{◌≡◌, ◌≤◌, ◌<◌, [], IfOk, IfSome, Some, length, option_map, slice_get};
 ghost use Rattle.model.specs.declared.limits.TheConstants.{MAX_LIVE_PACKETS};
 
 use irp::Packet;
@@ -35,27 +35,41 @@ impl Model for PacketList {
     ghost invariant = { λ l. IsSound l.slots l.keys.items (deque_capacity l.keys) };
 }
 
+/// Free slots, as many as packets that may live at once and no more: a key is below that number, so
+/// that others can keep something for each key.
+fn free_slots(alloc: Global) -> Result<Slab<Packet>, AllocError>
+    ensures { IfOk result (λ slots.
+        (slots.slots ≡ []) × (slots.capacity ≡ MAX_LIVE_PACKETS)) }
+{
+    let slots = Slab::with_capacity(alloc, MAX_LIVE_PACKETS)?;
+    if slots.capacity() > MAX_LIVE_PACKETS {
+        return Err(AllocError);
+    }
+    Ok(slots)
+}
+
 impl PacketList {
     ghost use Rattle.std.specs.Borrow.{sem};
     ghost use Rattle.iomgr.specs.Lending.{LendsSlot};
     ghost use Rattle.iomgr.specs.Slots.{Holds, IsFilled, IsOrdered, lies_at, no_slots, packet_at, place_at, without_slot};
 
-    /// An empty list. An error where memory for all packets that may live at once is refused; no
-    /// other call needs any.
+    /// An empty list. An error where memory for just as many packets as may live at once is
+    /// refused; no other call needs any.
     pub fn new(alloc: Global) -> Result<PacketList, AllocError>
         ensures { IfOk result (λ list. list ≡ no_slots) }
     {
         Ok(PacketList {
-            slots: Slab::with_capacity(alloc, MAX_LIVE_PACKETS)?,
+            slots: free_slots(alloc)?,
             keys: VecDeque::with_capacity(alloc, MAX_LIVE_PACKETS)?,
         })
     }
 
     /// The keys, the slots and the packets agree: a law of all lists, which runs nothing.
     pub fn slots_are_in_order(&self)
-        ensures { IsOrdered self.now }
+        ensures ordered { IsOrdered self.now }
+        ensures few { length self.now.lying ≤ MAX_LIVE_PACKETS }
     {
-        let _ = &self.slots;
+        let _ = self.slots.capacity();
     }
 
     /// How many packets there are.

@@ -1,7 +1,7 @@
 //! The table of live packets.
 
 ghost use Rattle.std.specs.Prelude.{◌≡◌, ◌≤◌, ◌<◌, IfOk, IfSome, IsSome, IsTrue, Some, option_map, slice_get};
-ghost use Rattle.model.specs.declared.limits.TheConstants.{MAX_STACK};
+ghost use Rattle.model.specs.declared.limits.TheConstants.{MAX_LIVE_PACKETS, MAX_STACK};
 
 use crate::numbers::number_place;
 use crate::packet_list::PacketList;
@@ -165,6 +165,7 @@ impl PacketTable {
     pub fn used(&self, slot: usize) -> Key
         requires { IsSome (lies_at self.now.live slot) }
         ensures key { result ≡ slot }
+        ensures low { result < MAX_LIVE_PACKETS }
         ensures holds { Holds self.now.live result }
     {
         self.live.slots_are_in_order();

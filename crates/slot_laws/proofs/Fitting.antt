@@ -3,6 +3,7 @@ pub mod SharedCells
 pub mod SharedLocks
 pub mod SharedQueues
 pub mod SharedStarts
+pub mod Unlisted
 pub mod LocalTop
 pub mod LocalOperands
 pub mod Events

@@ -1,6 +1,8 @@
 -- What an event on slots looks for, and finds: the instruction, its operands, the packet of a key,
--- a lock, a queue with room, room for another frame. Who carries an event out tests none of it.
-use Rattle.std.specs.Prelude.{ℕ, ◌≡◌, ◌≢◌, ◌<◌, ⊤, true, List, length, Some, is_some, slice_get}
+-- a lock, a queue with room, lists without the key that is put into one, room for another frame.
+-- Who carries an event out tests none of it.
+use Rattle.std.specs.Prelude.{ℕ, ◌≡◌, ◌≢◌, ◌<◌, ◌||◌, ⊤, Bool, true, false, List, length, Some, is_some, slice_get}
+use Rattle.std.specs.List.{list_any}
 use Rattle.model.specs.declared.event.Event.{Event}
 use Rattle.model.specs.declared.event.Event.TheVariants.{Issue, Cancel as CancelEvent, Interrupt, Dpc as DpcEvent, StartIo as StartIoEvent, Step}
 use Rattle.model.specs.declared.event.Lock.{Lock}
@@ -17,14 +19,14 @@ use Rattle.model.specs.declared.world.CancelStep.TheVariants.{Acquire as Acquire
 use Rattle.model.specs.declared.world.Packet.{Packet}
 use Rattle.model.specs.declared.world.Value.TheVariants.{Num, Ref, Status as StatusValue}
 use Rattle.model.specs.Effect.{spin_lock}
-use Rattle.model.specs.Queues.{StartState, has_room_for_next, has_room_to_start}
+use Rattle.model.specs.Queues.{StartState, has_room_for_next, has_room_to_start, is_linked}
 use Rattle.model.specs.Run.{run}
 use Rattle.model.specs.Set.{Set, instruction_at, lower_of}
 use Rattle.model.specs.Sound.{IsSound}
 use Rattle.model.specs.Typable.{IsTypable}
 use Rattle.model.specs.World.{innermost, owner_of, register}
 use Rattle.slot_laws.specs.Rep.{Means}
-use Rattle.slot_laws.specs.SlotStep.{top_frame}
+use Rattle.slot_laws.specs.SlotStep.{key_at, top_frame}
 use Rattle.slot_laws.specs.Slots.{SlotCancel, SlotFrame, SlotRoutine, SlotShared, SlotThread, SlotWalk, SlotWorld, packet_at, slot_queue, slot_start}
 
 -- a register has a number, a status, or the key of a slot with a packet
@@ -76,6 +78,20 @@ abbrev pub CanStartNext : SlotShared → ℕ → Type 0
 CanStartNext s device =
     (start : StartState) → slot_start s device ≡ Some start → has_room_for_next start ≡ true
 
+-- the key that is put into a list stands in none: in no queue of any device, no start list and no
+-- device queue
+abbrev pub in_queues : List (List (List ℕ)) → ℕ → Bool
+in_queues queues k =
+    list_any (λ lists. list_any (λ entries. is_linked entries k) lists) queues
+
+abbrev pub to_start : List StartState → ℕ → Bool
+to_start starts k =
+    list_any (λ start. is_linked start.start_list k || is_linked start.device_queue k) starts
+
+pub record CanBeListed (s : SlotShared) (k : ℕ) : Type 0 where
+  pub queues : in_queues s.queues k ≡ false
+  pub starts : to_start s.starts k ≡ false
+
 -- a packet has a location below its current one
 abbrev pub CanGoDown : SlotShared → Activation → ℕ → Type 0
 CanGoDown s a r =
@@ -114,14 +130,14 @@ InstructionFits set s t a (Release lock) = HasLock s (spin_lock a lock)
 InstructionFits set s t a AcquireCancel = CanAcquire s t SystemCancel
 InstructionFits set s t a ReleaseCancel = ⊤
 InstructionFits set s t a (Insert r q) =
-    HasKey s a r × HasQueue s a.device q × QueueHasRoom s a.device q
+    HasKey s a r × HasQueue s a.device q × QueueHasRoom s a.device q × CanBeListed s (key_at a r)
 InstructionFits set s t a (Remove r q label) = HasQueue s a.device q
 InstructionFits set s t a (Unlink r q) = HasKey s a r × HasQueue s a.device q
 InstructionFits set s t a (Arm r q) = HasKey s a r
 InstructionFits set s t a (Disarm r label) = HasKey s a r
 InstructionFits set s t a (IfCancel r label) = HasKey s a r
 InstructionFits set s t a (Start r) =
-    HasKey s a r × HasStart s a.device × CanStart s a.device
+    HasKey s a r × HasStart s a.device × CanStart s a.device × CanBeListed s (key_at a r)
 InstructionFits set s t a (Take r label) = HasStart s a.device
 InstructionFits set s t a (Begin r) = HasKey s a r × HasStart s a.device
 InstructionFits set s t a Next = HasStart s a.device × CanStartNext s a.device

@@ -1,2 +1,4 @@
 pub mod Issuing
+pub mod Lists
+pub mod Showing
 pub mod Walks

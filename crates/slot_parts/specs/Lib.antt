@@ -1,3 +1,4 @@
 pub mod Devices
+pub mod Lists
 pub mod Packets
 pub mod Walks

@@ -3,6 +3,7 @@
 //! there.
 #![tactic(auto)]
 
+mod device_lists;
 pub mod shared;
 
 pub use shared::Shared;

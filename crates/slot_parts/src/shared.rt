@@ -1,13 +1,12 @@
 //! What the threads of a run share, with packets named by the keys of their slots.
 
-ghost use Rattle.std.specs.Prelude.{◌≡◌, [], IfOk, replicate};
-ghost use Rattle.model.specs.declared.limits.TheConstants.{MAX_QUEUES};
-ghost use Rattle.model.specs.Queues.{idle};
+ghost use Rattle.std.specs.Prelude.{◌≡◌, ◌≤◌, IfOk};
+ghost use Rattle.model.specs.declared.limits.TheConstants.{MAX_DEVICES};
 
-use devqueue::{DeviceQueue, Guarded};
+use crate::device_lists::DeviceLists;
 use iomgr::PacketTable;
 use irql_locks::LockTable;
-use model::limits::{CELLS, MAX_QUEUES};
+use model::limits::CELLS;
 use model::world::Cells;
 use std::alloc::{AllocError, Global};
 use std::marker::Model;
@@ -22,14 +21,13 @@ mod starting;
 pub mod walking;
 
 /// The packets in their slots, the locks, and by device its cells, its queues, what it has for
-/// StartIo, and whether its DPC is queued. Entries of queues are keys of slots.
+/// StartIo, and whether its DPC is queued. Entries of lists are keys of slots.
 #[derive(Drop)]
 pub struct Shared {
     packet_table: PacketTable,
     lock_table: LockTable,
     cell_list: Vec<Cells>,
-    queue_list: Vec<[Guarded; MAX_QUEUES]>,
-    start_list: Vec<DeviceQueue>,
+    lists: DeviceLists,
     dpc_list: Vec<bool>,
 }
 
@@ -44,37 +42,10 @@ impl Model for Shared {
       issued = s.packet_table.issued;
       locks = s.lock_table;
       cells = s.cell_list.items;
-      queues = s.queue_list.items;
-      starts = s.start_list.items;
+      queues = s.lists.queues;
+      starts = s.lists.starts;
       dpcs = s.dpc_list.items;
     } };
-}
-
-/// The queues of so many devices, all empty.
-fn empty_queues(alloc: Global, devices: usize) -> Result<Vec<[Guarded; MAX_QUEUES]>, AllocError>
-    ensures { IfOk result (λ queues. queues.items ≡ replicate devices (replicate MAX_QUEUES [])) }
-{
-    let mut queues = Vec::with_capacity(alloc, devices)?;
-    for _device in 0..devices {
-        queues.push([
-            Guarded::new(alloc)?,
-            Guarded::new(alloc)?,
-            Guarded::new(alloc)?,
-            Guarded::new(alloc)?,
-        ])?;
-    }
-    Ok(queues)
-}
-
-/// What so many devices have for StartIo: they are idle.
-fn idle_devices(alloc: Global, devices: usize) -> Result<Vec<DeviceQueue>, AllocError>
-    ensures { IfOk result (λ starts. starts.items ≡ replicate devices idle) }
-{
-    let mut starts = Vec::with_capacity(alloc, devices)?;
-    for _device in 0..devices {
-        starts.push(DeviceQueue::new(alloc)?)?;
-    }
-    Ok(starts)
 }
 
 impl Shared {
@@ -83,6 +54,7 @@ impl Shared {
     /// What is there before the first event, for so many devices. An error where memory is refused;
     /// all that is ever needed is taken here.
     pub fn new(alloc: Global, devices: usize) -> Result<Shared, AllocError>
+        requires { devices ≤ MAX_DEVICES }
         ensures { IfOk result (λ s. s ≡ (opening_slots devices 0 0).shared) }
     {
         let blank = Cells {
@@ -93,8 +65,7 @@ impl Shared {
             packet_table: PacketTable::new(alloc)?,
             lock_table: LockTable::new(alloc, devices)?,
             cell_list: vec![in alloc; blank; devices]?,
-            queue_list: empty_queues(alloc, devices)?,
-            start_list: idle_devices(alloc, devices)?,
+            lists: DeviceLists::new(alloc, devices)?,
             dpc_list: vec![in alloc; false; devices]?,
         })
     }

@@ -2,7 +2,7 @@
 
 ghost use Rattle.std.specs.Prelude.{◌≡◌, ◌<◌};
 ghost use Rattle.model.specs.declared.limits.TheConstants.{MAX_INSTRUCTIONS};
-ghost use Rattle.slot_laws.specs.Fits.{HasKey, HasQueue, QueueHasRoom};
+ghost use Rattle.slot_laws.specs.Fits.{CanBeListed, HasKey, HasQueue};
 ghost use Rattle.slot_laws.specs.SlotStep.{goes_on, insert_step, key_at, remove_step, unlink_step};
 ghost use Rattle.slot_laws.specs.Slots.{slot_queue};
 
@@ -17,7 +17,7 @@ pub fn insert(shared: &mut Shared, r: Register, q: u8, a: &mut Activation)
     requires near { a.old.position < MAX_INSTRUCTIONS }
     requires key { HasKey shared.old a.old r }
     requires queue { HasQueue shared.old a.old.device q }
-    requires room { QueueHasRoom shared.old a.old.device q }
+    requires unlisted { CanBeListed shared.old (key_at a.old r) }
     ensures { let entries = slot_queue shared.old a.old.device q in
         goes_on shared.new a.new ≡ insert_step shared.old a.old q (key_at a.old r) entries }
 {

@@ -2,7 +2,7 @@
 
 ghost use Rattle.std.specs.Prelude.{◌≡◌, ◌<◌};
 ghost use Rattle.model.specs.declared.limits.TheConstants.{MAX_INSTRUCTIONS};
-ghost use Rattle.slot_laws.specs.Fits.{CanStart, CanStartNext, HasKey, HasStart};
+ghost use Rattle.slot_laws.specs.Fits.{CanBeListed, HasKey, HasStart};
 ghost use Rattle.slot_laws.specs.SlotStep.{begin_step, goes_on, key_at, next_step, start_step, take_step};
 ghost use Rattle.slot_laws.specs.Slots.{slot_start};
 
@@ -17,7 +17,7 @@ pub fn start(shared: &mut Shared, r: Register, a: &mut Activation)
     requires near { a.old.position < MAX_INSTRUCTIONS }
     requires key { HasKey shared.old a.old r }
     requires start { HasStart shared.old a.old.device }
-    requires room { CanStart shared.old a.old.device }
+    requires unlisted { CanBeListed shared.old (key_at a.old r) }
     ensures { let start = slot_start shared.old a.old.device in
         goes_on shared.new a.new ≡ start_step shared.old a.old (key_at a.old r) start }
 {
@@ -59,7 +59,6 @@ pub fn begin(shared: &mut Shared, r: Register, a: &mut Activation)
 pub fn start_next(shared: &mut Shared, a: &mut Activation)
     requires near { a.old.position < MAX_INSTRUCTIONS }
     requires start { HasStart shared.old a.old.device }
-    requires room { CanStartNext shared.old a.old.device }
     ensures { let start = slot_start shared.old a.old.device in
         goes_on shared.new a.new ≡ next_step shared.old a.old start }
 {

@@ -1,7 +1,7 @@
 //! The world of a run, and what an event does to it.
 
 ghost use Rattle.std.specs.Prelude.{◌≡◌, ◌≤◌, ◌<◌, ℕ, IfOk, IfSome, Some, slice_get};
-ghost use Rattle.model.specs.declared.limits.TheConstants.{MAX_STACK};
+ghost use Rattle.model.specs.declared.limits.TheConstants.{MAX_DEVICES, MAX_STACK};
 ghost use Rattle.model.specs.Events.{irql_of as irql_of_level};
 ghost use Rattle.model.specs.Set.{dpc_of, startio_of};
 ghost use Rattle.model.specs.View.{due_at, packet_at, thread_at};
@@ -65,6 +65,7 @@ impl Slots {
     /// So many devices and idle threads, before the first event. All memory that a run ever needs
     /// is taken here: an error where some of it is refused.
     pub fn new(alloc: Global, devices: usize, threads: u8) -> Result<Slots, AllocError>
+        requires { devices ≤ MAX_DEVICES }
         ensures { IfOk result (λ w. w ≡ opening_slots devices threads 0) }
     {
         let mut thread_list = Vec::with_capacity(alloc, threads as usize)?;
@@ -289,10 +290,10 @@ impl Slots {
         if !idle {
             return Reply::Refused;
         }
-        let Some(start) = self.shared.start_of(device) else {
+        if !self.shared.has_device(device) {
             return Reply::Refused;
-        };
-        let Some(key) = start.first_to_start() else {
+        }
+        let Some(key) = self.shared.first_to_start(device) else {
             return Reply::Idle;
         };
         let packet = self.shared.named(key);

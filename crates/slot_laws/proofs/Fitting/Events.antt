@@ -26,6 +26,7 @@ use Rattle.slot_laws.proofs.Fitting.SharedCells.{has_cells, has_lower}
 use Rattle.slot_laws.proofs.Fitting.SharedLocks.{can_acquire, cancel_can_acquire, has_lock}
 use Rattle.slot_laws.proofs.Fitting.SharedQueues.{has_queue, queue_has_room}
 use Rattle.slot_laws.proofs.Fitting.SharedStarts.{can_start, can_start_next, has_start}
+use Rattle.slot_laws.proofs.Fitting.Unlisted.{insert_unlisted, start_unlisted}
 use Rattle.slot_laws.specs.Fits.{CanAcquire, CancelFits, EventsFit, FrameFits, HasCells, HasKey, HasLock, HasNumber, HasQueue, HasStart, InstructionFits, ReturnFits, RoutineFits, ThreadFits}
 use Rattle.slot_laws.specs.Rep.{Means}
 use Rattle.slot_laws.specs.SlotStep.{top_frame}
@@ -106,6 +107,8 @@ module _ (set : Set) (typable : IsTypable set) (sound : IsSound set) (threads : 
       key (Insert r q) at r refl,
       queue (Insert r q) at q refl,
       queue_has_room set typable sound threads events v rep t x found a top r q at,
+      insert_unlisted set typable sound threads events v rep t x found a top r q at
+          (queue (Insert r q) at q refl),
     )
     instruction_fits (Remove r q label) at = queue (Remove r q label) at q refl
     instruction_fits (Unlink r q) at =
@@ -117,6 +120,8 @@ module _ (set : Set) (typable : IsTypable set) (sound : IsSound set) (threads : 
       key (Start r) at r refl,
       start (Start r) at refl,
       can_start set typable sound threads events v rep t x found a top r at,
+      start_unlisted set typable sound threads events v rep t x found a top r at
+          (start (Start r) at refl),
     )
     instruction_fits (Take r label) at = start (Take r label) at refl
     instruction_fits (Begin r) at = (key (Begin r) at r refl, start (Begin r) at refl)

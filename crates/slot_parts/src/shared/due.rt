@@ -31,10 +31,7 @@ impl Shared {
     pub fn due(&self, device: u8) -> (bool, bool)
         ensures { result ≡ slot_due self.now device }
     {
-        let starts = match self.start_list.get(device as usize) {
-            Some(start) => start.first_to_start().is_some(),
-            None => false,
-        };
+        let starts = self.has_device(device) && self.first_to_start(device).is_some();
         (starts, self.is_queued(device))
     }
 }

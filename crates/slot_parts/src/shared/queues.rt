@@ -1,24 +1,27 @@
 //! The queues of devices: their entries are keys.
 
-ghost use Rattle.std.specs.Prelude.{◌≡◌, ◌<◌, length};
-ghost use Rattle.model.specs.declared.limits.TheConstants.{MAX_ENTRIES, MAX_QUEUES};
+ghost use Rattle.std.specs.Prelude.{◌≡◌, ◌<◌, IsSome, length};
+ghost use Rattle.model.specs.declared.limits.TheConstants.{MAX_QUEUES};
 
 use super::Shared;
 
 impl Shared {
     ghost use Rattle.model.specs.Queues.{head_of, inserted, is_linked, unlinked, without_head};
-    ghost use Rattle.slot_laws.specs.Slots.{with_slot_queue};
+    ghost use Rattle.slot_laws.specs.Fits.{CanBeListed};
+    ghost use Rattle.slot_laws.specs.Slots.{packet_at, with_slot_queue};
     ghost use Rattle.slot_parts.specs.Devices.{entries_in};
 
-    /// A key goes to the back of a queue, which has room.
+    /// The key of a packet that is in no list goes to the back of a queue.
     pub fn insert(&mut self, device: u8, queue: u8, key: u64)
         requires device { device < length self.old.queues }
         requires queue { queue < MAX_QUEUES }
-        requires room { length (entries_in self.old device queue) < MAX_ENTRIES }
+        requires used { IsSome (packet_at self.old key) }
+        requires unlisted { CanBeListed self.old key }
         ensures { let entries = entries_in self.old device queue in
             self.new ≡ with_slot_queue self.old device queue (inserted entries key) }
     {
-        self.queue_list[device as usize][queue as usize].insert(key);
+        let _used = self.packet_table.used(key as usize);
+        self.lists.insert(device, queue, key);
     }
 
     /// The first key of a queue, which is taken off: none where it is empty, and then nothing has
@@ -30,7 +33,7 @@ impl Shared {
         ensures rest { let entries = entries_in self.old device queue in
             self.new ≡ with_slot_queue self.old device queue (without_head entries) }
     {
-        self.queue_list[device as usize][queue as usize].remove_head()
+        self.lists.remove(device, queue)
     }
 
     /// A key is taken off a queue, wherever it stands there. It answers whether it stood there.
@@ -41,6 +44,6 @@ impl Shared {
         ensures rest { let entries = entries_in self.old device queue in
             self.new ≡ with_slot_queue self.old device queue (unlinked entries key) }
     {
-        self.queue_list[device as usize][queue as usize].unlink(key)
+        self.lists.unlink(device, queue, key)
     }
 }

@@ -1,35 +1,43 @@
 //! What devices have for StartIo: entries and current packets are keys.
 
-ghost use Rattle.std.specs.Prelude.{◌≡◌, ◌<◌, IsSome, IsTrue, None, Some, length, option_map};
+ghost use Rattle.std.specs.Prelude.{◌≡◌, ◌<◌, IsSome, IsTrue, None, Some, is_some, length};
 
 use super::Shared;
-use devqueue::DeviceQueue;
 
 impl Shared {
-    ghost use Rattle.model.specs.Queues.{has_room_for_next, has_room_to_start, head_of};
-    ghost use Rattle.model.specs.Queues.{next_started, started, with_slot, without_first_to_start};
-    ghost use Rattle.slot_laws.specs.Slots.{slot_start, with_slot_start};
+    ghost use Rattle.model.specs.Queues.{head_of, next_started, started, with_slot, without_first_to_start};
+    ghost use Rattle.slot_laws.specs.Fits.{CanBeListed};
+    ghost use Rattle.slot_laws.specs.Slots.{packet_at, slot_start, with_slot_start};
     ghost use Rattle.slot_parts.specs.Devices.{start_in};
 
-    /// What a device has, if there is such a device.
-    pub fn start_of(&self, device: u8) -> Option<&DeviceQueue>
-        ensures start { option_map (λ start. start.now) result ≡ slot_start self.now device }
-        ensures there { IsSome (slot_start self.now device)
-            → device < length self.now.starts }
-        ensures known { IsSome (slot_start self.now device)
+    /// Whether there is such a device: then it has something for StartIo.
+    pub fn has_device(&self, device: u8) -> bool
+        ensures there { result ≡ is_some (slot_start self.now device) }
+        ensures within { IsTrue result → device < length self.now.starts }
+        ensures known { IsTrue result
             → slot_start self.now device ≡ Some (start_in self.now device) }
     {
-        self.start_list.get(device as usize)
+        self.lists.has_device(device)
     }
 
-    /// IoStartPacket: the list that the key goes to has room.
+    /// The first key of the start list of a device, which stays: none where that list is empty.
+    pub fn first_to_start(&self, device: u8) -> Option<u64>
+        requires { device < length self.now.starts }
+        ensures { result ≡ head_of (start_in self.now device).start_list }
+    {
+        self.lists.first_to_start(device)
+    }
+
+    /// IoStartPacket: the key of a packet that is in no list.
     pub fn start(&mut self, device: u8, key: u64)
         requires device { device < length self.old.starts }
-        requires room { IsTrue (has_room_to_start (start_in self.old device)) }
+        requires used { IsSome (packet_at self.old key) }
+        requires unlisted { CanBeListed self.old key }
         ensures { self.new
             ≡ with_slot_start self.old device (started (start_in self.old device) key) }
     {
-        self.start_list[device as usize].start(key);
+        let _used = self.packet_table.used(key as usize);
+        self.lists.start(device, key);
     }
 
     /// What the current slot of a device had: it is empty then.
@@ -39,7 +47,7 @@ impl Shared {
         ensures empty { self.new
             ≡ with_slot_start self.old device (with_slot (start_in self.old device) None) }
     {
-        self.start_list[device as usize].take()
+        self.lists.take(device)
     }
 
     /// A key is put into the current slot of a device.
@@ -48,17 +56,16 @@ impl Shared {
         ensures { self.new
             ≡ with_slot_start self.old device (with_slot (start_in self.old device) (Some key)) }
     {
-        self.start_list[device as usize].begin(key);
+        self.lists.begin(device, key);
     }
 
-    /// IoStartNextPacket: the start list has room for a key that goes there.
+    /// IoStartNextPacket.
     pub fn start_next(&mut self, device: u8)
-        requires device { device < length self.old.starts }
-        requires room { IsTrue (has_room_for_next (start_in self.old device)) }
+        requires { device < length self.old.starts }
         ensures { let next = next_started (start_in self.old device) in
             self.new ≡ with_slot_start self.old device next }
     {
-        self.start_list[device as usize].next();
+        self.lists.start_next(device);
     }
 
     /// The StartIo routine of a device begins: the first key of its start list is taken off. None
@@ -69,6 +76,6 @@ impl Shared {
         ensures rest { let start = start_in self.old device in
             self.new ≡ with_slot_start self.old device (without_first_to_start start) }
     {
-        self.start_list[device as usize].start_io()
+        self.lists.start_io(device)
     }
 }

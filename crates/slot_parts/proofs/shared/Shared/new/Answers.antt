@@ -9,7 +9,6 @@ returns c =
       c.in_ok-new.ensures,
       c.in_ok-new-2.ensures,
       cells,
-      c.in_ok-empty_queues.ensures,
-      c.in_ok-idle_devices.ensures,
+      c.in_ok-new-3.ensures,
       dpcs,
     ) refl

@@ -15,8 +15,8 @@ returns c =
       issued = table.issued;
       locks = c.self.inside.lock_table;
       cells = c.self.inside.cell_list.items;
-      queues = c.self.inside.queue_list.items;
-      starts = c.self.inside.start_list.items;
+      queues = c.self.inside.lists.queues;
+      starts = c.self.inside.lists.starts;
       dpcs = c.self.inside.dpc_list.items;
     } in
     let p : Packet = packet_at table.live c.used-key.result in
