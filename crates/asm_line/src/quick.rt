@@ -70,7 +70,8 @@ fn step<'a>(bytes: &'a [u8]) -> Option<Body<'a>>
     }
 }
 
-/// An instruction that uses no name.
+/// An instruction that uses no name. Inlined, since its answer would go through memory.
+#[inline(always)]
 fn plain(bytes: &[u8]) -> Option<Instr>
     ensures read { IfSome result (λ i. ReadsStep bytes.now (Step (Some i) unnamed)) }
     ensures fits { IfSome result (λ i. BodyFits (Step (Some i) unnamed)) }
