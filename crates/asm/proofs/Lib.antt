@@ -3,6 +3,7 @@ pub mod Added
 pub mod Tidy
 pub mod Orderly
 pub mod Turns
+pub mod Plain
 pub mod Least
 pub mod First
 pub mod Unknown

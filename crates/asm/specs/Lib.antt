@@ -1,4 +1,5 @@
 pub mod Outline
 pub mod Reading
+pub mod Plain
 pub mod Laws
 pub mod Code

@@ -1,14 +1,18 @@
 //! The text read line by line, and the set that it names.
 
-ghost use Rattle.std.specs.Prelude.{◌≡◌, ◌⊎◌, ◌<◌, ◌^◌, ℕ, length, IfOk, MatchResult, OnOk, Ok, Err};
-ghost use Rattle.asm.specs.Outline.{nothing_read, IsOrderly};
+ghost use Rattle.std.specs.Prelude.{◌≡◌, ◌⊎◌, ◌<◌, ◌^◌, ℕ, length, IfOk, MatchResult, OnOk, Ok, Err, Some};
+ghost use Rattle.asm_line.specs.Plain.{plain_line};
+ghost use Rattle.asm.specs.Outline.{misfit, nothing_read, IsOrderly};
 ghost use Rattle.asm.specs.declared.draft.Place.{Place};
+ghost use Rattle.asm.specs.Plain.{IsPlainOn};
 ghost use Rattle.asm.specs.Reading.{kind_of, memory, read_on, reading, resolved, set_in, IsFaultOf, IsNamed};
 
-use crate::draft::{Draft, Place};
+use crate::draft::{Draft, Place, Step};
 use crate::fault::{AsmFault, AsmKind};
-use asm_line::{LineFault, read_line};
+use asm_line::{LineFault, plain_line, read_other_line};
 use driver_set::DriverSet;
+use model::instr::Instr;
+use model::limits::MAX_INSTRUCTIONS;
 use std::alloc::{AllocError, Global};
 use text::cut::Lines;
 
@@ -75,6 +79,7 @@ impl<'a> Draft<'a> {
     }
 
     /// Reads one line, whose number is `number`.
+    #[tactic(auto, using(crate::proofs::Plain::plain_read, crate::proofs::Plain::plain_refused, crate::proofs::Plain::plain_orderly))]
     fn read_on(
         &mut self,
         alloc: Global,
@@ -87,7 +92,47 @@ impl<'a> Draft<'a> {
             (λ kind. read_on self.old number raw.now ≡ Err kind)) }
         ensures orderly { IfOk result (λ answer. OnOk answer (IsOrderly self.new)) }
     {
-        let line = match read_line(raw) {
+        match plain_line(raw) {
+            Some(instr) => self.read_plain(instr),
+            None => self.read_other(alloc, number, raw),
+        }
+    }
+
+    /// Reads a line of an instruction that has no label and uses no name: most lines are such ones,
+    /// and what they say goes where it stays at once.
+    fn read_plain(&mut self, instr: Instr) -> Result<Result<(), AsmKind>, AllocError>
+        ensures { IfOk result (λ answer. MatchResult answer (λ _. IsPlainOn self.old instr self.new)
+            (λ kind. misfit self.old (plain_line instr) ≡ Some kind)) }
+    {
+        if !matches!(self.place, Place::InRoutine) {
+            return Ok(Err(AsmKind::UnknownWord));
+        }
+        if self.steps.len() >= MAX_INSTRUCTIONS {
+            return Ok(Err(AsmKind::OverLimit));
+        }
+        self.steps.push(Step {
+            instr,
+            label: None,
+            call: None,
+            queue: None,
+        })?;
+        Ok(Ok(()))
+    }
+
+    /// Reads one line of another kind, whose number is `number`.
+    fn read_other(
+        &mut self,
+        alloc: Global,
+        number: u64,
+        raw: &'a [u8],
+    ) -> Result<Result<(), AsmKind>, AllocError>
+        requires { IsOrderly self.old }
+        ensures read { IfOk result
+            (λ answer. MatchResult answer (λ _. read_on self.old number raw.now ≡ Ok self.new)
+            (λ kind. read_on self.old number raw.now ≡ Err kind)) }
+        ensures orderly { IfOk result (λ answer. OnOk answer (IsOrderly self.new)) }
+    {
+        let line = match read_other_line(raw) {
             Ok(line) => line,
             Err(fault) => return Ok(Err(kind_of(fault))),
         };

@@ -1,5 +1,5 @@
 -- Lines of instructions in their usual form are read as the exact reading says.
-use Rattle.std.proofs.Common.{◌≡◌, ℕ, ◌+◌, ◌-◌, ◌*◌, ◌<◌, ◌≤◌, ◌^◌, nat_eq, nat_le, nat_lt, true, false, Bool, ◌||◌, ◌&&◌, not, List, [], ◌∷◌, ◌++◌, length, get_or, take, is_some, Option, Some, None, Ok, IfSome, MatchOption, Bor, ◌≢◌, refl, sym, ◌∙◌, arith, append_assoc, codes, drop, length-append}
+use Rattle.std.proofs.Common.{◌≡◌, ℕ, ◌+◌, ◌-◌, ◌*◌, ◌<◌, ◌≤◌, ◌^◌, nat_eq, nat_le, nat_lt, true, false, Bool, ◌||◌, ◌&&◌, not, List, [], ◌∷◌, ◌++◌, length, get_or, take, is_some, Option, Some, None, Ok, refl, sym, ◌∙◌, arith, append_assoc, codes, drop, length-append}
 use Rattle.std.proofs.lemmas.Int.Digits.{digits_value_more}
 use Rattle.std.proofs.Math.Seq.{get_or-append_seam, take-append_seam}
 use Rattle.std.proofs.lemmas.List.{append-nil, take-append-drop, take_more}
@@ -203,13 +203,6 @@ labelled_line {raw} {name} {rest} {after} {step} parts named behind is =
 -- a word and what stands behind it
 pub parted : (bytes : List ℕ) (i : ℕ) → bytes ≡ take i bytes ++ drop i bytes
 parted bytes i = sym (take-append-drop i bytes)
-
--- what stands behind a word, where the bytes begin with it
-pub behind : (bytes word : List ℕ) (r : Option (Bor (List ℕ)))
-    → MatchOption r ((rest : List ℕ) → bytes ≢ word ++ rest) (λ rest. bytes ≡ word ++ rest.now)
-    → IfSome r (λ rest. bytes ≡ word ++ rest.now)
-behind bytes word None none = tt
-behind bytes word (Some rest) is = is
 
 -- a token by its tests
 pub plain_word : (word : List ℕ) → nat_eq (length word) 0 ≡ false

@@ -3,3 +3,4 @@ pub mod Cursor
 pub mod Instruction
 pub mod Line
 pub mod Usual
+pub mod Plain

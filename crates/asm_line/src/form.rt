@@ -12,7 +12,7 @@ ghost use Rattle.asm_line.specs.declared.line.LineFault.{LineFault};
 use crate::cursor::Cursor;
 use crate::instruction::instruction;
 use crate::line::{Body, Line, LineFault};
-use crate::quick::usual_line;
+use crate::quick::{named_line, plain_line, unnamed};
 use text::class::{MAX_NAME, is, label_name};
 use text::cut::is_clean;
 use text::piece::Piece;
@@ -27,7 +27,25 @@ pub fn read_line<'a>(raw: &'a [u8]) -> Result<Line<'a>, LineFault>
     ensures line { result ≡ read_line raw.now }
     ensures fits { IfOk result (λ line. BodyFits line.body) }
 {
-    match usual_line(raw) {
+    match plain_line(raw) {
+        Some(instr) => Ok(Line {
+            label: None,
+            body: unnamed(instr),
+        }),
+        None => read_other_line(raw),
+    }
+}
+
+/// The same, where `plain_line` has read the line in vain.
+///
+/// # Errors
+///
+/// Those of `read_line`.
+pub fn read_other_line<'a>(raw: &'a [u8]) -> Result<Line<'a>, LineFault>
+    ensures line { result ≡ read_line raw.now }
+    ensures fits { IfOk result (λ line. BodyFits line.body) }
+{
+    match named_line(raw) {
         Some(line) => Ok(line),
         None => exact_line(raw),
     }

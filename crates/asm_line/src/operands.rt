@@ -1,6 +1,6 @@
 //! The operands of a line in its usual form: each stands after one space.
 
-ghost use Rattle.std.specs.Prelude.{◌≡◌, ◌+◌, ◌<◌, ◌≤◌, ◌++◌, ◌∷◌, [], IfSome, None, length, take, if◌then◌else◌};
+ghost use Rattle.std.specs.Prelude.{◌≡◌, ◌+◌, ◌<◌, ◌≤◌, ◌++◌, ◌∷◌, [], IfSome, None, bytes_eq, length, take, if◌then◌else◌};
 ghost use Rattle.std.specs.Str.Parse.{digits_value};
 ghost use Rattle.model.specs.declared.limits.TheConstants.{CELLS, MAX_TURNS, REGISTERS, SPIN_LOCKS};
 ghost use Rattle.model.specs.Sound.{FormFits};
@@ -206,6 +206,7 @@ impl<'a> Operands<'a> {
     }
 
     /// Takes this word, if what is left begins with it, and says whether it did.
+    #[inline(always)]
     fn passes(&mut self, word: &[u8]) -> bool
         ensures { self.old ≡ (if result then word.now else []) ++ self.new }
     {
@@ -227,6 +228,7 @@ impl<'a> Operands<'a> {
 }
 
 /// The operands behind this word, if the bytes begin with it.
+#[inline(always)]
 pub fn behind<'a>(bytes: &'a [u8], word: &[u8]) -> Option<Operands<'a>>
     ensures { IfSome result (λ rest. bytes.now ≡ word.now ++ rest) }
 {
@@ -236,10 +238,35 @@ pub fn behind<'a>(bytes: &'a [u8], word: &[u8]) -> Option<Operands<'a>>
 }
 
 /// What stands behind this word, if the bytes begin with it.
+#[inline(always)]
 pub fn after_word<'a>(bytes: &'a [u8], word: &[u8]) -> Option<&'a [u8]>
     ensures { IfSome result (λ rest. bytes.now ≡ word.now ++ rest.now) }
 {
-    bytes.strip_prefix(word)
+    if bytes.len() < word.len() {
+        return None;
+    }
+    let (head, rest) = bytes.split_at(word.len());
+    if are_same(head, word) {
+        Some(rest)
+    } else {
+        None
+    }
+}
+
+/// Whether as many bytes are the same: of a word that is written out, this becomes a comparison or
+/// two, where `==` has branches and a call.
+#[inline(always)]
+fn are_same(bytes: &[u8], word: &[u8]) -> bool
+    requires { length bytes.now ≡ length word.now }
+    ensures { result ≡ bytes_eq bytes.now word.now }
+{
+    let mut same = true;
+    let mut i = word.len();
+    while i > 0 {
+        i -= 1;
+        same = (bytes[i] == word[i]) & same;
+    }
+    same
 }
 
 /// A word, and what stands behind it.

@@ -4,6 +4,7 @@
 ghost use Rattle.std.specs.Prelude.{◌≡◌, IfSome, None, Ok, Some};
 ghost use Rattle.model.specs.Sound.{queue_named};
 ghost use Rattle.asm_line.specs.Line.{read_line, BodyFits};
+ghost use Rattle.asm_line.specs.Plain.{plain_line};
 ghost use Rattle.asm_line.specs.Usual.{unnamed, with_label, with_queue, with_routine, ReadsStep};
 ghost use Rattle.asm_line.specs.declared.line.Body.TheVariants.{Step};
 
@@ -13,18 +14,29 @@ use model::instr::{Instr, Return};
 use text::class::is_name;
 use text::piece::Piece;
 
-/// The line of these bytes, if it has the usual form: the word of an instruction and its operands,
-/// each after one space, with numbers in decimal digits and in range, and nothing behind them;
-/// before them there may be a label and a space.
+/// The instruction of a line in the usual form, if the line has no label and uses no name: a word
+/// and its operands, each after one space, with numbers in decimal digits and in range, and nothing
+/// behind them.
 #[tactic(auto, using(crate::proofs::Plain::unlabelled_line))]
-pub fn usual_line<'a>(raw: &'a [u8]) -> Option<Line<'a>>
+pub fn plain_line(raw: &[u8]) -> Option<Instr>
+    ensures line { IfSome result (λ i. read_line raw.now ≡ Ok (plain_line i)) }
+    ensures fits { IfSome result (λ i. BodyFits (plain_line i).body) }
+{
+    let instr = plain(raw)?;
+    Some(instr)
+}
+
+/// The line of these bytes, if it has the usual form, and a label or an instruction that uses a
+/// name.
+#[tactic(auto, using(crate::proofs::Plain::unlabelled_line))]
+pub fn named_line<'a>(raw: &'a [u8]) -> Option<Line<'a>>
     ensures line { IfSome result (λ line. read_line raw.now ≡ Ok line) }
     ensures fits { IfSome result (λ line. BodyFits line.body) }
 {
     if !matches!(*raw.first()?, b'a'..=b'z' | b'_') {
         return None;
     }
-    match step(raw) {
+    match naming(raw) {
         Some(body) => Some(Line { label: None, body }),
         None => labelled(raw),
     }
@@ -58,7 +70,8 @@ fn step<'a>(bytes: &'a [u8]) -> Option<Body<'a>>
     }
 }
 
-/// An instruction that uses no name.
+/// An instruction that uses no name. Inlined, since its answer would go through memory.
+#[inline(always)]
 fn plain(bytes: &[u8]) -> Option<Instr>
     ensures read { IfSome result (λ i. ReadsStep bytes.now (Step (Some i) unnamed)) }
     ensures fits { IfSome result (λ i. BodyFits (Step (Some i) unnamed)) }
@@ -461,7 +474,7 @@ fn naming_u<'a>(bytes: &'a [u8]) -> Option<Body<'a>>
 }
 
 /// A step that uses no name.
-fn unnamed<'a>(instr: Instr) -> Body<'a>
+pub fn unnamed<'a>(instr: Instr) -> Body<'a>
     ensures { result ≡ Step (Some instr) unnamed }
 {
     Body::Step(

@@ -2,7 +2,7 @@ use Rattle.std.proofs.Common.{rules, ◌≡◌, None, sym, subst}
 use Rattle.asm.specs.Outline.{misfit, IsOrderly}
 use Rattle.asm.proofs.Fitting.{fitting}
 use Rattle.asm.proofs.Orderly.Lines.{orderly_on}
-use Rattle.asm.proofs.draft.Draft.read_on.Goals as goal
+use Rattle.asm.proofs.draft.Draft.read_other.Goals as goal
 
 pub returns-clause-orderly : goal.returns-clause-orderly
 returns-clause-orderly c =

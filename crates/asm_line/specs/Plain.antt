@@ -1,0 +1,10 @@
+-- A line of an instruction that has no label and uses no name.
+use Rattle.std.specs.Prelude.{Some, None}
+use Rattle.model.specs.declared.instr.Instr.{Instr}
+use Rattle.asm_line.specs.Usual.{unnamed}
+use Rattle.asm_line.specs.declared.line.Body.TheVariants.{Step}
+use Rattle.asm_line.specs.declared.line.Line.{Line}
+
+-- the line of this instruction
+abbrev pub plain_line : Instr → Line
+plain_line instr = record { label = None; body = Step (Some instr) unnamed }
