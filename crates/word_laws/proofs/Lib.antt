@@ -1,0 +1,10 @@
+pub mod Pairs
+pub mod Operands
+pub mod Outcomes
+pub mod Instructions
+pub mod Frames
+pub mod Stacks
+pub mod Events
+pub mod Laws
+pub mod Fitting
+pub mod Shown

@@ -1,0 +1,38 @@
+//! Laws of worlds whose registers hold plain words, which don't say whether they are a number, a
+//! status or the key of a packet's slot, over the worlds of `slot_laws`: what an event does to the
+//! words shows what it does in every run of an accepted set. Nothing runs here: each law is the
+//! contract of a function that does nothing.
+#![tactic(auto)]
+
+ghost use Rattle.word_laws.specs.ShownWords.{WordsShowWhatTheyMean};
+ghost use Rattle.word_laws.specs.WordsDone.{FreeWordsMeanTheBeginning, WordEventsShowRuns};
+ghost use Rattle.word_laws.specs.WordsFit.{WordEventsFit};
+
+pub mod activation;
+
+pub use activation::WordActivation;
+
+/// Free slots, with idle threads, mean the world before the first event.
+pub fn free_words_mean_the_beginning()
+    ensures { FreeWordsMeanTheBeginning }
+{}
+
+/// Of an accepted set: where words mean the world of a run, after an event was carried out they
+/// mean the run's world with that event added, and it is answered as the run answers it. A step of
+/// a thread on words asks of none whether it is a number, a status or a key.
+pub fn word_events_show_runs()
+    ensures { WordEventsShowRuns }
+{}
+
+/// Of an accepted set: where words mean the world of a run, each event finds what it looks for. A
+/// routine on top of the thread that steps has an instruction, with keys of used slots and statuses
+/// in the registers where this reads one, and a queue, lock, loop or lower device wherever it wants
+/// one, with room for what is put there. So who carries events out on words need test none of it.
+pub fn word_events_fit()
+    ensures { WordEventsFit }
+{}
+
+/// Words show each world that they mean, in the way that a machine of accepted sets shows one.
+pub fn words_show_what_they_mean()
+    ensures { WordsShowWhatTheyMean }
+{}
