@@ -1,5 +1,5 @@
--- Each instruction does to words what it does to slots that they are read as, where it finds what it
--- looks for.
+-- Each instruction does to words what it does to slots that they are read as, where it finds what
+-- it looks for.
 use Rattle.std.proofs.Common.{◌≡◌, ℕ, ◌+◌, ◌-◌, ◌++◌, Bool, List, [], ◌∷◌, Option, None, Some, refl, sym, ap, subst}
 use Rattle.std.specs.Prelude.{◌%◌, ◌^◌, is_none, nat_eq, nat_lt, slice_get, slice_index_or}
 use Rattle.model.specs.declared.event.Lock.{Lock}

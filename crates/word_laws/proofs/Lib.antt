@@ -8,3 +8,5 @@ pub mod Events
 pub mod Laws
 pub mod Fitting
 pub mod Shown
+pub mod Told
+pub mod Views

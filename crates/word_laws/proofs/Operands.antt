@@ -1,5 +1,5 @@
--- Registers that words are read as: where an instruction finds a number, a key or a status, the word
--- is that.
+-- Registers that words are read as: where an instruction finds a number, a key or a status, the
+-- word is that.
 use Rattle.std.proofs.Common.{◌≡◌, ℕ, List, Some, refl, sym, ◌∙◌, ap, subst}
 use Rattle.model.specs.declared.status.Status.{Status}
 use Rattle.model.specs.declared.status.Status.TheVariants.{Success, Pending, Busy, Unsuccessful, InvalidParameter, InvalidDeviceRequest, Cancelled}

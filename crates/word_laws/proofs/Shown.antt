@@ -24,7 +24,7 @@ use Rattle.word_laws.proofs.Stacks.{w as as_words}
 
 module _ (name : ℕ → ℕ) where
   -- a word may be read as whatever the value may be that it is read as
-  word_reads : (v : Value) (n : ℕ) → ReadsValue v n → (to : Value)
+  pub word_reads : (v : Value) (n : ℕ) → ReadsValue v n → (to : Value)
       → Reads (whole_register (meant_value name v)) to → Reads (shown_word name n) to
   word_reads v n is Blank h = tt
   word_reads (Num m) n is (Num k) h = ap (λ (i : ℕ). Some i) is ∙ h

@@ -1,5 +1,5 @@
--- A step of a thread: the frames below the one that ran, what stands in its place, and the reply, of
--- words and of the slots that they are read as.
+-- A step of a thread: the frames below the one that ran, what stands in its place, and the reply,
+-- of words and of the slots that they are read as.
 use Rattle.std.proofs.Common.{◌≡◌, ℕ, ◌-◌, Bool, true, false, List, [], ◌∷◌, ◌++◌, length, take, Option, None, Some, refl, sym, ◌∙◌, ap, subst}
 use Rattle.model.specs.declared.event.Reply.{Reply}
 use Rattle.model.specs.declared.status.Status.{Status}

@@ -5,3 +5,4 @@ pub mod Reads
 pub mod WordsDone
 pub mod WordsFit
 pub mod ShownWords
+pub mod WordViews

@@ -1,6 +1,6 @@
 -- What a step of a thread does to a world whose registers hold words. It is the step on slots where
--- each operand is read as a word: nothing asks whether it is a number, a status or a key. A register
--- from which nothing may be taken is left as it is.
+-- each operand is read as a word: nothing asks whether it is a number, a status or a key. Where a
+-- register has nothing from then on, it is left as it is.
 use Rattle.std.specs.Prelude.{ℕ, ◌+◌, ◌-◌, ◌%◌, ◌^◌, Bool, true, false, List, [], ◌∷◌, ◌++◌, length, take, Option, None, Some, is_none, nat_eq, nat_lt, slice_get, slice_index_or, slice_set, if◌then◌else◌}
 use Rattle.model.specs.declared.event.Lock.{Lock}
 use Rattle.model.specs.declared.event.Lock.TheVariants.{SystemCancel}
@@ -154,7 +154,8 @@ abbrev pub start_step : SlotShared → WordActivation → ℕ → Option StartSt
 start_step s a k None = goes_on s a
 start_step s a k (Some start) = goes_on (with_slot_start s a.device (started start k)) (next a)
 
-abbrev pub take_from_step : SlotShared → WordActivation → ℕ → ℕ → StartState → Option ℕ → WordOutcome
+abbrev pub take_from_step : SlotShared → WordActivation → ℕ → ℕ → StartState → Option ℕ
+    → WordOutcome
 take_from_step s a r label start None = goes_on s (at_label a label)
 take_from_step s a r label start (Some k) =
     value_step (with_slot_start s a.device (with_slot start None)) a r k
@@ -187,7 +188,8 @@ asks_step set a lower p k =
     (dispatched set lower (slice_get set.devices lower) (asked_of (current_location p)) k)
     ∷ []
 
-abbrev pub pass_step : Set → SlotShared → WordActivation → ℕ → Option ℕ → Option Packet → WordOutcome
+abbrev pub pass_step : Set → SlotShared → WordActivation → ℕ → Option ℕ → Option Packet
+    → WordOutcome
 pass_step set s a k None p = goes_on s a
 pass_step set s a k (Some lower) None = goes_on s a
 pass_step set s a k (Some lower) (Some p) =

@@ -1,6 +1,6 @@
--- What an event on words looks for, and finds: the instruction, the packet of a key, the status that
--- a word is, a lock, a queue with room, room for another frame. Any word may be read as a number.
--- Who carries an event out tests none of it.
+-- What an event on words looks for, and finds: the instruction, the packet of a key, a word that is
+-- the value of a status, a lock, a queue with room, room for another frame. Any word may be read as
+-- a number. Who carries an event out tests none of it.
 use Rattle.std.specs.Prelude.{ℕ, ◌≡◌, ◌<◌, ⊤, true, List, length, Some, is_some, slice_get}
 use Rattle.model.specs.declared.event.Event.{Event}
 use Rattle.model.specs.declared.event.Event.TheVariants.{Issue, Cancel as CancelEvent, Interrupt, Dpc as DpcEvent, StartIo as StartIoEvent, Step}

@@ -4,7 +4,8 @@
 //! contract of a function that does nothing.
 #![tactic(auto)]
 
-ghost use Rattle.word_laws.specs.ShownWords.{WordsShowWhatTheyMean};
+ghost use Rattle.word_laws.specs.ShownWords.{WordsShowWhatTheyMean, WordsTellRegisters};
+ghost use Rattle.word_laws.specs.WordViews.{WordsTellAsSlots};
 ghost use Rattle.word_laws.specs.WordsDone.{FreeWordsMeanTheBeginning, WordEventsShowRuns};
 ghost use Rattle.word_laws.specs.WordsFit.{WordEventsFit};
 
@@ -35,4 +36,17 @@ pub fn word_events_fit()
 /// Words show each world that they mean, in the way that a machine of accepted sets shows one.
 pub fn words_show_what_they_mean()
     ensures { WordsShowWhatTheyMean }
+{}
+
+/// The words of a routine on the top of a thread tell what its registers have, wherever an
+/// instruction may take something from them: a word as a number, a status or a packet, whichever of
+/// these stands there.
+pub fn words_tell_registers()
+    ensures { WordsTellRegisters }
+{}
+
+/// What there is to tell of a thread, a packet and a device is what the slots tell that the words
+/// are read as: registers play no part in it.
+pub fn words_tell_as_slots()
+    ensures { WordsTellAsSlots }
 {}
