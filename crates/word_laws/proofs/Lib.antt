@@ -10,3 +10,5 @@ pub mod Fitting
 pub mod Shown
 pub mod Told
 pub mod Views
+pub mod Sorts
+pub mod Meant

@@ -1,13 +1,17 @@
 -- What a world of words shows: a word may be read as a number, as the status of which it is the
 -- value, and as the packet of the slot of which it is the key.
 use Rattle.std.specs.Prelude.{ℕ, ◌≡◌, ◌<◌, List, [], length, Option, None, Some, map, slice_get, slice_index_or}
+use Rattle.model.specs.declared.event.Event.{Event}
 use Rattle.model.specs.declared.limits.TheConstants.{REGISTERS}
 use Rattle.model.specs.declared.world.Activation.{Activation}
 use Rattle.model.specs.declared.world.Frame.TheVariants.{Routine}
 use Rattle.model.specs.declared.world.Thread.{Thread}
 use Rattle.model.specs.Effect.{top_of}
+use Rattle.model.specs.Run.{run}
 use Rattle.model.specs.Set.{Set}
 use Rattle.model.specs.Shown.{MayBeTaken, Reads, Shown, ShownActivation, ShownCancel, ShownFrame, ShownRegister, ShownRoutine, ShownThread, ShownWalk, ShowsWorld}
+use Rattle.model.specs.Sound.{IsSound}
+use Rattle.model.specs.Typable.{IsTypable}
 use Rattle.model.specs.World.{World, register}
 use Rattle.slot_laws.specs.Rep.{named}
 use Rattle.slot_laws.specs.ShownSlots.{shown_slots}
@@ -84,3 +88,13 @@ WordsTellRegisters =
     (set : Set) (w : WordWorld) (world : World) → WordsMean set w world
     → (t : ℕ) (thread : Thread) (a : Activation) → slice_get world.threads t ≡ Some thread
     → top_of thread.frames.items ≡ Some (Routine a) → TellsRegisters set w a (words_at w t)
+
+-- of an accepted set: words that mean the world of a run mean that of each run that they show. They
+-- don't say what they are, but in both runs the verifier does
+abbrev pub WordsMeanWhatTheyShow : Type 0
+WordsMeanWhatTheyShow =
+    (set : Set) → IsTypable set → IsSound set
+    → (threads others : ℕ) (events more : List Event) (w : WordWorld)
+    → WordsMean set w (run set threads events).world
+    → ShowsWorld (shown_words set w) (run set others more).world
+    → WordsMean set w (run set others more).world

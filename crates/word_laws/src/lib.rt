@@ -4,7 +4,7 @@
 //! contract of a function that does nothing.
 #![tactic(auto)]
 
-ghost use Rattle.word_laws.specs.ShownWords.{WordsShowWhatTheyMean, WordsTellRegisters};
+ghost use Rattle.word_laws.specs.ShownWords.{WordsMeanWhatTheyShow, WordsShowWhatTheyMean, WordsTellRegisters};
 ghost use Rattle.word_laws.specs.WordViews.{WordsTellAsSlots};
 ghost use Rattle.word_laws.specs.WordsDone.{FreeWordsMeanTheBeginning, WordEventsShowRuns};
 ghost use Rattle.word_laws.specs.WordsFit.{WordEventsFit};
@@ -36,6 +36,13 @@ pub fn word_events_fit()
 /// Words show each world that they mean, in the way that a machine of accepted sets shows one.
 pub fn words_show_what_they_mean()
     ensures { WordsShowWhatTheyMean }
+{}
+
+/// Of an accepted set: words that mean the world of a run mean that of each run that they show. They
+/// don't say what they are, but in every run the verifier's kinds do, and those go by where a frame
+/// stands.
+pub fn words_mean_what_they_show()
+    ensures { WordsMeanWhatTheyShow }
 {}
 
 /// The words of a routine on the top of a thread tell what its registers have, wherever an
