@@ -1,0 +1,14 @@
+pub mod Pairs
+pub mod Operands
+pub mod Outcomes
+pub mod Instructions
+pub mod Frames
+pub mod Stacks
+pub mod Events
+pub mod Laws
+pub mod Fitting
+pub mod Shown
+pub mod Told
+pub mod Views
+pub mod Sorts
+pub mod Meant
