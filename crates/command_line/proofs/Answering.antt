@@ -4,7 +4,7 @@ use Rattle.std.proofs.KnownBytes.{Appends-nil, Keeps-refl}
 use Rattle.clap.specs.Words.{Text, subcommand_of, takes}
 use Rattle.drvhost_parts.specs.Answer.{Answer}
 use Rattle.drvhost_parts.specs.Device.{Bytes, Closed, Holds, IsSuppliedAs, Supply, Unknown}
-use Rattle.drvhost_parts.specs.Ends.{Answers, Ends, HoldsRun, IsCheckOf, IsHostOf, IsListOf, IsTraceOf, OutOfMemory, ReadFailed, Rightly, WriteFailed}
+use Rattle.drvhost_parts.specs.Ends.{Answers, Ends, HoldsRun, IsCheckOf, IsExplainedOf, IsHostOf, IsListOf, IsTraceOf, OutOfMemory, ReadFailed, Rightly, WriteFailed}
 use Rattle.drvhost_parts.specs.declared.verification.Verification.{Verification}
 use Rattle.command_line.specs.declared.job.Job.{Job}
 use Rattle.command_line.specs.declared.job.JobFault.{JobFault}
@@ -53,6 +53,11 @@ holds_known (Bytes held) supply bytes h p =
 pub check_known : (known supply : Supply) → IsSuppliedAs known supply → (answer : Answer)
     → IsCheckOf supply answer → IsCheckOf known answer
 check_known known supply h answer (bytes, holds, right) =
+    (bytes, holds_known known supply bytes h holds, right)
+
+pub explain_known : (known supply : Supply) → IsSuppliedAs known supply → (answer : Answer)
+    → IsExplainedOf supply answer → IsExplainedOf known answer
+explain_known known supply h answer (bytes, holds, right) =
     (bytes, holds_known known supply bytes h holds, right)
 
 pub list_known : (known supply : Supply) → IsSuppliedAs known supply → (answer : Answer)

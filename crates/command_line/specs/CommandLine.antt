@@ -5,7 +5,7 @@ use Rattle.clap.specs.declared.builder.ArgAction.TheVariants.{Set, SetTrue}
 use Rattle.clap.specs.declared.builder.value_parser.ValueParser.TheVariants.{Signed}
 use Rattle.interleave.specs.Line.{number_within}
 use Rattle.command_line.specs.declared.job.Job.{Job}
-use Rattle.command_line.specs.declared.job.Job.TheVariants.{Check, List as ListJob, Version, Trace, Host}
+use Rattle.command_line.specs.declared.job.Job.TheVariants.{Check, Explain, List as ListJob, Version, Trace, Host}
 use Rattle.command_line.specs.declared.job.JobFault.{JobFault}
 use Rattle.command_line.specs.declared.job.JobFault.TheVariants.{Usage, Memory}
 use Rattle.drvhost_parts.specs.declared.verification.Verification.{Verification}
@@ -23,6 +23,10 @@ unchecked_flag =
 -- `check FILE`
 abbrev pub check_command : App
 check_command = with_rule (new_app (codes "check")) (file_argument (codes "FILE"))
+
+-- `explain FILE`
+abbrev pub explain_command : App
+explain_command = with_rule (new_app (codes "explain")) (file_argument (codes "FILE"))
 
 -- `list FILE`
 abbrev pub list_command : App
@@ -63,11 +67,14 @@ bare_program =
     record named_program
     { top = record named_program.top { no_binary_name = true; subcommand_required = true } }
 
--- with the subcommands that start no thread, with all that judge a set or run it, with all that name
--- files, and with all
+-- with the subcommands that run nothing, with those that start no thread, with all that judge a set
+-- or run it, with all that name files, and with all
+abbrev pub unrun_program : App
+unrun_program =
+    with_subcommand (with_subcommand bare_program check_command.top) explain_command.top
+
 abbrev pub unthreaded_program : App
-unthreaded_program =
-    with_subcommand (with_subcommand bare_program check_command.top) trace_command.top
+unthreaded_program = with_subcommand unrun_program trace_command.top
 
 abbrev pub judging_program : App
 judging_program = with_subcommand unthreaded_program host_command.top
@@ -86,6 +93,8 @@ pub record IsFlag (value : Option Text) (verification : Verification) : Type 0 w
 -- a subcommand with its matches names a task
 abbrev pub NamesTask : Text × List Row → Job → Type 0
 NamesTask found (Check set) = (found.0 ≡ codes "check")
+    × (first_of (codes "FILE") found.1 ≡ Some set.now)
+NamesTask found (Explain set) = (found.0 ≡ codes "explain")
     × (first_of (codes "FILE") found.1 ≡ Some set.now)
 NamesTask found (ListJob set) = (found.0 ≡ codes "list")
     × (first_of (codes "FILE") found.1 ≡ Some set.now)

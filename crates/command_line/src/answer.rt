@@ -3,12 +3,13 @@
 ghost use Rattle.std.specs.Prelude.{◌≡◌, ◌+◌, ◌<◌, ◌^◌, ◌⊎◌, ℕ, List, Option, drop, map, string_bytes};
 ghost use Rattle.command_line.specs.Program.{IsAnswerTo, IsAnswerToLost, IsJobOf, IsProgram, IsRunBy, Opens, OpensFor, OpensToTrace, ProgramOpens, verification_of};
 ghost use Rattle.drvhost_parts.specs.Device.{CanCount, Says};
-ghost use Rattle.drvhost_parts.specs.Ends.{Answers, HoldsRun, IsCheckOf, IsListOf};
+ghost use Rattle.drvhost_parts.specs.Ends.{Answers, HoldsRun, IsCheckOf, IsExplainedOf, IsListOf};
 
 use crate::files::{Files, Later};
 use crate::job::{Job, JobFault, Workers, refuse_unknown_words, refuse_words};
 use drvhost_parts::check::check;
 use drvhost_parts::device::{Sink, Source};
+use drvhost_parts::explaining::explain;
 use drvhost_parts::host::host;
 use drvhost_parts::list::list;
 use drvhost_parts::trace::trace;
@@ -126,6 +127,7 @@ fn perform<F: Files, O: Sink, E: Sink, R: Threads + Wait + Sync>(
 {
     match job {
         Job::Check { set } => check_file(alloc, set, files, out, err),
+        Job::Explain { set } => explain_file(alloc, set, files, out, err),
         Job::List { set } => list_file(alloc, set, files, out, err),
         Job::Version => version(out, err),
         Job::Trace {
@@ -174,6 +176,31 @@ fn check_file<F: Files, O: Sink, E: Sink>(
 {
     let mut file = files.open(set);
     let status = check(alloc, &mut file, out, err);
+    files.close(file);
+    status
+}
+
+/// Judges the set of a file, and explains the verdict.
+fn explain_file<F: Files, O: Sink, E: Sink>(
+    alloc: Global,
+    set: &str,
+    files: &mut F,
+    out: &mut O,
+    err: &mut E,
+) -> u8
+    requires opened { F.opened files.old + 1 < 2 ^ 64 }
+    requires files { CanCount (F.failures files.old) }
+    requires out { CanCount (O.failures out.old) }
+    requires err { CanCount (E.failures err.old) }
+    ensures answers { Answers (IsExplainedOf (F.supply files.old set.now))
+        (F.failures files.old) (F.failures files.new) (O.failures out.old) (O.failures out.new)
+        (O.contents out.old) (O.contents out.new)
+        (Says (E.failures err.old) (E.failures err.new) (E.contents err.old) (E.contents err.new))
+        result }
+    ensures opened { F.opened files.new ≡ F.opened files.old + 1 }
+{
+    let mut file = files.open(set);
+    let status = explain(alloc, &mut file, out, err);
     files.close(file);
     status
 }

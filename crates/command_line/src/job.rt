@@ -6,7 +6,7 @@ ghost use Rattle.clap.specs.declared.builder.command.Command.TheViews.{out-Comma
 ghost use Rattle.drvhost_parts.specs.Device.{CanCount, Says};
 ghost use Rattle.interleave.specs.Line.{number_within};
 ghost use Rattle.model.specs.declared.limits.TheConstants.{MAX_THREADS};
-ghost use Rattle.command_line.specs.CommandLine.{check_command, file_argument, host_command, job_fault_status, job_fault_told, judging_program, list_command, program, program_of_files, text_told, trace_command, unchecked_flag, unthreaded_program, usage, version_command, workers_option, IsFlag, Names, NamesTask};
+ghost use Rattle.command_line.specs.CommandLine.{check_command, explain_command, file_argument, host_command, job_fault_status, job_fault_told, judging_program, list_command, program, program_of_files, text_told, trace_command, unchecked_flag, unrun_program, unthreaded_program, usage, version_command, workers_option, IsFlag, Names, NamesTask};
 
 use clap::builder::ValueParser;
 use clap::error::ErrorKind;
@@ -37,6 +37,10 @@ const SET: &str = "The text or the image of the driver set";
 pub enum Job<'a> {
     /// `check FILE`
     Check {
+        set: &'a str,
+    },
+    /// `explain FILE`
+    Explain {
         set: &'a str,
     },
     /// `list FILE`
@@ -234,13 +238,22 @@ fn judging_program<'a>(alloc: Global) -> Result<Command<'a>, AllocError>
 fn unthreaded_program<'a>(alloc: Global) -> Result<Command<'a>, AllocError>
     ensures { IfOk result (λ command. app_of command ≡ unthreaded_program) }
 {
-    let check = check_command(alloc)?;
     let trace = trace_command(alloc)?;
+    let program = unrun_program(alloc)?;
+    program.subcommand(trace)
+}
+
+/// The part of that which runs nothing.
+fn unrun_program<'a>(alloc: Global) -> Result<Command<'a>, AllocError>
+    ensures { IfOk result (λ command. app_of command ≡ unrun_program) }
+{
+    let check = check_command(alloc)?;
+    let explain = explain_command(alloc)?;
     let program = Command::new(alloc, NAME)
         .bin_name(NAME)?
         .no_binary_name(true)
         .subcommand_required(true);
-    program.subcommand(check)?.subcommand(trace)
+    program.subcommand(check)?.subcommand(explain)
 }
 
 fn check_command<'a>(alloc: Global) -> Result<Command<'a>, AllocError>
@@ -249,6 +262,17 @@ fn check_command<'a>(alloc: Global) -> Result<Command<'a>, AllocError>
 {
     let set = file(alloc, "FILE", SET);
     let command = Command::new(alloc, "check").about("Accepts or refuses a driver set");
+    command.arg(set)
+}
+
+fn explain_command<'a>(alloc: Global) -> Result<Command<'a>, AllocError>
+    ensures app { IfOk result (λ command. app_of command ≡ explain_command) }
+    ensures local { IfOk result (λ command. (fields_of command).has_globals ≡ false) }
+{
+    let set = file(alloc, "FILE", SET);
+    let command = Command::new(alloc, "explain").about(
+        "Accepts or refuses a driver set, and says in words why",
+    );
     command.arg(set)
 }
 
@@ -336,6 +360,7 @@ fn named<'a>(matches: &ArgMatches<'a>) -> Option<Job<'a>>
     let (command, inner) = matches.subcommand()?;
     match command {
         "check" => check_named(inner),
+        "explain" => explain_named(inner),
         "trace" => trace_named(inner),
         "host" => host_named(inner),
         "list" => list_named(inner),
@@ -351,6 +376,15 @@ fn check_named<'a>(matches: &ArgMatches<'a>) -> Option<Job<'a>>
 {
     let set = argument(matches, "FILE")?;
     Some(Job::Check { set })
+}
+
+fn explain_named<'a>(matches: &ArgMatches<'a>) -> Option<Job<'a>>
+    ensures some { IfSome result (NamesTask (codes "explain", rows_of (found_of matches.now))) }
+    ensures none { IfNone result
+        ((job : Job) → NamesTask (codes "explain", rows_of (found_of matches.now)) job → ⊥) }
+{
+    let set = argument(matches, "FILE")?;
+    Some(Job::Explain { set })
 }
 
 fn list_named<'a>(matches: &ArgMatches<'a>) -> Option<Job<'a>>

@@ -1,11 +1,12 @@
--- A set was read of a file: by what the image that the file is says, or the text.
-use Rattle.std.proofs.Common.{◌≡◌, ℕ, true, List, Result, Ok, Err}
+-- A set was read of a file: by what its bytes name, as the image that they are, or as the text.
+use Rattle.std.proofs.Common.{◌≡◌, ℕ, true, List, Result, Ok, Err, subst}
 use Rattle.model.specs.Set.{Set}
 use Rattle.drvhost_parts.specs.declared.fault.Fault.{Fault}
 use Rattle.drvhost_parts.specs.declared.fault.Fault.TheVariants.{Read, Write, Memory, Text, Image, Schedule as OfSchedule, Script as OfScript}
-use Rattle.drvhost_parts.specs.Answer.{is_image}
-use Rattle.drvhost_parts.specs.Device.{Holds, Supply}
+use Rattle.drvhost_parts.specs.Answer.{FileSays, is_image}
+use Rattle.drvhost_parts.specs.Device.{Bytes, Holds, Supply}
 use Rattle.drvhost_parts.specs.Fault.{ReadsSet, SaysImage}
+use Rattle.report.specs.Fault.{image_fault_line, text_fault_line}
 
 pub image_read : (held : Supply) (bytes : List ℕ) (said : Result Set Fault)
     → Holds held bytes → is_image bytes ≡ true → SaysImage bytes said → ReadsSet held said
@@ -17,3 +18,20 @@ image_read held bytes (Err Write) holds is says = absurd says
 image_read held bytes (Err (Text fault)) holds is says = absurd says
 image_read held bytes (Err (OfSchedule fault)) holds is says = absurd says
 image_read held bytes (Err (OfScript fault)) holds is says = absurd says
+
+-- what the bytes name that a source has, the source has
+pub set_read : (held : Supply) (bytes : List ℕ) (said : Result Set Fault)
+    → Holds held bytes → ReadsSet (Bytes bytes) said → ReadsSet held said
+set_read held bytes (Ok set) holds (other, same, says) =
+    let P : List ℕ → Type 0 = λ b. FileSays b (Ok set) in (bytes, holds, subst P same says)
+set_read held bytes (Err (Text fault)) holds (other, same, says) =
+    let P : List ℕ → Type 0 = λ b. FileSays b (Err (text_fault_line fault)) in
+    (bytes, holds, subst P same says)
+set_read held bytes (Err (Image fault)) holds (other, same, says) =
+    let P : List ℕ → Type 0 = λ b. FileSays b (Err (image_fault_line fault)) in
+    (bytes, holds, subst P same says)
+set_read held bytes (Err Read) holds says = tt
+set_read held bytes (Err Memory) holds says = tt
+set_read held bytes (Err Write) holds says = absurd says
+set_read held bytes (Err (OfSchedule fault)) holds says = absurd says
+set_read held bytes (Err (OfScript fault)) holds says = absurd says

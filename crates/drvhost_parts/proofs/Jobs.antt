@@ -59,6 +59,14 @@ pub right_on : (R : Set → Answer → Type 0) (held : Supply) (set : Set) → R
     → (answer : Answer) → R set answer → IsOfSupply R held answer
 right_on R held set (bytes, holds, says) answer right = (bytes, holds, (Ok set, says, right))
 
+-- the bytes of a file can't be read
+pub bytes_unread : (held : Supply) (fault : Fault) → (fault ≡ Read) ⊎ (fault ≡ Memory)
+    → ReadsSet held (Err fault)
+bytes_unread held fault (inl e) =
+    let P : Fault → Type 0 = λ f. ReadsSet held (Err f) in subst P (sym e) tt
+bytes_unread held fault (inr e) =
+    let P : Fault → Type 0 = λ f. ReadsSet held (Err f) in subst P (sym e) tt
+
 -- the set can't be read
 pub set_unread : (R : Set → Answer → Type 0) (held : Supply) (b : Option (List ℕ)) (g l : List ℕ)
     (fault : Fault) → ReadsSet held (Err fault) → Goes (IsOfSupply R held) b b g l (Err fault)

@@ -6,3 +6,4 @@ pub mod Following
 pub mod Judging
 pub mod One
 pub mod Files
+pub mod Wording

@@ -1,8 +1,8 @@
 -- What a source gave and a sink took, call after call.
-use Rattle.std.proofs.Common.{◌∙◌, ℕ, List, [], ◌++◌, Option, Some, None, refl, sym, ap, append_assoc}
+use Rattle.std.proofs.Common.{◌∙◌, ℕ, List, [], ◌++◌, Option, Some, None, Result, Ok, Err, refl, sym, ap, append_assoc}
 use Rattle.std.proofs.lemmas.List.{append-nil}
 use Rattle.std.specs.Io.KnownBytes.{Appends, Keeps}
-use Rattle.drvhost_parts.specs.Device.{Adds, TakesBeginning}
+use Rattle.drvhost_parts.specs.Device.{Adds, TakesBeginning, Writes}
 
 pub keeps_same : (a : Option (List ℕ)) → Keeps a a
 keeps_same None = tt
@@ -19,6 +19,32 @@ appends_more None b c xs ys p q = tt
 appends_more (Some l) None c xs ys p q = absurd p
 appends_more (Some l) (Some m) None xs ys p q = q
 appends_more (Some l) (Some m) (Some n) xs ys p q = q ∙ ap (λ t. t ++ ys) p ∙ append_assoc l xs ys
+
+-- of some bytes and more behind them a beginning is taken
+pub begins_before : (b n : Option (List ℕ)) (xs ys : List ℕ) → TakesBeginning b n xs
+    → TakesBeginning b n (xs ++ ys)
+begins_before b n xs ys p =
+    record {
+      part = p.part;
+      rest = p.rest ++ ys;
+      split = ap (λ x. x ++ ys) p.split ∙ append_assoc p.part p.rest ys;
+      appended = p.appended;
+    }
+
+begins_behind : (b m n : Option (List ℕ)) (xs ys : List ℕ) → Appends b m xs
+    → TakesBeginning m n ys → TakesBeginning b n (xs ++ ys)
+begins_behind b m n xs ys a p =
+    record {
+      part = xs ++ p.part;
+      rest = p.rest;
+      split = ap (λ y. xs ++ y) p.split ∙ sym (append_assoc xs p.part p.rest);
+      appended = appends_more b m n xs p.part a p.appended;
+    }
+
+pub writes_behind : {T E : Type 0} (r : Result T E) (b m n : Option (List ℕ)) (xs ys : List ℕ)
+    → Appends b m xs → Writes m r n ys → Writes b r n (xs ++ ys)
+writes_behind (Ok x) b m n xs ys a w = appends_more b m n xs ys a w
+writes_behind (Err e) b m n xs ys a w = begins_behind b m n xs ys a w
 
 -- lines that gather
 pub adds_none : (b : Option (List ℕ)) (l : List ℕ) → Adds b b l l []

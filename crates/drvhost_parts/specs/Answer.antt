@@ -1,4 +1,4 @@
--- What `check`, `trace`, `host`, `list` and `version` answer for the bytes of their files.
+-- What `check`, `explain`, `trace`, `host`, `list` and `version` answer for the bytes of their files.
 use Rattle.std.specs.Prelude.{ℕ, ⊤, nat_eq, ◌≡◌, ◌+◌, ◌⊎◌, ◌++◌, Bool, true, false, if◌then◌else◌, List, [], ◌∷◌, codes, length, None, Option, Some, Result, Ok, Err}
 use Rattle.std.specs.List.{list_any, starts_with}
 use Rattle.asm.specs.declared.fault.AsmFault.{AsmFault}
@@ -79,6 +79,14 @@ pub record IsRefused (set : Set) (answer : Answer) : Type 0 where
 abbrev pub IsVerdict : Set → Answer → Type 0
 IsVerdict set answer =
     (IsTypable set × (answer ≡ ended Complete (acceptance set))) ⊎ IsRefused set answer
+
+-- the verdict on a set, with some words behind it
+pub record IsExplained (set : Set) (answer : Answer) : Type 0 where
+  pub end : End
+  pub verdict : List ℕ
+  pub words : List ℕ
+  pub judged : IsVerdict set (ended end verdict)
+  pub is : answer ≡ ended end (verdict ++ words)
 
 -- a reply with which a trace ends: a bug check, or a wrong operand
 abbrev pub is_last : Reply → Bool

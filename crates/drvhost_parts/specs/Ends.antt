@@ -5,7 +5,7 @@ use Rattle.drvhost_parts.specs.declared.verification.Verification.{Verification}
 use Rattle.interleave.specs.Listing.{schedule_in}
 use Rattle.model.specs.Set.{Set}
 use Rattle.script.specs.Script.{script_in}
-use Rattle.drvhost_parts.specs.Answer.{Answer, FileSays, IsIfAccepted, IsListing, IsOfFile, IsServed, IsToRun, IsTraced, IsVerdict, ran}
+use Rattle.drvhost_parts.specs.Answer.{Answer, FileSays, IsExplained, IsIfAccepted, IsListing, IsOfFile, IsServed, IsToRun, IsTraced, IsVerdict, ran}
 use Rattle.drvhost_parts.specs.Device.{Bytes, Holds, Supply, TakesBeginning}
 
 -- what is right for the set that a source has, where these are the right answers for a set
@@ -16,6 +16,11 @@ IsOfSupply Right supply answer =
 -- what `check` answers for what its source has
 abbrev pub IsCheckOf : Supply → Answer → Type 0
 IsCheckOf supply answer = IsOfSupply IsVerdict supply answer
+
+-- what `explain` answers for what its source has: for a set the verdict, with some words behind it,
+-- and for a fault the line that tells it
+abbrev pub IsExplainedOf : Supply → Answer → Type 0
+IsExplainedOf supply answer = IsOfSupply IsExplained supply answer
 
 -- what `list` answers for what its source has
 abbrev pub IsListOf : Supply → Answer → Type 0

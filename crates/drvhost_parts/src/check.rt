@@ -10,14 +10,14 @@ ghost use Rattle.drvhost_parts.specs.Ends.{Answers, IsCheckOf};
 ghost use Rattle.drvhost_parts.specs.Fault.{Goes, reads_failed, writes_failed};
 
 use crate::device::{Sink, Source};
-use crate::fault::{End, Fault, finish, no_memory};
-use crate::reading::read_set;
-use crate::transfer::{make_room, write_lines};
+use crate::fault::{End, Fault};
+use crate::task::{Task, answer};
+use crate::transfer::make_room;
 use image::DriverSet;
 use model::abs::{Refusal, Rule};
 use model::set::Driver;
 use report::lines::Lines;
-use std::alloc::{AllocError, Global};
+use std::alloc::Global;
 use verifier::{Accepted, verify};
 
 /// Writes whether a driver set is accepted, with the certificates of its routines, or why it is
@@ -38,34 +38,27 @@ pub fn check<S: Source, O: Sink, E: Sink>(
         (Says (E.failures err.old) (E.failures err.new) (E.contents err.old) (E.contents err.new))
         result }
 {
-    match Lines::new(alloc) {
-        Ok(mut lines) => {
-            let end = check_set(alloc, set, &mut lines, out);
-            finish(end, &mut lines, err)
-        }
-        Err(AllocError) => no_memory(err),
-    }
+    answer(&Judgement, alloc, set, out, err)
 }
 
-/// Judges the set that the bytes of a source name, and writes the verdict.
-fn check_set<S: Source, O: Sink>(
-    alloc: Global,
-    set: &mut S,
-    lines: &mut Lines,
-    out: &mut O,
-) -> Result<End, Fault>
-    requires set { CanCount (S.failures set.old) }
-    requires out { CanCount (O.failures out.old) }
-    requires empty { lines.old ≡ [] }
-    ensures goes { Goes (IsCheckOf (S.supply set.old)) (O.contents out.old) (O.contents out.new)
-        [] [] result }
-    ensures reads { S.failures set.new ≡ S.failures set.old + reads_failed result }
-    ensures writes { O.failures out.new ≡ O.failures out.old + writes_failed result }
-{
-    let set = read_set(alloc, set)?;
-    let end = judge(alloc, set, lines, out)?;
-    write_lines(lines, out)?;
-    Ok(end)
+/// The task of judging a set.
+struct Judgement;
+
+impl Task for Judgement {
+    ghost use Rattle.drvhost_parts.specs.Answer.{IsVerdict};
+
+    ghost right = { IsVerdict };
+
+    fn perform<O: Sink>(
+        &self,
+        alloc: Global,
+        _bytes: &[u8],
+        set: DriverSet,
+        lines: &mut Lines,
+        out: &mut O,
+    ) -> Result<End, Fault> {
+        judge(alloc, set, lines, out)
+    }
 }
 
 /// Judges a set: adds the lines of an accepted one, or the line of a refusal.
@@ -106,7 +99,11 @@ pub(crate) fn refuse(refusal: &Refusal, lines: &mut Lines) -> Result<End, Fault>
 }
 
 /// Adds the lines of an accepted set: a line for each routine, in order.
-fn accept<O: Sink>(accepted: &Accepted, lines: &mut Lines, out: &mut O) -> Result<(), Fault>
+pub(crate) fn accept<O: Sink>(
+    accepted: &Accepted,
+    lines: &mut Lines,
+    out: &mut O,
+) -> Result<(), Fault>
     requires out { CanCount (O.failures out.old) }
     requires empty { lines.old ≡ [] }
     ensures added { OnOk result

@@ -1,9 +1,10 @@
-//! What the program does, over any devices: the verdict, the trace and the listing of a driver
-//! set, and what comes of a script of commands that workers serve.
+//! What the program does, over any devices: the verdict on a driver set, explained or not, its
+//! trace and its listing, and what comes of a script of commands that workers serve.
 #![tactic(auto)]
 
 pub mod check;
 pub mod device;
+pub mod explaining;
 pub mod fault;
 mod follow;
 pub mod host;
@@ -11,6 +12,7 @@ pub mod laws;
 pub mod list;
 mod reading;
 mod running;
+mod task;
 pub mod trace;
 mod transfer;
 pub mod verification;

@@ -6,14 +6,14 @@ ghost use Rattle.drvhost_parts.specs.Device.{CanCount, Says};
 ghost use Rattle.drvhost_parts.specs.Ends.{Answers, IsListOf};
 ghost use Rattle.drvhost_parts.specs.Fault.{Goes, reads_failed, writes_failed};
 
-use crate::device::{Failed, Sink, Source};
-use crate::fault::{End, Fault, finish, no_memory};
-use crate::reading::read_set;
-use crate::transfer::write_whole;
+use crate::device::{Sink, Source};
+use crate::fault::{End, Fault};
+use crate::task::{Task, answer};
+use crate::transfer::write_bytes;
 use asm::disassemble;
 use image::DriverSet;
 use report::lines::Lines;
-use std::alloc::{AllocError, Global};
+use std::alloc::Global;
 
 /// Writes the listing of a driver set: a text that names the same set, with names of its own. The
 /// answer is the exit status: 0 where it was written, 2 where the set's text or its image is faulty
@@ -28,26 +28,27 @@ pub fn list<S: Source, O: Sink, E: Sink>(alloc: Global, set: &mut S, out: &mut O
         (Says (E.failures err.old) (E.failures err.new) (E.contents err.old) (E.contents err.new))
         result }
 {
-    match Lines::new(alloc) {
-        Ok(mut lines) => {
-            let end = list_set(alloc, set, out);
-            finish(end, &mut lines, err)
-        }
-        Err(AllocError) => no_memory(err),
-    }
+    answer(&Listing, alloc, set, out, err)
 }
 
-/// Writes the listing of the set that the bytes of a source name.
-fn list_set<S: Source, O: Sink>(alloc: Global, set: &mut S, out: &mut O) -> Result<End, Fault>
-    requires set { CanCount (S.failures set.old) }
-    requires out { CanCount (O.failures out.old) }
-    ensures goes { Goes (IsListOf (S.supply set.old)) (O.contents out.old) (O.contents out.new)
-        [] [] result }
-    ensures reads { S.failures set.new ≡ S.failures set.old + reads_failed result }
-    ensures writes { O.failures out.new ≡ O.failures out.old + writes_failed result }
-{
-    let set = read_set(alloc, set)?;
-    write_listing(alloc, &set, out)
+/// The task of listing a set.
+struct Listing;
+
+impl Task for Listing {
+    ghost use Rattle.drvhost_parts.specs.Answer.{IsListing};
+
+    ghost right = { IsListing };
+
+    fn perform<O: Sink>(
+        &self,
+        alloc: Global,
+        _bytes: &[u8],
+        set: DriverSet,
+        _lines: &mut Lines,
+        out: &mut O,
+    ) -> Result<End, Fault> {
+        write_listing(alloc, &set, out)
+    }
 }
 
 /// Writes the listing of a set.
@@ -58,8 +59,6 @@ fn write_listing<O: Sink>(alloc: Global, set: &DriverSet, out: &mut O) -> Result
     ensures writes { O.failures out.new ≡ O.failures out.old + writes_failed result }
 {
     let listing = disassemble(alloc, set)?;
-    match write_whole(out, listing.as_bytes()) {
-        Ok(()) => Ok(End::Complete),
-        Err(Failed) => Err(Fault::Write),
-    }
+    write_bytes(listing.as_bytes(), out)?;
+    Ok(End::Complete)
 }

@@ -2,7 +2,7 @@
 
 ghost use Rattle.std.specs.Prelude.{◌≡◌, ◌+◌, Err, IfErr, IfOk};
 ghost use Rattle.drvhost_parts.specs.Answer.{ImageSays, TextSays, is_image};
-ghost use Rattle.drvhost_parts.specs.Device.{CanCount};
+ghost use Rattle.drvhost_parts.specs.Device.{Bytes, CanCount};
 ghost use Rattle.drvhost_parts.specs.Fault.{ReadsSet, SaysImage, SaysText, reads_failed};
 
 use crate::device::Source;
@@ -18,7 +18,14 @@ pub(crate) fn read_set<S: Source>(alloc: Global, source: &mut S) -> Result<Drive
     ensures reads { S.failures source.new ≡ S.failures source.old + reads_failed result }
 {
     let bytes = read_whole(alloc, source)?;
-    let bytes = bytes.as_slice();
+    set_of(alloc, bytes.as_slice())
+}
+
+/// The set that bytes name: those of an image, or of a text.
+pub(crate) fn set_of(alloc: Global, bytes: &[u8]) -> Result<DriverSet, Fault>
+    ensures set { ReadsSet (Bytes bytes.now) result }
+    ensures reads { reads_failed result ≡ 0 }
+{
     if begins_image(bytes) {
         set_of_image(alloc, bytes)
     } else {
@@ -27,7 +34,7 @@ pub(crate) fn read_set<S: Source>(alloc: Global, source: &mut S) -> Result<Drive
 }
 
 /// Whether the bytes of a file are those of an image.
-fn begins_image(bytes: &[u8]) -> bool
+pub(crate) fn begins_image(bytes: &[u8]) -> bool
     ensures { result ≡ is_image bytes.now }
 {
     bytes.starts_with(&[0x44, 0x56, 0x42])

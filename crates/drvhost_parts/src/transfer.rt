@@ -1,6 +1,6 @@
 //! Whole inputs and outputs, over devices that move some bytes a call.
 
-ghost use Rattle.std.specs.Prelude.{◌≡◌, ◌+◌, ◌⊎◌, [], IfErr, IfOk, OnErr, OnOk, vec_len};
+ghost use Rattle.std.specs.Prelude.{◌≡◌, ◌+◌, ◌++◌, ◌⊎◌, [], IfErr, IfOk, OnErr, OnOk, vec_len};
 ghost use Rattle.report.specs.Lines.{HasRoom};
 ghost use Rattle.drvhost_parts.specs.Device.{Adds, CanCount, Counts, Holds, TakesBeginning, Writes};
 ghost use Rattle.drvhost_parts.specs.Fault.{reads_failed, writes_failed};
@@ -67,16 +67,42 @@ pub(crate) fn write_lines<K: Sink>(lines: &mut Lines, sink: &mut K) -> Result<()
     ensures fault { IfErr result (λ fault. fault ≡ Fault.Write) }
     ensures writes { K.failures sink.new ≡ K.failures sink.old + writes_failed result }
 {
-    match write_whole(sink, lines.bytes()) {
-        Ok(()) => {
-            lines.clear();
-            Ok(())
-        }
+    write_bytes(lines.bytes(), sink)?;
+    lines.clear();
+    Ok(())
+}
+
+/// Writes the lines that have gathered, and words behind them, and forgets the lines.
+pub(crate) fn write_words<K: Sink>(
+    lines: &mut Lines,
+    words: &[u8],
+    out: &mut K,
+) -> Result<(), Fault>
+    requires { CanCount (K.failures out.old) }
+    ensures forgotten { OnOk result (lines.new ≡ []) }
+    ensures written { Writes (K.contents out.old) result (K.contents out.new)
+        (lines.old ++ words.now) }
+    ensures fault { IfErr result (λ fault. fault ≡ Fault.Write) }
+    ensures writes { K.failures out.new ≡ K.failures out.old + writes_failed result }
+{
+    write_lines(lines, out)?;
+    write_bytes(words, out)
+}
+
+/// Writes all the bytes to a sink.
+pub(crate) fn write_bytes<K: Sink>(bytes: &[u8], sink: &mut K) -> Result<(), Fault>
+    requires { CanCount (K.failures sink.old) }
+    ensures written { Writes (K.contents sink.old) result (K.contents sink.new) bytes.now }
+    ensures fault { IfErr result (λ fault. fault ≡ Fault.Write) }
+    ensures writes { K.failures sink.new ≡ K.failures sink.old + writes_failed result }
+{
+    match write_whole(sink, bytes) {
+        Ok(()) => Ok(()),
         Err(Failed) => Err(Fault::Write),
     }
 }
 
-/// Writes all the bytes to a sink.
+/// Writes all the bytes to a sink, as it takes them.
 pub(crate) fn write_whole<K: Sink>(sink: &mut K, bytes: &[u8]) -> Result<(), Failed>
     requires { CanCount (K.failures sink.old) }
     ensures written { Writes (K.contents sink.old) result (K.contents sink.new) bytes.now }

@@ -4,6 +4,7 @@
 //! code, which takes what memory it needs and writes nothing itself.
 #![tactic(auto)]
 
+mod kinds;
 mod names;
 mod path;
 mod place;

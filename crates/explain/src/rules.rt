@@ -1,5 +1,6 @@
 //! The rules in words: why an instruction breaks one, where that is written, and how to mend it.
 
+use crate::kinds::wrong_kind;
 use model::abs::{Abs, Duty, Rule, Settled};
 use model::instr::{Instr, Return};
 use model::set::Sort;
@@ -13,7 +14,7 @@ pub(crate) struct Lesson {
 }
 
 impl Lesson {
-    fn of(why: &'static str, source: &'static str, mend: &'static str) -> Lesson {
+    pub(crate) fn of(why: &'static str, source: &'static str, mend: &'static str) -> Lesson {
         Lesson { why, source, mend }
     }
 }
@@ -24,7 +25,8 @@ pub(crate) fn lesson_of(rule: Rule, instr: &Instr, sort: Sort, state: Option<&Ab
     match rule {
         Rule::Malformed => malformed(instr),
         Rule::Unreachable | Rule::StatesDiffer | Rule::TooLong | Rule::Memory => of_paths(rule),
-        Rule::WrongKind | Rule::DoubleCompletion | Rule::Dropped => of_registers(rule, instr),
+        Rule::WrongKind => of_kinds(instr, state),
+        Rule::DoubleCompletion | Rule::Dropped => of_registers(rule, instr),
         Rule::MarkIrpPending => of_marks(instr, state),
         Rule::CancelSpinLock | Rule::SpinLock | Rule::LockHeld => of_locks(rule, instr),
         Rule::Level => of_level(sort),
@@ -89,7 +91,19 @@ fn of_paths(rule: Rule) -> Lesson {
     }
 }
 
-/// The rules on what registers hold.
+/// The rule on what registers have to hold.
+fn of_kinds(instr: &Instr, state: Option<&Abs>) -> Lesson {
+    match state {
+        Some(state) => wrong_kind(instr, state),
+        None => Lesson::of(
+            "a register has no number or no packet where one is wanted",
+            "the Driver Kit: a packet isn't touched after IoCompleteRequest or IoCallDriver",
+            "set the register first",
+        ),
+    }
+}
+
+/// The rules on packets that registers have no more, or still have.
 fn of_registers(rule: Rule, instr: &Instr) -> Lesson {
     match (rule, instr) {
         (Rule::DoubleCompletion, _) => Lesson::of(
@@ -102,20 +116,10 @@ fn of_registers(rule: Rule, instr: &Instr) -> Lesson {
             "the Driver Kit on dispatch routines",
             "complete the packet, pass it on, or mark it and put it into a queue",
         ),
-        (Rule::Dropped, _) => Lesson::of(
+        _ => Lesson::of(
             "the register that is written still has a packet, which would be lost",
             "the Driver Kit on dispatch routines",
             "write another register, or finish with the packet first",
-        ),
-        (_, Instr::Ret(_)) => Lesson::of(
-            "`ret lower` takes the status that a lower driver returned, and it isn't there",
-            "the Driver Kit on IoCallDriver",
-            "return the register that `pass` or `call` left",
-        ),
-        _ => Lesson::of(
-            "a register has no number or no packet where one is wanted; given away, it is blank",
-            "the Driver Kit: a packet isn't touched after IoCompleteRequest or IoCallDriver",
-            "set the register first, and read what is needed before the packet is given away",
         ),
     }
 }

@@ -5,12 +5,13 @@ use model::abs::{Abs, Duty, Kind, Settled};
 use std::alloc::AllocError;
 
 /// Adds what a state says: each register that isn't blank, the locks that are held, what is owed,
-/// and the token.
+/// and the token; or that it says nothing.
 pub(crate) fn add_state(
     prose: &mut String,
     names: &Names<'_>,
     state: &Abs,
 ) -> Result<(), AllocError> {
+    let before = prose.len();
     for (number, kind) in state.kinds.iter().enumerate() {
         if *kind != Kind::Blank {
             write!(prose, "  r{number}: ")?;
@@ -19,7 +20,11 @@ pub(crate) fn add_state(
         }
     }
     add_locks(prose, state)?;
-    add_owed(prose, state)
+    add_owed(prose, state)?;
+    if prose.len() == before {
+        prose.push_str("  nothing: each register is blank, and no lock is held\n")?;
+    }
+    Ok(())
 }
 
 /// Adds what a register holds.

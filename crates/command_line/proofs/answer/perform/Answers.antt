@@ -4,6 +4,10 @@ pub returns-in-Check-clause-answers : goal.returns-in-Check-clause-answers
 returns-in-Check-clause-answers g c =
     rw c.in-Check.is c.check_file.ensures.answers
 
+pub returns-in-Explain-clause-answers : goal.returns-in-Explain-clause-answers
+returns-in-Explain-clause-answers g c =
+    rw c.in-Explain.is c.explain_file.ensures.answers
+
 pub returns-in-List-clause-answers : goal.returns-in-List-clause-answers
 returns-in-List-clause-answers g c =
     rw c.in-List.is c.list_file.ensures.answers

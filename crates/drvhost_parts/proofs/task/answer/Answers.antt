@@ -1,24 +1,24 @@
 use Rattle.std.proofs.Common.{arith, refl}
 use Rattle.drvhost_parts.specs.declared.fault.Fault.TheVariants.{Memory}
-use Rattle.drvhost_parts.specs.Ends.{IsCheckOf, OutOfMemory}
+use Rattle.drvhost_parts.specs.Ends.{IsOfSupply, OutOfMemory}
 use Rattle.drvhost_parts.specs.Fault.{fault_told, reads_failed, told_of, writes_failed}
 use Rattle.drvhost_parts.proofs.Jobs.{ends_of}
 use Rattle.drvhost_parts.proofs.Writing.{keeps_same}
-use Rattle.drvhost_parts.proofs.check.check.Goals as goal
+use Rattle.drvhost_parts.proofs.task.answer.Goals as goal
 
 pub returns-in-Ok : goal.returns-in-Ok
 returns-in-Ok g c =
-    let end = c.check_set-end.result in
+    let end = c.perform_on-end.result in
     record {
       reads = reads_failed end;
       writes = writes_failed end;
       told = told_of end;
-      reads_are = c.check_set-end.ensures.reads;
-      writes_are = c.check_set-end.ensures.writes;
+      reads_are = c.perform_on-end.ensures.reads;
+      writes_are = c.perform_on-end.ensures.writes;
       tells = c.finish.ensures.told;
       ends = rw c.finish.ensures.status
-          (ends_of (IsCheckOf (g.S.Source.supply c.args.set.now)) _ _ end
-          c.check_set-end.ensures.goes);
+          (ends_of (IsOfSupply g.T.Task.right (g.S.Source.supply c.args.set.now)) _ _ end
+          c.perform_on-end.ensures.goes);
     }
 
 pub returns-in-Err : goal.returns-in-Err

@@ -1,0 +1,154 @@
+//! The verdict on a driver set, explained.
+
+ghost use Rattle.std.specs.Prelude.{◌≡◌, ◌+◌, ◌⊎◌, []};
+ghost use Rattle.model.specs.Typable.{IsFirstFault, at_start};
+ghost use Rattle.drvhost_parts.specs.Answer.{IsExplained};
+ghost use Rattle.drvhost_parts.specs.Device.{CanCount, Says};
+ghost use Rattle.drvhost_parts.specs.Ends.{Answers, IsExplainedOf};
+ghost use Rattle.drvhost_parts.specs.Fault.{Goes, reads_failed, writes_failed};
+
+use crate::check::{accept, refuse};
+use crate::device::{Sink, Source};
+use crate::fault::{End, Fault};
+use crate::reading::begins_image;
+use crate::task::{Task, answer};
+use crate::transfer::write_words;
+use asm::disassemble;
+use explain::{explanation, roll};
+use image::DriverSet;
+use model::abs::{Refusal, Rule};
+use report::lines::Lines;
+use std::alloc::Global;
+use verifier::{Accepted, verify};
+
+/// Writes whether a driver set is accepted, as [`check`](crate::check::check) does, and then words
+/// on it: the names of its routines, or what leads to the place of its refusal and why the rule is
+/// broken there. The answer is the exit status, as that of `check`: 0 accepted, 1 refused, 2 where
+/// its text or its image is faulty or a read or a write failed, 3 where memory ran out. Faults are
+/// told on the error writer.
+pub fn explain<S: Source, O: Sink, E: Sink>(
+    alloc: Global,
+    set: &mut S,
+    out: &mut O,
+    err: &mut E,
+) -> u8
+    requires set { CanCount (S.failures set.old) }
+    requires out { CanCount (O.failures out.old) }
+    requires err { CanCount (E.failures err.old) }
+    ensures { Answers (IsExplainedOf (S.supply set.old))
+        (S.failures set.old) (S.failures set.new) (O.failures out.old) (O.failures out.new)
+        (O.contents out.old) (O.contents out.new)
+        (Says (E.failures err.old) (E.failures err.new) (E.contents err.old) (E.contents err.new))
+        result }
+{
+    answer(&Explaining, alloc, set, out, err)
+}
+
+/// The task of explaining the verdict on a set.
+struct Explaining;
+
+impl Task for Explaining {
+    ghost use Rattle.drvhost_parts.specs.Answer.{IsExplained};
+
+    ghost right = { IsExplained };
+
+    fn perform<O: Sink>(
+        &self,
+        alloc: Global,
+        bytes: &[u8],
+        set: DriverSet,
+        lines: &mut Lines,
+        out: &mut O,
+    ) -> Result<End, Fault> {
+        if begins_image(bytes) {
+            explain_image(alloc, set, lines, out)
+        } else {
+            explain_text(alloc, bytes, set, lines, out)
+        }
+    }
+}
+
+/// Explains the verdict on the set of an image, over its listing.
+fn explain_image<O: Sink>(
+    alloc: Global,
+    set: DriverSet,
+    lines: &mut Lines,
+    out: &mut O,
+) -> Result<End, Fault>
+    requires out { CanCount (O.failures out.old) }
+    requires empty { lines.old ≡ [] }
+    ensures goes { Goes (IsExplained set) (O.contents out.old) (O.contents out.new) [] lines.new
+        result }
+    ensures reads { reads_failed result ≡ 0 }
+    ensures writes { O.failures out.new ≡ O.failures out.old + writes_failed result }
+{
+    let listing = disassemble(alloc, &set)?;
+    explain_text(alloc, listing.as_bytes(), set, lines, out)
+}
+
+/// Explains the verdict on a set, over a text that names it.
+fn explain_text<O: Sink>(
+    alloc: Global,
+    text: &[u8],
+    set: DriverSet,
+    lines: &mut Lines,
+    out: &mut O,
+) -> Result<End, Fault>
+    requires out { CanCount (O.failures out.old) }
+    requires empty { lines.old ≡ [] }
+    ensures goes { Goes (IsExplained set) (O.contents out.old) (O.contents out.new) [] lines.new
+        result }
+    ensures reads { reads_failed result ≡ 0 }
+    ensures writes { O.failures out.new ≡ O.failures out.old + writes_failed result }
+{
+    match verify(alloc, set) {
+        Ok(accepted) => explain_acceptance(alloc, text, &accepted, lines, out),
+        Err((set, refusal)) => explain_refusal(alloc, text, &set, &refusal, lines, out),
+    }
+}
+
+/// Writes the lines of an accepted set, and the names of its routines behind them. The words are
+/// there before anything goes out.
+fn explain_acceptance<O: Sink>(
+    alloc: Global,
+    text: &[u8],
+    accepted: &Accepted,
+    lines: &mut Lines,
+    out: &mut O,
+) -> Result<End, Fault>
+    requires out { CanCount (O.failures out.old) }
+    requires empty { lines.old ≡ [] }
+    ensures goes { Goes (IsExplained accepted.now) (O.contents out.old) (O.contents out.new) []
+        lines.new result }
+    ensures reads { reads_failed result ≡ 0 }
+    ensures writes { O.failures out.new ≡ O.failures out.old + writes_failed result }
+{
+    let words = roll(alloc, text, accepted.set())?;
+    accept(accepted, lines, out)?;
+    write_words(lines, words.as_bytes(), out)?;
+    Ok(End::Complete)
+}
+
+/// Writes the line of a refusal, and what explains it behind that. The words are there before
+/// anything goes out.
+fn explain_refusal<O: Sink>(
+    alloc: Global,
+    text: &[u8],
+    set: &DriverSet,
+    refusal: &Refusal,
+    lines: &mut Lines,
+    out: &mut O,
+) -> Result<End, Fault>
+    requires first { (refusal.now ≡ at_start Rule.Memory) ⊎ IsFirstFault set.now refusal.now }
+    requires out { CanCount (O.failures out.old) }
+    requires empty { lines.old ≡ [] }
+    ensures goes { Goes (IsExplained set.now) (O.contents out.old) (O.contents out.new) []
+        lines.new result }
+    ensures reads { reads_failed result ≡ 0 }
+    ensures writes { O.failures out.new ≡ O.failures out.old + writes_failed result }
+{
+    let words = explanation(alloc, text, set, refusal)?;
+    let end = refuse(refusal, lines)?;
+    write_words(lines, words.as_bytes(), out)?;
+    Ok(end)
+}
