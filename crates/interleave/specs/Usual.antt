@@ -2,12 +2,14 @@
 use Rattle.std.specs.Prelude.{◌≡◌, ℕ, Bool, true, false, nat_eq, not, ◌&&◌, ◌<◌, ◌≤◌, List, [], ◌∷◌, ◌++◌, length, Option, Some, Result, Ok}
 use Rattle.std.specs.List.{list_all}
 use Rattle.std.specs.Str.Parse.{digits_value}
+use Rattle.model.specs.declared.event.Event.TheVariants.{Step}
 use Rattle.model.specs.declared.status.Major.{Major}
 use Rattle.text.specs.Class.{is_number, is_token}
 use Rattle.text.specs.Cut.{is_blank, is_written}
 use Rattle.text.specs.Major.{major_of}
 use Rattle.text.specs.Number.{number_in}
 use Rattle.text.specs.declared.number.Numeral.TheVariants.{Number}
+use Rattle.interleave.specs.Line.{event_line}
 use Rattle.interleave.specs.declared.read.Repeated.{Repeated}
 use Rattle.interleave.specs.declared.schedule.ScheduleKind.{ScheduleKind}
 
@@ -70,3 +72,10 @@ pub record Reads (reading : List (List ℕ) → Result (Option Repeated) Schedul
   pub parts : bytes ≡ spaced words
   pub plain : ArePlain words
   pub says : reading words ≡ Ok (Some events)
+
+-- the first of these lines stands for one step of the thread, and the others come after it
+pub record TakesStep (lines : List (List ℕ)) (thread : ℕ) (later : List (List ℕ)) : Type 0 where
+  pub line : List ℕ
+  pub parts : lines ≡ line ∷ later
+  pub says : event_line line ≡ Ok (Some (record { event = Step thread; count = 1 }))
+  pub small : thread < 100

@@ -72,6 +72,22 @@ impl Events {
         Ok(())
     }
 
+    /// Adds one step of a thread.
+    ///
+    /// # Errors
+    ///
+    /// When memory runs out.
+    #[inline]
+    pub(crate) fn push_step(&mut self, thread: u8) -> Result<(), AllocError>
+        requires thread { thread < 255 }
+        requires fits { length self.old + 1 < 2 ^ 64 }
+        ensures { OnOk result (self.new ≡ self.old ++ Step thread ∷ []) }
+    {
+        self.bytes.push(thread)?;
+        self.count += 1;
+        Ok(())
+    }
+
     /// All events, to be taken in their order.
     pub fn upcoming(&self) -> Upcoming<'_>
         ensures { result ≡ self.now }
@@ -162,6 +178,22 @@ impl<'a> Model for Upcoming<'a> {
 }
 
 impl Upcoming<'_> {
+    /// Takes the next event, if it is a step that is kept as a byte and the byte behind it is another
+    /// one: its thread.
+    #[inline]
+    pub fn next_step(&mut self) -> Option<u8>
+        ensures { MatchOption result (self.new ≡ self.old)
+            (λ thread. self.old ≡ Step thread ∷ self.new) }
+    {
+        let (byte, bytes) = self.bytes.split_first()?;
+        let thread = *byte;
+        if thread == MARK || bytes.first() == Some(byte) {
+            return None;
+        }
+        self.bytes = bytes;
+        Some(thread)
+    }
+
     /// Takes the next event and some of those that follow and are equal to it, if there is one:
     /// steps of one thread that are kept as bytes, or one of the others as often as it happens.
     pub fn next_run(&mut self) -> Option<Repeated>

@@ -1,16 +1,16 @@
 //! The text of a schedule.
 
-ghost use Rattle.std.specs.Prelude.{◌≡◌, ◌+◌, ◌<◌, ◌^◌, ◌↔◌, ◌≢◌, [], length, IfOk, IfErr, MatchResult};
+ghost use Rattle.std.specs.Prelude.{◌≡◌, ◌+◌, ◌<◌, ◌^◌, ◌↔◌, ◌≢◌, ℕ, [], length, IfOk, IfErr, MatchResult};
 ghost use Rattle.interleave.specs.Listing.{IsFaultOf, IsWithinLimits, Lists, events_after, listing, opening, schedule_in, with_threads};
 ghost use Rattle.interleave.specs.Meaning.{IsListing, IsFirstFault};
 ghost use Rattle.text.specs.Cut.{lines_of};
 
 use crate::events::Events;
+use crate::left::Left;
 use crate::quick::quick_line;
 use crate::read::opening_line;
 use crate::schedule::{MAX_EVENTS, Schedule, ScheduleFault, ScheduleKind};
 use std::alloc::{AllocError, Global};
-use text::cut::Lines;
 
 /// The schedule that a text lists.
 ///
@@ -45,7 +45,7 @@ pub fn parse_schedule(alloc: Global, text: &[u8]) -> Result<Schedule, ScheduleFa
 fn schedule_in(alloc: Global, text: &[u8]) -> Result<Result<Schedule, ScheduleFault>, AllocError>
     ensures { IfOk result (λ r. r ≡ schedule_in text.now) }
 {
-    let mut left = Lines::of(text);
+    let mut left = Left::of(text);
     match find_opening(&mut left) {
         Ok(opening) => match list(alloc, left, opening.line + 1)? {
             Ok(events) => Ok(Ok(Schedule {
@@ -66,7 +66,7 @@ struct Opening {
 }
 
 /// Takes the lines of a text to the one that says how many threads there are.
-fn find_opening(left: &mut Lines<'_>) -> Result<Opening, ScheduleFault>
+fn find_opening(left: &mut Left<'_>) -> Result<Opening, ScheduleFault>
     requires { length left.old < 2 ^ 63 }
     ensures { MatchResult result (λ o. (o.line + length left.new < 2 ^ 63)
         × (opening 1 left.old ≡ with_threads o.threads (listing [] (o.line + 1) left.new)))
@@ -90,7 +90,7 @@ fn find_opening(left: &mut Lines<'_>) -> Result<Opening, ScheduleFault>
 /// The events of lines of which the first has this number.
 fn list(
     alloc: Global,
-    mut left: Lines<'_>,
+    mut left: Left<'_>,
     first: u64,
 ) -> Result<Result<Events, ScheduleFault>, AllocError>
     requires { first + length left < 2 ^ 64 }
@@ -99,14 +99,33 @@ fn list(
         (λ fault. listing [] first left.entry ≡ Err fault)) }
 {
     let mut events = Events::new(alloc);
-    let mut line = first;
+    let mut line = first + add_steps(&mut events, &mut left)?;
     while let Some(raw) = left.next() {
         if let Err(kind) = add_line(&mut events, raw)? {
             return Ok(Err(ScheduleFault { line, kind }));
         }
-        line += 1;
+        line += 1 + add_steps(&mut events, &mut left)?;
     }
     Ok(Ok(events))
+}
+
+/// Adds the steps of the lines of one step that come next, while there is room for one more, and
+/// answers how many lines there were.
+fn add_steps(events: &mut Events, left: &mut Left<'_>) -> Result<u64, AllocError>
+    requires { length left.old < 2 ^ 64 }
+    ensures same { IfOk result (λ made. (first : ℕ)
+        → listing events.old first left.old ≡ listing events.new (first + made) left.new) }
+    ensures taken { IfOk result (λ made. made + length left.new ≡ length left.old) }
+{
+    let mut made: u64 = 0;
+    while events.len() < MAX_EVENTS {
+        let Some(thread) = left.next_step() else {
+            return Ok(made);
+        };
+        events.push_step(thread)?;
+        made += 1;
+    }
+    Ok(made)
 }
 
 /// Adds the events of a line.

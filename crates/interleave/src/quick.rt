@@ -227,10 +227,17 @@ impl Operands<'_> {
 }
 
 /// What stands behind this word, if the bytes begin with it.
-fn after_word<'a>(bytes: &'a [u8], word: &[u8]) -> Option<&'a [u8]>
+#[inline]
+pub(crate) fn after_word<'a>(bytes: &'a [u8], word: &[u8]) -> Option<&'a [u8]>
     ensures { IfSome result (λ rest. bytes.now ≡ word.now ++ rest.now) }
 {
-    bytes.strip_prefix(word)
+    let rest = bytes.get(word.len()..)?;
+    for (i, byte) in word.iter().enumerate() {
+        if bytes[i] != *byte {
+            return None;
+        }
+    }
+    Some(rest)
 }
 
 /// A number, and what stands after its digits.
@@ -255,7 +262,7 @@ fn number_at_head(bytes: &[u8]) -> Option<Numbered<'_>>
                 if number > MOST_TO_GROW {
                     return None;
                 }
-                number = number * 10 + digit;
+                number = number * 10 + u64::from(digit);
             }
             None => return after(number, i, bytes),
         }
@@ -264,11 +271,12 @@ fn number_at_head(bytes: &[u8]) -> Option<Numbered<'_>>
 }
 
 /// What a decimal digit stands for.
-fn digit(byte: u8) -> Option<u64>
+#[inline]
+pub(crate) fn digit(byte: u8) -> Option<u8>
     ensures { IfSome result (λ digit. (digit < 10) × (byte ≡ 48 + digit)) }
 {
     match byte {
-        b'0'..=b'9' => Some(u64::from(byte - b'0')),
+        b'0'..=b'9' => Some(byte - b'0'),
         _ => None,
     }
 }

@@ -11,5 +11,9 @@ loop-i-preserved c =
     let before = c.loop-i.invariant in
     record {
       digits = digits_more bytes i digit (omega arith) is.0 is.1 before.digits;
-      number = number_more bytes i digit c.loop-i.number (omega arith) is.0 is.1 before.number;
+      number = omega (
+        arith,
+        c.from.ensures,
+        number_more bytes i digit c.loop-i.number (omega arith) is.0 is.1 before.number,
+      );
     }
