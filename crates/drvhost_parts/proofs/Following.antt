@@ -3,8 +3,6 @@ use Rattle.std.proofs.Common.{◌≡◌, ◌∙◌, ℕ, zero, suc, ◌+◌, ◌
 use Rattle.std.proofs.lemmas.Bool.{cases_Bool, false≢true}
 use Rattle.std.proofs.lemmas.List.{append-nil, length-append, length-replicate, replicate-append-replicate, replicate_more}
 use Rattle.std.specs.List.{list_any}
-use Rattle.std.specs.Prelude.{IfSome, MatchOption}
-use Rattle.interleave.specs.declared.read.Repeated.{Repeated}
 use Rattle.model.specs.declared.event.Event.{Event}
 use Rattle.model.specs.declared.event.Reply.{Reply}
 use Rattle.model.specs.declared.event.Reply.TheVariants.{Started, Stepped, Finished, Topped, Waited, Idle, Refused, Bug, Wrong}
@@ -19,7 +17,7 @@ use Rattle.drvhost_parts.specs.declared.running.Replies.{Replies}
 use Rattle.drvhost_parts.specs.Answer.{Answer, ended, is_last, replies, reply_lines, trace_of}
 use Rattle.drvhost_parts.specs.Device.{Adds, TakesBeginning}
 use Rattle.drvhost_parts.specs.Fault.{Goes}
-use Rattle.drvhost_parts.specs.Repeats.{AreReplies, RepeatsBy, awaited, told_by}
+use Rattle.drvhost_parts.specs.Repeats.{AreReplies, RepeatsBy, told_by}
 use Rattle.drvhost_parts.proofs.Judging.{Certified, certified_all, certified_more, certified_part}
 use Rattle.drvhost_parts.proofs.Writing.{adds_none}
 
@@ -64,26 +62,24 @@ lines_on number (reply ∷ told) later =
 -- the lines of replies that are the same, the first of them apart
 pub next_reply : (number count told : ℕ) (reply : Reply) → told < count
     → reply_lines number (replicate (count - told) reply)
-    ≡ reply_line number reply ++ reply_lines (number + 1) (replicate (count - (told + 1)) reply)
+    ≡ reply_lines number (reply ∷ [])
+    ++ reply_lines (number + 1) (replicate (count - (told + 1)) reply)
 next_reply number count told reply within =
     let more : count - told ≡ suc (count - (told + 1)) = omega (arith, within) in
     ap (λ n. reply_lines number (replicate n reply)) more
+    ∙ ap (λ line. line ++ reply_lines (number + 1) (replicate (count - (told + 1)) reply))
+    (sym (append-nil (reply_line number reply)))
 
--- the events that are awaited where the next of them were taken
-abbrev Taken : Option Repeated → List Event → List Event → Type 0
-Taken next events later =
-    MatchOption next (events ≡ [])
-    (λ run. (1 ≤ run.count) × (events ≡ replicate run.count run.event ++ later))
-
-pub awaits : (next : Option Repeated) (events later : List Event) → Taken next events later
-    → events ≡ awaited next later
-awaits None events later taken = taken
-awaits (Some run) events later taken = taken.1
-
-pub some_taken : (next : Option Repeated) (events later : List Event) → Taken next events later
-    → IfSome next (λ run. 1 ≤ run.count)
-some_taken None events later taken = tt
-some_taken (Some run) events later taken = taken.0
+-- a write fails before more is added
+pub breaks_before : (b n : Option (List ℕ)) (l more : List ℕ) → TakesBeginning b n l
+    → TakesBeginning b n (l ++ more)
+breaks_before b n l more p =
+    record {
+      part = p.part;
+      rest = p.rest ++ more;
+      split = ap (λ x. x ++ more) p.split ∙ append_assoc p.part p.rest more;
+      appended = p.appended;
+    }
 
 -- the line of what may be a word
 abbrev line_as : ℕ → Option Word → List ℕ
@@ -260,6 +256,21 @@ module _ {M : Type 0} (set_of : M → Set) (ShowsRun : M → ℕ → List Event 
 abbrev pub IsTraceOfAll : List Reply → Answer → Type 0
 IsTraceOfAll all answer = answer ≡ trace_of all
 
+-- no event is still to come
+pub followed_end : {M : Type 0} (set_of : M → Set) (ShowsRun : M → ℕ → List Event → Type 0)
+    (m : M) (set : Set) (threads : ℕ) (all : List Reply) (number : ℕ) (b n : Option (List ℕ))
+    (l : List ℕ)
+    → Followed set_of ShowsRun set threads all m number [] b n l
+    → Goes (IsTraceOfAll all) b n [] l (Ok Complete)
+followed_end {M} set_of ShowsRun m set threads all number b n l f =
+    let any : list_any is_last all ≡ false =
+    f.last ∙ ap (λ told. list_any is_last told) f.remains.are in (
+      reply_lines 0 all,
+      sym (ap (λ (x : Bool). ended (if x then Stopped else Complete) (reply_lines 0 all)) any),
+      certified_all (reply_lines 0 all) (reply_lines number f.later) b n [] l f.lines
+          (ap (λ told. reply_lines number told) f.remains.are),
+    )
+
 -- the replies that are told together, and the last of them apart
 abbrev earlier_of : Replies → List Reply
 earlier_of r = replicate r.stepped Stepped ++ replicate (r.times - 1) r.last
@@ -431,3 +442,44 @@ module _ {M : Type 0} (set_of : M → Set) (ShowsRun : M → ℕ → List Event 
             last = f.last ∙ told_of.any
                 ∙ ap (λ (x : Bool). if x then true else list_any is_last told_of.after) goes;
           })
+
+-- the replies to one event
+abbrev single : Reply → Replies
+single reply = record { stepped = 0; last = reply; times = 1 }
+
+module _ {M : Type 0} (set_of : M → Set) (ShowsRun : M → ℕ → List Event → Type 0)
+    (m n : M) (set : Set) (threads : ℕ) (all : List Reply) (number : ℕ) (e : Event) (reply : Reply)
+    (rest : List Event) (b c : Option (List ℕ)) (l : List ℕ)
+    (f : Followed set_of ShowsRun set threads all m number (e ∷ rest) b c l)
+    (ran : RepeatsBy set_of ShowsRun m e n (reply ∷ [])) where
+  same_number : number ≡ number + 0
+  same_number = omega arith
+
+  -- a write fails before the line of its reply is added
+  pub one_broken : (d : Option (List ℕ))
+      → TakesBeginning c d (l ++ reply_lines number (reply ∷ []))
+      → Goes (IsTraceOfAll all) b d [] [] (Err Write)
+  one_broken d p =
+      others_broken set_of ShowsRun m n set threads all number e (single reply) 1 rest b c l f
+      (omega arith) (omega arith) (λ ends. refl) ran c l (adds_none c l) d
+      (subst (λ k. TakesBeginning c d (l ++ reply_lines k (reply ∷ []))) same_number p)
+
+  module _ (d : Option (List ℕ)) (k : List ℕ)
+      (added : Adds c d l k (reply_lines number (reply ∷ []))) where
+    line_added : Adds c d l k (reply_lines (number + 0) (reply ∷ []))
+    line_added = subst (λ x. Adds c d l k (reply_lines x (reply ∷ []))) same_number added
+
+    -- the run ends with it
+    pub one_last : is_last reply ≡ true → Goes (IsTraceOfAll all) b d [] k (Ok Stopped)
+    one_last ends =
+        followed_last set_of ShowsRun m n set threads all number e (single reply) 1 rest b c l f
+        (omega arith) (omega arith) (λ ends. refl) ran c l (adds_none c l) d k line_added ends
+
+    -- or goes on
+    pub one_on : is_last reply ≡ false
+        → Followed set_of ShowsRun set threads all n (number + 1) rest b d k
+    one_on goes =
+        subst (λ x. Followed set_of ShowsRun set threads all n x rest b d k) (omega arith)
+        (followed_on set_of ShowsRun m n set threads all number e (single reply) 1 rest b c l f
+        (omega arith) (omega arith) (λ ends. refl) ran c l (adds_none c l) d k line_added rest goes
+        refl)

@@ -1,5 +1,5 @@
 -- Worlds that run the same event several times in a row.
-use Rattle.std.proofs.Common.{◌≡◌, ◌∙◌, ℕ, zero, suc, ◌+◌, ◌-◌, ◌≤◌, Bool, true, false, List, [], ◌∷◌, ◌++◌, length, replicate, refl, sym, ap, arith, subst, append_assoc, inl, inr, if◌then◌else◌}
+use Rattle.std.proofs.Common.{◌≡◌, ◌∙◌, ℕ, zero, suc, ◌+◌, ◌-◌, ◌≤◌, true, List, [], ◌∷◌, ◌++◌, length, replicate, sym, ap, arith, subst, append_assoc, inl, inr}
 use Rattle.std.proofs.lemmas.Bool.{cases_Bool}
 use Rattle.std.proofs.lemmas.List.{append-nil, length-append, length-replicate, replicate_more}
 use Rattle.model.specs.declared.event.Event.{Event}
@@ -7,13 +7,11 @@ use Rattle.model.specs.declared.event.Event.TheVariants.{Step}
 use Rattle.model.specs.declared.event.Reply.{Reply}
 use Rattle.model.specs.declared.event.Reply.TheVariants.{Stepped}
 use Rattle.model.specs.Machine.{Applies, Shows, reply_to}
-use Rattle.model.specs.Run.{run}
-use Rattle.model.specs.Set.{Set}
 use Rattle.model.specs.Shown.{Shown, ShowsWorld}
 use Rattle.model.specs.World.{World}
 use Rattle.machine.specs.Steps.{MakesSteps, steps_of}
 use Rattle.run_laws.specs.Waits.{WaitingChangesNothing, says_unchanged}
-use Rattle.drvhost_parts.specs.Repeats.{AreReplies, RepeatsBy, settled, settled_times, told_by}
+use Rattle.drvhost_parts.specs.Repeats.{AreReplies, RepeatsBy, settled, told_by}
 
 abbrev pub Repeats : Shown → Event → Shown → List Reply → Type 0
 Repeats before e after told = RepeatsBy (λ m. m.set) Shows before e after told

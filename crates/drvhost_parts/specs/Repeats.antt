@@ -38,7 +38,7 @@ settled_times reply count = if says_unchanged reply then count else 1
 abbrev pub settled : Reply → ℕ → Replies
 settled reply count = record { stepped = 0; last = reply; times = settled_times reply count }
 
--- the events that are still to come, of which these are the next
+-- the events that are still to come: what is left of a run, and those after it
 abbrev pub awaited : Option Repeated → List Event → List Event
-awaited None later = []
+awaited None later = later
 awaited (Some run) later = replicate run.count run.event ++ later

@@ -1,7 +1,9 @@
 //! Runs that are followed to their end, and the lines of their replies.
 
-ghost use Rattle.std.specs.Prelude.{◌≡◌, ◌+◌, ◌++◌, ◌<◌, ◌≤◌, ◌^◌, [], IfErr, IfSome, Ok, OnErr, OnOk, replicate};
+ghost use Rattle.std.specs.Prelude.{◌≡◌, ◌+◌, ◌++◌, ◌∷◌, ◌<◌, ◌≤◌, ◌^◌, List, [], IfErr, IfSome, MatchOption, Ok, OnErr, OnOk, replicate};
 ghost use Rattle.interleave.specs.Listing.{IsWithinLimits};
+ghost use Rattle.model.specs.declared.event.Event.{Event};
+ghost use Rattle.model.specs.declared.event.Event.TheVariants.{Step};
 ghost use Rattle.report.specs.Word.{word_lines};
 ghost use Rattle.drvhost_parts.specs.Answer.{is_last, ran, reply_lines};
 ghost use Rattle.drvhost_parts.specs.Device.{Adds, CanCount, TakesBeginning};
@@ -39,30 +41,90 @@ pub(crate) fn follow<M: Machine, O: Sink>(
 {
     let mut number = EventNumber::first();
     let mut upcoming = schedule.events.upcoming();
-    let mut next = upcoming.next_run();
-    while let Some(Repeated { event, count }) = next {
+    let mut rest = None;
+    loop {
+        if let Some(thread) = next_step(&rest, &mut upcoming) {
+            let reply = machine.answer(&Event::Step { thread });
+            add_reply(&mut number, &reply, lines, out)?;
+            if is_last(&reply) {
+                return Ok(End::Stopped);
+            }
+            continue;
+        }
+        let Some(Repeated { event, count }) = next_run(rest, &mut upcoming) else {
+            return Ok(End::Complete);
+        };
         let replies = machine.repeat(&event, count);
         add_replies(&mut number, &Reply::Stepped, replies.stepped, lines, out)?;
         add_replies(&mut number, &replies.last, replies.times, lines, out)?;
         if is_last(&replies.last) {
             return Ok(End::Stopped);
         }
-        let left = count - replies.stepped - replies.times;
-        next = rest_of(event, left, &mut upcoming);
+        rest = rest_of(event, count - replies.stepped - replies.times);
     }
-    Ok(End::Complete)
 }
 
-/// The events that come next, where this one is left to happen so often before the others.
+/// The thread of the next event, where nothing is left of a run, and that event is one step that is
+/// taken by itself: most events of a schedule with a line for each are.
 #[inline]
-fn rest_of(event: Event, left: usize, upcoming: &mut Upcoming<'_>) -> Option<Repeated>
-    ensures events { replicate left event ++ upcoming.old ≡ awaited result upcoming.new }
+fn next_step(rest: &Option<Repeated>, upcoming: &mut Upcoming<'_>) -> Option<u8>
+    ensures { MatchOption result (upcoming.new ≡ upcoming.old) (λ thread.
+        awaited rest.now upcoming.old ≡ Step thread ∷ awaited rest.now upcoming.new) }
+{
+    if rest.is_some() {
+        return None;
+    }
+    upcoming.next_step()
+}
+
+/// The events that come next: what is left of a run, or the next one.
+#[inline]
+fn next_run(rest: Option<Repeated>, upcoming: &mut Upcoming<'_>) -> Option<Repeated>
+    requires { IfSome rest (λ run. 1 ≤ run.count) }
+    ensures { MatchOption result (awaited rest upcoming.old ≡ []) (λ run. (1 ≤ run.count)
+        × (awaited rest upcoming.old ≡ replicate run.count run.event ++ upcoming.new)) }
+{
+    if rest.is_some() {
+        return rest;
+    }
+    upcoming.next_run()
+}
+
+/// What is left of a run, where this event is left to happen so often.
+#[inline]
+fn rest_of(event: Event, left: usize) -> Option<Repeated>
+    ensures events { (later : List Event)
+        → awaited result later ≡ replicate left event ++ later }
     ensures some { IfSome result (λ run. 1 ≤ run.count) }
 {
     if left == 0 {
-        return upcoming.next_run();
+        return None;
     }
     Some(Repeated { event, count: left })
+}
+
+/// Adds the line of an event that has this reply.
+#[inline]
+fn add_reply<O: Sink>(
+    number: &mut EventNumber,
+    reply: &Reply,
+    lines: &mut Lines,
+    out: &mut O,
+) -> Result<(), Fault>
+    requires numbers { number.old + 1 < 2 ^ 64 }
+    requires out { CanCount (O.failures out.old) }
+    ensures number { OnOk result (number.new ≡ number.old + 1) }
+    ensures added { OnOk result (Adds (O.contents out.old) (O.contents out.new) lines.old lines.new
+        (reply_lines number.old (reply.now ∷ []))) }
+    ensures broken { OnErr result (TakesBeginning (O.contents out.old) (O.contents out.new)
+        (lines.old ++ reply_lines number.old (reply.now ∷ []))) }
+    ensures fault { IfErr result (λ fault. fault ≡ Fault.Write) }
+    ensures writes { O.failures out.new ≡ O.failures out.old + writes_failed result }
+{
+    make_room(lines, out)?;
+    lines.reply(number, reply);
+    number.advance();
+    Ok(())
 }
 
 /// Adds the lines of so many events in a row that have the same reply.
@@ -90,9 +152,7 @@ fn add_replies<O: Sink>(
         }
     }
     for _ in 0..count {
-        make_room(lines, out)?;
-        lines.reply(number, reply);
-        number.advance();
+        add_reply(number, reply, lines, out)?;
     }
     Ok(())
 }

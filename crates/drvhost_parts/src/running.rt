@@ -1,6 +1,6 @@
 //! Machines that run the same event several times in a row.
 
-ghost use Rattle.std.specs.Prelude.{ℕ, ◌≡◌, ◌+◌, ◌≤◌, List, true};
+ghost use Rattle.std.specs.Prelude.{ℕ, ◌≡◌, ◌+◌, ◌≤◌, ◌∷◌, [], List, true};
 ghost use Rattle.model.specs.declared.event.Event.{Event};
 ghost use Rattle.model.specs.declared.event.Event.TheVariants.{Step};
 ghost use Rattle.model.specs.Machine.{Shows, ShowsWhole};
@@ -32,6 +32,10 @@ pub(crate) trait Machine {
     /// It shows the run of these events, over so many threads.
     ghost shows: { Self → ℕ → List Event → Type 0 };
 
+    /// Runs an event once, and answers its reply.
+    fn answer(&mut self, event: &Event) -> Reply
+        ensures { RepeatsBy set_of shows self.old event.now self.new (result ∷ []) };
+
     /// Runs an event at least once and at most so many times, and answers its replies. It ends with
     /// the first that is a bug check or a wrong operand.
     fn repeat(&mut self, event: &Event, count: usize) -> Replies
@@ -48,6 +52,11 @@ impl Machine for Checked {
     ghost shows = { ShowsWhole };
 
     #[inline]
+    fn answer(&mut self, event: &Event) -> Reply {
+        self.apply(event)
+    }
+
+    #[inline]
     fn repeat(&mut self, event: &Event, _count: usize) -> Replies {
         Replies {
             stepped: 0,
@@ -61,6 +70,11 @@ impl Machine for World {
     ghost set_of = { λ world. world.set };
 
     ghost shows = { Shows };
+
+    #[inline]
+    fn answer(&mut self, event: &Event) -> Reply {
+        self.apply(event)
+    }
 
     #[inline]
     fn repeat(&mut self, event: &Event, count: usize) -> Replies {

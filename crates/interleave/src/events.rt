@@ -178,8 +178,8 @@ impl<'a> Model for Upcoming<'a> {
 }
 
 impl Upcoming<'_> {
-    /// Takes the next event, if it is a step that is kept as a byte and the byte behind it is another
-    /// one: its thread.
+    /// Takes the next event, if it is a step that is kept as a byte and the byte behind it is
+    /// another one: its thread.
     #[inline]
     pub fn next_step(&mut self) -> Option<u8>
         ensures { MatchOption result (self.new ≡ self.old)

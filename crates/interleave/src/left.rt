@@ -45,8 +45,8 @@ impl<'a> Left<'a> {
     }
 
     /// Takes the next line, if it is that of one step of a thread with a number of one or two
-    /// digits, in the usual form and with an LF. Most lines of a long schedule are, so they are read
-    /// by their bytes alone, and no line is cut off first.
+    /// digits, in the usual form and with an LF. Most lines of a long schedule are, so they are
+    /// read by their bytes alone, and no line is cut off first.
     #[inline]
     pub(crate) fn next_step(&mut self) -> Option<u8>
         ensures { MatchOption result (self.new ≡ self.old)

@@ -2,14 +2,16 @@ use Rattle.std.proofs.Common.{◌≡◌, ◌∙◌, ◌-◌, ap, arith, replicat
 use Rattle.std.proofs.lemmas.Result.{err_from_is_err_and}
 use Rattle.drvhost_parts.specs.Answer.{reply_lines}
 use Rattle.drvhost_parts.proofs.Following.{lines_word, next_reply}
-use Rattle.drvhost_parts.proofs.Judging.{certified_all, certified_broken, certified_line, certified_room}
+use Rattle.drvhost_parts.proofs.Judging.{certified_all, certified_more, certified_part}
 use Rattle.drvhost_parts.proofs.follow.add_replies.Goals as goal
 
-pub returns-in_err-make_room-clause-broken : goal.returns-in_err-make_room-clause-broken
-returns-in_err-make_room-clause-broken g c =
+pub returns-in_err-add_reply-clause-broken : goal.returns-in_err-add_reply-clause-broken
+returns-in_err-add_reply-clause-broken g c =
     let p = err_from_is_err_and c.from_residual.result c.from_residual.ensures.1 in
     rw p.1
-    (certified_broken _ _ _ _ _ _ _ c.loop.invariant.certified c.in_err-make_room.ensures.broken)
+    (certified_part _ _ _ _ _ _ _ _ _ c.loop.invariant.certified
+    (next_reply c.loop.number c.args.count c.loop.counter c.args.reply.now c.loop-test.true)
+    c.in_err-add_reply.ensures.broken)
 
 pub returns-clause-added : goal.returns-clause-added
 returns-clause-added g c =
@@ -24,12 +26,10 @@ loop-preserved g c =
       few = search rules;
       fine = search rules;
       certified =
-          rw (c.advance.ensures, c.reply.ensures.number, c.reply.ensures.line)
-          (certified_line _ _ _ _ _ _ _ _
-          (certified_room _ _ _ _ _ _ _ _ c.loop.invariant.certified
-          c.in_ok-make_room.ensures.written)
-          (next_reply c.loop.number c.args.count c.loop.counter c.args.reply.now
-          c.loop-test.true));
+          rw c.in_ok-add_reply.ensures.number
+          (certified_more _ _ _ _ _ _ _ _ _ _ c.loop.invariant.certified
+          (next_reply c.loop.number c.args.count c.loop.counter c.args.reply.now c.loop-test.true)
+          c.in_ok-add_reply.ensures.added);
     }
 
 pub returns-in-Some-clause-added : goal.returns-in-Some-clause-added
