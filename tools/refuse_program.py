@@ -65,12 +65,37 @@ FILES = {
 ACCEPTED = ('accepted\ndriver 0 routine 0 dispatch certificate 14\ndriver 0 routine 1 dpc certificate 8\n'
             'driver 0 routine 2 cancel certificate 6\n')
 LISTED = 'driver d0\ndispatch READ f0\nroutine f0 dispatch\ncomplete r0 SUCCESS\nret SUCCESS\nendr\nendd\ndevice v0 d0 1\n'
+EXPLAINED = '''refused V5 DoubleCompletion driver 0 routine 1 at 5
+
+in driver d, routine g (dpc), position 5, line 27:
+    25  release l0
+    26  complete r0 SUCCESS
+  > 27  complete r0 SUCCESS
+    28  ret void
+    29  none: release l0
+a path there:
+     at 0, line 22: acquire l0
+     at 1, line 23: remove r0 q none
+     at 2, line 24: disarm r0 none
+     at 3, line 25: release l0
+     at 4, line 26: complete r0 SUCCESS
+     at 5, line 27: complete r0 SUCCESS
+what is known where it arrives:
+  nothing: each register is blank, and no lock is held
+why: the register is blank: its packet was completed or given away before, or never there
+see: Static Driver Verifier, DoubleCompletion; IoCompleteRequest; bug check 0x44
+mend it: complete a packet once, and before it is handed on
+'''
 # words, and the whole answer: exit status, standard output, error output
 CASES = [
     ('check set', 0, ACCEPTED, ''),
     ('check image', 0, 'accepted\ndriver 0 routine 0 dispatch certificate 2\n', ''),
     ('check twice', 1, 'refused V5 DoubleCompletion driver 0 routine 1 at 5\n', ''),
     ('check open', 2, '', 'text fault 6 Unclosed line 2\n'),
+    ('explain image', 0, 'accepted\ndriver 0 routine 0 dispatch certificate 2\n'
+     'driver 0 routine 0: driver d0, routine f0 (dispatch)\n', ''),
+    ('explain twice', 1, EXPLAINED, ''),
+    ('explain open', 2, '', 'text fault 6 Unclosed line 2\n'),
     ('list image', 0, LISTED, ''),
     ('list open', 2, '', 'text fault 6 Unclosed line 2\n'),
     ('version', 0, 'drvhost 0.1.0\n', ''),

@@ -22,6 +22,23 @@ FILES = {
 LISTED = b'driver d0\ndispatch READ f0\nroutine f0 dispatch\ncomplete r0 SUCCESS\nret SUCCESS\nendr\nendd\ndevice v0 d0 1\n'
 ACCEPTED = b'accepted\ndriver 0 routine 0 dispatch certificate 2\n'
 REFUSED = b'refused V5 DoubleCompletion driver 0 routine 0 at 1\n'
+NAMED = ACCEPTED + b'driver 0 routine 0: driver d, routine f (dispatch)\n'
+EXPLAINED = REFUSED + b'''
+in driver d, routine f (dispatch), position 1, line 5:
+    3  routine f dispatch
+    4  complete r0 SUCCESS
+  > 5  complete r0 SUCCESS
+    6  ret SUCCESS
+    7  endr
+a path there:
+     at 0, line 4: complete r0 SUCCESS
+     at 1, line 5: complete r0 SUCCESS
+what is known where it arrives:
+  owed: the final status, since the packet was completed unmarked
+why: the register is blank: its packet was completed or given away before, or never there
+see: Static Driver Verifier, DoubleCompletion; IoCompleteRequest; bug check 0x44
+mend it: complete a packet once, and before it is handed on
+'''
 TRACED = b'0 started 0\n1 stepped\n2 topped 0 0x00000000 0\n3 finished\n4 idle\n'
 STOPPED = b'0 started 0\n1 stepped\n2 topped 0 0x00000000 0\n3 bug 0x44 packet 0\n'
 SERVED = b'0 topped 0 0x00000000 0\n1 refused\nhistory 5 agrees\n'
@@ -35,6 +52,13 @@ CASES = [
     ('check short.image', 2, b'', b'image fault 2 Truncated\n'),
     ('check nothing.drv', 2, b'', b'read failed\n'),
     ('check .', 2, b'', b'read failed\n'),
+    ('explain good.drv', 0, NAMED, b''),
+    ('explain twice.drv', 1, EXPLAINED, b''),
+    ('explain open.drv', 2, b'', b'text fault 6 Unclosed line 2\n'),
+    ('explain short.image', 2, b'', b'image fault 2 Truncated\n'),
+    ('explain nothing.drv', 2, b'', b'read failed\n'),
+    ('explain', 2, b'', SOME),
+    ('explain good.drv good.sched', 2, b'', SOME),
     ('list good.drv', 0, LISTED, b''),
     ('list open.drv', 2, b'', b'text fault 6 Unclosed line 2\n'),
     ('list nothing.drv', 2, b'', b'read failed\n'),
