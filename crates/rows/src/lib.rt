@@ -33,6 +33,8 @@ mod faulty_drivers;
 #[cfg(test)]
 mod faulty_queues;
 #[cfg(test)]
+mod gallery;
+#[cfg(test)]
 mod holds;
 #[cfg(test)]
 mod images;
@@ -62,3 +64,5 @@ mod stacks;
 mod texts;
 #[cfg(test)]
 mod worked;
+#[cfg(test)]
+mod wrong_drivers;
