@@ -41,9 +41,13 @@ mod images;
 #[cfg(test)]
 mod limits;
 #[cfg(test)]
+mod links;
+#[cfg(test)]
 mod listings;
 #[cfg(test)]
 mod overlap;
+#[cfg(test)]
+mod prose;
 #[cfg(test)]
 mod queues;
 #[cfg(test)]
