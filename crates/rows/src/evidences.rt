@@ -1,7 +1,7 @@
 //! The evidence of refusals: where its paths lead, and in which states they arrive.
 
 ghost use Rattle.std.specs.Prelude.{◌≡◌, ◌⊎◌, IfSome};
-ghost use Rattle.model.specs.Typable.{IsFirstFault, at_start};
+ghost use Rattle.model.specs.Typable.{IsFirstFault, IsFirstFaultOf, at_start};
 
 use asm::assemble;
 use evidence::{Evidence, Path, Subject, evidence_at, evidence_of, path_to};
@@ -126,7 +126,7 @@ static CASES: [Case; 8] = [
 ];
 
 /// The set that a text names, with its refusal.
-fn refused(alloc: Global, text: &str) -> Option<(DriverSet, Refusal)>
+pub(crate) fn refused(alloc: Global, text: &str) -> Option<(DriverSet, Refusal)>
     ensures { IfSome result
         (λ e. (e.1 ≡ at_start Rule.Memory) ⊎ IsFirstFault e.0 e.1) }
 {
@@ -192,6 +192,53 @@ fn evidence_there(
     }
 }
 
+/// A path to the place of a first fault, where there is one.
+fn path_at(
+    alloc: Global,
+    subject: Subject,
+    at: u16,
+    _rule: Rule,
+) -> Result<Option<Path>, AllocError>
+    requires { IsFirstFaultOf subject at _rule }
+{
+    if at as usize >= subject.code().len() {
+        return Ok(None);
+    }
+    path_to(alloc, subject, at)
+}
+
+/// A path to the place of a refusal, where there is one.
+fn path_there(alloc: Global, set: &DriverSet, refusal: &Refusal) -> Result<Option<Path>, AllocError>
+    requires { (refusal.now ≡ at_start Rule.Memory) ⊎ IsFirstFault set.now refusal.now }
+{
+    if set.devices().is_empty() {
+        return Ok(None);
+    }
+    match refusal.rule {
+        Rule::Memory => Ok(None),
+        rule => {
+            let Some(subject) = Subject::of(set, refusal.driver, refusal.routine) else {
+                return Ok(None);
+            };
+            path_at(alloc, subject, refusal.at, rule)
+        }
+    }
+}
+
+/// Whether a path to a place is one by which this is shown, and there is none exactly where the
+/// place isn't reached.
+fn is_led(path: &Option<Path>, at: u16, shown: &Shown) -> bool {
+    match (path, shown) {
+        (Some(path), Shown::Misplaced) => path.last.at == at,
+        (Some(path), Shown::Broken(way)) => is_way(path, way),
+        (Some(path), Shown::TooLong(way, _)) => is_way(path, way),
+        (Some(path), Shown::Unlike(_, end)) => is_way(path, end),
+        (Some(path), Shown::Differing(one, other)) => is_way(path, one) || is_way(path, other),
+        (None, Shown::Unreached | Shown::NotEntered) => true,
+        _ => false,
+    }
+}
+
 /// Whether the case is refused at its place, and shown so.
 fn is_met(alloc: Global, case: &Case) -> bool {
     let Some((set, refusal)) = refused(alloc, case.text) else {
@@ -207,6 +254,10 @@ fn is_met(alloc: Global, case: &Case) -> bool {
         && refusal.rule == case.rule
         && is_there(evidence_of(alloc, &set, &refusal))
         && is_there(evidence_there(alloc, &set, &refusal))
+        && match path_there(alloc, &set, &refusal) {
+            Ok(path) => is_led(&path, case.at, &case.shown),
+            Err(_) => false,
+        }
 }
 
 #[test]

@@ -33,15 +33,21 @@ mod faulty_drivers;
 #[cfg(test)]
 mod faulty_queues;
 #[cfg(test)]
+mod gallery;
+#[cfg(test)]
 mod holds;
 #[cfg(test)]
 mod images;
 #[cfg(test)]
 mod limits;
 #[cfg(test)]
+mod links;
+#[cfg(test)]
 mod listings;
 #[cfg(test)]
 mod overlap;
+#[cfg(test)]
+mod prose;
 #[cfg(test)]
 mod queues;
 #[cfg(test)]
@@ -62,3 +68,5 @@ mod stacks;
 mod texts;
 #[cfg(test)]
 mod worked;
+#[cfg(test)]
+mod wrong_drivers;
