@@ -23,6 +23,8 @@ mod dpcs;
 #[cfg(test)]
 mod evidences;
 #[cfg(test)]
+mod explanations;
+#[cfg(test)]
 mod failures;
 #[cfg(test)]
 mod faulty_cancels;
