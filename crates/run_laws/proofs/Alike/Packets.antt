@@ -54,8 +54,7 @@ same_rights (k ∷ kinds) [] [] n h = refl
 same_rights (k ∷ kinds) (u ∷ us) (v ∷ vs) n h =
     let one : named_as is_right k u n ≡ named_as is_right k v n =
     same_named k u v n (is_right k) refl h.0 in
-    let others : rights kinds us n ≡ rights kinds vs n = same_rights kinds us vs n h.1 in
-    omega arith
+    omega (arith, same_rights kinds us vs n h.1)
 same_rights (k ∷ kinds) _ _ n h = absurd h
 
 -- a register that waits for a status has no right
@@ -69,8 +68,7 @@ rights_but (k ∷ kinds) (u ∷ us) (v ∷ vs) zero n free h =
 rights_but (k ∷ kinds) (u ∷ us) (v ∷ vs) (suc r) n free h =
     let one : named_as is_right k u n ≡ named_as is_right k v n =
     same_named k u v n (is_right k) refl h.0 in
-    let others : rights kinds us n ≡ rights kinds vs n = rights_but kinds us vs r n free h.1 in
-    omega arith
+    omega (arith, rights_but kinds us vs r n free h.1)
 rights_but (k ∷ kinds) _ _ zero n free h = absurd h
 rights_but (k ∷ kinds) _ _ (suc r) n free h = absurd h
 
@@ -120,14 +118,9 @@ module _ (set : Set) (states : States) (s : Shared) (issued n : ℕ) where
       → AlikeFrames set states s None xs ys → stack_sum count xs ≡ stack_sum count ys
   stack_counts [] [] stands h = refl
   stack_counts (x ∷ xs) (y ∷ []) stands h =
-      let one : count x ≡ count y = frame_counts None x y stands h.0 in
-      let others : stack_sum count xs ≡ stack_sum count [] = stack_counts xs [] tt h.1 in
-      omega arith
+      omega (arith, frame_counts None x y stands h.0, stack_counts xs [] tt h.1)
   stack_counts (x ∷ xs) (y ∷ v ∷ ys) stands h =
-      let one : count x ≡ count y = frame_counts (Some v) x y stands.0 h.0 in
-      let others : stack_sum count xs ≡ stack_sum count (v ∷ ys) =
-      stack_counts xs (v ∷ ys) stands.1 h.1 in
-      omega arith
+      omega (arith, frame_counts (Some v) x y stands.0 h.0, stack_counts xs (v ∷ ys) stands.1 h.1)
   stack_counts _ _ stands h = absurd h
 
   pub thread_counts : (xs ys : List Thread)
@@ -138,9 +131,7 @@ module _ (set : Set) (states : States) (s : Shared) (issued n : ℕ) where
   thread_counts (x ∷ xs) (y ∷ ys) stands h =
       let one : stack_sum count x.frames.items ≡ stack_sum count y.frames.items =
       stack_counts x.frames.items y.frames.items (stands 0 y refl) h.0.frames in
-      let others : thread_sum count xs ≡ thread_sum count ys =
-      thread_counts xs ys (λ t. stands (suc t)) h.1 in
-      omega arith
+      omega (arith, thread_counts xs ys (λ t. stands (suc t)) h.1)
   thread_counts _ _ stands h = absurd h
 
 -- packets that are shown alike
@@ -233,20 +224,18 @@ module _ (set : Set) (states : States) (v w : World) (held : Held set states v)
     (starts : v.shared.starts ≡ w.shared.starts) where
   same_unheld : (n : ℕ) → unheld (find v.shared.packets n) ≡ unheld (find w.shared.packets n)
   same_unheld n =
-      let frames : thread_sum (λ f. frame_rights states f n) v.threads
-      ≡ thread_sum (λ f. frame_rights states f n) w.threads =
-      thread_counts set states w.shared w.shared.issued n v.threads w.threads stands alike in
       let words : times_named (packet_of v.shared n) ≡ times_named (packet_of w.shared n) =
       ap times_named (find_place v.shared.packets n)
       ∙ same_word v.shared.packets w.shared.packets n packets
       ∙ ap times_named (sym (find_place w.shared.packets n)) in
       let waiting : times_waiting set v.shared n ≡ times_waiting set w.shared n =
       rw (queues, starts, words) refl in
-      let before : thread_sum (λ f. frame_rights states f n) v.threads
-      + times_waiting set v.shared n ≡ unheld (find v.shared.packets n) = held.rights n in
-      let after : thread_sum (λ f. frame_rights states f n) w.threads
-      + times_waiting set w.shared n ≡ unheld (find w.shared.packets n) = kept.rights n in
-      omega arith
+      omega (
+        arith,
+        thread_counts set states w.shared w.shared.issued n v.threads w.threads stands alike,
+        held.rights n,
+        kept.rights n,
+      )
 
   pub packets_alike : v.shared.packets ≡ w.shared.packets
   packets_alike =

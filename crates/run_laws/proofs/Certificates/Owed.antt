@@ -44,9 +44,7 @@ pub allowed_append : (set : Set) (g : ℕ) (tags more : List Tag)
     → allowed set g (tags ++ more) ≡ allowed set g tags + allowed set g more
 allowed_append set g [] more = omega arith
 allowed_append set g (tag ∷ tags) more =
-    let others : allowed set g (tags ++ more) ≡ allowed set g tags + allowed set g more =
-    allowed_append set g tags more in
-    omega arith
+    omega (arith, allowed_append set g tags more)
 
 -- numbers differ, so what was given out under one is the certificate of its activation
 allowed_below : (set : Set) (g first following : ℕ) (tags : List Tag)
@@ -54,8 +52,7 @@ allowed_below : (set : Set) (g first following : ℕ) (tags : List Tag)
     → allowed set g tags ≡ 0
 allowed_below set g first following [] h less = refl
 allowed_below set g first following (Managing ∷ tags) h less =
-    let others : allowed set g tags ≡ 0 = allowed_below set g first following tags h less in
-    omega arith
+    omega (arith, allowed_below set g first following tags h less)
 allowed_below set g first following (Activated k driver routine serving ∷ tags) h less =
     let others : allowed set g tags ≡ 0 =
     allowed_below set g (first + 1) following tags h.1 (omega arith) in
@@ -71,9 +68,7 @@ pub allowed_one : (set : Set) (first following : ℕ) (tags : List Tag) (g drive
 allowed_one set first following [] g driver routine serving h among = absurd among
 allowed_one set first following (Managing ∷ tags) g driver routine serving h (inl here) = cc
 allowed_one set first following (Managing ∷ tags) g driver routine serving h (inr later) =
-    let others : allowed set g tags ≡ certificate_of set driver routine =
-    allowed_one set first following tags g driver routine serving h later in
-    omega arith
+    omega (arith, allowed_one set first following tags g driver routine serving h later)
 allowed_one set first following (Activated k d r s ∷ tags) g driver routine serving h (inl here) =
     let same : k ≡ g = cc in
     let one : d ≡ driver = cc in
@@ -139,17 +134,13 @@ pub executions_after : (past : List Entry) (actor : Actor) (actions : List Actio
     → executions (recorded past actor actions) g ≡ executions past g + if_own g actor.tag
     (executed_in actions)
 executions_after past actor [] g =
-    let none : if_own g actor.tag 0 ≡ 0 = if_none (is_activation g actor.tag) in omega arith
+    omega (arith, if_none (is_activation g actor.tag))
 executions_after past actor (action ∷ actions) g =
-    let others : executions (recorded (entry past actor action ∷ past) actor actions) g
-    ≡ executions (entry past actor action ∷ past) g + if_own g actor.tag (executed_in actions) =
-    executions_after (entry past actor action ∷ past) actor actions g
-    in
-    let one : if_own g actor.tag (instructions_in action + executed_in actions)
-    ≡ if_own g actor.tag (instructions_in action) + if_own g actor.tag (executed_in actions) =
-    own_sum (is_activation g actor.tag) (instructions_in action) (executed_in actions)
-    in
-    omega arith
+    omega (
+      arith,
+      executions_after (entry past actor action ∷ past) actor actions g,
+      own_sum (is_activation g actor.tag) (instructions_in action) (executed_in actions),
+    )
 
 same_routine : (given : List Tag) (tag : Tag) (a b : Activation) → b.driver ≡ a.driver
     → b.routine ≡ a.routine
@@ -176,9 +167,7 @@ module _ (cost : Frame → ℕ) where
       g frames row
   owed_append g given [] frames [] row h = omega arith
   owed_append g given (f ∷ below) frames (tag ∷ tags) row h =
-      let others : owed g (below ++ frames) (tags ++ row) ≡ owed g below tags + owed g frames row =
-      owed_append g given below frames tags row h.1 in
-      omega arith
+      omega (arith, owed_append g given below frames tags row h.1)
   owed_append g given _ frames _ row h = absurd h
 
   pub all_owed_set : (g : ℕ) (threads : List Thread) (tags : List (List Tag)) (t : ℕ)
@@ -193,12 +182,7 @@ module _ (cost : Frame → ℕ) where
       let two : y ≡ row = cc in
       rw (one, two) (omega arith)
   all_owed_set g (x ∷ threads) (y ∷ tags) (suc t) thread after row new found there =
-      let others : all_owed g (slice_set threads t after) (slice_set tags t new) + owed g
-      thread.frames.items row
-      ≡ all_owed g threads tags + owed g after.frames.items new =
-      all_owed_set g threads tags t thread after row new found there
-      in
-      omega arith
+      omega (arith, all_owed_set g threads tags t thread after row new found there)
   all_owed_set g _ _ t thread after row new found there = cc
 
   -- a frame that goes on is of the same routine and owes as much
@@ -344,24 +328,15 @@ module _ (cost : Frame → ℕ) where
       ≤ allowed set g (fresh_tags set past number frames)
   fresh_owed set g past number [] h = omega arith
   fresh_owed set g past number (Routine a ∷ frames) h =
-      let others : owed g frames (fresh_tags set past (number + 1) frames)
-      ≤ allowed set g (fresh_tags set past (number + 1) frames) =
-      fresh_owed set g past (number + 1) frames h.1 in
-      let one : (if nat_eq number g then cost (Routine a) else 0)
-      ≤ (if nat_eq number g then certificate_of set a.driver a.routine else 0) =
-      if_le (nat_eq number g) (cost (Routine a)) (certificate_of set a.driver a.routine) h.0
-      in
-      omega arith
+      omega (
+        arith,
+        fresh_owed set g past (number + 1) frames h.1,
+        if_le (nat_eq number g) (cost (Routine a)) (certificate_of set a.driver a.routine) h.0,
+      )
   fresh_owed set g past number (Walk n ∷ frames) h =
-      let others : owed g frames (fresh_tags set past number frames)
-      ≤ allowed set g (fresh_tags set past number frames) =
-      fresh_owed set g past number frames h.1 in
-      omega arith
+      omega (arith, fresh_owed set g past number frames h.1)
   fresh_owed set g past number (CancelFrame c ∷ frames) h =
-      let others : owed g frames (fresh_tags set past number frames)
-      ≤ allowed set g (fresh_tags set past number frames) =
-      fresh_owed set g past number frames h.1 in
-      omega arith
+      omega (arith, fresh_owed set g past number frames h.1)
 
   -- what stands in place of frames: which tags are new, that what was executed is paid for, and
   -- that tags are right
@@ -387,10 +362,7 @@ module _ (cost : Frame → ℕ) where
         new = fresh_tags set past number frames;
         numbered = fresh_numbered set past number frames;
         paid = λ g.
-            let less : owed g frames (fresh_tags set past number frames)
-            ≤ allowed set g (fresh_tags set past number frames) = others g in
-            let none : if_own g tag 0 ≡ 0 = if_none (is_activation g tag) in
-            omega arith;
+            omega (arith, others g, if_none (is_activation g tag));
         matched = fresh_matched set past number frames (given ++ fresh_tags set past number frames)
             (λ x among. among_right x given (fresh_tags set past number frames) among);
       }
@@ -407,13 +379,11 @@ module _ (cost : Frame → ℕ) where
         new = fresh_tags set past number frames;
         numbered = fresh_numbered set past number frames;
         paid = λ g.
-            let one : if_own g tag n + if_own g tag (cost (Routine b))
-            ≤ if_own g tag (cost (Routine a)) =
-            own_add (is_activation g tag) n (cost (Routine b)) (cost (Routine a)) pays.0 in
-            let others : owed g frames (fresh_tags set past number frames)
-            ≤ allowed set g (fresh_tags set past number frames) =
-            fresh_owed set g past number frames pays.3 in
-            omega arith;
+            omega (
+              arith,
+              own_add (is_activation g tag) n (cost (Routine b)) (cost (Routine a)) pays.0,
+              fresh_owed set g past number frames pays.3,
+            );
         matched = (
           fits_more given (fresh_tags set past number frames) tag (Routine b)
               (same_routine given tag a b pays.1 pays.2 fits),
@@ -432,12 +402,11 @@ module _ (cost : Frame → ℕ) where
         new = fresh_tags set past number frames;
         numbered = fresh_numbered set past number frames;
         paid = λ g.
-            let one : if_own g tag n ≤ if_own g tag (cost (Routine a)) =
-            if_le (is_activation g tag) n (cost (Routine a)) paid in
-            let others : owed g frames (fresh_tags set past number frames)
-            ≤ allowed set g (fresh_tags set past number frames) =
-            fresh_owed set g past number frames fresh in
-            omega arith;
+            omega (
+              arith,
+              if_le (is_activation g tag) n (cost (Routine a)) paid,
+              fresh_owed set g past number frames fresh,
+            );
         matched = (
           tt,
           fresh_matched set past number frames (given ++ fresh_tags set past number frames)
@@ -458,10 +427,7 @@ module _ (cost : Frame → ℕ) where
         new = fresh_tags set past number (f ∷ frames);
         numbered = fresh_numbered set past number (f ∷ frames);
         paid = λ g.
-            let others : owed g (f ∷ frames) (fresh_tags set past number (f ∷ frames))
-            ≤ allowed set g (fresh_tags set past number (f ∷ frames)) =
-            fresh_owed set g past number (f ∷ frames) fresh in
-            omega arith;
+            omega (arith, fresh_owed set g past number (f ∷ frames) fresh);
         matched =
             fresh_matched set past number (f ∷ frames)
             (given ++ fresh_tags set past number (f ∷ frames))
@@ -490,9 +456,7 @@ module _ (cost : Frame → ℕ) where
         new = [];
         numbered = refl;
         paid = λ g.
-            let one : if_own g tag n ≤ if_own g tag (cost f) =
-            if_le (is_activation g tag) n (cost f) pays in
-            omega arith;
+            omega (arith, if_le (is_activation g tag) n (cost f) pays);
         matched = tt;
       }
   follows_top set given past number (Routine a) tag n (Routine b ∷ frames) fits pays =
@@ -528,19 +492,13 @@ module _ (cost : Frame → ℕ) where
         new = top.new;
         numbered = rw (count_below number below now old frames alike) top.numbered;
         paid = λ g. rw whole
-            (let later : owed g (now ++ frames) (tags ++ after) ≡ owed g now tags
-            + owed g frames after =
-            owed_append g given now frames tags after
-            (matched_alike given below now tags alike others)
-            in
-            let told : owed g now tags ≡ owed g below tags =
-            owed_alike g given below now tags alike others in
-            let before : owed g (below ++ old) (tags ++ row) ≡ owed g below tags + owed g old row =
-            owed_append g given below old tags row others in
-            let paid : if_own g tag n + owed g frames after ≤ owed g old row
-            + allowed set g top.new =
-            top.paid g in
-            omega arith);
+            (omega (
+              arith,
+              owed_append g given now frames tags after (matched_alike given below now tags alike others),
+              owed_alike g given below now tags alike others,
+              owed_append g given below old tags row others,
+              top.paid g,
+            ));
         matched = rw whole
             (matched_append (given ++ top.new) now frames tags after
             (matched_more given top.new now tags (matched_alike given below now tags alike others))
@@ -571,8 +529,6 @@ module _ (cost : Frame → ℕ) where
         new = [];
         numbered = refl;
         paid = λ x.
-            let one : if_own x tag n ≤ if_own x tag (cost f) =
-            if_le (is_activation x tag) n (cost f) paid in
-            omega arith;
+            omega (arith, if_le (is_activation x tag) n (cost f) paid);
         matched = tt;
       })

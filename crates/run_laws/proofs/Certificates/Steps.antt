@@ -22,7 +22,7 @@ use Rattle.model.specs.World.{Shared, asked_of, current_location, next, register
 use Rattle.run_laws.proofs.Past.Packets.{named}
 use Rattle.run_laws.proofs.Certificates.Owed.{executed_in, Alike, AllAlike, self_alike, Pays}
 use Rattle.run_laws.proofs.States.Entering.{begins_lower, begins_back, begins_lent}
-use Rattle.run_laws.proofs.States.Frames.{state_of, due, due_of, due_in, due_is, Moved, Runs}
+use Rattle.run_laws.proofs.States.Frames.{state_of, due, due_of, due_is, Moved, Runs}
 use Rattle.run_laws.proofs.States.Lacking.{never_lacks}
 use Rattle.run_laws.proofs.States.LoopEnds.{moved_loop, moved_end}
 use Rattle.run_laws.proofs.States.Moves.{falls_plain, is_plain, onto, moved, plain_open, plain_left, some_due}
@@ -99,17 +99,16 @@ module _ (set : Set) (states : States) (s : Shared) where
       → 1 + due set (next a) ≤ due set a
   next_due a i h plain =
       let code : List Instr = h.routine.code in
-      let before : due set a ≡ due_in code a = due_is set h.routine a h.stays.is_of in
-      let after : due set (next a) ≡ due_in code (next a) = due_is set h.routine (next a)
-      h.stays.is_of in
       let same : summed (open_at code (a.position + 1)) (rest (drop (a.position + 1) code))
       ≡ summed (open_at code a.position) (rest (drop (a.position + 1) code)) =
       ap (λ (loops : List ℕ). summed loops (rest (drop (a.position + 1) code)))
       (plain_open set states s a i h plain) in
-      let left : summed (open_at code a.position) (rest (drop a.position code))
-      ≡ 1 + summed (open_at code a.position) (rest (drop (a.position + 1) code)) =
-      plain_left set states s a i h plain in
-      omega arith
+      omega (
+        arith,
+        due_is set h.routine a h.stays.is_of,
+        due_is set h.routine (next a) h.stays.is_of,
+        plain_left set states s a i h plain,
+      )
 
   -- it goes on, and what it executed is one instruction
   onwards : (a b : Activation) (n : ℕ) → n ≡ 1 → (1 + due set b ≤ due set a) × (b.driver ≡ a.driver)
@@ -132,8 +131,7 @@ module _ (set : Set) (states : States) (s : Shared) where
       → Executing set a i
       → is_plain (flow_of i) ≡ true → n ≤ due set a
   ends a i n one h at plain =
-      let some : 1 ≤ due set a = some_due set states s a i (runs set states s a i h at) plain
-      in omega arith
+      omega (arith, some_due set states s a i (runs set states s a i h at) plain)
 
   asks_on : (a : Activation) (i : Instr) (lower n : ℕ) (p : Packet) (executed : ℕ) → executed ≡ 1
       → OnTop set states s (Routine a) → Executing set a i → is_plain (flow_of i) ≡ true

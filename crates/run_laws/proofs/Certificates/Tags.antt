@@ -149,9 +149,7 @@ numbered_from first following (Activated k d r s ∷ tags) g driver routine serv
     let start : k ≡ first = h.0 in
     omega arith
 numbered_from first following (Activated k d r s ∷ tags) g driver routine serving h (inr later) =
-    let more : first + 1 ≤ g =
-    numbered_from (first + 1) following tags g driver routine serving h.1 later in
-    omega arith
+    omega (arith, numbered_from (first + 1) following tags g driver routine serving h.1 later)
 
 -- the frames that stand anew have tags of their own routines, numbered in their order
 abbrev pub fresh_tags : Set → List Entry → ℕ → List Frame → List Tag

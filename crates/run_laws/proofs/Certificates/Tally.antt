@@ -9,7 +9,6 @@ use Rattle.std.proofs.lemmas.Option.{slice_get_within, slice_get-get_or}
 use Rattle.model.specs.declared.world.Frame.{Frame}
 use Rattle.model.specs.declared.world.Thread.{Thread}
 use Rattle.model.specs.Action.{Action}
-use Rattle.model.specs.Certificate.{certificate_of}
 use Rattle.model.specs.Run.{begun, frames_on, frames_of, tags_after, activations_after}
 use Rattle.model.specs.Set.{Set}
 use Rattle.model.specs.Trace.{Entry, Actor, Tag, Managing, Activated, entry, recorded}
@@ -18,7 +17,7 @@ use Rattle.run_laws.specs.Lifetime.{AreOneRoutine, KeepsCertificate, executions}
 use Rattle.run_laws.proofs.Lists.{set_same, set_other}
 use Rattle.run_laws.proofs.Runs.Threads.{idle_frames}
 use Rattle.run_laws.proofs.Certificates.Tags.{IsAmong, IsKnown, known_left, Matched, matched_more, Numbered, numbered_append}
-use Rattle.run_laws.proofs.Certificates.Owed.{if_own, allowed, allowed_one, one_routine, allowed_append, executed_in, executions_after, owed, all_owed, all_owed_set, Follows}
+use Rattle.run_laws.proofs.Certificates.Owed.{allowed, allowed_one, one_routine, allowed_append, executed_in, executions_after, all_owed, all_owed_set, Follows}
 
 -- every action of a past is the I/O manager's, or of an activation that was given out
 abbrev pub AllKnown : List Tag → List Entry → Type 0
@@ -120,27 +119,18 @@ module _ (cost : Frame → ℕ) where
               (tally.matched k))
         ];
         owing = λ g.
-            let counted : executions later g ≡ executions past g + if_own g actor.tag
-            (executed_in actions) =
-            executions_after past actor actions g in
-            let sum : all_owed cost g (slice_set w.threads t after) (slice_set tags t new_row)
-            + owed cost g thread.frames.items row ≡ all_owed cost g w.threads tags + owed cost g
-            after.frames.items new_row =
-            all_owed_set cost g w.threads tags t thread after row new_row found there
-            in
             let threads : all_owed cost g now.threads (slice_set tags t new_row)
             ≡ all_owed cost g (slice_set w.threads t after) (slice_set tags t new_row) =
             ap (λ (threads : List Thread). all_owed cost g threads (slice_set tags t new_row)) is
             in
-            let paid : if_own g actor.tag (executed_in actions)
-            + owed cost g after.frames.items new_row
-            ≤ owed cost g thread.frames.items row + allowed set g follows.new = follows.paid g in
-            let owing : executions past g + all_owed cost g w.threads tags
-            ≤ allowed set g tally.given = tally.owing g in
-            let more : allowed set g (tally.given ++ follows.new) ≡ allowed set g tally.given
-            + allowed set g follows.new =
-            allowed_append set g tally.given follows.new in
-            omega arith;
+            omega (
+              arith,
+              executions_after past actor actions g,
+              all_owed_set cost g w.threads tags t thread after row new_row found there,
+              follows.paid g,
+              tally.owing g,
+              allowed_append set g tally.given follows.new,
+            );
         known =
             known_recorded (tally.given ++ follows.new) past actor actions
             (known_left tally.given follows.new actor.tag acts)
@@ -151,9 +141,7 @@ module _ (cost : Frame → ℕ) where
       → all_owed cost g (replicate threads idle_thread) (replicate threads []) ≡ 0
   nothing_owed g zero = refl
   nothing_owed g (suc threads) =
-      let others : all_owed cost g (replicate threads idle_thread) (replicate threads []) ≡ 0 =
-      nothing_owed g threads in
-      omega arith
+      omega (arith, nothing_owed g threads)
 
   -- before the first event
   pub tally_begun : (set : Set) (threads : ℕ)
@@ -164,9 +152,7 @@ module _ (cost : Frame → ℕ) where
         rows = length-replicate threads no_tags ∙ sym (length-replicate threads idle_thread);
         numbered = refl;
         matched = λ t. rw (idle_frames threads t, no_row threads t) tt;
-        owing = λ g. (let none : all_owed cost g (replicate threads idle_thread)
-            (replicate threads []) ≡ 0 =
-            nothing_owed g threads in omega arith);
+        owing = λ g. (omega (arith, nothing_owed g threads));
         known = tt;
       }
 
@@ -177,11 +163,11 @@ module _ (cost : Frame → ℕ) where
       → KeepsCertificate set past tag
   known_kept set w tags number past Managing tally known = tt
   known_kept set w tags number past (Activated g driver routine serving) tally known =
-      let owing : executions past g + all_owed cost g w.threads tags ≤ allowed set g tally.given =
-      tally.owing g in
-      let one : allowed set g tally.given ≡ certificate_of set driver routine =
-      allowed_one set 0 number tally.given g driver routine serving tally.numbered known in
-      omega arith
+      omega (
+        arith,
+        tally.owing g,
+        allowed_one set 0 number tally.given g driver routine serving tally.numbered known,
+      )
 
   pub one_of_known : (set : Set) (number : ℕ) (given : List Tag) (one other : Tag)
       → Numbered 0 given number

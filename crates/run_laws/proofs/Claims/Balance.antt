@@ -74,11 +74,8 @@ pub once_turned : (x y : Numbers) (j k : Kind) (e m : ℕ) → KindTurns x y j k
     → was_taken k ≡ false → ((n : ℕ) → x.takes n + y.lists n ≤ 1)
     → (n : ℕ) → y.takes n + y.lists n ≤ 1
 once_turned x y j k e m turns none once n =
-    let took : y.takes n + named_as was_taken j (Ref m) n
-    ≡ x.takes n + named_as was_taken k (Ref m) n = turns.takes n in
     let nothing : named_as was_taken k (Ref m) n ≡ 0 = rw none refl in
-    let least : x.takes n + y.lists n ≤ 1 = once n in
-    omega arith
+    omega (arith, turns.takes n, once n)
 
 -- a number stays, or has one more or one fewer at one place
 abbrev pub Same : (ℕ → ℕ → ℕ → ℕ) → (ℕ → ℕ → ℕ → ℕ) → Type 0
@@ -99,17 +96,17 @@ abbrev none : ℕ → ℕ → ℕ → ℕ
 none d q n = 0
 
 by_same : (one other : ℕ → ℕ → ℕ → ℕ) → Same one other → Moves one other none none
-by_same one other h d q n = let same : other d q n ≡ one d q n = h d q n in omega arith
+by_same one other h d q n = omega (arith, h d q n)
 
 by_more : (e p m : ℕ) (one other : ℕ → ℕ → ℕ → ℕ) → More e p m one other
     → Moves one other none (hit e p m)
 by_more e p m one other h d q n =
-    let more : other d q n ≡ one d q n + hit e p m d q n = h d q n in omega arith
+    omega (arith, h d q n)
 
 by_fewer : (e p m : ℕ) (one other : ℕ → ℕ → ℕ → ℕ) → Fewer e p m one other
     → Moves one other (hit e p m) none
 by_fewer e p m one other h d q n =
-    let fewer : other d q n + hit e p m d q n ≡ one d q n = h d q n in omega arith
+    omega (arith, h d q n)
 
 module _ (set : Set) (x y : Numbers) (b : Balanced set x)
     (once : (n : ℕ) → y.takes n + y.lists n ≤ 1) where
@@ -121,27 +118,18 @@ module _ (set : Set) (x y : Numbers) (b : Balanced set x)
   balanced_less armed taken listed cancelling word entries =
       record {
         backed = λ d q n.
-            let a : y.armed d q n ≤ x.armed d q n = armed d q n in
-            let t : y.taken d q n ≤ x.taken d q n = taken d q n in
-            let c : y.cancelling d q n ≡ x.cancelling d q n = cancelling d q n in
-            let w : y.word d q n ≡ x.word d q n = word d q n in
-            let before : x.armed d q n + x.taken d q n ≤ x.word d q n + x.cancelling d q n =
-            b.backed d q n in
-            omega arith;
+            omega (arith, armed d q n, taken d q n, cancelling d q n, word d q n, b.backed d q n);
         entered = λ d q n is.
-            let l : y.listed d q n ≡ x.listed d q n = listed d q n in
-            let c : y.cancelling d q n ≡ x.cancelling d q n = cancelling d q n in
-            let w : y.word d q n ≡ x.word d q n = word d q n in
-            let e : y.entries d q n ≡ x.entries d q n = entries d q n in
-            let before : x.entries d q n ≤ x.word d q n + x.cancelling d q n + x.listed d q n =
-            b.entered d q n is in
-            omega arith;
+            omega (
+              arith,
+              listed d q n,
+              cancelling d q n,
+              word d q n,
+              entries d q n,
+              b.entered d q n is,
+            );
         standing = λ d q n.
-            let l : y.listed d q n ≡ x.listed d q n = listed d q n in
-            let a : y.armed d q n ≤ x.armed d q n = armed d q n in
-            let e : y.entries d q n ≡ x.entries d q n = entries d q n in
-            let before : x.listed d q n + x.armed d q n ≤ x.entries d q n = b.standing d q n in
-            omega arith;
+            omega (arith, listed d q n, armed d q n, entries d q n, b.standing d q n);
         once = once;
       }
 
@@ -157,45 +145,34 @@ module _ (set : Set) (x y : Numbers) (b : Balanced set x)
           ≤ of is_armed j + of is_taken j + word_in d q n + of is_cancelling k
           → y.armed d q n + y.taken d q n ≤ y.word d q n + y.cancelling d q n
       by_backed fair =
-          let a : y.armed d q n + of is_armed j ≡ x.armed d q n + of is_armed k =
-          turns.armed d q n in
-          let t : y.taken d q n + of is_taken j ≡ x.taken d q n + of is_taken k =
-          turns.taken d q n in
-          let c : y.cancelling d q n + of is_cancelling j
-          ≡ x.cancelling d q n + of is_cancelling k =
-          turns.cancelling d q n in
-          let w : y.word d q n + word_out d q n ≡ x.word d q n + word_in d q n = word d q n in
-          let before : x.armed d q n + x.taken d q n ≤ x.word d q n + x.cancelling d q n =
-          b.backed d q n in
-          omega arith
+          omega (
+            arith,
+            turns.armed d q n,
+            turns.taken d q n,
+            turns.cancelling d q n,
+            word d q n,
+            b.backed d q n,
+          )
 
       by_entered : is_cancelable set d q ≡ true
           → into d q n + word_out d q n + of is_cancelling j + of is_listed j
           ≤ out d q n + word_in d q n + of is_cancelling k + of is_listed k
           → y.entries d q n ≤ y.word d q n + y.cancelling d q n + y.listed d q n
       by_entered is fair =
-          let l : y.listed d q n + of is_listed j ≡ x.listed d q n + of is_listed k =
-          turns.listed d q n in
-          let c : y.cancelling d q n + of is_cancelling j
-          ≡ x.cancelling d q n + of is_cancelling k =
-          turns.cancelling d q n in
-          let w : y.word d q n + word_out d q n ≡ x.word d q n + word_in d q n = word d q n in
-          let s : y.entries d q n + out d q n ≡ x.entries d q n + into d q n = entries d q n in
-          let before : x.entries d q n ≤ x.word d q n + x.cancelling d q n + x.listed d q n =
-          b.entered d q n is in
-          omega arith
+          omega (
+            arith,
+            turns.listed d q n,
+            turns.cancelling d q n,
+            word d q n,
+            entries d q n,
+            b.entered d q n is,
+          )
 
       by_standing : of is_listed k + of is_armed k + out d q n
           ≤ of is_listed j + of is_armed j + into d q n
           → y.listed d q n + y.armed d q n ≤ y.entries d q n
       by_standing fair =
-          let l : y.listed d q n + of is_listed j ≡ x.listed d q n + of is_listed k =
-          turns.listed d q n in
-          let a : y.armed d q n + of is_armed j ≡ x.armed d q n + of is_armed k =
-          turns.armed d q n in
-          let s : y.entries d q n + out d q n ≡ x.entries d q n + into d q n = entries d q n in
-          let before : x.listed d q n + x.armed d q n ≤ x.entries d q n = b.standing d q n in
-          omega arith
+          omega (arith, turns.listed d q n, turns.armed d q n, entries d q n, b.standing d q n)
 
     -- and so all of it
     by_turn : ((d q n : ℕ) → of d q n is_armed k + of d q n is_taken k + word_out d q n
@@ -226,12 +203,8 @@ module _ (set : Set) (x y : Numbers) (b : Balanced set x)
       λ d q n. rw ((plain q).0, (plain q).1) refl in
       by_turn j BlankKind e m turns none none none none (by_same x.word y.word word)
       (by_same x.entries y.entries entries)
-      (λ d q n. let no : at_kind (is_listed (Declared q)) (λ c. nat_eq c d) e j m n
-      + at_kind (is_cancelling (Declared q)) (λ c. nat_eq c d) e j m n ≡ 0 = no_right d q n in
-      omega arith)
-      (λ d q n. let no : at_kind (is_listed (Declared q)) (λ c. nat_eq c d) e j m n
-      + at_kind (is_cancelling (Declared q)) (λ c. nat_eq c d) e j m n ≡ 0 = no_right d q n in
-      omega arith)
+      (λ d q n. omega (arith, no_right d q n))
+      (λ d q n. omega (arith, no_right d q n))
       (λ d q n. omega arith)
 
   -- for one packet and one queue of a device
@@ -252,15 +225,7 @@ module _ (set : Set) (x y : Numbers) (b : Balanced set x)
           | inr here ↦
               let no_a : x.armed d q n ≡ 0 = here.1.0 in
               let no_l : x.listed d q n ≡ 0 = here.1.1 in
-              let nobody_comes : at_kind (is_listed (Declared q)) (λ c. nat_eq c d) e k m n
-              + at_kind (is_armed (Declared q)) (λ c. nat_eq c d) e k m n ≡ 0 = nobody d q n in
-              let a : y.armed d q n + at_kind (is_armed (Declared q)) (λ c. nat_eq c d) e j m n
-              ≡ x.armed d q n + at_kind (is_armed (Declared q)) (λ c. nat_eq c d) e k m n =
-              turns.armed d q n in
-              let l : y.listed d q n + at_kind (is_listed (Declared q)) (λ c. nat_eq c d) e j m n
-              ≡ x.listed d q n + at_kind (is_listed (Declared q)) (λ c. nat_eq c d) e k m n =
-              turns.listed d q n in
-              omega arith
+              omega (arith, nobody d q n, turns.armed d q n, turns.listed d q n)
         ]
 
     -- a packet is put into a queue with a cancel routine, or into one without
@@ -315,15 +280,15 @@ module _ (set : Set) (x y : Numbers) (b : Balanced set x)
                     let no_a : x.armed d q n ≡ 0 = here.1.1 in
                     let no_t : x.taken d q n ≡ 0 = here.1.2 in
                     let no_l : x.listed d q n ≡ 0 = here.1.3 in
-                    let a : y.armed d q n + 0 ≡ x.armed d q n + 0 = turns.armed d q n in
-                    let t : y.taken d q n + 0 ≡ x.taken d q n + at d q n = turns.taken d q n in
-                    let c : y.cancelling d q n + 0 ≡ x.cancelling d q n + 0 =
-                    turns.cancelling d q n in
-                    let w : y.word d q n ≡ x.word d q n = word d q n in
-                    let s : y.entries d q n + at d q n ≡ x.entries d q n = entries d q n in
-                    let has : x.entries d q n ≤ x.word d q n + x.cancelling d q n + x.listed d q n =
-                    b.entered d q n here.1.0 in
-                    omega arith
+                    omega (
+                      arith,
+                      turns.armed d q n,
+                      turns.taken d q n,
+                      turns.cancelling d q n,
+                      word d q n,
+                      entries d q n,
+                      b.entered d q n here.1.0,
+                    )
               ];
           entered = λ d q n is.
               by_entered BlankKind (Taken (Declared p)) e m turns none none at none words less d q n
@@ -384,9 +349,7 @@ module _ (set : Set) (x y : Numbers) (b : Balanced set x)
                 | inr here ↦
                     let no_a : x.armed d q n ≡ 0 = here.1.0 in
                     let no_t : x.taken d q n ≡ 0 = here.1.1 in
-                    let a : y.armed d q n + 0 ≡ x.armed d q n + 0 = turns.armed d q n in
-                    let t : y.taken d q n + 0 ≡ x.taken d q n + 0 = turns.taken d q n in
-                    omega arith
+                    omega (arith, turns.armed d q n, turns.taken d q n)
               ];
           entered = λ d q n is.
               elim (hit_tells (λ d q n. y.entries d q n ≡ 0) e p m no_entry d q n) [
@@ -440,8 +403,7 @@ module _ (set : Set) (x y : Numbers) (b : Balanced set x)
                     is (omega arith)
                 | inr here ↦
                     let nothing : x.entries d q n ≡ 0 = here.1 in
-                    let s : y.entries d q n ≡ x.entries d q n = entries d q n in
-                    omega arith
+                    omega (arith, entries d q n)
               ];
           standing = λ d q n.
               by_standing (Taken (Declared p)) Own e m turns at none none none words stay d q n

@@ -95,11 +95,6 @@ module _ (set : Set) (states : States) (w : World) (past : List Entry) (good : I
         ≡ thread_sum (frame_names states g on m) w.threads
         + at_kind g on armer.device (Cancelling armer.queue) n m
     called_sums g of on m =
-        let sums : thread_sum (frame_names states g on m) to.threads
-        + frame_names states g on m h.frame
-        ≡ thread_sum (frame_names states g on m) w.threads
-        + stack_sum (frame_names states g on m) h.outcome.frames =
-        changed set states g of on m w past good stands t h leaves in
         let was : frame_names states g on m h.frame ≡ 0 = ap (frame_names states g on m) frame in
         let now : stack_sum (frame_names states g on m) h.outcome.frames
         ≡ frame_names states g on m (Routine called) + 0 =
@@ -108,7 +103,7 @@ module _ (set : Set) (states : States) (w : World) (past : List Entry) (good : I
         ≡ at_kind g on armer.device (Cancelling armer.queue) n m =
         ap (λ (sum : ℕ). if on armer.device then sum else 0) (called_names g of m)
         ∙ at_swapped (g (Cancelling armer.queue)) (on armer.device) (if nat_eq n m then 1 else 0) in
-        omega arith
+        omega (arith, changed set states g of on m w past good stands t h leaves)
 
     called_for : (name : QueueName) → armer.queue ≡ name → Claimed set states to
     called_for (Declared q) is =
@@ -144,19 +139,13 @@ module _ (set : Set) (states : States) (w : World) (past : List Entry) (good : I
           apart = all_apart set states w past good stands c t h leaves
               (rw frames (
                 (λ l m.
-                    let armed : names states (is_armed (Declared l)) called m
-                    ≡ named_as (is_armed (Declared l)) (Cancelling armer.queue) (Ref n) m =
-                    called_names (is_armed (Declared l)) (armed_queues (Declared l)) m in
-                    let taken : names states (is_taken (Declared l)) called m
-                    ≡ named_as (is_taken (Declared l)) (Cancelling armer.queue) (Ref n) m =
-                    called_names (is_taken (Declared l)) (taken_queues (Declared l)) m in
-                    let cancelling : names states (is_cancelling (Declared l)) called m
-                    ≡ named_as (is_cancelling (Declared l)) (Cancelling armer.queue) (Ref n) m =
-                    called_names (is_cancelling (Declared l)) (cancelling_queues (Declared l)) m in
-                    let one : named_as (is_cancelling (Declared l)) (Cancelling armer.queue) (Ref n)
-                    m ≤ 1 =
-                    one_name (is_name armer.queue (Declared l)) (nat_eq n m) in
-                    omega arith),
+                    omega (
+                      arith,
+                      called_names (is_armed (Declared l)) (armed_queues (Declared l)) m,
+                      called_names (is_taken (Declared l)) (taken_queues (Declared l)) m,
+                      called_names (is_cancelling (Declared l)) (cancelling_queues (Declared l)) m,
+                      one_name (is_name armer.queue (Declared l)) (nat_eq n m),
+                    )),
                 tt,
               ));
         }

@@ -60,8 +60,7 @@ module _ (set : Set) (states : States) (f : Kind → Bool) (queues : OfQueues f)
       → stack_sum count (told_last set told below) ≡ stack_sum count below
   last_names issued [] g told h to = refl
   last_names issued (e ∷ []) g told h to =
-      let same : count (told_frame set told e) ≡ count e = told_names issued told e (to e h.0) in
-      omega arith
+      omega (arith, told_names issued told e (to e h.0))
   last_names issued (e ∷ x ∷ below) g told h to =
       ap (λ (sum : ℕ). count e + sum) (last_names issued (x ∷ below) g told h.1 to)
 
@@ -95,18 +94,16 @@ module _ (set : Set) (states : States) (f : Kind → Bool) (queues : OfQueues f)
       ≡ stack_sum count h.below + stack_sum count o.frames =
       elim (stood set w.shared t h.below h.frame o h.comes) [
         | inl is ↦
-            let told : stack_sum count (told_last set o.told h.below) ≡ stack_sum count h.below =
-            last_after w.shared.issued h.below h.frame o.told o.frames
-            (stands_there set states w past good stands t h) leaves.stands in
-            let parts : stack_sum count (told_to set h.below o.told ++ o.frames)
-            ≡ stack_sum count (told_to set h.below o.told) + stack_sum count o.frames =
-            stack_append count (told_to set h.below o.told) o.frames in
             let same : stack_sum count (told_to set h.below o.told)
             ≡ stack_sum count (told_last set o.told h.below) =
             ap (stack_sum count) (told_is set h.below o.told) in
             let stand : stack_sum count (standing set h.below o)
             ≡ stack_sum count (told_to set h.below o.told ++ o.frames) = ap (stack_sum count) is in
-            omega arith
+            omega (
+              arith,
+              last_after w.shared.issued h.below h.frame o.told o.frames (stands_there set states w past good stands t h) leaves.stands,
+              stack_append count (told_to set h.below o.told) o.frames,
+            )
         | inr stops ↦
             let stand : stack_sum count (standing set h.below o) ≡ stack_sum count stops.others =
             ap (stack_sum count) stops.stands in

@@ -10,7 +10,6 @@ use Rattle.model.specs.declared.abs.Kind.TheVariants.{Blank as BlankKind, Own}
 use Rattle.model.specs.declared.instr.Instr.{Instr}
 use Rattle.model.specs.declared.instr.Instr.TheVariants.{Insert, Start}
 use Rattle.model.specs.declared.limits.TheConstants.{MAX_ENTRIES, MAX_LIVE_PACKETS}
-use Rattle.model.specs.declared.set.QueueName.TheVariants.{Declared}
 use Rattle.model.specs.declared.world.Activation.{Activation}
 use Rattle.model.specs.declared.world.Frame.{Frame}
 use Rattle.model.specs.declared.world.Frame.TheVariants.{Routine, Walk, Cancel as CancelFrame}
@@ -19,22 +18,22 @@ use Rattle.model.specs.declared.world.Value.{Value}
 use Rattle.model.specs.declared.world.Value.TheVariants.{Ref}
 use Rattle.model.specs.Action.{Action}
 use Rattle.model.specs.Effect.{Outcome}
-use Rattle.model.specs.Kinds.{is_right, is_cancelling, is_listed}
+use Rattle.model.specs.Kinds.{is_right}
 use Rattle.model.specs.LocalRule.{handed, kind_of}
 use Rattle.model.specs.Queues.{StartState, inserted, is_full, room_for_next}
 use Rattle.model.specs.Set.{Set, flow_of, cancel_routine_of}
 use Rattle.model.specs.Trace.{Entry}
-use Rattle.model.specs.World.{Shared, next, start_of, queue_of, register, World}
-use Rattle.run_laws.specs.Holder.{frame_rights, times_at, times_in, times_started, times_waiting, named_in, times_plain, named_as, thread_sum}
+use Rattle.model.specs.World.{Shared, start_of, queue_of, register, World}
+use Rattle.run_laws.specs.Holder.{times_at, times_in, times_waiting, named_in, named_as}
 use Rattle.run_laws.proofs.Claims.Held.{is_own, owns_in, rights_cover, word_holds}
-use Rattle.run_laws.proofs.Claims.Sums.{Claimed, frame_names, is_cancelable, names_on, times_of, word_at}
+use Rattle.run_laws.proofs.Claims.Sums.{Claimed, frame_names, is_cancelable, times_of}
 use Rattle.run_laws.proofs.Holders.Counts.{Holding, reads_ref}
 use Rattle.run_laws.proofs.Holders.Plain.{plain_le}
 use Rattle.run_laws.proofs.Holders.Queued.{entries_few, times_pushed}
 use Rattle.run_laws.proofs.Holders.Rights.{named_le}
 use Rattle.run_laws.proofs.Holders.Started.{started_le}
 use Rattle.run_laws.proofs.Holders.Sums.{own_if, unheld, unheld_one, Held, top_le}
-use Rattle.run_laws.proofs.Holders.Waits.{counts_here, plain_at, gives_right, inserts_blank, kinds_with, rights_given, device_driver}
+use Rattle.run_laws.proofs.Holders.Waits.{counts_here, gives_right, inserts_blank, kinds_with, rights_given, device_driver}
 use Rattle.run_laws.proofs.Past.LivePackets.{find}
 use Rattle.run_laws.proofs.Runs.Events.{StepsFrame}
 use Rattle.run_laws.proofs.States.Frames.{Runs, state_of, IsGood}
@@ -54,17 +53,11 @@ room_for : (s : Shared) → length s.packets ≤ MAX_LIVE_PACKETS → (entries :
 room_for s limit entries n once =
     let all : (m : ℕ) → times_in (inserted entries n) m ≤ unheld (find s.packets m) =
     (λ m.
-    let le : times_in entries m + (if nat_eq n m then 1 else 0) ≤ unheld (find s.packets m) =
-    once m in
-    let pushed : times_in (inserted entries n) m
-    ≡ times_in entries m + (if nat_eq n m then 1 else 0) = times_pushed entries n m in
-    omega arith) in
+    omega (arith, once m, times_pushed entries n m)) in
     let few : length (inserted entries n) ≤ length s.packets =
     entries_few s.packets (inserted entries n)
     (λ m.
-    let le : times_in (inserted entries n) m ≤ unheld (find s.packets m) = all m in
-    let one : unheld (find s.packets m) ≤ 1 = unheld_one (find s.packets m) in
-    omega arith)
+    omega (arith, all m, unheld_one (find s.packets m)))
     (λ m some.
     let le : times_in (inserted entries n) m ≤ unheld (find s.packets m) = all m in
     let its : (p : Packet) × (find s.packets m ≡ Some p) × (p.completing ≡ false) =
@@ -101,14 +94,12 @@ module _ (set : Set) (states : States) (s : Shared) (past : List Entry) (a : Act
     room_left i h r n entries on kinds own reads among =
         room_for s h.fits.few entries n
         (λ m.
-        let le : times_in entries m ≤ times_waiting set s m = among m in
-        let gone : frame_rights states (Routine (next a)) m + (if nat_eq n m then 1 else 0)
-        ≡ frame_rights states (Routine a) m =
-        rights_given set states s a i h r n on kinds own reads m in
-        let count : frame_rights states (Routine a) m + times_waiting set s m
-        ≤ unheld (find s.packets m) =
-        holding.waiting m in
-        omega arith)
+        omega (
+          arith,
+          among m,
+          rights_given set states s a i h r n on kinds own reads m,
+          holding.waiting m,
+        ))
 
     -- the first packet that waits while the device is busy, and the start list
     next_room : (start : StartState) (entries : List ℕ) → length s.packets ≤ MAX_LIVE_PACKETS
@@ -122,12 +113,7 @@ module _ (set : Set) (states : States) (s : Shared) (past : List Entry) (a : Act
         let first : times_in start.device_queue m
         ≡ (if nat_eq n m then 1 else 0) + times_in entries m =
         ap (λ (xs : List ℕ). times_in xs m) is in
-        let le : times_at start m ≤ times_started s.starts m =
-        started_le s.starts a.device start m there in
-        let count : frame_rights states (Routine a) m + times_waiting set s m
-        ≤ unheld (find s.packets m) =
-        holding.waiting m in
-        omega arith) in
+        omega (arith, started_le s.starts a.device start m there, holding.waiting m)) in
         rw room refl
 
     -- a packet that is put into a queue, with or without a cancel routine
@@ -140,26 +126,22 @@ module _ (set : Set) (states : States) (s : Shared) (past : List Entry) (a : Act
         (inserts_blank set states s a (Insert r q) h r q is)
         (gives_right (kind_of (state_of states a) r) _ h.obeys) reads
         (λ m.
-        let counts : plain_at set states s a q entries m ≡ times_in entries m =
-        counts_here set states s a (Insert r q) h q entries is m in
-        let le : plain_at set states s a q entries m ≤ times_plain set 0 s.queues m =
-        plain_le set m s a.device q entries there in
-        omega arith)
+        omega (
+          arith,
+          counts_here set states s a (Insert r q) h q entries is m,
+          plain_le set m s a.device q entries there,
+        ))
     inserted_room r q n entries h reads there (Some cancel) is =
         room_for s h.fits.few entries n
         (λ m.
         let own : kind_of (state_of states a) r ≡ Own =
         inserts_right (kind_of (state_of states a) r) (first_none _ _ h.obeys) in
-        let one : named_as is_own (kind_of (state_of states a) r) (register a r) m
-        ≡ (if nat_eq n m then 1 else 0) =
-        own_named (kind_of (state_of states a) r) (register a r) n m own
-        (reads_ref s (register a r) n reads) in
-        let le : named_as is_own (kind_of (state_of states a) r) (register a r) m
-        ≤ named_in is_own (state_of states a).kinds a.registers m =
-        named_le is_own s.issued (state_of states a).kinds a.registers r m h.stays.kinds in
-        let both : times_in entries m + named_in is_own (state_of states a).kinds a.registers m
-        ≤ unheld (find s.packets m) = apart q cancel m entries there is in
-        omega arith)
+        omega (
+          arith,
+          own_named (kind_of (state_of states a) r) (register a r) n m own (reads_ref s (register a r) n reads),
+          named_le is_own s.issued (state_of states a).kinds a.registers r m h.stays.kinds,
+          apart q cancel m entries there is,
+        ))
 
     queued_full : (i : Instr) → Runs set states s a i → {b : Activation}
         {queues : List (List (List ℕ))} {lists : List StartState} {actions : List Action}
@@ -177,10 +159,7 @@ module _ (set : Set) (states : States) (s : Shared) (past : List Entry) (a : Act
         rw (room_left (Start r) h r n entries refl refl
         (gives_right (kind_of (state_of states a) r) _ h.obeys) reads
         (λ m.
-        let its : times_in entries m ≤ times_at start m = among m in
-        let le : times_at start m ≤ times_started s.starts m =
-        started_le s.starts a.device start m there in
-        omega arith)) refl) in
+        omega (arith, among m, started_le s.starts a.device start m there))) refl) in
         cond_both start.busy start.device_queue start.start_list
         (λ (entries : List ℕ). not (not (is_full entries)) ≡ false)
         (λ busy. room start.device_queue (λ m. omega arith))
@@ -216,25 +195,17 @@ module _ (set : Set) (states : States) (w : World) (past : List Entry) (good : I
           let may : is_cancelable set a.device q ≡ true =
           ap (λ (driver : ℕ). is_some (cancel_routine_of set driver q))
           (device_driver set a.device a.driver on.stands.1.serves) ∙ ap is_some has in
-          let entered : times_of (queue_of w.shared a.device q) m
-          ≤ word_at (find w.shared.packets m) a.device q
-          + names_on states (is_cancelling (Declared q)) a.device m w.threads
-          + names_on states (is_listed (Declared q)) a.device m w.threads =
-          claimed.balanced.entered a.device q m may in
           let here : times_of (queue_of w.shared a.device q) m ≡ times_in entries m =
           ap (λ (o : Option (List ℕ)). times_of o m) there in
-          let cover : names_on states (is_listed (Declared q)) a.device m w.threads
-          + names_on states (is_cancelling (Declared q)) a.device m w.threads
-          + owns_in states m w.threads ≤ thread_sum (λ f. frame_rights states f m) w.threads =
-          rights_cover states a.device q m w.threads in
-          let word : word_at (find w.shared.packets m) a.device q ≤ times_waiting set w.shared m =
-          word_holds set states w kept m a.device q in
-          let all : thread_sum (λ f. frame_rights states f m) w.threads
-          + times_waiting set w.shared m
-          ≡ unheld (find w.shared.packets m) = kept.rights m in
           let top : frame_names states is_own (λ e. true) m (Routine a)
           ≤ owns_in states m w.threads =
           top_le (frame_names states is_own (λ e. true) m) w.threads t h.thread h.below (Routine a)
           h.found
           (h.frames ∙ ap (λ (f : Frame). h.below ++ f ∷ []) is) in
-          omega arith
+          omega (
+            arith,
+            claimed.balanced.entered a.device q m may,
+            rights_cover states a.device q m w.threads,
+            word_holds set states w kept m a.device q,
+            kept.rights m,
+          )

@@ -181,20 +181,16 @@ module _ (set : Set) (states : States) (good : IsGood set states) (d q guard : �
         → top_says states frames lock ≡ false → stack_sum (count n) frames ≡ 0
     stack_none [] h says = refl
     stack_none (g ∷ []) h says =
-        let one : count n g ≡ 0 = top_none g h says in omega arith
+        omega (arith, top_none g h says)
     stack_none (g ∷ e ∷ frames) h says =
-        let one : count n g ≡ 0 = lower_none e g h.0 in
-        let others : stack_sum (count n) (e ∷ frames) ≡ 0 = stack_none (e ∷ frames) h.1 says in
-        omega arith
+        omega (arith, lower_none e g h.0, stack_none (e ∷ frames) h.1 says)
 
     below_none : (below : List Frame) (g : Frame) → Stacked set states issued (below ++ g ∷ [])
         → stack_sum (count n) below ≡ 0
     below_none [] g h = refl
-    below_none (e ∷ []) g h = let one : count n e ≡ 0 = lower_none g e h.0 in omega arith
+    below_none (e ∷ []) g h = omega (arith, lower_none g e h.0)
     below_none (e ∷ x ∷ below) g h =
-        let one : count n e ≡ 0 = lower_none x e h.0 in
-        let others : stack_sum (count n) (x ∷ below) ≡ 0 = below_none (x ∷ below) g h.1 in
-        omega arith
+        omega (arith, lower_none x e h.0, below_none (x ∷ below) g h.1)
 
 -- a sum over threads of which one counts
 none_sum : (count : Frame → ℕ) (threads : List Thread)
@@ -202,9 +198,7 @@ none_sum : (count : Frame → ℕ) (threads : List Thread)
     → thread_sum count threads ≡ 0
 none_sum count [] none = refl
 none_sum count (x ∷ threads) none =
-    let one : stack_sum count x.frames.items ≡ 0 = none zero in
-    let others : thread_sum count threads ≡ 0 = none_sum count threads (λ k. none (suc k)) in
-    omega arith
+    omega (arith, none zero, none_sum count threads (λ k. none (suc k)))
 
 only_one : (count : Frame → ℕ) (threads : List Thread) (t : ℕ) (thread : Thread)
     → slice_get threads t ≡ Some thread
@@ -289,9 +283,9 @@ module _ (set : Set) (states : States) (w : World) (past : List Entry) (good : I
       let split : stack_sum counts h.thread.frames.items
       ≡ stack_sum counts h.below + stack_sum counts (h.frame ∷ []) =
       ap (stack_sum counts) h.frames ∙ stack_append counts h.below (h.frame ∷ []) in
-      let below : stack_sum counts h.below ≡ 0 =
-      below_none set states good a.device q guard.0 f device serves.1 is_guard need
-      w.shared.issued n h.below h.frame (stands_there set states w past good stands t h) in
       let top : counts h.frame ≡ names states f a n =
       ap counts frame ∙ (rw (eq-eqb a.device a.device refl) refl) in
-      omega arith
+      omega (
+        arith,
+        below_none set states good a.device q guard.0 f device serves.1 is_guard need w.shared.issued n h.below h.frame (stands_there set states w past good stands t h),
+      )

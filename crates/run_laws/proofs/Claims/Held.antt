@@ -15,7 +15,7 @@ use Rattle.model.specs.declared.world.Value.{Value}
 use Rattle.model.specs.Kinds.{is_armed, is_cancelling, is_listed, is_right}
 use Rattle.model.specs.Set.{Set}
 use Rattle.model.specs.World.{World, packet_of, queue_of}
-use Rattle.run_laws.specs.Holder.{frame_rights, named_as, named_in, names as value_names, stack_sum, thread_sum, times_listed, times_named, times_queued, times_started, times_to_start, times_waiting}
+use Rattle.run_laws.specs.Holder.{frame_rights, named_as, named_in, names as value_names, stack_sum, thread_sum, times_listed, times_named, times_queued, times_waiting}
 use Rattle.run_laws.proofs.Claims.Names.{names}
 use Rattle.run_laws.proofs.Claims.Queues.{queued_zero, to_start_le}
 use Rattle.run_laws.proofs.Claims.Sums.{Balanced, frame_names, is_taken, names_on, numbers, takes_in, times_of, was_taken, word_at, word_for}
@@ -29,29 +29,20 @@ pub stack_most : (few more : Frame → ℕ) → ((f : Frame) → few f ≤ more 
     → stack_sum few frames ≤ stack_sum more frames
 stack_most few more h [] = omega arith
 stack_most few more h (f ∷ frames) =
-    let one : few f ≤ more f = h f in
-    let others : stack_sum few frames ≤ stack_sum more frames = stack_most few more h frames in
-    omega arith
+    omega (arith, h f, stack_most few more h frames)
 
 pub thread_most : (few more : Frame → ℕ) → ((f : Frame) → few f ≤ more f) → (threads : List Thread)
     → thread_sum few threads ≤ thread_sum more threads
 thread_most few more h [] = omega arith
 thread_most few more h (thread ∷ threads) =
-    let one : stack_sum few thread.frames.items ≤ stack_sum more thread.frames.items =
-    stack_most few more h thread.frames.items in
-    let others : thread_sum few threads ≤ thread_sum more threads = thread_most few more h threads
-    in
-    omega arith
+    omega (arith, stack_most few more h thread.frames.items, thread_most few more h threads)
 
 stack_three : (one two three all : Frame → ℕ) → ((f : Frame) → one f + two f + three f ≤ all f)
     → (frames : List Frame)
     → stack_sum one frames + stack_sum two frames + stack_sum three frames ≤ stack_sum all frames
 stack_three one two three all h [] = omega arith
 stack_three one two three all h (f ∷ frames) =
-    let first : one f + two f + three f ≤ all f = h f in
-    let others : stack_sum one frames + stack_sum two frames + stack_sum three frames
-    ≤ stack_sum all frames = stack_three one two three all h frames in
-    omega arith
+    omega (arith, h f, stack_three one two three all h frames)
 
 thread_three : (one two three all : Frame → ℕ) → ((f : Frame) → one f + two f + three f ≤ all f)
     → (threads : List Thread)
@@ -59,12 +50,11 @@ thread_three : (one two three all : Frame → ℕ) → ((f : Frame) → one f + 
     ≤ thread_sum all threads
 thread_three one two three all h [] = omega arith
 thread_three one two three all h (thread ∷ threads) =
-    let first : stack_sum one thread.frames.items + stack_sum two thread.frames.items
-    + stack_sum three thread.frames.items ≤ stack_sum all thread.frames.items =
-    stack_three one two three all h thread.frames.items in
-    let others : thread_sum one threads + thread_sum two threads + thread_sum three threads
-    ≤ thread_sum all threads = thread_three one two three all h threads in
-    omega arith
+    omega (
+      arith,
+      stack_three one two three all h thread.frames.items,
+      thread_three one two three all h threads,
+    )
 
 -- a packet that is the routine's own
 abbrev pub is_own : Kind → Bool
@@ -79,13 +69,9 @@ kind_three : (name : QueueName) (k : Kind) (v : Value) (n : ℕ)
     → named_as (is_listed name) k v n + named_as (is_cancelling name) k v n + named_as is_own k v n
     ≤ named_as is_right k v n
 kind_three name (Listed other) v n =
-    let le : named_as (is_listed name) (Listed other) v n ≤ value_names v n =
-    some_le (is_listed name (Listed other)) (value_names v n) in
-    omega arith
+    omega (arith, some_le (is_listed name (Listed other)) (value_names v n))
 kind_three name (Cancelling other) v n =
-    let le : named_as (is_cancelling name) (Cancelling other) v n ≤ value_names v n =
-    some_le (is_cancelling name (Cancelling other)) (value_names v n) in
-    omega arith
+    omega (arith, some_le (is_cancelling name (Cancelling other)) (value_names v n))
 kind_three name _ v n = omega arith
 
 kinds_three : (name : QueueName) (kinds : List Kind) (values : List Value) (n : ℕ)
@@ -94,13 +80,7 @@ kinds_three : (name : QueueName) (kinds : List Kind) (values : List Value) (n : 
 kinds_three name [] values n = omega arith
 kinds_three name (k ∷ kinds) [] n = omega arith
 kinds_three name (k ∷ kinds) (v ∷ values) n =
-    let one : named_as (is_listed name) k v n + named_as (is_cancelling name) k v n
-    + named_as is_own k v n ≤ named_as is_right k v n = kind_three name k v n in
-    let others : named_in (is_listed name) kinds values n
-    + named_in (is_cancelling name) kinds values n
-    + named_in is_own kinds values n ≤ named_in is_right kinds values n =
-    kinds_three name kinds values n in
-    omega arith
+    omega (arith, kind_three name k v n, kinds_three name kinds values n)
 
 -- packets that are routines' own, over all frames
 abbrev pub owns_in : States → ℕ → List Thread → ℕ
@@ -162,14 +142,10 @@ kinds_takes (k ∷ kinds) [] n none = refl
 kinds_takes (k ∷ kinds) (v ∷ values) n none =
     let one : named_as was_taken k v n ≡ 0 =
     kind_takes k v n (λ q.
-    let both : named_as (is_taken (Declared q)) k v n
-    + named_in (is_taken (Declared q)) kinds values n
-    ≡ 0 = none q in omega arith) in
+    omega (arith, none q)) in
     let others : named_in was_taken kinds values n ≡ 0 =
     kinds_takes kinds values n (λ q.
-    let both : named_as (is_taken (Declared q)) k v n
-    + named_in (is_taken (Declared q)) kinds values n
-    ≡ 0 = none q in omega arith) in
+    omega (arith, none q)) in
     omega arith
 
 frame_no_takes : (states : States) (n : ℕ) (f : Frame)
@@ -193,16 +169,10 @@ stack_no_takes states n [] none = refl
 stack_no_takes states n (f ∷ frames) none =
     let one : frame_names states was_taken (λ e. true) n f ≡ 0 =
     frame_no_takes states n f (λ d q.
-    let both : frame_names states (is_taken (Declared q)) (λ e. nat_eq e d) n f
-    + stack_sum (frame_names states (is_taken (Declared q)) (λ e. nat_eq e d) n) frames ≡ 0 =
-    none d q in
-    omega arith) in
+    omega (arith, none d q)) in
     let others : stack_sum (frame_names states was_taken (λ e. true) n) frames ≡ 0 =
     stack_no_takes states n frames (λ d q.
-    let both : frame_names states (is_taken (Declared q)) (λ e. nat_eq e d) n f
-    + stack_sum (frame_names states (is_taken (Declared q)) (λ e. nat_eq e d) n) frames ≡ 0 =
-    none d q in
-    omega arith) in
+    omega (arith, none d q)) in
     omega arith
 
 no_takes : (states : States) (n : ℕ) (threads : List Thread)
@@ -212,14 +182,10 @@ no_takes states n [] none = refl
 no_takes states n (thread ∷ threads) none =
     let one : stack_sum (frame_names states was_taken (λ e. true) n) thread.frames.items ≡ 0 =
     stack_no_takes states n thread.frames.items (λ d q.
-    let both : stack_sum (frame_names states (is_taken (Declared q)) (λ e. nat_eq e d) n)
-    thread.frames.items + names_on states (is_taken (Declared q)) d n threads ≡ 0 = none d q in
-    omega arith) in
+    omega (arith, none d q)) in
     let others : takes_in states n threads ≡ 0 =
     no_takes states n threads (λ d q.
-    let both : stack_sum (frame_names states (is_taken (Declared q)) (λ e. nat_eq e d) n)
-    thread.frames.items + names_on states (is_taken (Declared q)) d n threads ≡ 0 = none d q in
-    omega arith) in
+    omega (arith, none d q)) in
     omega arith
 
 module _ (set : Set) (states : States) (w : World) (kept : Held set states w) (n : ℕ) where
@@ -230,24 +196,20 @@ module _ (set : Set) (states : States) (w : World) (kept : Held set states w) (n
       + owns_in states n w.threads
       + times_waiting set w.shared n ≤ 1
   one_holder d q =
-      let all : thread_sum (λ f. frame_rights states f n) w.threads + times_waiting set w.shared n
-      ≡ unheld (find w.shared.packets n) = kept.rights n in
-      let most : unheld (find w.shared.packets n) ≤ 1 = unheld_one (find w.shared.packets n) in
-      let cover : names_on states (is_listed (Declared q)) d n w.threads
-      + names_on states (is_cancelling (Declared q)) d n w.threads
-      + owns_in states n w.threads ≤ thread_sum (λ f. frame_rights states f n) w.threads =
-      rights_cover states d q n w.threads in
-      omega arith
+      omega (
+        arith,
+        kept.rights n,
+        unheld_one (find w.shared.packets n),
+        rights_cover states d q n w.threads,
+      )
 
   -- and its cancel word, where it isn't empty, is one
   pub word_holds : (d q : ℕ) → word_at (find w.shared.packets n) d q
       ≤ times_waiting set w.shared n
   word_holds d q =
-      let le : word_at (packet_of w.shared n) d q ≤ times_named (packet_of w.shared n) =
-      word_named (packet_of w.shared n) d q in
       let same : word_at (packet_of w.shared n) d q ≡ word_at (find w.shared.packets n) d q =
       ap (λ (o : Option Packet). word_at o d q) (find_place w.shared.packets n) in
-      omega arith
+      omega (arith, word_named (packet_of w.shared n) d q)
 
   -- a packet that has none of these holders stands in no list, and was taken off none
   pub none_alone : Balanced set (numbers states w)
@@ -285,20 +247,14 @@ module _ (set : Set) (states : States) (w : World) (kept : Held set states w) (n
       + names_on states (is_cancelling (Declared q)) d n w.threads
       + names_on states (is_listed (Declared q)) d n w.threads = b.entered d q n may in
       omega arith) in
-      let starts : times_to_start w.shared.starts n ≤ times_started w.shared.starts n =
-      to_start_le w.shared.starts n in
-      omega arith
+      omega (arith, to_start_le w.shared.starts n)
 
   -- nor does one that is a routine's own
   pub own_alone : Balanced set (numbers states w) → 1 ≤ owns_in states n w.threads
       → takes_in states n w.threads + times_listed w.shared n ≡ 0
   own_alone b own =
       none_alone b (λ d q.
-      let one : names_on states (is_listed (Declared q)) d n w.threads
-      + names_on states (is_cancelling (Declared q)) d n w.threads
-      + owns_in states n w.threads
-      + times_waiting set w.shared n ≤ 1 = one_holder d q in
-      omega arith)
+      omega (arith, one_holder d q))
 
   -- one whose word names a queue, which its cancel routine was called for or which is listed, is
   -- live
@@ -308,12 +264,4 @@ module _ (set : Set) (states : States) (w : World) (kept : Held set states w) (n
       + names_on states (is_listed (Declared q)) d n w.threads
       → count ≤ unheld (find w.shared.packets n)
   holder_lives d q count le =
-      let all : thread_sum (λ f. frame_rights states f n) w.threads + times_waiting set w.shared n
-      ≡ unheld (find w.shared.packets n) = kept.rights n in
-      let cover : names_on states (is_listed (Declared q)) d n w.threads
-      + names_on states (is_cancelling (Declared q)) d n w.threads
-      + owns_in states n w.threads ≤ thread_sum (λ f. frame_rights states f n) w.threads =
-      rights_cover states d q n w.threads in
-      let word : word_at (find w.shared.packets n) d q
-      ≤ times_waiting set w.shared n = word_holds d q in
-      omega arith
+      omega (arith, kept.rights n, rights_cover states d q n w.threads, word_holds d q)

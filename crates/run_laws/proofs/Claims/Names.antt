@@ -111,11 +111,7 @@ module _ (set : Set) (driver lock : ℕ) (f : Kind → Bool) (queues : OfQueues 
   gone_names [] values n = omega arith
   gone_names (k ∷ kinds) [] n = omega arith
   gone_names (k ∷ kinds) (v ∷ values) n =
-      let one : named_as f (let_go set driver lock k) v n ≤ named_as f k v n = go_le k v n in
-      let others : named_in f (all_let_go set driver lock kinds) values n
-      ≤ named_in f kinds values n =
-      gone_names kinds values n in
-      omega arith
+      omega (arith, go_le k v n, gone_names kinds values n)
 
   module _ (unarmed : (name : QueueName) → f (Armed name) ≡ false) where
     stays_so : (b : Bool) (name : QueueName) (v : Value) (n : ℕ)
@@ -135,11 +131,7 @@ module _ (set : Set) (driver lock : ℕ) (f : Kind → Bool) (queues : OfQueues 
     stay_names [] values n = refl
     stay_names (k ∷ kinds) [] n = refl
     stay_names (k ∷ kinds) (v ∷ values) n =
-        let one : named_as f (let_go set driver lock k) v n ≡ named_as f k v n = stay_so k v n in
-        let others : named_in f (all_let_go set driver lock kinds) values n
-        ≡ named_in f kinds values n =
-        stay_names kinds values n in
-        omega arith
+        omega (arith, stay_so k v n, stay_names kinds values n)
 
 -- the packets that an activation's registers name
 abbrev pub names : States → (Kind → Bool) → Activation → ℕ → ℕ
@@ -163,16 +155,12 @@ module _ (f : Kind → Bool) where
       → HasKinds issued kinds values → f (slice_index_or kinds r BlankKind) ≡ false → f k ≡ false
       → named_in f (slice_set kinds r k) values n ≡ named_in f kinds values n
   unqueued_turn issued kinds values r k n h was is =
-      let turn : named_in f (slice_set kinds r k) values n
-      + named_as f (slice_index_or kinds r BlankKind) (slice_index_or values r Blank) n
-      ≡ named_in f kinds values n + named_as f k (slice_index_or values r Blank) n =
-      named_turn f issued kinds values r k n h in
-      let before : named_as f (slice_index_or kinds r BlankKind) (slice_index_or values r Blank) n
-      ≡ 0 =
-      named_none f (slice_index_or kinds r BlankKind) (slice_index_or values r Blank) n was in
-      let after : named_as f k (slice_index_or values r Blank) n ≡ 0 =
-      named_none f k (slice_index_or values r Blank) n is in
-      omega arith
+      omega (
+        arith,
+        named_turn f issued kinds values r k n h,
+        named_none f (slice_index_or kinds r BlankKind) (slice_index_or values r Blank) n was,
+        named_none f k (slice_index_or values r Blank) n is,
+      )
 
 module _ (f : Kind → Bool) (queues : OfQueues f) where
   -- a mark, and what is given down
@@ -303,12 +291,9 @@ module _ (set : Set) (states : States) (s : Shared) (a : Activation) (i : Instr)
     next_turns j k m on kinds was refers f queues n =
         let now : names states f (next a) n ≡ named_in f (with k) a.registers n =
         next_names on f n ∙ ap (λ (kinds : List Kind). named_in f kinds a.registers n) kinds in
-        let turn : named_in f (with k) a.registers n
-        + named_as f (kind_of (state_of states a) r) (Ref m) n
-        ≡ names states f a n + named_as f k (Ref m) n = turns f k m n refers in
         let before : named_as f (kind_of (state_of states a) r) (Ref m) n ≡ named_as f j (Ref m) n =
         ap (λ (kind : Kind). named_as f kind (Ref m) n) was in
-        omega arith
+        omega (arith, turns f k m n refers)
 
     pub label_turns : (j : Kind) (m label : ℕ) → label_of i ≡ Some label
         → (handed_at_label (state_of states a) i).kinds ≡ with BlankKind
@@ -319,12 +304,9 @@ module _ (set : Set) (states : States) (s : Shared) (a : Activation) (i : Instr)
         ap (λ (state : Abs). named_in f state.kinds a.registers n)
         (arrives set states s a i h _ true (jumping label labelled))
         ∙ ap (λ (kinds : List Kind). named_in f kinds a.registers n) kinds in
-        let turn : named_in f (with BlankKind) a.registers n
-        + named_as f (kind_of (state_of states a) r) (Ref m) n
-        ≡ names states f a n + named_as f BlankKind (Ref m) n = turns f BlankKind m n refers in
         let before : named_as f (kind_of (state_of states a) r) (Ref m) n ≡ named_as f j (Ref m) n =
         ap (λ (kind : Kind). named_as f kind (Ref m) n) was in
-        omega arith
+        omega (arith, turns f BlankKind m n refers)
 
     -- where nothing was taken
     pub label_names : (label : ℕ) → label_of i ≡ Some label
@@ -366,9 +348,9 @@ module _ (set : Set) (states : States) (s : Shared) (a : Activation) (i : Instr)
 pub turns_nothing : (states : States) (a b : Activation) (j k : Kind) (m : ℕ) → is_queued j ≡ false
     → is_queued k ≡ false → TurnsNames states a b j k m → KeepsNames states a b
 turns_nothing states a b j k m was is turns f queues n =
-    let turn : names states f b n + named_as f j (Ref m) n ≡ names states f a n
-    + named_as f k (Ref m) n =
-    turns f queues n in
-    let before : named_as f j (Ref m) n ≡ 0 = named_none f j (Ref m) n (queues j was) in
-    let after : named_as f k (Ref m) n ≡ 0 = named_none f k (Ref m) n (queues k is) in
-    omega arith
+    omega (
+      arith,
+      turns f queues n,
+      named_none f j (Ref m) n (queues j was),
+      named_none f k (Ref m) n (queues k is),
+    )

@@ -3,15 +3,13 @@
 -- register.
 use Rattle.std.proofs.Common.{◌≡◌, ℕ, ◌+◌, ◌≤◌, Option, None, Some, refl, ap, arith}
 use Rattle.std.specs.Prelude.{if◌then◌else◌}
-use Rattle.model.specs.declared.set.QueueName.TheVariants.{Declared}
 use Rattle.model.specs.declared.world.Packet.{Packet}
-use Rattle.model.specs.Kinds.{is_cancelling, is_listed}
 use Rattle.model.specs.Run.{Run}
 use Rattle.model.specs.Set.{Set}
 use Rattle.model.specs.World.{World, packet_of}
 use Rattle.run_laws.specs.Holder.{alive, frame_rights, is_live, thread_sum, times_listed, times_waiting}
-use Rattle.run_laws.proofs.Claims.Held.{none_alone, owns_in, rights_cover}
-use Rattle.run_laws.proofs.Claims.Sums.{Claimed, names_on, takes_in}
+use Rattle.run_laws.proofs.Claims.Held.{none_alone, rights_cover}
+use Rattle.run_laws.proofs.Claims.Sums.{Claimed, takes_in}
 use Rattle.run_laws.proofs.Holders.Runs.{live_listed}
 use Rattle.run_laws.proofs.Holders.Sums.{Held, unheld}
 use Rattle.run_laws.proofs.Past.LivePackets.{find, find_place}
@@ -27,23 +25,17 @@ module _ (set : Set) (states : States) (w : World) (kept : Held set states w)
       ≡ unheld (find w.shared.packets n) = kept.rights n in
       let none : takes_in states n w.threads + times_listed w.shared n ≡ 0 =
       none_alone set states w kept n claimed.balanced (λ d q.
-      let cover : names_on states (is_listed (Declared q)) d n w.threads
-      + names_on states (is_cancelling (Declared q)) d n w.threads
-      + owns_in states n w.threads ≤ thread_sum (λ f. frame_rights states f n) w.threads =
-      rights_cover states d q n w.threads in
-      omega arith) in
+      omega (arith, rights_cover states d q n w.threads)) in
       omega arith
 
   pub listed_once : times_listed w.shared n ≤ 1
   listed_once =
-      let both : takes_in states n w.threads + times_listed w.shared n
-      ≤ 1 = claimed.balanced.once n in
-      omega arith
+      omega (arith, claimed.balanced.once n)
 
   alive_once : (o : Option Packet) → find w.shared.packets n ≡ o
       → times_listed w.shared n ≤ alive o
   alive_once None gone =
-      let none : times_listed w.shared n ≡ 0 = gone_unlisted (ap unheld gone) in omega arith
+      omega (arith, gone_unlisted (ap unheld gone))
   alive_once (Some p) there = let one : times_listed w.shared n ≤ 1 = listed_once in omega arith
 
 -- in the words of the law
@@ -55,6 +47,4 @@ lists_live set states r tells kept claimed n =
     alive_once set states r.world kept claimed n (find r.world.shared.packets n) refl in
     let same : alive (packet_of r.world.shared n) ≡ alive (find r.world.shared.packets n) =
     ap alive (find_place r.world.shared.packets n) in
-    let live : alive (packet_of r.world.shared n) ≡ (if is_live r n then 1 else 0) =
-    live_listed r tells n in
-    omega arith
+    omega (arith, live_listed r tells n)

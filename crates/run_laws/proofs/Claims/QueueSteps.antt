@@ -76,14 +76,12 @@ module _ (set : Set) (states : States) (w : World) (past : List Entry) (good : I
       → thread_sum (frame_names states g on n) to.threads
       ≡ thread_sum (frame_names states g on n) w.threads =
       λ g of on n. same_sums set states w past good stands c t h leaves g of on n
-      (let one : frame_names states g on n (Routine b) ≡ frame_names states g on n (Routine a) =
-      frame_keeps states a b keeps device g of on n in
-      let was : frame_names states g on n h.frame ≡ frame_names states g on n (Routine a) =
+      (let was : frame_names states g on n h.frame ≡ frame_names states g on n (Routine a) =
       ap (frame_names states g on n) frame in
       let now : stack_sum (frame_names states g on n) h.outcome.frames
       ≡ frame_names states g on n (Routine b) + 0 =
       ap (stack_sum (frame_names states g on n)) frames in
-      omega arith) in
+      omega (arith, frame_keeps states a b keeps device g of on n)) in
       record {
         balanced = same_balance set states w to c.balanced same words_same queues once;
         apart = all_apart set states w past good stands c t h leaves
@@ -126,15 +124,12 @@ module _ (set : Set) (states : States) (w : World) (past : List Entry) (good : I
       once_more m (λ n. takes_in states n w.threads + times_listed w.shared n)
       (λ n. takes_in states n w.threads + times_listed h.outcome.shared n)
       c.balanced.once none
-      (λ n. let one : times_listed h.outcome.shared n
-      ≡ times_listed w.shared n + (if nat_eq m n then 1 else 0) = lists n in omega arith)
+      (λ n. omega (arith, lists n))
 
   pub once_less : ((n : ℕ) → times_listed h.outcome.shared n ≤ times_listed w.shared n)
       → (n : ℕ) → takes_in states n w.threads + times_listed h.outcome.shared n ≤ 1
   once_less lists n =
-      let one : times_listed h.outcome.shared n ≤ times_listed w.shared n = lists n in
-      let before : takes_in states n w.threads + times_listed w.shared n ≤ 1 = c.balanced.once n in
-      omega arith
+      omega (arith, lists n, c.balanced.once n)
 
   -- a packet is put into a queue
   module _ (r q m : ℕ) (entries : List ℕ) (run : Runs set states w.shared a (Insert r q))
@@ -149,13 +144,11 @@ module _ (set : Set) (states : States) (w : World) (past : List Entry) (good : I
     inserted_lists : (n : ℕ) → times_listed h.outcome.shared n
         ≡ times_listed w.shared n + (if nat_eq m n then 1 else 0)
     inserted_lists n =
-        let put : times_queued (with_queue w.shared a.device q (inserted entries m)).queues n
-        + times_in entries n
-        ≡ times_queued w.shared.queues n + times_in (inserted entries m) n =
-        times_put w.shared a.device q entries (inserted entries m) n there in
-        let pushed : times_in (inserted entries m) n
-        ≡ times_in entries n + (if nat_eq m n then 1 else 0) = times_pushed entries m n in
-        rw (queues, starts) (omega arith)
+        rw (queues, starts) (omega (
+          arith,
+          times_put w.shared a.device q entries (inserted entries m) n there,
+          times_pushed entries m n,
+        ))
 
     inserted_turns : TurnsNames states a (next a) Own
         (kind_inserted (cancel_routine_of set a.driver q) q) m
@@ -269,20 +262,14 @@ module _ (set : Set) (states : States) (w : World) (past : List Entry) (good : I
       -- it stands in the queue, so that it wasn't taken off one
       removed_takes : takes_in states m w.threads ≡ 0
       removed_takes =
-          let le : times_in (m ∷ entries) m ≤ times_queued w.shared.queues m =
-          times_le w.shared a.device q (m ∷ entries) m there in
           let first : times_in (m ∷ entries) m ≡ 1
           + times_in entries m = rw (eq-eqb m m refl) refl in
-          let once : takes_in states m w.threads + times_listed w.shared m
-          ≤ 1 = c.balanced.once m in
-          omega arith
+          omega (arith, times_le w.shared a.device q (m ∷ entries) m there, c.balanced.once m)
 
       removed_taken : names_on states (is_taken (Declared q)) a.device m w.threads ≡ 0
       removed_taken =
-          let le : names_on states (is_taken (Declared q)) a.device m w.threads
-          ≤ takes_in states m w.threads = taken_le states w a.device q m in
           let none : takes_in states m w.threads ≡ 0 = removed_takes in
-          omega arith
+          omega (arith, taken_le states w a.device q m)
 
       removed_fewer : (n : ℕ) → times_in entries n + (if nat_eq m n then 1 else 0)
           ≡ times_in (m ∷ entries) n
@@ -291,14 +278,11 @@ module _ (set : Set) (states : States) (w : World) (past : List Entry) (good : I
       removed_lists : (n : ℕ) → times_listed h.outcome.shared n + (if nat_eq m n then 1 else 0)
           ≡ times_listed w.shared n
       removed_lists n =
-          let put : times_queued (with_queue w.shared a.device q entries).queues n
-          + times_in (m ∷ entries) n
-          ≡ times_queued w.shared.queues n + times_in entries n =
-          times_put w.shared a.device q (m ∷ entries) entries n there in
-          let fewer : times_in entries n + (if nat_eq m n then 1 else 0)
-          ≡ times_in (m ∷ entries) n =
-          removed_fewer n in
-          rw (queues, starts) (omega arith)
+          rw (queues, starts) (omega (
+            arith,
+            times_put w.shared a.device q (m ∷ entries) entries n there,
+            removed_fewer n,
+          ))
 
       removed_entries : (d p n : ℕ) → times_of (queue_of to.shared d p) n + hit a.device q m d p n
           ≡ times_of (queue_of w.shared d p) n
@@ -326,8 +310,7 @@ module _ (set : Set) (states : States) (w : World) (past : List Entry) (good : I
                 (once_turned (numbers states w) (numbers states to) BlankKind Own
                 a.device m changes refl
                 (once_less (λ n.
-                let lists : times_listed h.outcome.shared n + (if nat_eq m n then 1 else 0)
-                ≡ times_listed w.shared n = removed_lists n in omega arith)))
+                omega (arith, removed_lists n))))
                 a.device q m removed_armed removed_listed
                 changes
                 words_same removed_entries;
@@ -345,14 +328,7 @@ module _ (set : Set) (states : States) (w : World) (past : List Entry) (good : I
           record {
             balanced = balanced_removes set (numbers states w) (numbers states to) c.balanced
                 (λ n.
-                let took : takes_in states n to.threads + 0
-                ≡ takes_in states n w.threads + (if nat_eq m n then 1 else 0) =
-                changes.takes n in
-                let lists : times_listed h.outcome.shared n + (if nat_eq m n then 1 else 0)
-                ≡ times_listed w.shared n = removed_lists n in
-                let before : takes_in states n w.threads + times_listed w.shared n ≤ 1 =
-                c.balanced.once n in
-                omega arith)
+                omega (arith, changes.takes n, removed_lists n, c.balanced.once n))
                 a.device q m
                 (cancelable_is set a.device a.driver q (Some cancel) run.stays.serves some)
                 removed_armed removed_taken removed_listed
@@ -362,16 +338,14 @@ module _ (set : Set) (states : States) (w : World) (past : List Entry) (good : I
                 (rw frames (
                   apart_up states a taker BlankKind (Taken (Declared q)) m q turns
                       ((λ p n e. omega arith), (λ p. refl))
-                      (let armed : names states (is_armed (Declared q)) a m ≡ 0 = none_armed m in
-                      let cancelling : names states (is_cancelling (Declared q)) a m ≡ 0 =
-                      none_cancelling m in
-                      let taken : names states (is_taken (Declared q)) a m
-                      ≤ names_on states (is_taken (Declared q)) a.device m w.threads =
-                      names_among set states w past good stands c t h leaves a (is_taken (Declared
-                      q)) m frame in
-                      let none : names_on states (is_taken (Declared q)) a.device m w.threads ≡ 0 =
+                      (let none : names_on states (is_taken (Declared q)) a.device m w.threads ≡ 0 =
                       removed_taken in
-                      omega arith)
+                      omega (
+                        arith,
+                        none_armed m,
+                        none_cancelling m,
+                        names_among set states w past good stands c t h leaves a (is_taken (Declared q)) m frame,
+                      ))
                       apart_a,
                   tt,
                 ));
@@ -397,20 +371,18 @@ module _ (set : Set) (states : States) (w : World) (past : List Entry) (good : I
       unlinked_name : (j : Kind) (g : Kind → Bool) → kind_of (state_of states a) r ≡ j → g j ≡ true
           → 1 ≤ names states g a m
       unlinked_name j g is of =
-          let le : named_as g (kind_of (state_of states a) r) (register a r) m
-          ≤ names states g a m =
-          named_le g w.shared.issued (state_of states a).kinds a.registers r m run.stays.kinds in
           let one : named_as g (kind_of (state_of states a) r) (register a r) m ≡ 1 =
           rw (is, of, reads_ref w.shared (register a r) m reads, eq-eqb m m refl) refl in
-          omega arith
+          omega (
+            arith,
+            named_le g w.shared.issued (state_of states a).kinds a.registers r m run.stays.kinds,
+          )
 
       unlinked_times : (n : ℕ) → times_in (unlinked entries m) n ≤ times_in entries n
       unlinked_times n =
           elim (cases_lt 0 (times_in entries m)) [
             | inl some ↦
-                let fewer : times_in (unlinked entries m) n + (if nat_eq m n then 1 else 0)
-                ≡ times_in entries n = unlinked_fewer entries m n some in
-                omega arith
+                omega (arith, unlinked_fewer entries m n some)
             | inr few ↦
                 let same : times_in (unlinked entries m) n ≡ times_in entries n =
                 ap (λ (xs : List ℕ). times_in xs n) (unlinked_none entries m (omega arith)) in
@@ -419,12 +391,11 @@ module _ (set : Set) (states : States) (w : World) (past : List Entry) (good : I
 
       unlinked_lists : (n : ℕ) → times_listed h.outcome.shared n ≤ times_listed w.shared n
       unlinked_lists n =
-          let put : times_queued (with_queue w.shared a.device q (unlinked entries m)).queues n
-          + times_in entries n
-          ≡ times_queued w.shared.queues n + times_in (unlinked entries m) n =
-          times_put w.shared a.device q entries (unlinked entries m) n there in
-          let less : times_in (unlinked entries m) n ≤ times_in entries n = unlinked_times n in
-          rw (queues, starts) (omega arith)
+          rw (queues, starts) (omega (
+            arith,
+            times_put w.shared a.device q entries (unlinked entries m) n there,
+            unlinked_times n,
+          ))
 
       unlinks_by : Unlinks q (kind_of (state_of states a) r) → Claimed set states to
       unlinks_by (inl is) =

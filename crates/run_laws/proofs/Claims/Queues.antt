@@ -81,10 +81,9 @@ module _ (s : Shared) (d q m : ℕ) (before after : List ℕ) (there : queue_of 
         elim (put_or_not s d q before after e p there) [
           | inl its ↦ rw (its.0, its.1, its.2, its.3) (more n)
           | inr other ↦
-              let none : hit d q m e p n ≡ 0 = other.0 m n in
               let same : now e p n ≡ was e p n =
               ap (λ (o : Option (List ℕ)). times_of o n) other.1 in
-              omega arith
+              omega (arith, other.0 m n)
         ]
 
     pub entries_fewer : ((n : ℕ) → times_in after n + (if nat_eq m n then 1 else 0)
@@ -94,10 +93,9 @@ module _ (s : Shared) (d q m : ℕ) (before after : List ℕ) (there : queue_of 
         elim (put_or_not s d q before after e p there) [
           | inl its ↦ rw (its.0, its.1, its.2, its.3) (fewer n)
           | inr other ↦
-              let none : hit d q m e p n ≡ 0 = other.0 m n in
               let same : now e p n ≡ was e p n =
               ap (λ (o : Option (List ℕ)). times_of o n) other.1 in
-              omega arith
+              omega (arith, other.0 m n)
         ]
 
     pub entries_others : ((n : ℕ) → nat_eq m n ≡ false → times_in after n ≡ times_in before n)
@@ -123,9 +121,7 @@ unlinked_fewer (k ∷ entries) m n some =
       | inr apart ↦
           let more : 1 ≤ 0 + times_in entries m = rw apart.0 at some in
           let later : 1 ≤ times_in entries m = omega arith in
-          let others : times_in (unlinked entries m) n + (if nat_eq m n then 1 else 0)
-          ≡ times_in entries n = unlinked_fewer entries m n later in
-          rw apart.0 (omega arith)
+          rw apart.0 (omega (arith, unlinked_fewer entries m n later))
     ]
 
 pub unlinked_none : (entries : List ℕ) (m : ℕ) → times_in entries m ≡ 0
@@ -149,9 +145,7 @@ unlinked_other (k ∷ entries) m n other =
     elim (eqb_tells k m) [
       | inl same ↦ rw (same.0, same.1, other) (omega arith)
       | inr apart ↦
-          let others : times_in (unlinked entries m) n ≡ times_in entries n =
-          unlinked_other entries m n other in
-          rw apart.0 (omega arith)
+          rw apart.0 (omega (arith, unlinked_other entries m n other))
     ]
 
 -- one that stood there at most once stands there no more
@@ -186,8 +180,7 @@ pub to_start_le : (starts : List StartState) (n : ℕ)
     → times_to_start starts n ≤ times_started starts n
 to_start_le [] n = omega arith
 to_start_le (start ∷ starts) n =
-    let others : times_to_start starts n ≤ times_started starts n = to_start_le starts n in
-    omega arith
+    omega (arith, to_start_le starts n)
 
 -- a packet that stands in no queue without a cancel routine, and in none that has one
 on_zero : (set : Set) (driver q : ℕ) (lists : List (List ℕ)) (n : ℕ)

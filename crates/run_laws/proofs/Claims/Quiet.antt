@@ -1,6 +1,6 @@
 -- Steps that leave the claims to packets as they are: the frames in place of the one that ran name
 -- the same packets of queues with a cancel routine, and cancel words and queues are as before.
-use Rattle.std.proofs.Common.{◌≡◌, ℕ, ◌+◌, ◌-◌, ◌≤◌, Bool, true, false, List, [], ◌∷◌, ◌++◌, Option, None, Some, refl, ap, sym, ◌∙◌, arith, inl, inr}
+use Rattle.std.proofs.Common.{◌≡◌, ℕ, ◌+◌, ◌-◌, Bool, true, false, List, [], ◌∷◌, ◌++◌, Option, None, Some, refl, ap, sym, ◌∙◌, arith, inl, inr}
 use Rattle.std.specs.Prelude.{⊤, nat_eq, replicate, slice_get, if◌then◌else◌}
 use Rattle.std.specs.List.{list_any}
 use Rattle.std.proofs.lemmas.Bool.{cond_both}
@@ -91,19 +91,13 @@ module _ (states : States) (a b : Activation) (keeps : KeepsNames states a b) wh
 
   pub apart_keeps : FrameApart states (Routine a) → FrameApart states (Routine b)
   apart_keeps h q n =
-      let armed : names states (is_armed (Declared q)) b n
-      ≡ names states (is_armed (Declared q)) a n =
-      keeps (is_armed (Declared q)) (armed_queues (Declared q)) n in
-      let taken : names states (is_taken (Declared q)) b n
-      ≡ names states (is_taken (Declared q)) a n =
-      keeps (is_taken (Declared q)) (taken_queues (Declared q)) n in
-      let cancelling : names states (is_cancelling (Declared q)) b n
-      ≡ names states (is_cancelling (Declared q)) a n =
-      keeps (is_cancelling (Declared q)) (cancelling_queues (Declared q)) n in
-      let before : names states (is_armed (Declared q)) a n
-      + names states (is_taken (Declared q)) a n
-      + names states (is_cancelling (Declared q)) a n ≤ 1 = h q n in
-      omega arith
+      omega (
+        arith,
+        keeps (is_armed (Declared q)) (armed_queues (Declared q)) n,
+        keeps (is_taken (Declared q)) (taken_queues (Declared q)) n,
+        keeps (is_cancelling (Declared q)) (cancelling_queues (Declared q)) n,
+        h q n,
+      )
 
 -- an activation that names none
 abbrev pub NamesNone : States → Activation → Type 0
@@ -118,13 +112,12 @@ module _ (states : States) (a : Activation) (none : NamesNone states a) where
 
   pub apart_none : FrameApart states (Routine a)
   apart_none q n =
-      let armed : names states (is_armed (Declared q)) a n ≡ 0 =
-      none (is_armed (Declared q)) (armed_queues (Declared q)) n in
-      let taken : names states (is_taken (Declared q)) a n ≡ 0 =
-      none (is_taken (Declared q)) (taken_queues (Declared q)) n in
-      let cancelling : names states (is_cancelling (Declared q)) a n ≡ 0 =
-      none (is_cancelling (Declared q)) (cancelling_queues (Declared q)) n in
-      omega arith
+      omega (
+        arith,
+        none (is_armed (Declared q)) (armed_queues (Declared q)) n,
+        none (is_taken (Declared q)) (taken_queues (Declared q)) n,
+        none (is_cancelling (Declared q)) (cancelling_queues (Declared q)) n,
+      )
 
 -- a routine begins, but for a cancel routine
 abbrev pub BeginsPlain : Sort → Type 0
@@ -209,11 +202,11 @@ module _ (set : Set) (states : States) (s : Shared) (past : List Entry) (actor :
   goes_quiet a b above o keeps device frames none others words queues starts =
       record {
         names = λ g of on n.
-            let same : frame_names states g on n (Routine b)
-            ≡ frame_names states g on n (Routine a) =
-            frame_keeps states a b keeps device g of on n in
-            let rest : stack_sum (frame_names states g on n) above ≡ 0 = none g of on n in
-            rw frames (omega arith);
+            rw frames (omega (
+              arith,
+              frame_keeps states a b keeps device g of on n,
+              none g of on n,
+            ));
         apart = λ h. rw frames (apart_keeps states a b keeps h, others);
         words = words;
         queues = queues;
@@ -298,8 +291,7 @@ module _ (set : Set) (states : States) (s : Shared) (past : List Entry) (actor :
       m
       h.stays.kinds refl)
       refl frames
-      (λ g of on m. let one : frame_names states g on m (Routine b) ≡ 0 =
-      frame_none states b none g of on m in omega arith)
+      (λ g of on m. omega (arith, frame_none states b none g of on m))
       (apart_none states b none, tt)
       (λ m d l. rw shared (word_kept s n p q there number word m d l))
       (rw shared refl) (rw shared refl)
@@ -427,8 +419,7 @@ module _ (set : Set) (states : States) (s : Shared) (past : List Entry) (actor :
       begins_none set states s.issued b Propagate _ tt
       (begins_back set states s top.good top.fits n p c top.stands there set_there free) in
       walk_quiet n (Walk n ∷ Routine b ∷ []) o refl
-      (λ g of on m. let one : frame_names states g on m (Routine b) ≡ 0 =
-      frame_none states b none g of on m in omega arith)
+      (λ g of on m. omega (arith, frame_none states b none g of on m))
       (tt, (apart_none states b none, tt))
       (word_kept s n p (moved_up (left_location p)) there refl refl) refl refl
   quiet_step under f o top holding (lends_to n p c there set_there lends) loud quiet =
@@ -437,8 +428,7 @@ module _ (set : Set) (states : States) (s : Shared) (past : List Entry) (actor :
       begins_none set states s.issued b Hold _ tt
       (begins_lent set states s top.good top.fits n p c top.stands there set_there lends) in
       walk_quiet n (Walk n ∷ Routine b ∷ []) o refl
-      (λ g of on m. let one : frame_names states g on m (Routine b) ≡ 0 =
-      frame_none states b none g of on m in omega arith)
+      (λ g of on m. omega (arith, frame_none states b none g of on m))
       (tt, (apart_none states b none, tt))
       (word_kept s n p (record (moved_up (left_location p)) { completing = false }) there refl refl)
       refl refl

@@ -15,12 +15,12 @@ use Rattle.model.specs.Queues.{idle as idle_start, without_first_to_start}
 use Rattle.model.specs.Set.{Set}
 use Rattle.model.specs.Trace.{Entry, Actor}
 use Rattle.model.specs.World.{Shared, World, queue_of, with_start, idle_thread, new_packet, with_dpc}
-use Rattle.run_laws.specs.Holder.{thread_sum, times_listed, times_queued, times_to_start, times_started}
+use Rattle.run_laws.specs.Holder.{thread_sum, times_listed, times_queued}
 use Rattle.run_laws.proofs.Claims.Names.{OfQueues}
 use Rattle.run_laws.proofs.Claims.Queues.{to_start_le}
 use Rattle.run_laws.proofs.Claims.Quiet.{BeginsPlain, NamesNone, apart_none, begins_none, frame_none}
 use Rattle.run_laws.proofs.Claims.Steps.{after, same_balance}
-use Rattle.run_laws.proofs.Claims.Sums.{Claimed, FrameApart, frame_names, is_taken, names_on, takes_in, times_of, was_taken, word_at}
+use Rattle.run_laws.proofs.Claims.Sums.{Claimed, FrameApart, frame_names, is_taken, times_of, was_taken, word_at}
 use Rattle.run_laws.proofs.Claims.Waiting.{to_start_put, waits_first}
 use Rattle.run_laws.proofs.Holders.Queued.{none_queued}
 use Rattle.run_laws.proofs.Holders.Sums.{Held, first_frame}
@@ -50,7 +50,7 @@ use Rattle.model.specs.Fault.{first_fault}
 use Rattle.model.specs.Run.{begun}
 use Rattle.run_laws.proofs.Claims.Shapes.{shape_claims}
 use Rattle.run_laws.proofs.Holders.Runs.{idle_sum, top_holding}
-use Rattle.run_laws.proofs.Holders.Started.{none_started, waits_in}
+use Rattle.run_laws.proofs.Holders.Started.{none_started}
 use Rattle.run_laws.proofs.Runs.Kept.{GoesOnBy}
 use Rattle.run_laws.proofs.Runs.Threads.{each_frames, idle_frames}
 
@@ -73,16 +73,12 @@ module _ (set : Set) (states : States) (w : World) (past : List Entry) (good : I
       let first : thread_sum (frame_names states g on n) (slice_set w.threads t after)
       ≡ frame_names states g on n f + thread_sum (frame_names states g on n) w.threads =
       first_frame (frame_names states g on n) w.threads t thread after f found idle items in
-      let zero_names : frame_names states g on n f ≡ 0 = none g of on n in
-      omega arith in
+      omega (arith, none g of on n) in
       record {
         balanced = same_balance set states w (with_thread w t s after) c.balanced same
             (λ d q n. words n d q) queues
             (λ n.
-            let before : takes_in states n w.threads + times_listed w.shared n ≤ 1 =
-            c.balanced.once n in
-            let less : times_listed s n ≤ times_listed w.shared n = lists n in
-            omega arith);
+            omega (arith, c.balanced.once n, lists n));
         apart = each_frames w t s after (λ k frames. Each (FrameApart states) frames) thread found
             (rw items (apart, tt)) (λ k other. c.apart k);
       }
@@ -167,13 +163,11 @@ module _ (set : Set) (states : States) (w : World) (past : List Entry) (good : I
         (startio_enters set states w past good stands actor.thread h) h.found h.idle refl
         (λ n d q. refl) refl
         (λ n.
-        let put : times_to_start (with_start w.shared h.d (without_first_to_start h.start)).starts n
-        + waits_in h.start n
-        ≡ times_to_start w.shared.starts n + waits_in (without_first_to_start h.start) n =
-        to_start_put w.shared.starts h.d h.start (without_first_to_start h.start) n h.has in
-        let first : waits_in (without_first_to_start h.start) n ≤ waits_in h.start n =
-        waits_first h.start n in
-        omega arith)
+        omega (
+          arith,
+          to_start_put w.shared.starts h.d h.start (without_first_to_start h.start) n h.has,
+          waits_first h.start n,
+        ))
     claimed_happens change (begins_cancel h) quiet =
         begun_claims actor.thread w.shared h.thread (cancelling h.thread h.level h.n)
         (CancelFrame (record { packet = h.n; next = AcquireStep })) h.found h.idle refl
@@ -198,45 +192,34 @@ claimed_begun set states threads =
     ≤ times_queued (replicate devices (replicate MAX_QUEUES [])) n =
     times_of_le (begun set threads).world.shared d q n
     (queue_of (begun set threads).world.shared d q) refl in
-    let empty : times_queued (replicate devices (replicate MAX_QUEUES [])) n ≡ 0 =
-    none_queued devices n in
-    omega arith in
+    omega (arith, none_queued devices n) in
     let idle : (g : Kind → Bool) (on : ℕ → Bool) (n : ℕ)
     → thread_sum (frame_names states g on n) (replicate threads idle_thread) ≡ 0 =
     λ g on n. idle_names states g on n threads in
     record {
       balanced = record {
         backed = λ d q n.
-            let armed : names_on states (is_armed (Declared q)) d n (replicate threads idle_thread)
-            ≡ 0 =
-            idle (is_armed (Declared q)) (λ e. nat_eq e d) n in
-            let taken : names_on states (is_taken (Declared q)) d n (replicate threads idle_thread)
-            ≡ 0 =
-            idle (is_taken (Declared q)) (λ e. nat_eq e d) n in
-            omega arith;
+            omega (
+              arith,
+              idle (is_armed (Declared q)) (λ e. nat_eq e d) n,
+              idle (is_taken (Declared q)) (λ e. nat_eq e d) n,
+            );
         entered = λ d q n may.
-            let entries : times_of (queue_of (begun set threads).world.shared d q) n
-            ≡ 0 = none d q n in
-            omega arith;
+            omega (arith, none d q n);
         standing = λ d q n.
-            let listed : names_on states (is_listed (Declared q)) d n
-            (replicate threads idle_thread) ≡ 0 =
-            idle (is_listed (Declared q)) (λ e. nat_eq e d) n in
-            let armed : names_on states (is_armed (Declared q)) d n (replicate threads idle_thread)
-            ≡ 0 =
-            idle (is_armed (Declared q)) (λ e. nat_eq e d) n in
-            omega arith;
+            omega (
+              arith,
+              idle (is_listed (Declared q)) (λ e. nat_eq e d) n,
+              idle (is_armed (Declared q)) (λ e. nat_eq e d) n,
+            );
         once = λ n.
-            let takes : takes_in states n (replicate threads idle_thread) ≡ 0 =
-            idle was_taken (λ e. true) n in
-            let queued : times_queued (replicate devices (replicate MAX_QUEUES [])) n ≡ 0 =
-            none_queued devices n in
-            let starts : times_started (replicate devices idle_start) n
-            ≡ 0 = none_started devices n in
-            let less : times_to_start (replicate devices idle_start) n
-            ≤ times_started (replicate devices idle_start) n =
-            to_start_le (replicate devices idle_start) n in
-            omega arith;
+            omega (
+              arith,
+              idle was_taken (λ e. true) n,
+              none_queued devices n,
+              none_started devices n,
+              to_start_le (replicate devices idle_start) n,
+            );
       };
       apart = λ t. subst (λ (frames : List Frame). Each (FrameApart states) frames)
           (sym (idle_frames threads t)) tt;

@@ -1,6 +1,6 @@
 -- Every shape of a step keeps claims.
 use Rattle.std.proofs.Common.{◌≡◌, ℕ, ◌+◌, Bool, true, false, List, [], ◌∷◌, Option, None, Some, refl, ap, sym, ◌∙◌, subst, arith, ◌<◌}
-use Rattle.std.specs.Prelude.{◌≤◌, nat_eq, slice_get, if◌then◌else◌, is_none}
+use Rattle.std.specs.Prelude.{◌≤◌, slice_get, is_none}
 use Rattle.model.specs.declared.abs.Kind.TheVariants.{Blank as BlankKind, Own}
 use Rattle.model.specs.declared.instr.Instr.{Instr}
 use Rattle.model.specs.declared.instr.Instr.TheVariants.{Begin, Next, Remove, Start, Take, Arm, Disarm, Release, ReleaseCancel}
@@ -186,9 +186,7 @@ module _ (set : Set) (states : States) (w : World) (past : List Entry) (good : I
       let now : times_listed h.outcome.shared n
       ≡ times_queued w.shared.queues n + times_to_start lists n =
       ap (λ (x : Outcome). times_listed x.shared n) outcome in
-      let least : takes_in states n w.threads
-      + (times_queued w.shared.queues n + times_to_start lists n) ≤ 1 = once n in
-      omega arith)
+      omega (arith, once n))
 
   same_by : (a b : Activation) {actions : List Action} {full : Bool} → h.frame ≡ Routine a
       → h.outcome ≡ queued_to w.shared b w.shared.queues w.shared.starts actions full
@@ -205,13 +203,12 @@ module _ (set : Set) (states : States) (w : World) (past : List Entry) (good : I
   start_by a b start after frame outcome names device there same =
       lists_by a b (with_start w.shared a.device after).starts frame outcome names device
       (λ n.
-      let put : times_to_start (with_start w.shared a.device after).starts n + waits_in start n
-      ≡ times_to_start w.shared.starts n + waits_in after n =
-      to_start_put w.shared.starts a.device start after n there in
-      let waits : waits_in after n ≡ waits_in start n = same n in
-      let before : takes_in states n w.threads + times_listed w.shared n ≤ 1 =
-      c.balanced.once n in
-      omega arith)
+      omega (
+        arith,
+        to_start_put w.shared.starts a.device start after n there,
+        same n,
+        c.balanced.once n,
+      ))
 
   -- an instruction about queues
   queues_by : (a : Activation) (i : Instr) → h.frame ≡ Routine a → Runs set states w.shared a i
@@ -260,13 +257,11 @@ module _ (set : Set) (states : States) (w : World) (past : List Entry) (good : I
       ≡ times_queued w.shared.queues m
       + times_to_start (with_start w.shared a.device (started start n)).starts m =
       ap (λ (x : Outcome). times_listed x.shared m) outcome in
-      let put : times_to_start (with_start w.shared a.device (started start n)).starts m
-      + waits_in start m
-      ≡ times_to_start w.shared.starts m + waits_in (started start n) m =
-      to_start_put w.shared.starts a.device start (started start n) m there in
-      let given : waits_in (started start n) m ≡ waits_in start m + (if nat_eq n m then 1 else 0) =
-      waits_given start n m in
-      omega arith))
+      omega (
+        arith,
+        to_start_put w.shared.starts a.device start (started start n) m there,
+        waits_given start n m,
+      )))
   queues_by a i frame run outcome (takes_out r label n start there slot) =
       start_by a (next (with_register a r (Ref n))) start (with_slot start None) frame outcome
       (turns_nothing states a (next (with_register a r (Ref n))) BlankKind Own n refl refl

@@ -50,17 +50,12 @@ frame_turns states a b j k m turns device g queues on n =
     let here : frame_names states g on n (Routine b)
     ≡ (if on a.device then names states g b n else 0) =
     ap (λ (d : ℕ). if on d then names states g b n else 0) device in
-    let both : (if on a.device then names states g b n else 0)
-    + (if on a.device then named_as g j (Ref m) n else 0)
-    ≡ (if on a.device then names states g a n else 0)
-    + (if on a.device then named_as g k (Ref m) n else 0) =
-    if_sums (on a.device) (names states g b n) (named_as g j (Ref m) n) (names states g a n)
-    (named_as g k (Ref m) n) (turns g queues n) in
-    let one : (if on a.device then named_as g j (Ref m) n else 0) ≡ at_kind g on a.device j m n =
-    at_swapped (g j) (on a.device) (if nat_eq m n then 1 else 0) in
-    let other : (if on a.device then named_as g k (Ref m) n else 0) ≡ at_kind g on a.device k m n =
-    at_swapped (g k) (on a.device) (if nat_eq m n then 1 else 0) in
-    omega arith
+    omega (
+      arith,
+      if_sums (on a.device) (names states g b n) (named_as g j (Ref m) n) (names states g a n) (named_as g k (Ref m) n) (turns g queues n),
+      at_swapped (g j) (on a.device) (if nat_eq m n then 1 else 0),
+      at_swapped (g k) (on a.device) (if nat_eq m n then 1 else 0),
+    )
 
 -- in a frame that is told a status packets are as apart as before
 told_keeps : (set : Set) (states : States) (issued : ℕ) (a : Activation) (status : Status)
@@ -116,16 +111,15 @@ pub same_balance : (set : Set) (states : States) (v w : World) → Balanced set 
 same_balance set states v w balanced same words queues once =
     balanced_less set (numbers states v) (numbers states w) balanced
     (λ n.
-    let took : takes_in states n w.threads ≡ takes_in states n v.threads =
-    same was_taken was_queues (λ e. true) n in
-    let least : takes_in states n v.threads + times_listed w.shared n ≤ 1 = once n in
-    omega arith)
-    (λ d q n. let one : names_on states (is_armed (Declared q)) d n w.threads
-    ≡ names_on states (is_armed (Declared q)) d n v.threads =
-    same (is_armed (Declared q)) (armed_queues (Declared q)) (λ e. nat_eq e d) n in omega arith)
-    (λ d q n. let one : names_on states (is_taken (Declared q)) d n w.threads
-    ≡ names_on states (is_taken (Declared q)) d n v.threads =
-    same (is_taken (Declared q)) (taken_queues (Declared q)) (λ e. nat_eq e d) n in omega arith)
+    omega (arith, same was_taken was_queues (λ e. true) n, once n))
+    (λ d q n. omega (
+      arith,
+      same (is_armed (Declared q)) (armed_queues (Declared q)) (λ e. nat_eq e d) n,
+    ))
+    (λ d q n. omega (
+      arith,
+      same (is_taken (Declared q)) (taken_queues (Declared q)) (λ e. nat_eq e d) n,
+    ))
     (λ d q n. same (is_listed (Declared q)) (listed_queues (Declared q)) (λ e. nat_eq e d) n)
     (λ d q n. same (is_cancelling (Declared q)) (cancelling_queues (Declared q)) (λ e. nat_eq e d)
     n)
@@ -181,12 +175,7 @@ module _ (set : Set) (states : States) (w : World) (past : List Entry) (good : I
       → thread_sum (frame_names states g on n) after.threads
       ≡ thread_sum (frame_names states g on n) w.threads
   same_sums g queues on n same =
-      let sums : thread_sum (frame_names states g on n) after.threads
-      + frame_names states g on n h.frame
-      ≡ thread_sum (frame_names states g on n) w.threads
-      + stack_sum (frame_names states g on n) h.outcome.frames =
-      changed set states g queues on n w past good stands t h leaves in
-      omega arith
+      omega (arith, changed set states g queues on n w past good stands t h leaves)
 
   -- or less
   pub less_sums : (g : Kind → Bool) → OfQueues g → (on : ℕ → Bool) (n : ℕ)
@@ -194,12 +183,7 @@ module _ (set : Set) (states : States) (w : World) (past : List Entry) (good : I
       → thread_sum (frame_names states g on n) after.threads
       ≤ thread_sum (frame_names states g on n) w.threads
   less_sums g queues on n less =
-      let sums : thread_sum (frame_names states g on n) after.threads
-      + frame_names states g on n h.frame
-      ≡ thread_sum (frame_names states g on n) w.threads
-      + stack_sum (frame_names states g on n) h.outcome.frames =
-      changed set states g queues on n w past good stands t h leaves in
-      omega arith
+      omega (arith, changed set states g queues on n w past good stands t h leaves)
 
   -- or one register's packet became of another kind
   module _ (a b : Activation) (j k : Kind) (m : ℕ) (frame : h.frame ≡ Routine a)
@@ -209,20 +193,16 @@ module _ (set : Set) (states : States) (w : World) (past : List Entry) (good : I
         → thread_sum (frame_names states g on n) after.threads + at_kind g on a.device j m n
         ≡ thread_sum (frame_names states g on n) w.threads + at_kind g on a.device k m n
     turned_sums g queues on n =
-        let sums : thread_sum (frame_names states g on n) after.threads
-        + frame_names states g on n h.frame
-        ≡ thread_sum (frame_names states g on n) w.threads
-        + stack_sum (frame_names states g on n) h.outcome.frames =
-        changed set states g queues on n w past good stands t h leaves in
         let was : frame_names states g on n h.frame ≡ frame_names states g on n (Routine a) =
         ap (frame_names states g on n) frame in
         let now : stack_sum (frame_names states g on n) h.outcome.frames
         ≡ frame_names states g on n (Routine b) + 0 =
         ap (stack_sum (frame_names states g on n)) frames in
-        let turn : frame_names states g on n (Routine b) + at_kind g on a.device j m n
-        ≡ frame_names states g on n (Routine a) + at_kind g on a.device k m n =
-        frame_turns states a b j k m turns device g queues on n in
-        omega arith
+        omega (
+          arith,
+          changed set states g queues on n w past good stands t h leaves,
+          frame_turns states a b j k m turns device g queues on n,
+        )
 
     pub kind_turns : KindTurns (numbers states w) (numbers states after) j k a.device m
     kind_turns =
@@ -244,14 +224,13 @@ module _ (set : Set) (states : States) (w : World) (past : List Entry) (good : I
   pub names_among : (a : Activation) (g : Kind → Bool) (n : ℕ) → h.frame ≡ Routine a
       → names states g a n ≤ names_on states g a.device n w.threads
   names_among a g n frame =
-      let le : frame_names states g (λ e. nat_eq e a.device) n h.frame
-      ≤ names_on states g a.device n w.threads =
-      top_le (frame_names states g (λ e. nat_eq e a.device) n) w.threads t h.thread h.below h.frame
-      h.found h.frames in
       let same : frame_names states g (λ e. nat_eq e a.device) n h.frame ≡ names states g a n =
       ap (frame_names states g (λ e. nat_eq e a.device) n) frame
       ∙ (rw (eq-eqb a.device a.device refl) refl) in
-      omega arith
+      omega (
+        arith,
+        top_le (frame_names states g (λ e. nat_eq e a.device) n) w.threads t h.thread h.below h.frame h.found h.frames,
+      )
 
   -- quiet steps
   pub quiet_claims : Quiet states w.shared h.frame h.outcome → Claimed set states after
@@ -260,10 +239,8 @@ module _ (set : Set) (states : States) (w : World) (past : List Entry) (good : I
         balanced = same_balance set states w after c.balanced
             (λ g of on n. same_sums g of on n (q.names g of on n)) (λ d p n. q.words n d p) q.queues
             (λ n.
-            let before : takes_in states n w.threads + times_listed w.shared n
-            ≤ 1 = c.balanced.once n in
             let lists : times_listed h.outcome.shared n ≡ times_listed w.shared n =
             rw (q.queues, q.starts) refl in
-            omega arith);
+            omega (arith, c.balanced.once n));
         apart = all_apart (q.apart apart_here);
       }

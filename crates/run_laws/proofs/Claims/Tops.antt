@@ -39,10 +39,7 @@ module _ (states : States) (w : World) (t k : ℕ) (a : Activation)
   named_once =
       let one : named_as g (kind_of (state_of states a) r) (register a r) n ≡ 1 =
       rw (is, refers, eq-eqb n n refl) refl in
-      let among : named_as g (kind_of (state_of states a) r) (register a r) n
-      ≤ named_in g (state_of states a).kinds a.registers n =
-      named_among g blank (state_of states a).kinds a.registers r n in
-      omega arith
+      omega (arith, named_among g blank (state_of states a).kinds a.registers r n)
 
   pub named_some : 1 ≤ names_on states g a.device n w.threads
   named_some =
@@ -50,7 +47,7 @@ module _ (states : States) (w : World) (t k : ℕ) (a : Activation)
       let own : frame_names states g (λ d. nat_eq d a.device) n (Routine a)
       ≡ named_in g (state_of states a).kinds a.registers n =
       rw (eq-eqb a.device a.device refl) refl in
-      let among : frame_names states g (λ d. nat_eq d a.device) n (Routine a)
-      ≤ names_on states g a.device n w.threads =
-      frame_le (frame_names states g (λ d. nat_eq d a.device) n) w t k (Routine a) there in
-      omega arith
+      omega (
+        arith,
+        frame_le (frame_names states g (λ d. nat_eq d a.device) n) w t k (Routine a) there,
+      )

@@ -121,19 +121,17 @@ module _ (s : Shared) (m d q : ℕ) (p : Packet) (there : packet_of s m ≡ Some
         | inr other ↦
             let now : word_at (find (with_packet s m (with_armer p (Some armer))).packets n) e l
             ≡ word_at (find s.packets n) e l = put ∙ (rw other.0 refl) in
-            let none : hit d q m e l n ≡ 0 = hit_other e l n other.0 in
-            omega arith
+            omega (arith, hit_other e l n other.0)
         | inl same ↦
             let now : word_at (find (with_packet s m (with_armer p (Some armer))).packets n) e l
             ≡ word_for (Some armer) e l = put ∙ (rw same.0 refl) in
-            let its : word_for (Some armer) e l ≡ hit d q m e l m = word_hit armer d q m e l is in
             let moved : hit d q m e l m ≡ hit d q m e l n =
             ap (λ (x : ℕ). hit d q m e l x) same.1 in
             let before : word_at (find s.packets m) e l ≡ 0 =
             word_there e l ∙ ap (λ (o : Option Armer). word_for o e l) empty in
             let here : word_at (find s.packets m) e l ≡ word_at (find s.packets n) e l =
             ap (λ (x : ℕ). word_at (find s.packets x) e l) same.1 in
-            omega arith
+            omega (arith, word_hit armer d q m e l is)
       ]
 
   pub word_emptied : p.armer ≡ Some armer → (e l n : ℕ)
@@ -147,19 +145,17 @@ module _ (s : Shared) (m d q : ℕ) (p : Packet) (there : packet_of s m ≡ Some
         | inr other ↦
             let now : word_at (find (with_packet s m (with_armer p None)).packets n) e l
             ≡ word_at (find s.packets n) e l = put ∙ (rw other.0 refl) in
-            let none : hit d q m e l n ≡ 0 = hit_other e l n other.0 in
-            omega arith
+            omega (arith, hit_other e l n other.0)
         | inl same ↦
             let now : word_at (find (with_packet s m (with_armer p None)).packets n) e l
             ≡ 0 = put ∙ (rw same.0 refl) in
-            let its : word_for (Some armer) e l ≡ hit d q m e l m = word_hit armer d q m e l is in
             let moved : hit d q m e l m ≡ hit d q m e l n =
             ap (λ (x : ℕ). hit d q m e l x) same.1 in
             let before : word_at (find s.packets m) e l ≡ word_for (Some armer) e l =
             word_there e l ∙ ap (λ (o : Option Armer). word_for o e l) set_to in
             let here : word_at (find s.packets m) e l ≡ word_at (find s.packets n) e l =
             ap (λ (x : ℕ). word_at (find s.packets x) e l) same.1 in
-            omega arith
+            omega (arith, word_hit armer d q m e l is)
       ]
 
 -- a packet that stands in a queue stands in all
@@ -211,14 +207,13 @@ module _ (set : Set) (states : States) (w : World) (past : List Entry) (good : I
       named_here : (j : Kind) (g : Kind → Bool) → kind_of (state_of states a) r ≡ j → g j ≡ true
           → 1 ≤ names_on states g a.device m w.threads
       named_here j g is of =
-          let le : named_as g (kind_of (state_of states a) r) (register a r) m
-          ≤ names states g a m =
-          named_le g w.shared.issued (state_of states a).kinds a.registers r m run.stays.kinds in
           let one : named_as g (kind_of (state_of states a) r) (register a r) m ≡ 1 =
           rw (is, of, reads_ref w.shared (register a r) m reads, eq-eqb m m refl) refl in
-          let among : names states g a m ≤ names_on states g a.device m w.threads =
-          names_among set states w past good stands c t h leaves a g m frame in
-          omega arith
+          omega (
+            arith,
+            named_le g w.shared.issued (state_of states a).kinds a.registers r m run.stays.kinds,
+            names_among set states w past good stands c t h leaves a g m frame,
+          )
 
   -- a cancel routine is set
   module _ (r q m : ℕ) (p : Packet) (run : Runs set states w.shared a (Arm r q))
@@ -421,10 +416,7 @@ module _ (set : Set) (states : States) (w : World) (past : List Entry) (good : I
       let now : names states g (next a) n
       ≡ named_in g (all_let_go set a.driver lock (state_of states a).kinds) a.registers n =
       next_names set states w.shared a (Release lock) run refl g n in
-      let gone : named_in g (all_let_go set a.driver lock (state_of states a).kinds) a.registers n
-      ≤ names states g a n =
-      gone_names set a.driver lock g of (state_of states a).kinds a.registers n in
-      omega arith in
+      omega (arith, gone_names set a.driver lock g of (state_of states a).kinds a.registers n) in
       let same : (g : Kind → Bool) → OfQueues g → ((name : QueueName) → g (Armed name) ≡ false)
       → (n : ℕ) → names states g (next a) n ≡ names states g a n =
       λ g of free n.
@@ -434,15 +426,15 @@ module _ (set : Set) (states : States) (w : World) (past : List Entry) (good : I
       → thread_sum (frame_names states g on n) to.threads
       ≤ thread_sum (frame_names states g on n) w.threads =
       λ g of on n. less_sums set states w past good stands c t h leaves g of on n
-      (let one : frame_names states g on n (Routine (next a))
-      ≤ frame_names states g on n (Routine a) =
-      if_le (on a.device) (names states g (next a) n) (names states g a n) (less g of n) in
-      let was : frame_names states g on n h.frame ≡ frame_names states g on n (Routine a) =
+      (let was : frame_names states g on n h.frame ≡ frame_names states g on n (Routine a) =
       ap (frame_names states g on n) frame in
       let now : stack_sum (frame_names states g on n) h.outcome.frames
       ≡ frame_names states g on n (Routine (next a)) + 0 =
       ap (stack_sum (frame_names states g on n)) frames in
-      omega arith) in
+      omega (
+        arith,
+        if_le (on a.device) (names states g (next a) n) (names states g a n) (less g of n),
+      )) in
       let same_all : (g : Kind → Bool) → OfQueues g → ((name : QueueName) → g (Armed name) ≡ false)
       → (on : ℕ → Bool) (n : ℕ)
       → thread_sum (frame_names states g on n) to.threads
@@ -460,13 +452,9 @@ module _ (set : Set) (states : States) (w : World) (past : List Entry) (good : I
       record {
         balanced = balanced_less set (numbers states w) (numbers states to) c.balanced
             (λ n.
-            let took : takes_in states n to.threads ≤ takes_in states n w.threads =
-            less_all was_taken was_queues (λ e. true) n in
-            let before : takes_in states n w.threads + times_listed w.shared n ≤ 1 =
-            c.balanced.once n in
             let lists : times_listed h.outcome.shared n ≡ times_listed w.shared n =
             rw (queues, starts) refl in
-            omega arith)
+            omega (arith, less_all was_taken was_queues (λ e. true) n, c.balanced.once n))
             (λ d l n. less_all (is_armed (Declared l)) (armed_queues (Declared l)) (λ e. nat_eq e d)
             n)
             (λ d l n. less_all (is_taken (Declared l)) (taken_queues (Declared l)) (λ e. nat_eq e d)
@@ -480,19 +468,13 @@ module _ (set : Set) (states : States) (w : World) (past : List Entry) (good : I
         apart = all_apart set states w past good stands c t h leaves
             (rw frames (
               (λ q n.
-                  let armed : names states (is_armed (Declared q)) (next a) n
-                  ≤ names states (is_armed (Declared q)) a n =
-                  less (is_armed (Declared q)) (armed_queues (Declared q)) n in
-                  let taken : names states (is_taken (Declared q)) (next a) n
-                  ≤ names states (is_taken (Declared q)) a n =
-                  less (is_taken (Declared q)) (taken_queues (Declared q)) n in
-                  let cancelling : names states (is_cancelling (Declared q)) (next a) n
-                  ≤ names states (is_cancelling (Declared q)) a n =
-                  less (is_cancelling (Declared q)) (cancelling_queues (Declared q)) n in
-                  let before : names states (is_armed (Declared q)) a n
-                  + names states (is_taken (Declared q)) a n
-                  + names states (is_cancelling (Declared q)) a n ≤ 1 = apart_a q n in
-                  omega arith),
+                  omega (
+                    arith,
+                    less (is_armed (Declared q)) (armed_queues (Declared q)) n,
+                    less (is_taken (Declared q)) (taken_queues (Declared q)) n,
+                    less (is_cancelling (Declared q)) (cancelling_queues (Declared q)) n,
+                    apart_a q n,
+                  )),
               tt,
             ));
       }

@@ -69,20 +69,12 @@ claims_turn : (states : States) (a b : Activation) (j k : Kind) (m : ℕ)
     → TurnsNames states a b j k m → (q n : ℕ)
     → claims states b q n + claims_as j q m n ≡ claims states a q n + claims_as k q m n
 claims_turn states a b j k m turns q n =
-    let armed : names states (is_armed (Declared q)) b n
-    + named_as (is_armed (Declared q)) j (Ref m) n
-    ≡ names states (is_armed (Declared q)) a n + named_as (is_armed (Declared q)) k (Ref m) n =
-    turns (is_armed (Declared q)) (armed_queues (Declared q)) n in
-    let taken : names states (is_taken (Declared q)) b n
-    + named_as (is_taken (Declared q)) j (Ref m) n
-    ≡ names states (is_taken (Declared q)) a n + named_as (is_taken (Declared q)) k (Ref m) n =
-    turns (is_taken (Declared q)) (taken_queues (Declared q)) n in
-    let cancelling : names states (is_cancelling (Declared q)) b n
-    + named_as (is_cancelling (Declared q)) j (Ref m) n
-    ≡ names states (is_cancelling (Declared q)) a n
-    + named_as (is_cancelling (Declared q)) k (Ref m) n =
-    turns (is_cancelling (Declared q)) (cancelling_queues (Declared q)) n in
-    omega arith
+    omega (
+      arith,
+      turns (is_armed (Declared q)) (armed_queues (Declared q)) n,
+      turns (is_taken (Declared q)) (taken_queues (Declared q)) n,
+      turns (is_cancelling (Declared q)) (cancelling_queues (Declared q)) n,
+    )
 
 pub apart_down : (states : States) (a b : Activation) (j k : Kind) (m : ℕ)
     → TurnsNames states a b j k m
@@ -90,11 +82,8 @@ pub apart_down : (states : States) (a b : Activation) (j k : Kind) (m : ℕ)
     × (is_cancelling (Declared q) k ≡ false))
     → FrameApart states (Routine a) → FrameApart states (Routine b)
 apart_down states a b j k m turns none h q n =
-    let turn : claims states b q n + claims_as j q m n ≡ claims states a q n + claims_as k q m n =
-    claims_turn states a b j k m turns q n in
     let nothing : claims_as k q m n ≡ 0 = rw ((none q).0, (none q).1, (none q).2) refl in
-    let before : claims states a q n ≤ 1 = h q n in
-    omega arith
+    omega (arith, claims_turn states a b j k m turns q n, h q n)
 
 -- a claim comes for a packet that is in none
 abbrev pub NewClaim : Kind → ℕ → Type 0
@@ -155,12 +144,7 @@ taken_many : (q : ℕ) (kinds : List Kind) (values : List Value) (n : ℕ)
 taken_many q [] values n = omega arith
 taken_many q (k ∷ kinds) [] n = omega arith
 taken_many q (k ∷ kinds) (v ∷ values) n =
-    let one : named_as (is_taken (Declared q)) k v n
-    ≤ named_as was_taken k v n = taken_some q k v n in
-    let others : named_in (is_taken (Declared q)) kinds values n
-    ≤ named_in was_taken kinds values n =
-    taken_many q kinds values n in
-    omega arith
+    omega (arith, taken_some q k v n, taken_many q kinds values n)
 
 taken_frame : (states : States) (d q n : ℕ) (f : Frame)
     → frame_names states (is_taken (Declared q)) (λ e. nat_eq e d) n f

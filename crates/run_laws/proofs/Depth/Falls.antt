@@ -62,8 +62,7 @@ pub falls_length : (top : ℕ) (frames : List Frame) → Falls top frames → le
 falls_length top [] h = omega arith
 falls_length top (Routine a ∷ frames) h =
     let l : a.device < top = h.0 in
-    let others : length frames ≤ a.device + 2 = falls_length a.device frames h.1 in
-    omega arith
+    omega (arith, falls_length a.device frames h.1)
 falls_length top (Walk n ∷ frames) h = let few : length frames ≤ 1 = h in omega arith
 falls_length top (CancelFrame c ∷ frames) h = rw h (omega arith)
 
@@ -73,10 +72,8 @@ pub falls_before : (top : ℕ) (below frames : List Frame) → Falls top (below 
 falls_before top [] frames h = tt
 falls_before top (Routine a ∷ below) frames h = (h.0, falls_before a.device below frames h.1)
 falls_before top (Walk n ∷ below) frames h =
-    let all : length (below ++ frames) ≡ length below
-    + length frames = length-append below frames in
     let few : length (below ++ frames) ≤ 1 = h in
-    omega arith
+    omega (arith, length-append below frames)
 falls_before top (CancelFrame c ∷ below) frames h = no_frames below frames h
 
 module _ (set : Set) where
@@ -224,15 +221,13 @@ module _ (set : Set) where
       (h.0, last_falls a.device told (e ∷ below) frames h.1)
   last_falls top told (CancelFrame c ∷ e ∷ below) frames h = cc
   last_falls top told (Walk n ∷ e ∷ below) frames h =
-      let same : length (told_last set told (e ∷ below)) ≡ length (e ∷ below) =
-      last_length told (e ∷ below) in
-      let now : length (told_last set told (e ∷ below) ++ frames)
-      ≡ length (told_last set told (e ∷ below)) + length frames =
-      length-append (told_last set told (e ∷ below)) frames in
-      let before : length ((e ∷ below) ++ frames) ≡ length (e ∷ below) + length frames =
-      length-append (e ∷ below) frames in
       let few : length ((e ∷ below) ++ frames) ≤ 1 = h in
-      omega arith
+      omega (
+        arith,
+        last_length told (e ∷ below),
+        length-append (told_last set told (e ∷ below)) frames,
+        length-append (e ∷ below) frames,
+      )
 
   pub falls_after : (states : States) (issued : ℕ) (below : List Frame) (f : Frame)
       (told : Option Status)

@@ -1,6 +1,6 @@
 -- No thread of an accepted set ever has more than 18 frames, so no step of a thread that is there
 -- is refused.
-use Rattle.std.proofs.Common.{◌≡◌, ℕ, ◌+◌, ◌<◌, ◌≤◌, List, [], ◌∷◌, ◌++◌, length, Some, false, refl, sym, ◌∙◌, subst, arith, Option, true, inl, inr}
+use Rattle.std.proofs.Common.{◌≡◌, ℕ, ◌<◌, ◌≤◌, List, [], ◌∷◌, ◌++◌, length, Some, false, refl, sym, ◌∙◌, subst, arith, Option, true, inl, inr}
 use Rattle.std.specs.Prelude.{slice_get}
 use Rattle.std.proofs.lemmas.Bool.{le-ltb}
 use Rattle.std.proofs.lemmas.Option.{slice_get_within}
@@ -48,9 +48,7 @@ pub few_frames : (set : Set) (w : World) (t : ℕ) → IsSound set → AllFall s
     → length (frames_on w t) ≤ 18
 few_frames set w t sound falls =
     let few : length set.devices ≤ 16 = sound.few_devices in
-    let all : length (frames_on w t) ≤ length set.devices + 2 =
-    falls_length (length set.devices) (frames_on w t) (falls t) in
-    omega arith
+    omega (arith, falls_length (length set.devices) (frames_on w t) (falls t))
 
 walk_full_of : (set : Set) (s : Shared) (t : ℕ) (under : Option Frame) (n : ℕ) (o : Outcome)
     → Comes set s t under (Walk n) o → o.full ≡ false

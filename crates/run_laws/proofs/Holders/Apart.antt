@@ -35,14 +35,9 @@ threads_le : (count : Frame → ℕ) (threads : List Thread) (t k : ℕ) (thread
     → slice_get threads t ≡ Some thread → slice_get threads k ≡ o → t ≢ k
     → stack_sum count (frames_of o) + stack_sum count thread.frames.items ≤ thread_sum count threads
 threads_le count threads t k thread None found there apart =
-    let le : stack_sum count thread.frames.items ≤ thread_sum count threads =
-    stack_le count threads t thread found in
-    omega arith
+    omega (arith, stack_le count threads t thread found)
 threads_le count threads t k thread (Some other) found there apart =
-    let le : stack_sum count thread.frames.items + stack_sum count other.frames.items
-    ≤ thread_sum count threads =
-    two_le count threads t k thread other found there apart in
-    omega arith
+    omega (arith, two_le count threads t k thread other found there apart)
 
 held_bit : (b : Bool) → (if b then 0 else 1) + (if b then 1 else 0) ≤ 1
 held_bit true = omega arith

@@ -135,38 +135,19 @@ module _ (s : Shared) (n : ℕ) (p : Packet) (there : find s.packets n ≡ Some 
       pub waits_set : is_some q.armer ≡ is_some p.armer → (m : ℕ)
           → times_waiting set (with_packet s n q) m ≡ times_waiting set s m
       waits_set same m =
-          let after : times_named (packet_of (with_packet s n q) m) ≡ times_named (found_after m) =
-          named_after m in
-          let before : times_named (packet_of s m)
-          ≡ times_named (find s.packets m) = named_before m in
-          let word : times_named (found_after m) ≡ times_named (find s.packets m) = word_set same m
-          in
-          omega arith
+          omega (arith, named_after m, named_before m, word_set same m)
 
       pub waits_won : is_some p.armer ≡ false → is_some q.armer ≡ true → (m : ℕ)
           → times_waiting set (with_packet s n q) m
           ≡ times_waiting set s m + (if nat_eq n m then 1 else 0)
       waits_won free armed m =
-          let after : times_named (packet_of (with_packet s n q) m) ≡ times_named (found_after m) =
-          named_after m in
-          let before : times_named (packet_of s m)
-          ≡ times_named (find s.packets m) = named_before m in
-          let word : times_named (found_after m)
-          ≡ (if nat_eq n m then 1 else 0) + times_named (find s.packets m) =
-          word_won free armed m in
-          omega arith
+          omega (arith, named_after m, named_before m, word_won free armed m)
 
       pub waits_lost : is_some p.armer ≡ true → is_some q.armer ≡ false → (m : ℕ)
           → times_waiting set (with_packet s n q) m + (if nat_eq n m then 1 else 0)
           ≡ times_waiting set s m
       waits_lost armed free m =
-          let after : times_named (packet_of (with_packet s n q) m) ≡ times_named (found_after m) =
-          named_after m in
-          let before : times_named (packet_of s m)
-          ≡ times_named (find s.packets m) = named_before m in
-          let word : times_named (found_after m) + (if nat_eq n m then 1 else 0)
-          ≡ times_named (find s.packets m) = word_lost armed free m in
-          omega arith
+          omega (arith, named_after m, named_before m, word_lost armed free m)
 
   module _ (rises : Rises 0 s.packets s.issued) (done : p.completing ≡ true) where
     pub unheld_removed : (m : ℕ)
@@ -275,15 +256,12 @@ module _ (set : Set) (states : States) (s : Shared) (past : List Entry) (a : Act
     (is : is_right (kind_of (state_of states a) r) ≡ true) (reads : Reads s a r n) where
   right_unheld : 1 ≤ unheld (find s.packets n)
   right_unheld =
-      let one : right (kind_of (state_of states a) r) (register a r) n ≡ 1 =
-      one_right (kind_of (state_of states a) r) (register a r) n is
-      (reads_ref s (register a r) n reads) in
-      let le : right (kind_of (state_of states a) r) (register a r) n
-      ≤ rights (state_of states a).kinds a.registers n =
-      right_le s.issued (state_of states a).kinds a.registers r n kinds in
-      let all : rights (state_of states a).kinds a.registers n
-      ≤ unheld (find s.packets n) = h.rights n in
-      omega arith
+      omega (
+        arith,
+        one_right (kind_of (state_of states a) r) (register a r) n is (reads_ref s (register a r) n reads),
+        right_le s.issued (state_of states a).kinds a.registers r n kinds,
+        h.rights n,
+      )
 
   pub right_free : (p : Packet) → packet_of s n ≡ Some p → p.completing ≡ false
   right_free p there =

@@ -63,9 +63,7 @@ all_go_rights set driver lock (k ∷ kinds) [] n = refl
 all_go_rights set driver lock (k ∷ kinds) (v ∷ values) n =
     let first : right (let_go set driver lock k) v n ≡ right k v n =
     ap (λ (b : Bool). if b then names v n else 0) (let_go_right set driver lock k) in
-    let others : rights (all_let_go set driver lock kinds) values n ≡ rights kinds values n =
-    all_go_rights set driver lock kinds values n in
-    omega arith
+    omega (arith, all_go_rights set driver lock kinds values n)
 
 -- so what leaves the registers alone, and the packets with who has them, leaves the rights as they
 -- are
@@ -153,10 +151,10 @@ module _ (set : Set) (states : States) (s : Shared) (past : List Entry) (a : Act
       let same : frame_rights states (Routine b) m ≡ frame_rights states (Routine a) m =
       rights_missed set states s a (Disarm r label) h r l labelled refl
       (disarmed_before (kind_of (state_of states a) r) h.obeys) m in
-      let word : times_waiting set (with_packet s n (with_armer p None)) m ≡ times_waiting set s m =
-      waits_set s n p at_place (with_armer p None) its_number set (sym (no_word p.armer (sym is))) m
-      in
-      omega arith
+      omega (
+        arith,
+        waits_set s n p at_place (with_armer p None) its_number set (sym (no_word p.armer (sym is))) m,
+      )
     where
       no_word : (o : Option Armer) → is_none o ≡ true → is_some o ≡ false
       no_word None none = refl

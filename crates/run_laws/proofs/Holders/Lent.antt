@@ -96,14 +96,11 @@ rights_other : (kinds : List Kind) (values : List Value) (n m : ℕ)
 rights_other [] values n m left to apart = refl
 rights_other (k ∷ kinds) [] n m left to apart = refl
 rights_other (k ∷ kinds) (v ∷ values) n m left to apart =
-    let one : right k v m ≡ 0 =
-    right_other k v n m (or_left (is_dropped true k) (list_any (is_dropped true) kinds) left)
-    (λ j new refers. to 0 j new refers) apart in
-    let others : rights kinds values m ≡ 0 =
-    rights_other kinds values n m (or_right (is_dropped true k) (list_any (is_dropped true) kinds)
-    left)
-    (λ r j new refers. to (suc r) j new refers) apart in
-    omega arith
+    omega (
+      arith,
+      right_other k v n m (or_left (is_dropped true k) (list_any (is_dropped true) kinds) left) (λ j new refers. to 0 j new refers) apart,
+      rights_other kinds values n m (or_right (is_dropped true k) (list_any (is_dropped true) kinds) left) (λ r j new refers. to (suc r) j new refers) apart,
+    )
 
 -- a completion routine that lets the completion go on
 module _ (set : Set) (states : States) (s : Shared) (past : List Entry) (a : Activation)
@@ -134,17 +131,12 @@ module _ (set : Set) (states : States) (s : Shared) (past : List Entry) (a : Act
         let refers : register a r ≡ Ref n = suits.1 ∙ ap (λ (k : ℕ). Ref k) same in
         let one : right (kind_of (state_of states a) r) (register a r) n ≡ 1 =
         one_right (kind_of (state_of states a) r) (register a r) n (new_right _ new) refers in
-        let le : right (kind_of (state_of states a) r) (register a r) n
-        ≤ rights (state_of states a).kinds a.registers n =
-        right_le s.issued (state_of states a).kinds a.registers r n h.stays.kinds in
-        omega arith
+        omega (arith, right_le s.issued (state_of states a).kinds a.registers r n h.stays.kinds)
 
     pub back_unheld : 1 ≤ unheld (find s.packets n)
     back_unheld =
         let some : 1 ≤ frame_rights states (Routine a) n = back_holds in
-        let all : frame_rights states (Routine a) n ≤ unheld (find s.packets n) =
-        holding.rights n in
-        omega arith
+        omega (arith, holding.rights n)
 
     pub back_rights : (m : ℕ)
         → frame_rights states (Routine a) m ≡ (if nat_eq n m then 1 else 0)

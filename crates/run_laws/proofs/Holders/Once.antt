@@ -25,9 +25,9 @@ module _ (set : Set) (past : List Entry) (actor : Actor) (once : ToppedOnce past
   once_cancel : (s : Shared) (n : ℕ) (step : CancelStep) (o : Outcome)
       → Cancels set s actor.thread n step o → ToppedOnce (recorded past actor o.actions)
   once_cancel s n step o (takes_cancel free) m =
-      let before : times_topped past m ≡ (if topped past m then 1 else 0) = once m in omega arith
+      omega (arith, once m)
   once_cancel s n step o _ m =
-      let before : times_topped past m ≡ (if topped past m then 1 else 0) = once m in omega arith
+      omega (arith, once m)
 
   once_step : (s : Shared) (under : Option Frame) (f : Frame) (o : Outcome) → Tells s past
       → Comes set s actor.thread under f o → ToppedOnce (recorded past actor o.actions)
@@ -41,8 +41,7 @@ module _ (set : Set) (past : List Entry) (actor : Actor) (once : ToppedOnce past
             let zero_times : times_topped past m ≡ 0 = rw here at (once m) in
             rw (same.0, zero_times) refl
         | inr apart ↦
-            let before : times_topped past m ≡ (if topped past m then 1 else 0) = once m in
-            rw apart.0 (omega arith)
+            rw apart.0 (omega (arith, once m))
       ]
   once_step s under f o tells (works_on_queues a i b queues starts actions full at queued) m =
       let before : times_topped past m ≡ (if topped past m then 1 else 0) = once m in
@@ -50,8 +49,7 @@ module _ (set : Set) (past : List Entry) (actor : Actor) (once : ToppedOnce past
       [ inl none ↦ rw none (omega arith) | inr one ↦ rw one.1 (omega arith) ]
   once_step s under f o tells (cancels n step made moves) m = once_cancel s n step made moves m
   once_step s under f o tells _ m =
-      let before : times_topped past m ≡ (if topped past m then 1 else 0) = once m in
-      omega arith
+      omega (arith, once m)
 
   pub once_kept : (w : World) (c : Change) → Tells w.shared past → Happens set w actor.thread c
       → ToppedOnce (recorded past actor c.actions)
@@ -62,11 +60,8 @@ module _ (set : Set) (past : List Entry) (actor : Actor) (once : ToppedOnce past
   once_kept w c tells (begins_startio h) = once
   once_kept w c tells (begins_cancel h) = once
   once_kept w c tells (issues h) =
-      λ m. (let before : times_topped past m ≡ (if topped past m then 1 else 0) = once m in omega
-      arith)
+      λ m. (omega (arith, once m))
 
 pub tops_at_most_once : (past : List Entry) → ToppedOnce past → (n : ℕ) → times_topped past n ≤ 1
 tops_at_most_once past once n =
-    let same : times_topped past n ≡ (if topped past n then 1 else 0) = once n in
-    let least : (if topped past n then 1 else 0) ≤ 1 = if_one (topped past n) in
-    omega arith
+    omega (arith, once n, if_one (topped past n))

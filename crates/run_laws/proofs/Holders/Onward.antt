@@ -59,14 +59,10 @@ pub mark_rights : (issued : ℕ) (s : Abs) (values : List Value) (r : ℕ) (k : 
     → HasKinds issued s.kinds values
     → k ≡ kind_of s r → rights (marked s r k).kinds values m ≡ rights s.kinds values m
 mark_rights issued s values r New m h is =
-    let turn : rights (slice_set s.kinds r Own) values m + right (kind_of s r)
-    (slice_index_or values r Blank) m
-    ≡ rights s.kinds values m + right Own (slice_index_or values r Blank) m =
-    rights_turn issued s.kinds values r Own m h in
     let same : right (kind_of s r) (slice_index_or values r Blank) m
     ≡ right Own (slice_index_or values r Blank) m =
     ap (λ (k : Kind). right k (slice_index_or values r Blank) m) (sym is) in
-    omega arith
+    omega (arith, rights_turn issued s.kinds values r Own m h)
 mark_rights issued s values r _ m h is = refl
 
 pub given_rights : (issued : ℕ) (s : Abs) (values : List Value) (r : ℕ) (k : Kind) (m : ℕ)
@@ -76,15 +72,9 @@ pub given_rights : (issued : ℕ) (s : Abs) (values : List Value) (r : ℕ) (k :
     m
     ≡ rights s.kinds values m
 given_rights issued s values r New m h is unlisted =
-    let turn : rights (slice_set s.kinds r LowerKind) values m + right (kind_of s r)
-    (slice_index_or values r Blank) m
-    ≡ rights s.kinds values m + 0 = rights_turn issued s.kinds values r LowerKind m h in
-    omega arith
+    omega (arith, rights_turn issued s.kinds values r LowerKind m h)
 given_rights issued s values r Own m h is unlisted =
-    let turn : rights (slice_set s.kinds r BlankKind) values m + right (kind_of s r)
-    (slice_index_or values r Blank) m
-    ≡ rights s.kinds values m + 0 = rights_turn issued s.kinds values r BlankKind m h in
-    omega arith
+    omega (arith, rights_turn issued s.kinds values r BlankKind m h)
 given_rights issued s values r _ m h is unlisted = cc
 
 -- the rights after an instruction that leaves the packets with who has them

@@ -125,18 +125,14 @@ module _ (set : Set) (n : ℕ) where
       → times_plain_on set driver base (replicate count []) n ≡ 0
   none_plain_on driver base zero = refl
   none_plain_on driver base (suc count) =
-      let others : times_plain_on set driver (base + 1) (replicate count []) n ≡ 0 =
-      none_plain_on driver (base + 1) count in
-      let none : (if is_some (cancel_routine_of set driver base) then 0 else times_in [] n) ≡ 0 =
-      if_none (is_some (cancel_routine_of set driver base)) in
-      omega arith
+      omega (
+        arith,
+        none_plain_on driver (base + 1) count,
+        if_none (is_some (cancel_routine_of set driver base)),
+      )
 
   pub none_plain : (base devices : ℕ)
       → times_plain set base (replicate devices (replicate MAX_QUEUES [])) n ≡ 0
   none_plain base zero = refl
   none_plain base (suc devices) =
-      let one : times_plain_on set (driver_at set base) 0 (replicate MAX_QUEUES []) n ≡ 0 =
-      none_plain_on (driver_at set base) 0 MAX_QUEUES in
-      let others : times_plain set (base + 1) (replicate devices (replicate MAX_QUEUES [])) n ≡ 0 =
-      none_plain (base + 1) devices in
-      omega arith
+      omega (arith, none_plain_on (driver_at set base) 0 MAX_QUEUES, none_plain (base + 1) devices)

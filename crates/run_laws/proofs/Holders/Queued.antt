@@ -17,10 +17,7 @@ pub times_pushed : (entries : List ℕ) (m n : ℕ)
     → times_in (entries ++ m ∷ []) n ≡ times_in entries n + (if nat_eq m n then 1 else 0)
 times_pushed [] m n = omega arith
 times_pushed (k ∷ entries) m n =
-    let others : times_in (entries ++ m ∷ []) n ≡ times_in entries n
-    + (if nat_eq m n then 1 else 0) =
-    times_pushed entries m n in
-    omega arith
+    omega (arith, times_pushed entries m n)
 
 pub times_put : (s : Shared) (d q : ℕ) (before after : List ℕ) (n : ℕ)
     → queue_of s d q ≡ Some before
@@ -93,15 +90,12 @@ queue_after s d q before after e k entries there h =
 none_on : (count n : ℕ) → times_on (replicate count []) n ≡ 0
 none_on zero n = refl
 none_on (suc count) n =
-    let others : times_on (replicate count []) n ≡ 0 = none_on count n in omega arith
+    omega (arith, none_on count n)
 
 pub none_queued : (devices n : ℕ) → times_queued (replicate devices (replicate MAX_QUEUES [])) n ≡ 0
 none_queued zero n = refl
 none_queued (suc devices) n =
-    let one : times_on (replicate MAX_QUEUES []) n ≡ 0 = none_on MAX_QUEUES n in
-    let others : times_queued (replicate devices (replicate MAX_QUEUES [])) n ≡ 0 =
-    none_queued devices n in
-    omega arith
+    omega (arith, none_on MAX_QUEUES n, none_queued devices n)
 
 -- a list of different live packets is no longer than the list of live packets
 abbrev times_among : List Packet → List ℕ → ℕ
@@ -112,9 +106,7 @@ among_push : (packets : List Packet) (m : ℕ) (entries : List ℕ)
     → times_among packets (m ∷ entries) ≡ times_among packets (m ∷ []) + times_among packets entries
 among_push [] m entries = refl
 among_push (p ∷ packets) m entries =
-    let others : times_among packets (m ∷ entries)
-    ≡ times_among packets (m ∷ []) + times_among packets entries = among_push packets m entries in
-    omega arith
+    omega (arith, among_push packets m entries)
 
 among_one : (packets : List Packet) (m : ℕ) (p : Packet) → find packets m ≡ Some p
     → 1 ≤ times_among packets (m ∷ [])
@@ -140,22 +132,16 @@ among_all packets (m ∷ entries) live =
     let one : 1 ≤ times_among packets (m ∷ []) = among_one packets m there.0 there.1 in
     let others : length entries ≤ times_among packets entries =
     among_all packets entries (λ k some. live k (omega arith)) in
-    let both : times_among packets (m ∷ entries)
-    ≡ times_among packets (m ∷ []) + times_among packets entries = among_push packets m entries in
-    omega arith
+    omega (arith, among_push packets m entries)
 
 among_few : (packets : List Packet) (entries : List ℕ) → ((m : ℕ) → times_in entries m ≤ 1)
     → times_among packets entries ≤ length packets
 among_few [] entries once = omega arith
 among_few (p ∷ packets) entries once =
-    let one : times_in entries p.number ≤ 1 = once p.number in
-    let others : times_among packets entries ≤ length packets = among_few packets entries once in
-    omega arith
+    omega (arith, once p.number, among_few packets entries once)
 
 pub entries_few : (packets : List Packet) (entries : List ℕ) → ((m : ℕ) → times_in entries m ≤ 1)
     → ((m : ℕ) → 1 ≤ times_in entries m → (p : Packet) × (find packets m ≡ Some p))
     → length entries ≤ length packets
 entries_few packets entries once live =
-    let all : length entries ≤ times_among packets entries = among_all packets entries live in
-    let few : times_among packets entries ≤ length packets = among_few packets entries once in
-    omega arith
+    omega (arith, among_all packets entries live, among_few packets entries once)

@@ -102,19 +102,12 @@ module _ (f : Kind → Bool) where
       + named_as f (slice_index_or kinds r BlankKind) (slice_index_or values r Blank) n
       ≡ named_in f kinds values n + named_as f k (slice_index_or values r Blank) n
   named_turn issued [] [] r k n h =
-      let blank : named_as f BlankKind Blank n ≡ 0 = no_name BlankKind n in
-      let other : named_as f k Blank n ≡ 0 = no_name k n in
-      omega arith
+      omega (arith, no_name BlankKind n, no_name k n)
   named_turn issued [] (w ∷ values) r k n h = absurd h
   named_turn issued (j ∷ kinds) [] r k n h = absurd h
   named_turn issued (j ∷ kinds) (w ∷ values) zero k n h = omega arith
   named_turn issued (j ∷ kinds) (w ∷ values) (suc r) k n h =
-      let others : named_in f (slice_set kinds r k) values n
-      + named_as f (slice_index_or kinds r BlankKind) (slice_index_or values r Blank) n
-      ≡ named_in f kinds values n + named_as f k (slice_index_or values r Blank) n =
-      named_turn issued kinds values r k n h.1
-      in
-      omega arith
+      omega (arith, named_turn issued kinds values r k n h.1)
 
   -- one register's name is among all
   pub named_le : (issued : ℕ) (kinds : List Kind) (values : List Value) (r n : ℕ)
@@ -122,43 +115,35 @@ module _ (f : Kind → Bool) where
       → named_as f (slice_index_or kinds r BlankKind) (slice_index_or values r Blank) n
       ≤ named_in f kinds values n
   named_le issued [] [] r n h =
-      let blank : named_as f BlankKind Blank n ≡ 0 = no_name BlankKind n in omega arith
+      omega (arith, no_name BlankKind n)
   named_le issued [] (w ∷ values) r n h = absurd h
   named_le issued (j ∷ kinds) [] r n h = absurd h
   named_le issued (j ∷ kinds) (w ∷ values) zero n h = omega arith
   named_le issued (j ∷ kinds) (w ∷ values) (suc r) n h =
-      let others : named_as f (slice_index_or kinds r BlankKind) (slice_index_or values r Blank) n
-      ≤ named_in f kinds values n =
-      named_le issued kinds values r n h.1 in
-      omega arith
+      omega (arith, named_le issued kinds values r n h.1)
 
   -- also where there needn't be as many registers as kinds
   pub named_among : f BlankKind ≡ false → (kinds : List Kind) (values : List Value) (r n : ℕ)
       → named_as f (slice_index_or kinds r BlankKind) (slice_index_or values r Blank) n
       ≤ named_in f kinds values n
   named_among blank [] values r n =
-      let none : named_as f BlankKind (slice_index_or values r Blank) n ≡ 0 =
-      named_none f BlankKind (slice_index_or values r Blank) n blank in
-      omega arith
+      omega (arith, named_none f BlankKind (slice_index_or values r Blank) n blank)
   named_among blank (j ∷ kinds) [] r n =
-      let none : named_as f (slice_index_or (j ∷ kinds) r BlankKind) Blank n ≡ 0 =
-      no_name (slice_index_or (j ∷ kinds) r BlankKind) n in
-      omega arith
+      omega (arith, no_name (slice_index_or (j ∷ kinds) r BlankKind) n)
   named_among blank (j ∷ kinds) (w ∷ values) zero n = omega arith
   named_among blank (j ∷ kinds) (w ∷ values) (suc r) n =
-      let others : named_as f (slice_index_or kinds r BlankKind) (slice_index_or values r Blank) n
-      ≤ named_in f kinds values n = named_among blank kinds values r n in
-      omega arith
+      omega (arith, named_among blank kinds values r n)
 
   pub named_nowhere : (kinds : List Kind) (values : List Value) (n : ℕ)
       → list_any f kinds ≡ false → named_in f kinds values n ≡ 0
   named_nowhere [] values n h = refl
   named_nowhere (k ∷ kinds) [] n h = refl
   named_nowhere (k ∷ kinds) (v ∷ values) n h =
-      let one : named_as f k v n ≡ 0 = named_none f k v n (or_left (f k) (list_any f kinds) h) in
-      let others : named_in f kinds values n ≡ 0 =
-      named_nowhere kinds values n (or_right (f k) (list_any f kinds) h) in
-      omega arith
+      omega (
+        arith,
+        named_none f k v n (or_left (f k) (list_any f kinds) h),
+        named_nowhere kinds values n (or_right (f k) (list_any f kinds) h),
+      )
 
   module _ (packets : OfPackets f) where
     -- a move takes the name along
@@ -182,26 +167,16 @@ module _ (f : Kind → Bool) where
         let v : Value = slice_index_or values q Blank in
         let ks : List Kind = slice_set kinds r k in
         let vs : List Value = slice_set values r v in
-        let both : named_in f ks vs n
-        + named_as f (slice_index_or kinds r BlankKind) (slice_index_or values r Blank) n
-        ≡ named_in f kinds values n + named_as f k v n =
-        named_both issued kinds values r k v n h within
-        in
-        let none : named_as f (slice_index_or kinds r BlankKind) (slice_index_or values r Blank) n
-        ≡ 0 =
-        named_none f (slice_index_or kinds r BlankKind) (slice_index_or values r Blank) n free
-        in
-        let turn : named_in f (slice_set ks q (left_behind k)) vs n
-        + named_as f (slice_index_or ks q BlankKind) (slice_index_or vs q Blank) n
-        ≡ named_in f ks vs n + named_as f (left_behind k) (slice_index_or vs q Blank) n =
-        named_turn issued ks vs q (left_behind k) n moved
-        in
-        let left : named_as f (left_behind k) (slice_index_or vs q Blank) n ≡ 0 =
-        left_name k (slice_index_or vs q Blank) n in
         let there : named_as f (slice_index_or ks q BlankKind) (slice_index_or vs q Blank) n
         ≡ named_as f k v n =
         rw (copied kinds r q BlankKind, copied values r q Blank) refl in
-        omega arith
+        omega (
+          arith,
+          named_both issued kinds values r k v n h within,
+          named_none f (slice_index_or kinds r BlankKind) (slice_index_or values r Blank) n free,
+          named_turn issued ks vs q (left_behind k) n moved,
+          left_name k (slice_index_or vs q Blank) n,
+        )
 
     -- a register that is told a status names no packet
     not_told : (issued : ℕ) (k : Kind) (status : Status) (b : Bool) → is_packet k ≡ b
@@ -226,18 +201,13 @@ module _ (f : Kind → Bool) where
         → named_in f (replicate count BlankKind) (replicate count Blank) n ≡ 0
     blank_names zero n = refl
     blank_names (suc count) n =
-        let first : named_as f BlankKind Blank n ≡ 0 = no_name BlankKind n in
-        let others : named_in f (replicate count BlankKind) (replicate count Blank) n ≡ 0 =
-        blank_names count n in
-        omega arith
+        omega (arith, no_name BlankKind n, blank_names count n)
 
     pub handed_names : (k : Kind) (v : Value) (n : ℕ)
         → named_in f (k ∷ replicate (REGISTERS - 1) BlankKind)
         (v ∷ replicate (REGISTERS - 1) Blank) n ≡ named_as f k v n
     handed_names k v n =
-        let others : named_in f (replicate (REGISTERS - 1) BlankKind)
-        (replicate (REGISTERS - 1) Blank) n ≡ 0 = blank_names (REGISTERS - 1) n in
-        omega arith
+        omega (arith, blank_names (REGISTERS - 1) n)
 
 -- and rights: a register that has no right gets a value, or a kind and a value without one
 pub rights_write : (issued : ℕ) (kinds : List Kind) (values : List Value) (r : ℕ) (k : Kind)
@@ -312,13 +282,11 @@ pub no_rights : (kinds : List Kind) (values : List Value) (n : ℕ)
 no_rights [] values n h = refl
 no_rights (k ∷ kinds) [] n h = refl
 no_rights (k ∷ kinds) (v ∷ values) n h =
-    let one : right k v n ≡ 0 =
-    no_right k v n
-    (not_left k (or_left (is_dropped false k) (list_any (is_dropped false) kinds) h)) in
-    let others : rights kinds values n ≡ 0 =
-    no_rights kinds values n
-    (or_right (is_dropped false k) (list_any (is_dropped false) kinds) h) in
-    omega arith
+    omega (
+      arith,
+      no_right k v n (not_left k (or_left (is_dropped false k) (list_any (is_dropped false) kinds) h)),
+      no_rights kinds values n (or_right (is_dropped false k) (list_any (is_dropped false) kinds) h),
+    )
 
 -- a routine begins with a right to the packet that it is handed, if it is to serve it
 blank_rights : (count n : ℕ) → rights (replicate count BlankKind) (replicate count Blank) n ≡ 0
@@ -336,17 +304,13 @@ handed_rights : (k : Kind) (m n : ℕ) → is_right k ≡ true
     → rights (k ∷ replicate (REGISTERS - 1) BlankKind) (Ref m ∷ replicate (REGISTERS - 1) Blank) n
     ≡ (if nat_eq m n then 1 else 0)
 handed_rights k m n is =
-    let others : rights (replicate (REGISTERS - 1) BlankKind) (replicate (REGISTERS - 1) Blank) n
-    ≡ 0 = blank_rights (REGISTERS - 1) n in
-    rw is (omega arith)
+    rw is (omega (arith, blank_rights (REGISTERS - 1) n))
 
 handed_none : (k : Kind) (m n : ℕ) → is_right k ≡ false
     → rights (k ∷ replicate (REGISTERS - 1) BlankKind) (Ref m ∷ replicate (REGISTERS - 1) Blank) n
     ≡ 0
 handed_none k m n is =
-    let others : rights (replicate (REGISTERS - 1) BlankKind) (replicate (REGISTERS - 1) Blank) n
-    ≡ 0 = blank_rights (REGISTERS - 1) n in
-    rw is (omega arith)
+    rw is (omega (arith, blank_rights (REGISTERS - 1) n))
 
 first_rights : (sort : Sort) (name : Option QueueName) (m n : ℕ)
     → (sort ≡ Cancel → is_some name ≡ true)
@@ -376,6 +340,4 @@ dpc_rights set states issued a n enters =
     ap (λ (state : Abs). rights state.kinds a.registers n) enters.start
     ∙ ap (λ (values : List Value). rights (first_state Dpc
     (cancels_for set a.driver a.routine)).kinds values n) enters.registers
-    ∙ (let others : rights (replicate (REGISTERS - 1) BlankKind) (replicate (REGISTERS - 1) Blank) n
-    ≡ 0 = blank_rights (REGISTERS - 1) n in
-    omega arith)
+    ∙ (omega (arith, blank_rights (REGISTERS - 1) n))

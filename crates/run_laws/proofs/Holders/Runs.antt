@@ -4,7 +4,6 @@ use Rattle.std.specs.Prelude.{◌&&◌, not, is_none, nat_eq, nat_lt, replicate,
 use Rattle.std.proofs.lemmas.Bool.{ltb-false, cases_Bool}
 use Rattle.model.specs.declared.instr.Instr.TheVariants.{Ret}
 use Rattle.model.specs.declared.instr.Return.TheVariants.{Stop}
-use Rattle.model.specs.declared.limits.TheConstants.{MAX_QUEUES}
 use Rattle.model.specs.declared.set.Sort.TheVariants.{Dispatch, StartIo}
 use Rattle.model.specs.declared.status.Status.{Status}
 use Rattle.model.specs.declared.world.Activation.{Activation}
@@ -22,8 +21,8 @@ use Rattle.model.specs.Queues.{StartState, idle, without_first_to_start}
 use Rattle.model.specs.Run.{Run, begun}
 use Rattle.model.specs.Set.{Set, instruction_at, sort_of}
 use Rattle.model.specs.Trace.{Entry, Actor}
-use Rattle.model.specs.World.{World, idle_thread, new_packet, packet_of, with_start, Shared}
-use Rattle.run_laws.specs.Holder.{times_at, times_started, times_waiting, frame_rights, frame_walks, stack_sum, thread_sum, holders, alive, is_live, all_walking, times_plain, walking}
+use Rattle.model.specs.World.{World, idle_thread, new_packet, packet_of, Shared}
+use Rattle.run_laws.specs.Holder.{times_waiting, frame_rights, frame_walks, stack_sum, thread_sum, holders, alive, is_live, walking}
 use Rattle.run_laws.proofs.Holders.Counts.{Holding, new_unheld, new_held, new_waits}
 use Rattle.run_laws.proofs.Holders.Lent.{IsLent, stops_hold}
 use Rattle.run_laws.proofs.Holders.Plain.{none_plain}
@@ -80,9 +79,7 @@ module _ (set : Set) (states : States) (issued n : ℕ) where
       ≡ stack_sum (λ g. frame_rights states g n) below
   last_rights [] f told h to = refl
   last_rights (g ∷ []) f told h to =
-      let same : frame_rights states (told_frame set told g) n ≡ frame_rights states g n =
-      frame_told_rights told g (to g h.0) in
-      omega arith
+      omega (arith, frame_told_rights told g (to g h.0))
   last_rights (g ∷ e ∷ below) f told h to =
       ap (λ (sum : ℕ). frame_rights states g n + sum) (last_rights (e ∷ below) f told h.1 to)
 
@@ -104,16 +101,13 @@ pub top_changed : (count : Frame → ℕ) (threads : List Thread) (t : ℕ) (thr
     → thread_sum count (slice_set threads t after) + count f
     ≡ thread_sum count threads + stack_sum count frames
 top_changed count threads t thread after below lower f frames found items new same =
-    let set : thread_sum count (slice_set threads t after) + stack_sum count thread.frames.items
-    ≡ thread_sum count threads + stack_sum count after.frames.items =
-    thread_set count threads t thread after found in
     let old : stack_sum count thread.frames.items ≡ stack_sum count below
     + stack_sum count (f ∷ []) =
     ap (stack_sum count) items ∙ stack_append count below (f ∷ []) in
     let later : stack_sum count after.frames.items ≡ stack_sum count lower
     + stack_sum count frames =
     ap (stack_sum count) new ∙ stack_append count lower frames in
-    omega arith
+    omega (arith, thread_set count threads t thread after found)
 
 -- what the I/O manager's frames count after a step that a completion routine stops: both its frame
 -- and that below it are gone, which was lent
@@ -123,12 +117,9 @@ module _ (set : Set) (states : States) (s : Shared) (t : ℕ) (below : List Fram
       → walking set (others ++ Walk k ∷ Routine a ∷ []) n ≡ walking set others n
   stopped_others others k a n lent =
       let under : Option Frame = top_of others in
-      let on : walking set (others ++ Walk k ∷ Routine a ∷ []) n + walks_under under n
-      ≡ walking set others n + walking_from set under (Walk k ∷ Routine a ∷ []) n =
-      walking_on set others (Walk k ∷ Routine a ∷ []) n in
       let from : walking_from set under (Walk k ∷ Routine a ∷ []) n ≡ walks_under under n + 0 =
       rw lent refl in
-      omega arith
+      omega (arith, walking_on set others (Walk k ∷ Routine a ∷ []) n)
 
   stopped_walks : (under : Option Frame) (f : Frame) (o : Outcome) → top_of below ≡ under
       → OnTop set states s f → Comes set s t under f o → o.taken_below ≡ true → (n : ℕ)
@@ -178,16 +169,12 @@ module _ (set : Set) (states : States) (s : Shared) (t : ℕ) (below : List Fram
             let now : walking set (standing set below o) n ≡ walking set (below ++ o.frames) n =
             ap (λ (frames : List Frame). walking set frames n) stood
             ∙ last_walking set o.told below o.frames n in
-            let after : walking set (below ++ o.frames) n + walks_under (top_of below) n
-            ≡ walking set below n + walking_from set (top_of below) o.frames n =
-            walking_on set below o.frames n in
-            let before : walking set (below ++ f ∷ []) n + walks_under (top_of below) n
-            ≡ walking set below n + walking_from set (top_of below) (f ∷ []) n =
-            walking_on set below (f ∷ []) n in
-            let even : walking_from set (top_of below) o.frames n + held (find s.packets n)
-            ≡ walking_from set (top_of below) (f ∷ []) n + held (find o.shared.packets n) =
-            step.walks stays n in
-            omega arith
+            omega (
+              arith,
+              walking_on set below o.frames n,
+              walking_on set below (f ∷ []) n,
+              step.walks stays n,
+            )
       ]
 
 -- the rights of a frame that steps are to live packets
@@ -201,21 +188,18 @@ top_holding set states w past stands kept t h =
     λ n.
     let le : frame_rights states h.frame n ≤ thread_sum (λ f. frame_rights states f n) w.threads =
     top_le (λ f. frame_rights states f n) w.threads t h.thread h.below h.frame h.found h.frames in
-    let all : thread_sum (λ f. frame_rights states f n) w.threads + times_waiting set w.shared n
-    ≡ unheld (find w.shared.packets n) = kept.rights n in
-    omega arith in
+    omega (arith, kept.rights n) in
     record {
       tells = stands.tells;
       rights = λ n.
-          let both : frame_rights states h.frame n + times_waiting set w.shared n
-          ≤ unheld (find w.shared.packets n) = waiting n in
-          omega arith;
+          omega (arith, waiting n);
       waiting = waiting;
       walks = λ n.
-          let le : frame_walks h.frame n ≤ all_walking set w.threads n =
-          walking_top set w.threads t h.thread h.below h.frame n h.found h.frames in
-          let all : all_walking set w.threads n ≡ held (find w.shared.packets n) = kept.walks n in
-          omega arith;
+          omega (
+            arith,
+            walking_top set w.threads t h.thread h.below h.frame n h.found h.frames,
+            kept.walks n,
+          );
     }
 
 -- and where it has the token of its device, the current slot is empty
@@ -245,25 +229,20 @@ module _ (set : Set) (states : States) (w : World) (past : List Entry) (good : I
   begun_held t s thread after f found idle items still even same =
       record {
         rights = λ n.
-            let before : thread_sum (λ f. frame_rights states f n) w.threads
-            + times_waiting set w.shared n ≡ unheld (find w.shared.packets n) = kept.rights n in
-            let sum : thread_sum (λ f. frame_rights states f n) (slice_set w.threads t after)
-            ≡ frame_rights states f n + thread_sum (λ f. frame_rights states f n) w.threads =
-            first_frame (λ f. frame_rights states f n) w.threads t thread after f found idle items
-            in
-            let one : frame_rights states f n + times_waiting set s n
-            + unheld (find w.shared.packets n)
-            ≡ times_waiting set w.shared n + unheld (find s.packets n) = even n in
-            omega arith;
+            omega (
+              arith,
+              kept.rights n,
+              first_frame (λ f. frame_rights states f n) w.threads t thread after f found idle items,
+              even n,
+            );
         walks = λ n.
-            let sum : all_walking set (slice_set w.threads t after) n
-            ≡ frame_walks f n + all_walking set w.threads n =
-            first_walking set w.threads t thread after f n found idle items in
-            let none : frame_walks f n ≡ 0 = still n in
-            let before : all_walking set w.threads n ≡ held (find w.shared.packets n) =
-            kept.walks n in
-            let now : held (find s.packets n) ≡ held (find w.shared.packets n) = same n in
-            omega arith;
+            omega (
+              arith,
+              first_walking set w.threads t thread after f n found idle items,
+              still n,
+              kept.walks n,
+              same n,
+            );
       }
 
   -- the rights of all after a step
@@ -319,32 +298,17 @@ module _ (set : Set) (states : States) (w : World) (past : List Entry) (good : I
       let after : Thread = with_stack h.thread (standing set h.below o) in
       record {
         rights = λ n.
-            let before : thread_sum (λ f. frame_rights states f n) w.threads
-            + times_waiting set w.shared n ≡ unheld (find w.shared.packets n) = kept.rights n in
-            let changed : thread_sum (λ f. frame_rights states f n)
-            (slice_set w.threads t after) + frame_rights states h.frame n
-            ≡ thread_sum (λ f. frame_rights states f n) w.threads
-            + stack_sum (λ f. frame_rights states f n) o.frames =
-            rights_after t h leaves n in
-            let even : stack_sum (λ g. frame_rights states g n) o.frames
-            + times_waiting set o.shared n + unheld (find w.shared.packets n)
-            ≡ frame_rights states h.frame n + times_waiting set w.shared n
-            + unheld (find o.shared.packets n) = step.rights n in
-            omega arith;
+            omega (arith, kept.rights n, rights_after t h leaves n, step.rights n);
         walks = λ n.
-            let before : all_walking set w.threads n ≡ held (find w.shared.packets n) =
-            kept.walks n in
-            let changed : all_walking set (slice_set w.threads t after) n
-            + walking set h.thread.frames.items n
-            ≡ all_walking set w.threads n + walking set (standing set h.below o) n =
-            walking_set set w.threads t h.thread after n h.found in
             let stood : walking set h.thread.frames.items n
             ≡ walking set (h.below ++ h.frame ∷ []) n =
             ap (λ (frames : List Frame). walking set frames n) h.frames in
-            let even : walking set (standing set h.below o) n + held (find w.shared.packets n)
-            ≡ walking set (h.below ++ h.frame ∷ []) n + held (find o.shared.packets n) =
-            walks_after set states w.shared t h.below h.frame o on h.comes step n in
-            omega arith;
+            omega (
+              arith,
+              kept.walks n,
+              walking_set set w.threads t h.thread after n h.found,
+              walks_after set states w.shared t h.below h.frame o on h.comes step n,
+            );
       }
   held_happens tokens actor c lent (issues h) quiet =
       let m : ℕ = w.shared.issued in
@@ -368,10 +332,10 @@ module _ (set : Set) (states : States) (w : World) (past : List Entry) (good : I
       begun_held actor.thread c.world.shared h.thread (rooted h.thread DispatchLevel a) (Routine a)
       h.found h.idle refl (λ n. refl)
       (λ n.
-      let none : frame_rights states (Routine a) n ≡ 0 =
-      dpc_rights set states w.shared.issued a n
-      (begins_dpc set states good w.shared.issued h.d h.routine h.there) in
-      omega arith)
+      omega (
+        arith,
+        dpc_rights set states w.shared.issued a n (begins_dpc set states good w.shared.issued h.d h.routine h.there),
+      ))
       (λ n. refl)
   held_happens tokens actor c lent (begins_startio h) quiet =
       let a : Activation = startio_activation set h.d h.routine h.n in
@@ -379,15 +343,12 @@ module _ (set : Set) (states : States) (w : World) (past : List Entry) (good : I
       begun_held actor.thread c.world.shared h.thread (rooted h.thread DispatchLevel a) (Routine a)
       h.found h.idle refl (λ n. refl)
       (λ n.
-      let one : frame_rights states (Routine a) n ≡ (if nat_eq h.n n then 1 else 0) =
-      begun_rights set states w.shared.issued a StartIo h.n n
-      (startio_enters set states w past good stands actor.thread h) in
-      let put : times_started (with_start w.shared h.d start).starts n + times_at h.start n
-      ≡ times_started w.shared.starts n + times_at start n =
-      started_put w.shared.starts h.d h.start start n h.has in
-      let gone : times_at start n + (if nat_eq h.n n then 1 else 0) ≡ times_at h.start n =
-      times_first h.start h.n n h.first in
-      omega arith)
+      omega (
+        arith,
+        begun_rights set states w.shared.issued a StartIo h.n n (startio_enters set states w past good stands actor.thread h),
+        started_put w.shared.starts h.d h.start start n h.has,
+        times_first h.start h.n n h.first,
+      ))
       (λ n. refl)
   -- IoCancelIrp begins: its frame has no packet
   held_happens tokens actor c lent (begins_cancel h) quiet =
@@ -415,21 +376,19 @@ pub idle_sum : (count : Frame → ℕ) (threads : ℕ)
     → thread_sum count (replicate threads idle_thread) ≡ 0
 idle_sum count zero = refl
 idle_sum count (suc threads) =
-    let others : thread_sum count (replicate threads idle_thread) ≡ 0 =
-    idle_sum count threads in omega arith
+    omega (arith, idle_sum count threads)
 
 pub held_begun : (set : Set) (states : States) (threads : ℕ)
     → Held set states (begun set threads).world
 held_begun set states threads =
     record {
       rights = λ n.
-          let none : thread_sum (λ f. frame_rights states f n) (replicate threads idle_thread) ≡ 0 =
-          idle_sum (λ f. frame_rights states f n) threads in
-          let empty : times_plain set 0 (replicate (length set.devices) (replicate MAX_QUEUES [])) n
-          ≡ 0 = none_plain set n 0 (length set.devices) in
-          let idle_ones : times_started (replicate (length set.devices) idle) n ≡ 0 =
-          none_started (length set.devices) n in
-          omega arith;
+          omega (
+            arith,
+            idle_sum (λ f. frame_rights states f n) threads,
+            none_plain set n 0 (length set.devices),
+            none_started (length set.devices) n,
+          );
       walks = λ n. none_walking set threads n;
     }
 
@@ -463,16 +422,8 @@ module _ (r : Run) (tells : Tells r.world.shared r.past) (n : ℕ) where
       → holders set states r.world.threads n + times_waiting set r.world.shared n
       ≡ (if is_live r n then 1 else 0)
   one_holder set states kept =
-      let rights_are : thread_sum (λ f. frame_rights states f n) r.world.threads
-      + times_waiting set r.world.shared n
-      ≡ unheld (find r.world.shared.packets n) = kept.rights n in
-      let walks_are : all_walking set r.world.threads n
-      ≡ held (find r.world.shared.packets n) =
-      kept.walks n in
-      let parts : unheld (find r.world.shared.packets n) + held (find r.world.shared.packets n)
-      ≡ alive (find r.world.shared.packets n) = alive_parts (find r.world.shared.packets n) in
       let same : alive (packet_of r.world.shared n) ≡ alive (find r.world.shared.packets n) =
       ap alive (find_place r.world.shared.packets n) in
       let listed : alive (packet_of r.world.shared n)
       ≡ (if is_live r n then 1 else 0) = live_listed in
-      omega arith
+      omega (arith, kept.rights n, kept.walks n, alive_parts (find r.world.shared.packets n))

@@ -44,8 +44,7 @@ start_after s d before after e start there h =
 pub none_started : (devices n : ℕ) → times_started (replicate devices idle) n ≡ 0
 none_started zero n = refl
 none_started (suc devices) n =
-    let others : times_started (replicate devices idle) n
-    ≡ 0 = none_started devices n in omega arith
+    omega (arith, none_started devices n)
 
 -- in the lists of a device, and not in its current slot
 abbrev pub waits_in : StartState → ℕ → ℕ
@@ -59,38 +58,29 @@ waits_given start m n =
     (record start { start_list = inserted start.start_list m; busy = true })
     (λ (x : StartState). waits_in x n ≡ waits_in start n + (if nat_eq m n then 1 else 0))
     (λ busy.
-    let pushed : times_in (inserted start.device_queue m) n
-    ≡ times_in start.device_queue n + (if nat_eq m n then 1 else 0) =
-    times_pushed start.device_queue m n in omega arith)
+    omega (arith, times_pushed start.device_queue m n))
     (λ free.
-    let pushed : times_in (inserted start.start_list m) n
-    ≡ times_in start.start_list n + (if nat_eq m n then 1 else 0) =
-    times_pushed start.start_list m n in omega arith)
+    omega (arith, times_pushed start.start_list m n))
 
 pub times_given : (start : StartState) (m n : ℕ)
     → times_at (started start m) n ≡ times_at start n + (if nat_eq m n then 1 else 0)
 times_given start m n =
-    let given : waits_in (started start m) n ≡ waits_in start n + (if nat_eq m n then 1 else 0) =
-    waits_given start m n in
     let slot : (started start m).slot ≡ start.slot =
     cond_both start.busy _ _ (λ (x : StartState). x.slot ≡ start.slot) (λ busy. refl)
     (λ free. refl) in
     let same : times_in_slot (started start m).slot n ≡ times_in_slot start.slot n =
     ap (λ (o : Option ℕ). times_in_slot o n) slot in
-    omega arith
+    omega (arith, waits_given start m n)
 
 -- the next one goes from the device queue to the start list
 next_waits : (start : StartState) (waiting : List ℕ) (n : ℕ) → start.device_queue ≡ waiting
     → waits_in (next_of start waiting) n ≡ waits_in start n
 next_waits start [] n is = refl
 next_waits start (m ∷ waiting) n is =
-    let pushed : times_in (inserted start.start_list m) n
-    ≡ times_in start.start_list n + (if nat_eq m n then 1 else 0) =
-    times_pushed start.start_list m n in
     let first : times_in start.device_queue n
     ≡ (if nat_eq m n then 1 else 0) + times_in waiting n =
     ap (λ (entries : List ℕ). times_in entries n) is in
-    omega arith
+    omega (arith, times_pushed start.start_list m n)
 
 pub waits_next : (start : StartState) (n : ℕ) → waits_in (next_started start) n ≡ waits_in start n
 waits_next start n = next_waits start start.device_queue n refl
@@ -101,10 +91,9 @@ next_slot start (m ∷ waiting) = refl
 
 pub times_next : (start : StartState) (n : ℕ) → times_at (next_started start) n ≡ times_at start n
 times_next start n =
-    let waits : waits_in (next_started start) n ≡ waits_in start n = waits_next start n in
     let same : times_in_slot (next_started start).slot n ≡ times_in_slot start.slot n =
     ap (λ (o : Option ℕ). times_in_slot o n) (next_slot start start.device_queue) in
-    omega arith
+    omega (arith, waits_next start n)
 
 -- another packet in the current slot, or none
 pub times_slot : (start : StartState) (slot : Option ℕ) (n : ℕ)

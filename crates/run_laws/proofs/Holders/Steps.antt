@@ -31,7 +31,7 @@ use Rattle.model.specs.LocalRule.{kind_of, gives_back, is_dropped, marked, given
 use Rattle.model.specs.Queues.{StartState}
 use Rattle.model.specs.Set.{Set, flow_of, sort_of, lower_of, cancel_routine_named}
 use Rattle.model.specs.Trace.{Entry, Actor}
-use Rattle.model.specs.World.{Shared, packet_of, register, next, with_loops, with_packet, without_packet, with_info, mark_current, completed, shared_with, sent_down, left_location, moved_up, current_location, asked_of, with_armer, cancelled}
+use Rattle.model.specs.World.{Shared, packet_of, register, next, with_loops, with_packet, with_info, mark_current, completed, shared_with, sent_down, left_location, moved_up, current_location, asked_of, with_armer, cancelled}
 use Rattle.run_laws.specs.Holder.{times_waiting, right, rights, frame_rights, stack_sum, is_lent, walking}
 use Rattle.run_laws.proofs.Holders.Counts.{Holding, unheld_set, held_set, unheld_taken, held_taken, unheld_removed, held_removed, reads_ref, right_free, right_lives, walk_taken, walk_lives, waits_set, right_unarmed, unheld_lent, held_lent, waits_lost, walk_unarmed, waits_removed}
 use Rattle.run_laws.proofs.Holders.Exchanges.{exchange_rights}
@@ -113,9 +113,7 @@ module _ (set : Set) (states : States) (s : Shared) (past : List Entry) (actor :
         → HoldStep set states s under (Routine a) o
     kept a b o waits frames lent same unheld_same held_same =
         even (Routine a) o waits
-        (λ n. let one : frame_rights states (Routine b) n
-        ≡ frame_rights states (Routine a) n = same n in
-        rw frames (omega arith))
+        (λ n. rw frames (omega (arith, same n)))
         (λ n. ap (λ (above : List Frame). walking_from set under above n) frames
         ∙ ap (λ (b : Bool). (if b then 0 else walks_under under n)
         + (if is_lent set [] then 0 else 0)) lent)
@@ -159,22 +157,16 @@ module _ (set : Set) (states : States) (s : Shared) (past : List Entry) (actor :
         let its : q.number ≡ n = number ∙ numbered s n p there in
         even (Routine a) o (λ m. rw shared (waits_set s n p at q its set word m))
         (λ m.
-        let given : rights (given_down (state_of states a) r k).kinds a.registers m + right k
-        (register a r) m
-        ≡ rights (state_of states a).kinds a.registers m =
-        given_rights s.issued (state_of states a) a.registers r k m h.stays.kinds down.right
-        down.unqueued in
-        let gone : right k (register a r) m ≡ (if nat_eq n m then 1 else 0) =
-        named_right k (register a r) n m down.right (reads_ref s (register a r) n reads) in
         let now : frame_rights states (Routine (next a)) m
         ≡ rights (given_down (state_of states a) r k).kinds a.registers m =
         next_state_rights set states s a i h on m
         ∙ ap (λ (state : Abs). rights state.kinds a.registers m) down.after in
-        let new : frame_rights states (Routine b) m ≡ (if nat_eq n m then 1 else 0) =
-        begun_rights set states s.issued b Dispatch n m
-        (begins_lower set states h.good s.issued n (named s (register a r) n reads) a.device lower
-        (asked_of (current_location p)) below) in
-        rw frames (omega arith))
+        rw frames (omega (
+          arith,
+          given_rights s.issued (state_of states a) a.registers r k m h.stays.kinds down.right down.unqueued,
+          named_right k (register a r) n m down.right (reads_ref s (register a r) n reads),
+          begun_rights set states s.issued b Dispatch n m (begins_lower set states h.good s.issued n (named s (register a r) n reads) a.device lower (asked_of (current_location p)) below),
+        )))
         (λ m. ap (λ (above : List Frame). walking_from set under above m) frames
         ∙ ap (λ (walks : ℕ). (if is_lent set (Routine a ∷ []) then 0 else walks_under under m)
         + walks)
@@ -217,8 +209,7 @@ module _ (set : Set) (states : States) (s : Shared) (past : List Entry) (actor :
         let at : find s.packets n ≡ Some p = found s n (Some p) there in
         let its : q.number ≡ n = number ∙ numbered s n p there in
         even (Walk n) o (λ m. rw shared (waits_set s n p at q its set word m))
-        (λ m. let none : stack_sum (λ g. frame_rights states g m) above ≡ 0 = no_rights_above m in
-        rw frames (omega arith))
+        (λ m. rw frames (omega (arith, no_rights_above m)))
         (λ m. rw (frames, unlent, no_walks_above m) refl)
         (λ m. rw shared (unheld_set s n p at q its same m))
         (λ m. rw shared (held_set s n p at q its same m))
@@ -231,11 +222,7 @@ module _ (set : Set) (states : States) (s : Shared) (past : List Entry) (actor :
     queues_hold a i b queues lists actions full h frees queued =
         record {
           rights = λ n.
-              let same : frame_rights states (Routine b) n
-              + times_waiting set (record s { queues = queues; starts = lists }) n
-              ≡ frame_rights states (Routine a) n + times_waiting set s n =
-              queued_rights set states s a i h frees queued n in
-              omega arith;
+              omega (arith, queued_rights set states s a i h frees queued n);
           walks = λ stays n. rw (lent_same set a b (queued_same queued)) refl;
         }
 
@@ -252,15 +239,12 @@ module _ (set : Set) (states : States) (s : Shared) (past : List Entry) (actor :
         let its : p.number ≡ n = numbered s n p there in
         record {
           rights = λ m.
-              let same : frame_rights states (Routine b) m
-              + times_waiting set (with_packet s n (with_armer p armer)) m
-              ≡ frame_rights states (Routine a) m + times_waiting set s m =
-              exchange_rights set states s past a holding n p there i r b jumped armer h goes
-              operand reads
-              how m in
               let packets : unheld (find (with_packet s n (with_armer p armer)).packets m)
               ≡ unheld (find s.packets m) = unheld_set s n p at (with_armer p armer) its refl m in
-              rw (shared, frames) (omega arith);
+              rw (shared, frames) (omega (
+                arith,
+                exchange_rights set states s past a holding n p there i r b jumped armer h goes operand reads how m,
+              ));
           walks = λ stays m.
               rw (
                 shared,
@@ -285,15 +269,6 @@ module _ (set : Set) (states : States) (s : Shared) (past : List Entry) (actor :
         right_free set states s past a holding h.stays.kinds r n is reads p there in
         record {
           rights = λ m.
-              let turn : rights (slice_set (state_of states a).kinds r BlankKind) a.registers m
-              + right (kind_of (state_of states a) r) (register a r) m
-              ≡ rights (state_of states a).kinds a.registers m + 0 =
-              rights_turn s.issued (state_of states a).kinds a.registers r BlankKind m h.stays.kinds
-              in
-              let gone : right (kind_of (state_of states a) r) (register a r) m
-              ≡ (if nat_eq n m then 1 else 0) =
-              named_right (kind_of (state_of states a) r) (register a r) n m is
-              (reads_ref s (register a r) n reads) in
               let now : frame_rights states (Routine (next a)) m
               ≡ rights (slice_set (state_of states a).kinds r BlankKind) a.registers m =
               next_state_rights set states s a (Complete r status) h refl m in
@@ -302,7 +277,11 @@ module _ (set : Set) (states : States) (s : Shared) (past : List Entry) (actor :
               unheld_taken s n p at (completed p status) its free refl m in
               let waits : times_waiting set (with_packet s n (completed p status)) m
               ≡ times_waiting set s m = waits_set s n p at (completed p status) its set refl m in
-              rw (shared, frames) (omega arith);
+              rw (shared, frames) (omega (
+                arith,
+                rights_turn s.issued (state_of states a).kinds a.registers r BlankKind m h.stays.kinds,
+                named_right (kind_of (state_of states a) r) (register a r) n m is (reads_ref s (register a r) n reads),
+              ));
           walks = λ stays m.
               let packets : held (find (with_packet s n (completed p status)).packets m)
               ≡ (if nat_eq n m then 1 else 0) + held (find s.packets m) =
@@ -324,19 +303,14 @@ module _ (set : Set) (states : States) (s : Shared) (past : List Entry) (actor :
         let lent : is_lent set (Routine b ∷ []) ≡ true = ap is_hold begins.of_sort in
         record {
           rights = λ m.
-              let new : frame_rights states (Routine b) m ≡ (if nat_eq n m then 1 else 0) =
-              begun_rights set states s.issued b Hold n m begins in
-              let packets : unheld (find (with_packet s n q).packets m)
-              ≡ (if nat_eq n m then 1 else 0) + unheld (find s.packets m) =
-              unheld_lent s n p at q its done free m in
-              let waits : times_waiting set (with_packet s n q) m ≡ times_waiting set s m =
-              waits_set s n p at q its set word m in
-              rw (shared, frames) (omega arith);
+              rw (shared, frames) (omega (
+                arith,
+                begun_rights set states s.issued b Hold n m begins,
+                unheld_lent s n p at q its done free m,
+                waits_set s n p at q its set word m,
+              ));
           walks = λ stays m.
-              let packets : held (find (with_packet s n q).packets m)
-              + (if nat_eq n m then 1 else 0)
-              ≡ held (find s.packets m) = held_lent s n p at q its done free m in
-              rw (shared, frames, lent) (omega arith);
+              rw (shared, frames, lent) (omega (arith, held_lent s n p at q its done free m));
         }
 
     gives : (a : Activation) (n : ℕ) (p : Packet) (o : Outcome)
@@ -358,14 +332,15 @@ module _ (set : Set) (states : States) (s : Shared) (past : List Entry) (actor :
         let lent : is_lent set (Routine a ∷ []) ≡ true = ap is_hold is in
         record {
           rights = λ m.
-              let gone : frame_rights states (Routine a) m ≡ (if nat_eq n m then 1 else 0) =
-              back_rights set states s past a holding h is n to m in
               let packets : unheld (find (with_packet s n q).packets m)
               + (if nat_eq n m then 1 else 0) ≡ unheld (find s.packets m) =
               unheld_taken s n p at q its free refl m in
               let waits : times_waiting set (with_packet s n q) m ≡ times_waiting set s m =
               waits_set s n p at q its set refl m in
-              rw (shared, frames) (omega arith);
+              rw (shared, frames) (omega (
+                arith,
+                back_rights set states s past a holding h is n to m,
+              ));
           walks = λ stays m.
               let packets : held (find (with_packet s n q).packets m)
               ≡ (if nat_eq n m then 1 else 0) + held (find s.packets m) =
@@ -407,14 +382,15 @@ module _ (set : Set) (states : States) (s : Shared) (past : List Entry) (actor :
         let unlent : is_lent set (Routine b ∷ []) ≡ false = ap is_hold begins.of_sort in
         record {
           rights = λ m.
-              let new : frame_rights states (Routine b) m ≡ (if nat_eq n m then 1 else 0) =
-              begun_rights set states s.issued b Cancel n m begins in
               let packets : unheld (find (with_packet s n q).packets m)
               ≡ unheld (find s.packets m) =
               unheld_set s n p at q its refl m in
               let waits : times_waiting set (with_packet s n q) m + (if nat_eq n m then 1 else 0)
               ≡ times_waiting set s m = waits_lost s n p at q its set armed refl m in
-              rw (shared, frames) (omega arith);
+              rw (shared, frames) (omega (
+                arith,
+                begun_rights set states s.issued b Cancel n m begins,
+              ));
           walks = λ stays m.
               let packets : held (find (with_packet s n q).packets m) ≡ held (find s.packets m) =
               held_set s n p at q its refl m in
@@ -603,8 +579,7 @@ module _ (set : Set) (states : States) (s : Shared) (past : List Entry) (actor :
       goes_up under n p (moved_up (left_location p)) (Routine b ∷ []) o there refl refl refl refl
       refl
       (ap is_hold begins.of_sort)
-      (λ m. let new : frame_rights states (Routine b) m ≡ 0 =
-      begun_rights set states s.issued b Propagate n m begins in omega arith)
+      (λ m. omega (arith, begun_rights set states s.issued b Propagate n m begins))
       (λ m. refl)
   hold under f o top holding slot lent (lends_to n p c there set_there its) quiet =
       lends under n p (record (moved_up (left_location p)) { completing = false })
@@ -625,15 +600,13 @@ module _ (set : Set) (states : States) (s : Shared) (past : List Entry) (actor :
       let free : is_some p.armer ≡ false = walk_unarmed set states s past n holding p there in
       record {
         rights = λ m.
-            let packets : unheld (find (without_packet s n).packets m) ≡ unheld (find s.packets m) =
-            unheld_removed s n p at holding.tells.rises done m in
-            let waits : times_waiting set (without_packet s n) m ≡ times_waiting set s m =
-            waits_removed s n p at holding.tells.rises done set free m in
-            omega arith;
+            omega (
+              arith,
+              unheld_removed s n p at holding.tells.rises done m,
+              waits_removed s n p at holding.tells.rises done set free m,
+            );
         walks = λ stays m.
-            let packets : held (find (without_packet s n).packets m) + (if nat_eq n m then 1 else 0)
-            ≡ held (find s.packets m) = held_removed s n p at holding.tells.rises done m in
-            omega arith;
+            omega (arith, held_removed s n p at holding.tells.rises done m);
       }
 
   -- no packet is completed twice, nor one that has a cancel routine: its word would have it too

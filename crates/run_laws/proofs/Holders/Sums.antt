@@ -37,8 +37,7 @@ pub stack_append : (count : Frame → ℕ) (xs ys : List Frame) → stack_sum co
     ≡ stack_sum count xs + stack_sum count ys
 stack_append count [] ys = omega arith
 stack_append count (f ∷ xs) ys =
-    let others : stack_sum count (xs ++ ys) ≡ stack_sum count xs + stack_sum count ys =
-    stack_append count xs ys in omega arith
+    omega (arith, stack_append count xs ys)
 
 pub thread_set : (count : Frame → ℕ) (threads : List Thread) (t : ℕ) (thread after : Thread)
     → slice_get threads t
@@ -49,11 +48,7 @@ thread_set count [] t thread after found = cc
 thread_set count (x ∷ threads) zero thread after found =
     let one : x ≡ thread = cc in rw one (omega arith)
 thread_set count (x ∷ threads) (suc t) thread after found =
-    let others : thread_sum count (slice_set threads t after) + stack_sum count thread.frames.items
-    ≡ thread_sum count threads + stack_sum count after.frames.items =
-    thread_set count threads t thread after found
-    in
-    omega arith
+    omega (arith, thread_set count threads t thread after found)
 
 -- one frame on a thread that had none
 pub first_frame : (count : Frame → ℕ) (threads : List Thread) (t : ℕ) (thread after : Thread)
@@ -61,12 +56,9 @@ pub first_frame : (count : Frame → ℕ) (threads : List Thread) (t : ℕ) (thr
     → slice_get threads t ≡ Some thread → thread.frames.items ≡ [] → after.frames.items ≡ f ∷ []
     → thread_sum count (slice_set threads t after) ≡ count f + thread_sum count threads
 first_frame count threads t thread after f found idle items =
-    let set : thread_sum count (slice_set threads t after) + stack_sum count thread.frames.items
-    ≡ thread_sum count threads + stack_sum count after.frames.items =
-    thread_set count threads t thread after found in
     let none : stack_sum count thread.frames.items ≡ 0 = ap (stack_sum count) idle in
     let one : stack_sum count after.frames.items ≡ count f + 0 = ap (stack_sum count) items in
-    omega arith
+    omega (arith, thread_set count threads t thread after found)
 
 -- the frame that is told a status counts as it did
 pub last_sum : (set : Set) (count : Frame → ℕ) (told : Option Status)
@@ -74,7 +66,7 @@ pub last_sum : (set : Set) (count : Frame → ℕ) (told : Option Status)
     → stack_sum count (told_last set told below) ≡ stack_sum count below
 last_sum set count told same [] = refl
 last_sum set count told same (g ∷ []) =
-    let one : count (told_frame set told g) ≡ count g = same g in omega arith
+    omega (arith, same g)
 last_sum set count told same (g ∷ e ∷ below) =
     ap (λ (sum : ℕ). count g + sum) (last_sum set count told same (e ∷ below))
 
@@ -84,22 +76,18 @@ pub stack_le : (count : Frame → ℕ) (threads : List Thread) (t : ℕ) (thread
 stack_le count [] t thread found = cc
 stack_le count (x ∷ threads) zero thread found = let one : x ≡ thread = cc in rw one (omega arith)
 stack_le count (x ∷ threads) (suc t) thread found =
-    let others : stack_sum count thread.frames.items ≤ thread_sum count threads =
-    stack_le count threads t thread found in
-    omega arith
+    omega (arith, stack_le count threads t thread found)
 
 pub top_le : (count : Frame → ℕ) (threads : List Thread) (t : ℕ) (thread : Thread)
     (below : List Frame) (f : Frame)
     → slice_get threads t ≡ Some thread
     → thread.frames.items ≡ below ++ f ∷ [] → count f ≤ thread_sum count threads
 top_le count threads t thread below f found frames =
-    let all : stack_sum count thread.frames.items ≤ thread_sum count threads =
-    stack_le count threads t thread found in
     let parts : stack_sum count thread.frames.items ≡ stack_sum count below
     + stack_sum count (f ∷ []) =
     ap (stack_sum count) frames ∙ stack_append count below (f ∷ [])
     in
-    omega arith
+    omega (arith, stack_le count threads t thread found)
 
 -- one frame of a thread, on top or below, is counted among all
 frame_in : (count : Frame → ℕ) (threads : List Thread) (t k : ℕ) (f : Frame) (o : Option Thread)
@@ -109,9 +97,7 @@ frame_in count threads t k f None found there = cc
 frame_in count threads t k f (Some thread) found there =
     let here : count f ≤ stack_sum count thread.frames.items =
     sum_le count (stack_sum count) (λ g frames. refl) thread.frames.items k f there in
-    let all : stack_sum count thread.frames.items ≤ thread_sum count threads =
-    stack_le count threads t thread found in
-    omega arith
+    omega (arith, stack_le count threads t thread found)
 
 pub frame_le : (count : Frame → ℕ) (w : World) (t k : ℕ) (f : Frame)
     → slice_get (frames_on w t) k ≡ Some f → count f ≤ thread_sum count w.threads
@@ -145,19 +131,12 @@ two_le count [] t k one other found there apart = cc
 two_le count (x ∷ threads) zero zero one other found there apart = absurd (apart refl)
 two_le count (x ∷ threads) zero (suc k) one other found there apart =
     let same : x ≡ one = cc in
-    let le : stack_sum count other.frames.items ≤ thread_sum count threads =
-    stack_le count threads k other there in
-    rw same (omega arith)
+    rw same (omega (arith, stack_le count threads k other there))
 two_le count (x ∷ threads) (suc t) zero one other found there apart =
     let same : x ≡ other = cc in
-    let le : stack_sum count one.frames.items ≤ thread_sum count threads =
-    stack_le count threads t one found in
-    rw same (omega arith)
+    rw same (omega (arith, stack_le count threads t one found))
 two_le count (x ∷ threads) (suc t) (suc k) one other found there apart =
-    let le : stack_sum count one.frames.items + stack_sum count other.frames.items
-    ≤ thread_sum count threads =
-    two_le count threads t k one other found there (λ e. apart (ap suc e)) in
-    omega arith
+    omega (arith, two_le count threads t k one other found there (λ e. apart (ap suc e)))
 
 -- the packet that a right is to, and the one that is on its way up
 own_bit : (p : Packet) (b : Bool) → p.completing ≡ b → 1 ≤ (if b then 0 else 1) → (q : Packet)

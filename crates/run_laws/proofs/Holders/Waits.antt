@@ -22,8 +22,8 @@ use Rattle.model.specs.LocalRule.{an_owned_one, demanded, free_kind, handed, han
 use Rattle.model.specs.Queues.{StartState, inserted, next_started, started, with_slot, unlinked}
 use Rattle.model.specs.Set.{Set, flow_of, label_of, cancel_routine_of}
 use Rattle.model.specs.Sound.{OperandFits}
-use Rattle.model.specs.World.{Shared, at_label, next, register, start_of, with_queue, with_register, with_start, queue_of}
-use Rattle.run_laws.specs.Holder.{frame_rights, right, rights, times_at, times_in, times_in_slot, times_started, times_waiting, names, times_plain}
+use Rattle.model.specs.World.{Shared, at_label, next, register, start_of, with_queue, with_register, queue_of}
+use Rattle.run_laws.specs.Holder.{frame_rights, right, rights, times_in, times_in_slot, times_waiting, names}
 use Rattle.run_laws.proofs.Holders.Counts.{reads_ref}
 use Rattle.run_laws.proofs.Holders.Plain.{plain_in, plain_counts, plain_put, plain_skips}
 use Rattle.run_laws.proofs.Holders.Queued.{times_pushed}
@@ -112,14 +112,10 @@ module _ (set : Set) (states : States) (s : Shared) (a : Activation) (i : Instr)
       + right (kind_of (state_of states a) r) (register a r) n
       ≡ frame_rights states (Routine a) n + right k (register a r) n
   rights_turned k on kinds n =
-      let turn : rights (kinds_with k) a.registers n
-      + right (kind_of (state_of states a) r) (register a r) n
-      ≡ rights (state_of states a).kinds a.registers n + right k (register a r) n =
-      rights_turn s.issued (state_of states a).kinds a.registers r k n h.stays.kinds in
       let now : frame_rights states (Routine (next a)) n ≡ rights (kinds_with k) a.registers n =
       ap (λ (state : Abs). rights state.kinds a.registers n) (arrives_next set states s a i h on)
       ∙ ap (λ (kinds : List Kind). rights kinds a.registers n) kinds in
-      omega arith
+      omega (arith, rights_turn s.issued (state_of states a).kinds a.registers r k n h.stays.kinds)
 
   -- it keeps its right, loses it, or gets one
   pub rights_stay : (k : Kind) → has_next (flow_of i) ≡ true
@@ -127,13 +123,10 @@ module _ (set : Set) (states : States) (s : Shared) (a : Activation) (i : Instr)
       → is_right k ≡ is_right (kind_of (state_of states a) r) → (n : ℕ)
       → frame_rights states (Routine (next a)) n ≡ frame_rights states (Routine a) n
   rights_stay k on kinds same n =
-      let turned : frame_rights states (Routine (next a)) n
-      + right (kind_of (state_of states a) r) (register a r) n
-      ≡ frame_rights states (Routine a) n + right k (register a r) n = rights_turned k on kinds n in
       let equal : right k (register a r) n
       ≡ right (kind_of (state_of states a) r) (register a r) n =
       ap (λ (b : Bool). if b then names (register a r) n else 0) same in
-      omega arith
+      omega (arith, rights_turned k on kinds n)
 
   pub rights_lost : (k : Kind) (m : ℕ) → has_next (flow_of i) ≡ true
       → (handed set a.driver (state_of states a) i).kinds ≡ kinds_with k → is_right k ≡ false
@@ -141,14 +134,10 @@ module _ (set : Set) (states : States) (s : Shared) (a : Activation) (i : Instr)
       → frame_rights states (Routine (next a)) n + (if nat_eq m n then 1 else 0)
       ≡ frame_rights states (Routine a) n
   rights_lost k m on kinds none own reads n =
-      let turned : frame_rights states (Routine (next a)) n
-      + right (kind_of (state_of states a) r) (register a r) n
-      ≡ frame_rights states (Routine a) n + right k (register a r) n = rights_turned k on kinds n in
       let gone : right (kind_of (state_of states a) r) (register a r) n
       ≡ (if nat_eq m n then 1 else 0) =
       rw (own, reads_ref s (register a r) m reads) refl in
-      let after : right k (register a r) n ≡ 0 = no_right k (register a r) n none in
-      omega arith
+      omega (arith, rights_turned k on kinds n, no_right k (register a r) n none)
 
   pub rights_won : (k : Kind) (m : ℕ) → has_next (flow_of i) ≡ true
       → (handed set a.driver (state_of states a) i).kinds ≡ kinds_with k → is_right k ≡ true
@@ -156,14 +145,13 @@ module _ (set : Set) (states : States) (s : Shared) (a : Activation) (i : Instr)
       → frame_rights states (Routine (next a)) n
       ≡ frame_rights states (Routine a) n + (if nat_eq m n then 1 else 0)
   rights_won k m on kinds one free reads n =
-      let turned : frame_rights states (Routine (next a)) n
-      + right (kind_of (state_of states a) r) (register a r) n
-      ≡ frame_rights states (Routine a) n + right k (register a r) n = rights_turned k on kinds n in
-      let before : right (kind_of (state_of states a) r) (register a r) n ≡ 0 =
-      no_right (kind_of (state_of states a) r) (register a r) n free in
       let after : right k (register a r) n ≡ (if nat_eq m n then 1 else 0) =
       rw (one, reads_ref s (register a r) m reads) refl in
-      omega arith
+      omega (
+        arith,
+        rights_turned k on kinds n,
+        no_right (kind_of (state_of states a) r) (register a r) n free,
+      )
 
   -- a register's packet is given away
   pub rights_given : (m : ℕ) → has_next (flow_of i) ≡ true
@@ -208,18 +196,16 @@ module _ (set : Set) (states : States) (s : Shared) (a : Activation) (i : Instr)
       → is_right (kind_of (state_of states a) r) ≡ false → (n : ℕ)
       → frame_rights states (Routine (at_label a label)) n ≡ frame_rights states (Routine a) n
   rights_missed label labelled kinds free n =
-      let none : right (kind_of (state_of states a) r) (register a r) n ≡ 0 =
-      no_right (kind_of (state_of states a) r) (register a r) n free in
-      let turn : rights (kinds_with BlankKind) a.registers n
-      + right (kind_of (state_of states a) r) (register a r) n
-      ≡ rights (state_of states a).kinds a.registers n + 0 =
-      rights_turn s.issued (state_of states a).kinds a.registers r BlankKind n h.stays.kinds in
       let now : frame_rights states (Routine (at_label a label)) n
       ≡ rights (kinds_with BlankKind) a.registers n =
       ap (λ (state : Abs). rights state.kinds a.registers n)
       (arrives set states s a i h _ true (jumping label labelled))
       ∙ ap (λ (kinds : List Kind). rights kinds a.registers n) kinds in
-      omega arith
+      omega (
+        arith,
+        no_right (kind_of (state_of states a) r) (register a r) n free,
+        rights_turn s.issued (state_of states a).kinds a.registers r BlankKind n h.stays.kinds,
+      )
 
 -- the driver of an activation is that of its device
 pub device_driver : (set : Set) (device driver : ℕ) → Serves set device driver
@@ -289,31 +275,24 @@ module _ (set : Set) (states : States) (s : Shared) (a : Activation) where
       rights_given set states s a (Insert r q) h r m refl
       (inserts_blank set states s a (Insert r q) h r q is)
       (gives_right (kind_of (state_of states a) r) _ h.obeys) reads n in
-      let put : times_plain set 0 (with_queue s a.device q (inserted entries m)).queues n
-      + plain_at q entries n
-      ≡ times_plain set 0 s.queues n + plain_at q (inserted entries m) n =
-      plain_put set n s a.device q entries (inserted entries m) there in
-      let before : plain_at q entries n ≡ times_in entries n =
-      counts_here (Insert r q) h q entries is n in
-      let after : plain_at q (inserted entries m) n ≡ times_in (inserted entries m) n =
-      counts_here (Insert r q) h q (inserted entries m) is n in
-      let pushed : times_in (inserted entries m) n
-      ≡ times_in entries n + (if nat_eq m n then 1 else 0) = times_pushed entries m n in
-      omega arith
+      omega (
+        arith,
+        plain_put set n s a.device q entries (inserted entries m) there,
+        counts_here (Insert r q) h q entries is n,
+        counts_here (Insert r q) h q (inserted entries m) is n,
+        times_pushed entries m n,
+      )
   inserted_rights r q m entries h reads there (Some cancel) is n =
       let same : frame_rights states (Routine (next a)) n ≡ frame_rights states (Routine a) n =
       rights_stay set states s a (Insert r q) h r (Listed (Declared q)) refl
       (inserts_listed set states s a (Insert r q) h r q cancel is)
       (sym (gives_right (kind_of (state_of states a) r) _ h.obeys)) n in
-      let put : times_plain set 0 (with_queue s a.device q (inserted entries m)).queues n
-      + plain_at q entries n
-      ≡ times_plain set 0 s.queues n + plain_at q (inserted entries m) n =
-      plain_put set n s a.device q entries (inserted entries m) there in
-      let before : plain_at q entries n ≡ 0 =
-      skips_here (Insert r q) h q cancel entries is n in
-      let after : plain_at q (inserted entries m) n ≡ 0 =
-      skips_here (Insert r q) h q cancel (inserted entries m) is n in
-      omega arith
+      omega (
+        arith,
+        plain_put set n s a.device q entries (inserted entries m) there,
+        skips_here (Insert r q) h q cancel entries is n,
+        skips_here (Insert r q) h q cancel (inserted entries m) is n,
+      )
 
   removed_rights : (r q label m : ℕ) (entries : List ℕ) → Runs set states s a (Remove r q label)
       → queue_of s a.device q ≡ Some (m ∷ entries) → (cancel : Option ℕ)
@@ -326,17 +305,14 @@ module _ (set : Set) (states : States) (s : Shared) (a : Activation) where
       (removes_own set states s a (Remove r q label) h r q label is)
       (free_removed _ _ (kind_of (state_of states a) r) h.obeys)
       (all_at OperandFits h.routine.code a.position (Remove r q label) h.known.operands h.here) n in
-      let put : times_plain set 0 (with_queue s a.device q entries).queues n
-      + plain_at q (m ∷ entries) n
-      ≡ times_plain set 0 s.queues n + plain_at q entries n =
-      plain_put set n s a.device q (m ∷ entries) entries there in
-      let before : plain_at q (m ∷ entries) n ≡ times_in (m ∷ entries) n =
-      counts_here (Remove r q label) h q (m ∷ entries) is n in
-      let after : plain_at q entries n ≡ times_in entries n =
-      counts_here (Remove r q label) h q entries is n in
       let first : times_in (m ∷ entries) n ≡ (if nat_eq m n then 1 else 0) + times_in entries n =
       refl in
-      omega arith
+      omega (
+        arith,
+        plain_put set n s a.device q (m ∷ entries) entries there,
+        counts_here (Remove r q label) h q (m ∷ entries) is n,
+        counts_here (Remove r q label) h q entries is n,
+      )
   removed_rights r q label m entries h there (Some cancel) is n =
       let same : frame_rights states (Routine (next (with_register a r (Ref m)))) n
       ≡ frame_rights states (Routine a) n + right (Taken (Declared q)) (Ref m) n =
@@ -345,15 +321,12 @@ module _ (set : Set) (states : States) (s : Shared) (a : Activation) where
       (free_removed _ _ (kind_of (state_of states a) r) h.obeys)
       (all_at OperandFits h.routine.code a.position (Remove r q label) h.known.operands h.here) n in
       let none : right (Taken (Declared q)) (Ref m) n ≡ 0 = refl in
-      let put : times_plain set 0 (with_queue s a.device q entries).queues n
-      + plain_at q (m ∷ entries) n
-      ≡ times_plain set 0 s.queues n + plain_at q entries n =
-      plain_put set n s a.device q (m ∷ entries) entries there in
-      let before : plain_at q (m ∷ entries) n ≡ 0 =
-      skips_here (Remove r q label) h q cancel (m ∷ entries) is n in
-      let after : plain_at q entries n ≡ 0 =
-      skips_here (Remove r q label) h q cancel entries is n in
-      omega arith
+      omega (
+        arith,
+        plain_put set n s a.device q (m ∷ entries) entries there,
+        skips_here (Remove r q label) h q cancel (m ∷ entries) is n,
+        skips_here (Remove r q label) h q cancel entries is n,
+      )
 
   -- one that is taken off wherever it stands: the queue has a cancel routine
   unlinked_rights : (r q m : ℕ) (entries : List ℕ) → Runs set states s a (Unlink r q)
@@ -368,15 +341,12 @@ module _ (set : Set) (states : States) (s : Shared) (a : Activation) where
       let same : frame_rights states (Routine (next a)) n ≡ frame_rights states (Routine a) n =
       rights_stay set states s a (Unlink r q) h r Own refl refl
       (sym (unlinked_right q (kind_of (state_of states a) r) rule)) n in
-      let put : times_plain set 0 (with_queue s a.device q (unlinked entries m)).queues n
-      + plain_at q entries n
-      ≡ times_plain set 0 s.queues n + plain_at q (unlinked entries m) n =
-      plain_put set n s a.device q entries (unlinked entries m) there in
-      let before : plain_at q entries n ≡ 0 =
-      skips_here (Unlink r q) h q has.0 entries has.1 n in
-      let after : plain_at q (unlinked entries m) n ≡ 0 =
-      skips_here (Unlink r q) h q has.0 (unlinked entries m) has.1 n in
-      omega arith
+      omega (
+        arith,
+        plain_put set n s a.device q entries (unlinked entries m) there,
+        skips_here (Unlink r q) h q has.0 entries has.1 n,
+        skips_here (Unlink r q) h q has.0 (unlinked entries m) has.1 n,
+      )
 
 pub queued_rights : (set : Set) (states : States) (s : Shared) (a : Activation) (i : Instr)
     → Runs set states s a i → FreesSlot states s (Routine a)
@@ -404,28 +374,24 @@ queued_rights set states s a i h frees (starts_packet r m start reads there) n =
     ≡ frame_rights states (Routine a) n =
     rights_given set states s a (Start r) h r m refl refl
     (gives_right (kind_of (state_of states a) r) _ h.obeys) reads n in
-    let put : times_started (with_start s a.device (started start m)).starts n + times_at start n
-    ≡ times_started s.starts n + times_at (started start m) n =
-    started_put s.starts a.device start (started start m) n there in
-    let given : times_at (started start m) n ≡ times_at start n + (if nat_eq m n then 1 else 0) =
-    times_given start m n in
-    omega arith
+    omega (
+      arith,
+      started_put s.starts a.device start (started start m) n there,
+      times_given start m n,
+    )
 queued_rights set states s a i h frees (takes_out r label m start there slot) n =
     let won : frame_rights states (Routine (next (with_register a r (Ref m)))) n
     ≡ frame_rights states (Routine a) n + (if nat_eq m n then 1 else 0) =
     rights_taken set states s a (Take r label) h r m refl refl
     (free_before _ (kind_of (state_of states a) r) h.obeys)
     (all_at OperandFits h.routine.code a.position (Take r label) h.known.operands h.here) n in
-    let put : times_started (with_start s a.device (with_slot start None)).starts n
-    + times_at start n
-    ≡ times_started s.starts n + times_at (with_slot start None) n =
-    started_put s.starts a.device start (with_slot start None) n there in
-    let taken : times_at (with_slot start None) n + times_in_slot start.slot n
-    ≡ times_at start n + 0 =
-    times_slot start None n in
     let its : times_in_slot start.slot n ≡ (if nat_eq m n then 1 else 0) =
     ap (λ (slot : Option ℕ). times_in_slot slot n) slot in
-    omega arith
+    omega (
+      arith,
+      started_put s.starts a.device start (with_slot start None) n there,
+      times_slot start None n,
+    )
 queued_rights set states s a i h frees (takes_none r label start there slot) n =
     let same : frame_rights states (Routine (at_label a label)) n
     ≡ frame_rights states (Routine a) n =
@@ -441,21 +407,18 @@ queued_rights set states s a i h frees (puts_in r m start reads there) n =
     granted (state_of states a).token Token
     (second_none (demanded an_owned_one (kind_of (state_of states a) r))
     (unless (state_of states a).token Token) h.obeys) in
-    let put : times_started (with_start s a.device (with_slot start (Some m))).starts n
-    + times_at start n
-    ≡ times_started s.starts n + times_at (with_slot start (Some m)) n =
-    started_put s.starts a.device start (with_slot start (Some m)) n there in
-    let given : times_at (with_slot start (Some m)) n + times_in_slot start.slot n
-    ≡ times_at start n + (if nat_eq m n then 1 else 0) = times_slot start (Some m) n in
     let none : times_in_slot start.slot n ≡ 0 =
     ap (λ (slot : Option ℕ). times_in_slot slot n) (frees start token there) in
-    omega arith
+    omega (
+      arith,
+      started_put s.starts a.device start (with_slot start (Some m)) n there,
+      times_slot start (Some m) n,
+    )
 queued_rights set states s a i h frees (starts_next start there) n =
     let same : frame_rights states (Routine (next a)) n ≡ frame_rights states (Routine a) n =
     rights_kept set states s a Next h refl refl n in
-    let put : times_started (with_start s a.device (next_started start)).starts n
-    + times_at start n
-    ≡ times_started s.starts n + times_at (next_started start) n =
-    started_put s.starts a.device start (next_started start) n there in
-    let kept : times_at (next_started start) n ≡ times_at start n = times_next start n in
-    omega arith
+    omega (
+      arith,
+      started_put s.starts a.device start (next_started start) n there,
+      times_next start n,
+    )

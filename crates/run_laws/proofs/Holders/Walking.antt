@@ -38,9 +38,7 @@ pub walking_on : (set : Set) (below frames : List Frame) (n : ℕ)
     → walking set (below ++ frames) n + walks_under (top_of below) n
     ≡ walking set below n + walking_from set (top_of below) frames n
 walking_on set [] frames n =
-    let none : (if is_lent set frames then 0 else walks_under (top_of []) n) ≡ 0 =
-    if_none (is_lent set frames) in
-    omega arith
+    omega (arith, if_none (is_lent set frames))
 walking_on set (g ∷ []) frames n = omega arith
 walking_on set (g ∷ e ∷ below) frames n =
     let first : (if is_lent set (e ∷ (below ++ frames)) then 0 else frame_walks g n)
@@ -62,9 +60,7 @@ walking_on set (g ∷ e ∷ below) frames n =
 pub pushed_walks : (set : Set) (a : Activation) (f : Frame) (n : ℕ) → frame_walks f n ≡ 0
     → walking set (Routine a ∷ f ∷ []) n ≡ walking set (Routine a ∷ []) n
 pushed_walks set a f n none =
-    let first : (if is_lent set (f ∷ []) then 0 else frame_walks (Routine a) n) ≡ 0 =
-    if_none (is_lent set (f ∷ [])) in
-    omega arith
+    omega (arith, if_none (is_lent set (f ∷ [])))
 
 -- the frame that is told a status counts as it did
 pub told_lent : (set : Set) (told : Option Status) (g : Frame) (frames : List Frame)
@@ -109,9 +105,7 @@ last_walking set told (g ∷ e ∷ below) frames n =
     else frame_walks g n)
     ≡ (if is_lent set (e ∷ (below ++ frames)) then 0 else frame_walks g n) =
     ap (λ (b : Bool). if b then 0 else frame_walks g n) (last_lent set told e below frames) in
-    let others : walking set (told_last set told (e ∷ below) ++ frames) n
-    ≡ walking set ((e ∷ below) ++ frames) n = last_walking set told (e ∷ below) frames n in
-    omega arith
+    omega (arith, last_walking set told (e ∷ below) frames n)
 
 -- one thread's frames in place of others
 pub walking_set : (set : Set) (threads : List Thread) (t : ℕ) (thread after : Thread) (n : ℕ)
@@ -122,10 +116,7 @@ walking_set set [] t thread after n found = cc
 walking_set set (x ∷ threads) zero thread after n found =
     let one : x ≡ thread = cc in rw one (omega arith)
 walking_set set (x ∷ threads) (suc t) thread after n found =
-    let others : all_walking set (slice_set threads t after) n + walking set thread.frames.items n
-    ≡ all_walking set threads n + walking set after.frames.items n =
-    walking_set set threads t thread after n found in
-    omega arith
+    omega (arith, walking_set set threads t thread after n found)
 
 -- those of one thread are among all, and the top one isn't lent
 pub walking_le : (set : Set) (threads : List Thread) (t : ℕ) (thread : Thread) (n : ℕ)
@@ -135,28 +126,22 @@ walking_le set [] t thread n found = cc
 walking_le set (x ∷ threads) zero thread n found =
     let one : x ≡ thread = cc in rw one (omega arith)
 walking_le set (x ∷ threads) (suc t) thread n found =
-    let others : walking set thread.frames.items n ≤ all_walking set threads n =
-    walking_le set threads t thread n found in
-    omega arith
+    omega (arith, walking_le set threads t thread n found)
 
 pub walking_last : (set : Set) (below : List Frame) (f : Frame) (n : ℕ)
     → frame_walks f n ≤ walking set (below ++ f ∷ []) n
 walking_last set [] f n = omega arith
 walking_last set (g ∷ below) f n =
-    let others : frame_walks f n ≤ walking set (below ++ f ∷ []) n = walking_last set below f n in
-    omega arith
+    omega (arith, walking_last set below f n)
 
 pub walking_top : (set : Set) (threads : List Thread) (t : ℕ) (thread : Thread)
     (below : List Frame) (f : Frame) (n : ℕ)
     → slice_get threads t ≡ Some thread → thread.frames.items ≡ below ++ f ∷ []
     → frame_walks f n ≤ all_walking set threads n
 walking_top set threads t thread below f n found frames =
-    let le : walking set thread.frames.items n ≤ all_walking set threads n =
-    walking_le set threads t thread n found in
     let same : walking set thread.frames.items n ≡ walking set (below ++ f ∷ []) n =
     ap (λ (items : List Frame). walking set items n) frames in
-    let last : frame_walks f n ≤ walking set (below ++ f ∷ []) n = walking_last set below f n in
-    omega arith
+    omega (arith, walking_le set threads t thread n found, walking_last set below f n)
 
 -- one frame on a thread that had none
 pub first_walking : (set : Set) (threads : List Thread) (t : ℕ) (thread after : Thread)
@@ -164,23 +149,18 @@ pub first_walking : (set : Set) (threads : List Thread) (t : ℕ) (thread after 
     → slice_get threads t ≡ Some thread → thread.frames.items ≡ [] → after.frames.items ≡ f ∷ []
     → all_walking set (slice_set threads t after) n ≡ frame_walks f n + all_walking set threads n
 first_walking set threads t thread after f n found idle items =
-    let put : all_walking set (slice_set threads t after) n + walking set thread.frames.items n
-    ≡ all_walking set threads n + walking set after.frames.items n =
-    walking_set set threads t thread after n found in
     let none : walking set thread.frames.items n ≡ 0 =
     ap (λ (frames : List Frame). walking set frames n) idle in
     let one : walking set after.frames.items n ≡ frame_walks f n + 0 =
     ap (λ (frames : List Frame). walking set frames n) items in
-    omega arith
+    omega (arith, walking_set set threads t thread after n found)
 
 -- before the first event
 pub none_walking : (set : Set) (threads n : ℕ)
     → all_walking set (replicate threads idle_thread) n ≡ 0
 none_walking set zero n = refl
 none_walking set (suc threads) n =
-    let others : all_walking set (replicate threads idle_thread) n ≡ 0 =
-    none_walking set threads n in
-    omega arith
+    omega (arith, none_walking set threads n)
 
 -- the frame under the one at a place, where frames stand on another one or on none
 abbrev pub under_at : Option Frame → List Frame → ℕ → Option Frame
@@ -196,9 +176,7 @@ walking_at set under [] k n a there is free = cc
 walking_at set under (f ∷ frames) zero n a there is free =
     let same : f ≡ Routine a = cc in rw (same, free, is, eq-eqb n n refl) (omega arith)
 walking_at set under (f ∷ frames) (suc k) n a there is free =
-    let others : 1 ≤ walking_from set (Some f) frames n =
-    walking_at set (Some f) frames k n a there is free in
-    omega arith
+    omega (arith, walking_at set (Some f) frames k n a there is free)
 
 walking_in : (set : Set) (threads : List Thread) (t k n : ℕ) (a : Activation) (o : Option Thread)
     → slice_get threads t ≡ o → slice_get (frames_of o) k ≡ Some (Routine a)
@@ -207,13 +185,12 @@ walking_in : (set : Set) (threads : List Thread) (t k n : ℕ) (a : Activation) 
 walking_in set threads t k n a None found there is free = cc
 walking_in set threads t k n a (Some thread) found there is free =
     let frames : List Frame = thread.frames.items in
-    let here : 1 ≤ walking_from set None frames n =
-    walking_at set None frames k n a there is free in
-    let none : (if is_lent set frames then 0 else walks_under None n) ≡ 0 =
-    if_none (is_lent set frames) in
-    let all : walking set frames n ≤ all_walking set threads n =
-    walking_le set threads t thread n found in
-    omega arith
+    omega (
+      arith,
+      walking_at set None frames k n a there is free,
+      if_none (is_lent set frames),
+      walking_le set threads t thread n found,
+    )
 
 pub walking_there : (set : Set) (w : World) (t k n : ℕ) (a : Activation)
     → slice_get (frames_on w t) k ≡ Some (Routine a)

@@ -20,7 +20,7 @@ use Rattle.model.specs.Run.{frames_on}
 use Rattle.model.specs.Set.{Set}
 use Rattle.model.specs.Trace.{Entry}
 use Rattle.model.specs.World.{World, register, queue_of}
-use Rattle.run_laws.specs.Holder.{times_waiting, times_in, times_plain, thread_sum, frame_rights}
+use Rattle.run_laws.specs.Holder.{times_in}
 use Rattle.run_laws.proofs.Claims.Sums.{Claimed, is_taken, names_on, word_at, is_cancelable, times_of}
 use Rattle.run_laws.proofs.Holders.Sums.{Held, unheld}
 use Rattle.run_laws.proofs.Past.LivePackets.{find}
@@ -88,13 +88,9 @@ module _ (set : Set) (states : States) (w : World) (past : List Entry) (good : I
       ap (λ (o : Option (List ℕ)). times_of o n) there in
       holder_lives set states w held n d q (times_in entries n) (omega arith)
   entries_of d q n entries false there may =
-      let le : plain_in set (driver_at set d) q entries n ≤ times_plain set 0 w.shared.queues n =
-      plain_le set n w.shared d q entries there in
       let counts : plain_in set (driver_at set d) q entries n ≡ times_in entries n =
       plain_counts set n (driver_at set d) q entries (none_some _ may) in
-      let all : thread_sum (λ f. frame_rights states f n) w.threads + times_waiting set w.shared n
-      ≡ unheld (find w.shared.packets n) = held.rights n in
-      omega arith
+      omega (arith, plain_le set n w.shared d q entries there, held.rights n)
 
   pub entries_live : EntriesLive w.shared
   entries_live d q n entries there some =

@@ -1,7 +1,7 @@
 -- Every register of a packet's kind, in any frame of any thread, names a live packet: who has the
 -- right to it holds it; who has a claim is backed by its cancel word or its cancel routine; and one
 -- on its way up is the I/O manager's.
-use Rattle.std.proofs.Common.{◌≡◌, ℕ, ◌+◌, ◌≤◌, true, false, List, Option, None, Some, inl, inr, refl, sym, ◌∙◌, arith}
+use Rattle.std.proofs.Common.{◌≡◌, ℕ, ◌≤◌, true, false, List, Option, None, Some, inl, inr, refl, sym, ◌∙◌, arith}
 use Rattle.std.specs.Prelude.{slice_get}
 use Rattle.std.proofs.lemmas.Bool.{cases_Bool}
 use Rattle.model.specs.declared.world.Activation.{Activation}
@@ -16,7 +16,7 @@ use Rattle.model.specs.Set.{Set, sort_of}
 use Rattle.model.specs.Trace.{Entry}
 use Rattle.model.specs.World.{World, packet_of, register}
 use Rattle.run_laws.specs.ArrivingStates.{States}
-use Rattle.run_laws.specs.Holder.{StandsInside, all_walking, frame_rights, thread_sum, times_waiting}
+use Rattle.run_laws.specs.Holder.{StandsInside, all_walking, frame_rights}
 use Rattle.run_laws.proofs.Claims.Sums.{Claimed}
 use Rattle.run_laws.proofs.Claims.Tops.{named_once}
 use Rattle.run_laws.proofs.Holders.Sums.{Held, frame_le, held, unheld, walked_if}
@@ -41,12 +41,7 @@ module _ (set : Set) (states : States) (w : World) (past : List Entry) (good : I
   owner_lives r n right refers =
       let once : 1 ≤ frame_rights states (Routine a) n =
       named_once states w t k a there is_right refl r n right refers in
-      let among : frame_rights states (Routine a) n
-      ≤ thread_sum (λ f. frame_rights states f n) w.threads =
-      frame_le (λ f. frame_rights states f n) w t k (Routine a) there in
-      let all : thread_sum (λ f. frame_rights states f n) w.threads + times_waiting set w.shared n
-      ≡ unheld (find w.shared.packets n) = kept.rights n in
-      omega arith
+      omega (arith, frame_le (λ f. frame_rights states f n) w t k (Routine a) there, kept.rights n)
 
   -- the packet of the I/O manager's frame under it
   walk_lives : (n : ℕ) → under_at None (frames_on w t) k ≡ Some (Walk n)

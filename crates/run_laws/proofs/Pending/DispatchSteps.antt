@@ -121,11 +121,9 @@ new_kept _ true is none = cc
 no_new : (kinds : List Kind) → list_any is_kept kinds ≡ false → kinds_that is_new kinds ≡ 0
 no_new [] none = refl
 no_new (k ∷ kinds) none =
-    let others : kinds_that is_new kinds ≡ 0 =
-    no_new kinds (or_right (is_kept k) (list_any is_kept kinds) none) in
     let one : counted is_new k ≡ 0 =
     new_kept k (is_new k) refl (or_left (is_kept k) (list_any is_kept kinds) none) in
-    omega arith
+    omega (arith, no_new kinds (or_right (is_kept k) (list_any is_kept kinds) none))
 
 with_status : (d : Duty) (kinds : List Kind) (values : List Value) (status : Status)
     → Dutied d kinds

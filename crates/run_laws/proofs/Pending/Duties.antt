@@ -75,20 +75,14 @@ count_gone : (f : Kind → Bool) (kinds : List Kind) (r : ℕ) (k : Kind) → f 
 count_gone f [] r k blank none = rw blank refl
 count_gone f (j ∷ kinds) zero k blank none = rw none (omega arith)
 count_gone f (j ∷ kinds) (suc r) k blank none =
-    let others : kinds_that f (slice_set kinds r k) + counted f (slice_index_or kinds r Blank)
-    ≡ kinds_that f kinds =
-    count_gone f kinds r k blank none
-    in
-    omega arith
+    omega (arith, count_gone f kinds r k blank none)
 
 count_one : (f : Kind → Bool) (kinds : List Kind) (r : ℕ) → f Blank ≡ false
     → counted f (slice_index_or kinds r Blank) ≤ kinds_that f kinds
 count_one f [] r blank = rw blank (omega arith)
 count_one f (j ∷ kinds) zero blank = omega arith
 count_one f (j ∷ kinds) (suc r) blank =
-    let others : counted f (slice_index_or kinds r Blank) ≤ kinds_that f kinds =
-    count_one f kinds r blank in
-    omega arith
+    omega (arith, count_one f kinds r blank)
 
 -- one that is moved
 count_move : (f : Kind → Bool) (kinds : List Kind) (r q : ℕ) → f Blank ≡ false → f Num ≡ false
@@ -99,18 +93,10 @@ count_move : (f : Kind → Bool) (kinds : List Kind) (r q : ℕ) → f Blank ≡
 count_move f kinds r q blank number within =
     let k : Kind = slice_index_or kinds q Blank in
     let ks : List Kind = slice_set kinds r k in
-    let one : kinds_that f ks + counted f (slice_index_or kinds r Blank)
-    ≡ kinds_that f kinds + counted f k =
-    count_set f kinds r k within
-    in
     let left : f (left_behind k) ≡ false = left_none f blank number k in
-    let two : kinds_that f (slice_set ks q (left_behind k)) + counted f (slice_index_or ks q Blank)
-    ≡ kinds_that f ks =
-    count_gone f ks q (left_behind k) blank left
-    in
     let there : counted f (slice_index_or ks q Blank) ≡ counted f k =
     ap (counted f) (copied kinds r q Blank) in
-    omega arith
+    omega (arith, count_set f kinds r k within, count_gone f ks q (left_behind k) blank left)
 
 -- the same packets, and no more statuses of lower drivers
 dutied_less : (d : Duty) (kinds now : List Kind) → kinds_that is_new now ≡ kinds_that is_new kinds
@@ -375,9 +361,7 @@ handed_rights (k ∷ kinds) [] issued m h refers = absurd h
 handed_rights (k ∷ kinds) (v ∷ values) issued m h refers =
     let one : counted is_new k ≤ right k v m =
     handed_right k v issued m (is_new k) refl h.0 refers.0 in
-    let others : kinds_that is_new kinds ≤ rights kinds values m =
-    handed_rights kinds values issued m h.1 refers.1 in
-    omega arith
+    omega (arith, handed_rights kinds values issued m h.1 refers.1)
 
 pub fresh_rights : (s : Abs) (values : List Value) (issued m : ℕ) → Dutiful s → s.duty ≡ Fresh
     → HasKinds issued s.kinds values → HoldOf is_new (RefersTo m) s.kinds values
@@ -385,6 +369,4 @@ pub fresh_rights : (s : Abs) (values : List Value) (issued m : ℕ) → Dutiful 
 fresh_rights s values issued m h fresh kinds refers =
     let new : Dutied Fresh s.kinds = subst (λ (d : Duty). Dutied d s.kinds) fresh h in
     let one : kinds_that is_new s.kinds ≡ 1 = new.0 in
-    let le : kinds_that is_new s.kinds ≤ rights s.kinds values m =
-    handed_rights s.kinds values issued m kinds refers in
-    omega arith
+    omega (arith, handed_rights s.kinds values issued m kinds refers)

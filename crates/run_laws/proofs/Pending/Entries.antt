@@ -215,7 +215,7 @@ module _ (set : Set) (states : States) (w : World) (past : List Entry) where
       → AllServe set states w past under frames tags → length tags ≡ length frames
   as_many under [] [] h = refl
   as_many under (f ∷ frames) (tag ∷ tags) h =
-      let others : length tags ≡ length frames = as_many (Some f) frames tags h.1 in omega arith
+      omega (arith, as_many (Some f) frames tags h.1)
   as_many under _ _ h = absurd h
 
   tag_of : (a : Activation) (tag : Tag) (tags : List Tag) → TagNames a.driver a.routine tag

@@ -31,7 +31,7 @@ use Rattle.run_laws.proofs.Certificates.Tally.{no_row, no_tags}
 use Rattle.run_laws.proofs.Holders.Apart.{IsApart, apart_below, apart_other, not_yet}
 use Rattle.run_laws.proofs.Holders.Counts.{Holding, walk_held}
 use Rattle.run_laws.proofs.Holders.Runs.{frame_told_rights, top_holding}
-use Rattle.run_laws.proofs.Holders.Sums.{held, stack_append}
+use Rattle.run_laws.proofs.Holders.Sums.{stack_append}
 use Rattle.run_laws.proofs.Live.Sees.{deferred_sort}
 use Rattle.run_laws.proofs.Past.LivePackets.{find}
 use Rattle.run_laws.proofs.Pending.FramesServe.{Turned, frame_turned, same_over}
@@ -219,9 +219,7 @@ module _ (set : Set) (states : States) (w : World) (past : List Entry) (tags : L
                 walking_under set w.threads actor.thread h.thread h.below a m h.found
                 (h.frames ∙ ap (λ (f : Frame). h.below ++ f ∷ []) is) on
                 (ap is_hold propagates) in
-                let all : all_walking set w.threads m ≡ held (find w.shared.packets m) =
-                known.kept.walks m in
-                omega arith;
+                omega (arith, known.kept.walks m);
             own = λ m is.
                 walk_held set states w.shared past m
                 (subst (λ (f : Frame). Holding set states w.shared past f) is

@@ -123,9 +123,7 @@ module _ (set : Set) (states : States) (s : Shared) where
 new_size : (number device : ℕ) (major : Major) (argument stack : ℕ) → 1 ≤ stack
     → length (new_packet number device major argument stack).locations.items ≡ stack
 new_size number device major argument stack low =
-    let others : length (replicate (stack - 1) unused_location) ≡ stack - 1 =
-    length-replicate (stack - 1) unused_location in
-    omega arith
+    omega (arith, length-replicate (stack - 1) unused_location)
 
 module _ (set : Set) (states : States) (w : World) (past : List Entry) (good : IsGood set states)
     (stands : Standing set states w past) (holds : Held set states w) (roomy : Roomy set states w)

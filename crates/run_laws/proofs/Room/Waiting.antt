@@ -23,7 +23,7 @@ use Rattle.model.specs.LocalRule.{kind_of}
 use Rattle.model.specs.Queues.{StartState, inserted, next_started, started, unlinked, with_slot}
 use Rattle.model.specs.Set.{Set, cancel_routine_of}
 use Rattle.model.specs.World.{Shared, current_location, is_marked, packet_of, queue_of, register, start_of, with_queue, with_register, with_start}
-use Rattle.run_laws.specs.Holder.{times_at, times_in, times_in_slot, times_named, times_plain, times_started, times_waiting}
+use Rattle.run_laws.specs.Holder.{times_at, times_in, times_in_slot, times_named, times_plain, times_waiting}
 use Rattle.run_laws.proofs.Claims.Sums.{is_cancelable}
 use Rattle.run_laws.proofs.Holders.Counts.{reads_ref}
 use Rattle.run_laws.proofs.Holders.Plain.{plain_le}
@@ -134,8 +134,7 @@ plain_some set s d q n entries there plain some =
 started_some : (set : Set) (s : Shared) (d n : ℕ) (start : StartState) → start_of s d ≡ Some start
     → 1 ≤ times_at start n → 1 ≤ times_waiting set s n
 started_some set s d n start there some =
-    let le : times_at start n ≤ times_started s.starts n = started_le s.starts d start n there in
-    omega arith
+    omega (arith, started_le s.starts d start n there)
 
 pub word_some : (set : Set) (s : Shared) (n : ℕ) (p : Packet) (armer : Armer)
     → find s.packets n ≡ Some p → p.armer ≡ Some armer → 1 ≤ times_waiting set s n

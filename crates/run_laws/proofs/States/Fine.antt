@@ -7,7 +7,7 @@ use Rattle.model.specs.declared.world.Canceller.{Canceller}
 use Rattle.model.specs.declared.world.CancelStep.{CancelStep}
 use Rattle.run_laws.proofs.States.NoViews.{is_deferred}
 use Rattle.std.proofs.Common.{inr, inl, ◌≤◌, length, ◌≡◌, ℕ, ◌+◌, ◌-◌, ◌<◌, Bool, true, false, List, [], ◌∷◌, Option, None, Some, refl, arith, sym, subst, ◌∙◌, ap}
-use Rattle.std.specs.Prelude.{is_some, remove, slice_get, slice_set, nat_lt, ◌||◌}
+use Rattle.std.specs.Prelude.{is_some, slice_get, slice_set, nat_lt, ◌||◌}
 use Rattle.std.specs.List.{list_any}
 use Rattle.model.specs.declared.abs.Abs.{Abs}
 use Rattle.model.specs.declared.abs.Kind.{Kind}
@@ -640,10 +640,8 @@ module _ (set : Set) (states : States) (s : Shared) (past : List Entry) (actor :
           words = each_remove (WordLeads set) s.packets (place_of s.packets n) h.fits.words;
           queued = h.fits.queued;
           starts = h.fits.starts;
-          few = (let less : length (remove s.packets (place_of s.packets n)) ≤ length s.packets =
-              length_removed s.packets (place_of s.packets n) in
-              let few : length s.packets ≤ MAX_LIVE_PACKETS = h.fits.few in
-              omega arith);
+          few = (let few : length s.packets ≤ MAX_LIVE_PACKETS = h.fits.few in
+              omega (arith, length_removed s.packets (place_of s.packets n)));
         };
         issued = refl;
         stands = below_walk set states s.issued n;

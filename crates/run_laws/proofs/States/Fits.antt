@@ -232,10 +232,8 @@ module _ (set : Set) where
           words = each_set (WordLeads set) s.packets (place_of s.packets n) p fits.words word;
           queued = fits.queued;
           starts = fits.starts;
-          few = (let long : length (with_packet s n p).packets ≡ length s.packets =
-              length-set s.packets (place_of s.packets n) p in
-              let few : length s.packets ≤ MAX_LIVE_PACKETS = fits.few in
-              omega arith);
+          few = (let few : length s.packets ≤ MAX_LIVE_PACKETS = fits.few in
+              omega (arith, length-set s.packets (place_of s.packets n) p));
         }
 
     pub with_cells_fits : (cells : List Cells) → length cells ≡ length s.cells

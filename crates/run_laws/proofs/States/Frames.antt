@@ -47,10 +47,7 @@ pub extra_more : (code : List Instr) (items : List OpenLoop) (l : OpenLoop)
     → extra code (items ++ l ∷ []) ≡ extra code items + (l.turns - 1) * rest (drop l.start code) 0
 extra_more code [] l = omega arith
 extra_more code (m ∷ items) l =
-    let others : extra code (items ++ l ∷ []) ≡ extra code items + (l.turns - 1) * rest
-    (drop l.start code) 0 =
-    extra_more code items l in
-    omega arith
+    omega (arith, extra_more code items l)
 
 -- how much an activation has left to execute, at most
 abbrev pub due_in : List Instr → Activation → ℕ

@@ -69,7 +69,7 @@ guarded_is s (Some guard) = refl
 held_within : (locks : List Bool) (m : ℕ) → slice_index_or locks m false ≡ true → m < length locks
 held_within [] m h = cc
 held_within (b ∷ locks) zero h = omega arith
-held_within (b ∷ locks) (suc m) h = let l : m < length locks = held_within locks m h in omega arith
+held_within (b ∷ locks) (suc m) h = omega (arith, held_within locks m h)
 
 acquired_guards : (locks : List Bool) (m : ℕ) (guard : Option ℕ) → guards_in locks guard ≡ true
     → guards_in (slice_set locks m true) guard ≡ true

@@ -97,10 +97,7 @@ summed_plain : (loops : List ℕ) (left after : ℕ → ℕ) → left 0 ≡ 1 + 
     → summed loops left ≡ 1 + summed loops after
 summed_plain [] left after first others = first
 summed_plain (q ∷ loops) left after first others =
-    let same : summed loops (λ d. left (suc d)) ≡ summed loops (λ d. after (suc d)) =
-    summed_same loops (λ d. left (suc d)) (λ d. after (suc d)) others
-    in
-    omega arith
+    omega (arith, summed_same loops (λ d. left (suc d)) (λ d. after (suc d)) others)
 
 -- the same positions
 same_positions : (ps qs : List ℕ) → are_same_positions ps qs ≡ true → ps ≡ qs
@@ -338,9 +335,4 @@ module _ (set : Set) (states : States) (s : Shared) (a : Activation) (i : Instr)
   -- an instruction that is about to be executed is still due
   pub some_due : is_plain (flow_of i) ≡ true → 1 ≤ due set a
   some_due is =
-      let before : summed (open_at h.routine.code a.position)
-      (rest (drop a.position h.routine.code))
-      ≡ 1 + summed (open_at h.routine.code a.position) (rest (drop (a.position + 1) h.routine.code))
-      = plain_left is in
-      let all : due set a ≡ due_in h.routine.code a = due_is set h.routine a h.stays.is_of in
-      omega arith
+      omega (arith, plain_left is, due_is set h.routine a h.stays.is_of)

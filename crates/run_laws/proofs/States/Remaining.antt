@@ -228,7 +228,7 @@ module _ (code : List Instr) where
   weighted_none : (loops : List ℕ) → weighted loops (λ d. 0) ≡ 0
   weighted_none [] = refl
   weighted_none (q ∷ loops) =
-      let none : weighted loops (λ d. 0) ≡ 0 = weighted_none loops in omega arith
+      omega (arith, weighted_none loops)
 
   -- executing one instruction takes its share
   module _ (after : ℕ → ℕ) where

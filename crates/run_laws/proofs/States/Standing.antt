@@ -241,11 +241,10 @@ module _ (set : Set) (states : States) (w : World) (past : List Entry) (good : I
                   ltb-true (length w.shared.packets) MAX_LIVE_PACKETS (and_left _ _ h.room) in
                   let one : length (new_packet n h.d h.major h.argument h.device.stack ∷ [])
                   ≡ 1 = refl in
-                  let long : length s.packets ≡ length w.shared.packets + length
-                  (new_packet n h.d h.major h.argument h.device.stack ∷ []) =
-                  length-append w.shared.packets
-                  (new_packet n h.d h.major h.argument h.device.stack ∷ []) in
-                  omega arith);
+                  omega (
+                    arith,
+                    length-append w.shared.packets (new_packet n h.d h.major h.argument h.device.stack ∷ []),
+                  ));
             };
             tells = tells_issue w.shared past stands.tells h.d h.major h.argument h.device.stack
                 fits.low;

@@ -13,7 +13,7 @@ use Rattle.model.specs.Queues.{StartState, head_of, idle, without_first_to_start
 use Rattle.model.specs.Run.{begun}
 use Rattle.model.specs.Set.{Set}
 use Rattle.model.specs.Trace.{Actor, Entry}
-use Rattle.model.specs.World.{World, idle_thread, start_of}
+use Rattle.model.specs.World.{World, start_of}
 use Rattle.run_laws.specs.Holder.{stack_sum, thread_sum}
 use Rattle.run_laws.specs.OneToken.{frame_tokens, start_tokens, tokens}
 use Rattle.run_laws.proofs.Holders.Runs.{idle_sum, top_changed}
@@ -50,15 +50,12 @@ module _ (set : Set) (states : States) (w : World) (past : List Entry) (good : I
   begun_each t thread after f now found idle items threads starts none =
       record {
         one = λ d start there.
-            let before : tokens states w.threads d start ≡ (if start.busy then 1 else 0) =
-            each.one d start (had d start there) in
-            let sum : thread_sum (λ g. frame_tokens states d g) (slice_set w.threads t after)
-            ≡ frame_tokens states d f
-            + thread_sum (λ g. frame_tokens states d g) w.threads =
-            first_frame (λ g. frame_tokens states d g) w.threads t thread after f found
-            idle items in
-            let zero_new : frame_tokens states d f ≡ 0 = none d in
-            rw threads (omega arith);
+            rw threads (omega (
+              arith,
+              each.one d start (had d start there),
+              first_frame (λ g. frame_tokens states d g) w.threads t thread after f found idle items,
+              none d,
+            ));
         idle = λ d start there free. each.idle d start (had d start there) free;
       }
     where
@@ -111,14 +108,12 @@ module _ (set : Set) (states : States) (w : World) (past : List Entry) (good : I
       one_other : (d : ℕ) (start : StartState) → start_of now.shared d ≡ Some start → h.d ≢ d
           → tokens states now.threads d start ≡ (if start.busy then 1 else 0)
       one_other d start there apart =
-          let before : tokens states w.threads d start ≡ (if start.busy then 1 else 0) =
-          each.one d start (had d start there apart) in
-          let none : frame_tokens states d (Routine a) ≡ 0 = other_tokens states a d apart in
-          let new : thread_sum (λ f. frame_tokens states d f) now.threads
-          ≡ frame_tokens states d (Routine a)
-          + thread_sum (λ f. frame_tokens states d f) w.threads =
-          sum d in
-          omega arith
+          omega (
+            arith,
+            each.one d start (had d start there apart),
+            other_tokens states a d apart,
+            sum d,
+          )
 
       one_here : (d : ℕ) (start : StartState) → start_of now.shared d ≡ Some start → h.d ≡ d
           → tokens states now.threads d start ≡ (if start.busy then 1 else 0)
@@ -131,13 +126,11 @@ module _ (set : Set) (states : States) (w : World) (past : List Entry) (good : I
           own_tokens states a d same ∙ rw has refl in
           let before : tokens states w.threads d h.start ≡ (if h.start.busy then 1 else 0) =
           each.one d h.start (rw (← same) h.has) in
-          let new : thread_sum (λ f. frame_tokens states d f) now.threads
-          ≡ frame_tokens states d (Routine a)
-          + thread_sum (λ f. frame_tokens states d f) w.threads =
-          sum d in
-          let shorter : length h.start.start_list ≡ length (without_head h.start.start_list) + 1 =
-          without_first h.start.start_list h.n h.first in
-          rw (← is d start there same) (omega arith)
+          rw (← is d start there same) (omega (
+            arith,
+            sum d,
+            without_first h.start.start_list h.n h.first,
+          ))
 
       idle_here : (d : ℕ) (start : StartState) → start_of now.shared d ≡ Some start → h.d ≡ d
           → start.busy ≡ false → start.device_queue ≡ []
@@ -182,17 +175,11 @@ module _ (set : Set) (states : States) (w : World) (past : List Entry) (good : I
       record {
         one = λ d start there.
             let even : EvenFor states w.shared h.frame o.frames d start = step d start there in
-            let before : tokens states w.threads d even.start ≡ (if even.start.busy then 1 else 0) =
-            each.one d even.start even.has in
             let sums : stack_sum (λ f. frame_tokens states d f) o.frames + start_tokens start
             + (if even.start.busy then 1 else 0)
             ≡ frame_tokens states d h.frame + start_tokens even.start
             + (if start.busy then 1 else 0) = even.even in
-            let changed : thread_sum (λ f. frame_tokens states d f) (slice_set w.threads t after)
-            + frame_tokens states d h.frame
-            ≡ thread_sum (λ f. frame_tokens states d f) w.threads
-            + stack_sum (λ f. frame_tokens states d f) o.frames = sum d in
-            omega arith;
+            omega (arith, each.one d even.start even.has, sum d);
         idle = λ d start there.
             (step d start there).idle
             (each.idle d (step d start there).start (step d start there).has);
@@ -253,9 +240,10 @@ pub tokens_begun : (set : Set) (states : States) (threads : ℕ)
 tokens_begun set states threads =
     record {
       one = λ d start there.
-          let none : thread_sum (λ f. frame_tokens states d f) (replicate threads idle_thread) ≡ 0 =
-          idle_sum (λ f. frame_tokens states d f) threads in
-          rw (unused d start there) (omega arith);
+          rw (unused d start there) (omega (
+            arith,
+            idle_sum (λ f. frame_tokens states d f) threads,
+          ));
       idle = λ d start there free. rw (unused d start there) refl;
     }
   where

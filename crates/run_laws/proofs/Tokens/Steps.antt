@@ -1,6 +1,6 @@
 -- A step keeps the tokens of devices: one goes from what a device has for StartIo to the routine
 -- that takes its packet, and back where the routine begins another, or starts the next one.
-use Rattle.std.proofs.Common.{◌≡◌, ◌≢◌, ◌≤◌, ℕ, ◌+◌, ◌-◌, Bool, true, false, List, [], ◌∷◌, ◌++◌, length, Option, None, Some, inl, inr, refl, ap, sym, ◌∙◌, arith}
+use Rattle.std.proofs.Common.{◌≡◌, ◌≢◌, ◌≤◌, ℕ, ◌+◌, ◌-◌, Bool, true, false, List, [], ◌∷◌, Option, None, Some, inl, inr, refl, ap, sym, ◌∙◌, arith}
 use Rattle.std.specs.Prelude.{slice_get, slice_set, if◌then◌else◌}
 use Rattle.std.proofs.lemmas.Bool.{cases_eq, cond_both, eq-eqb, ne_eqb}
 use Rattle.std.proofs.lemmas.List.{length-append}
@@ -180,9 +180,7 @@ started_even start n =
     (λ (new : StartState). start_tokens new + (if start.busy then 1 else 0)
     ≡ start_tokens start + (if new.busy then 1 else 0))
     (λ busy. refl)
-    (λ free. let long : length (start.start_list ++ n ∷ []) ≡ length start.start_list + 1 =
-    length-append start.start_list (n ∷ []) in
-    rw free (omega arith))
+    (λ free. rw free (omega (arith, length-append start.start_list (n ∷ []))))
 
 started_idle : (start : StartState) (n : ℕ) → (started start n).busy ≡ false
     → (started start n).device_queue ≡ []
@@ -196,9 +194,7 @@ next_even : (start : StartState) (waiting : List ℕ) → start.busy ≡ true
     ≡ 1 + start_tokens start + (if (next_of start waiting).busy then 1 else 0)
 next_even start [] busy = rw busy (omega arith)
 next_even start (n ∷ waiting) busy =
-    let long : length (start.start_list ++ n ∷ []) ≡ length start.start_list + 1 =
-    length-append start.start_list (n ∷ []) in
-    rw busy (omega arith)
+    rw busy (omega (arith, length-append start.start_list (n ∷ [])))
 
 next_idle : (start : StartState) (waiting : List ℕ) → start.device_queue ≡ waiting
     → start.busy ≡ true → (next_of start waiting).busy ≡ false
@@ -231,9 +227,7 @@ module _ (set : Set) (states : States) (s : Shared) where
       → TokenStep states s (Routine a) o
   goes_with a b o starts frames device token =
       same_starts (Routine a) o starts
-      (λ d. let one : frame_tokens states d (Routine b) ≡ frame_tokens states d (Routine a) =
-      same_tokens states a d b device token in
-      rw frames (omega arith))
+      (λ d. rw frames (omega (arith, same_tokens states a d b device token)))
 
   -- beside a frame that has none
   goes_below : (a b : Activation) (g : Frame) (o : Outcome) → o.shared.starts ≡ s.starts
@@ -242,10 +236,7 @@ module _ (set : Set) (states : States) (s : Shared) where
       → ((d : ℕ) → frame_tokens states d g ≡ 0) → TokenStep states s (Routine a) o
   goes_below a b g o starts frames device token none =
       same_starts (Routine a) o starts
-      (λ d. let one : frame_tokens states d (Routine b) ≡ frame_tokens states d (Routine a) =
-      same_tokens states a d b device token in
-      let other : frame_tokens states d g ≡ 0 = none d in
-      rw frames (omega arith))
+      (λ d. rw frames (omega (arith, same_tokens states a d b device token, none d)))
 
   module _ (a : Activation) (i : Instr) (h : Runs set states s a i) where
     goes_token : (b : Activation) (jumped : Bool) → leaves_token (work_of i) ≡ true
@@ -340,17 +331,12 @@ module _ (set : Set) (states : States) (s : Shared) where
     beside : (start : StartState) → start_of s a.device ≡ Some start
         → (state_of states a).token ≡ true → 1 + start_tokens start ≤ (if start.busy then 1 else 0)
     beside start there has =
-        let own : frame_tokens states a.device (Routine a) ≡ 1 = own_token states a has in
-        let all : frame_tokens states a.device (Routine a) + start_tokens start
-        ≤ (if start.busy then 1 else 0) = few a.device start there in
-        omega arith
+        omega (arith, own_token states a has, few a.device start there)
 
     slot_empty : (start : StartState) → start_of s a.device ≡ Some start
         → (state_of states a).token ≡ true → slot_tokens start.slot ≡ 0
     slot_empty start there has =
-        let all : 1 + start_tokens start ≤ (if start.busy then 1 else 0) = beside start there has in
-        let most : (if start.busy then 1 else 0) ≤ 1 = if_one start.busy in
-        omega arith
+        omega (arith, beside start there has, if_one start.busy)
 
     busy_with : (start : StartState) → start_of s a.device ≡ Some start
         → (state_of states a).token ≡ true → start.busy ≡ true

@@ -9,7 +9,6 @@ use Rattle.model.specs.declared.world.Frame.TheVariants.{Routine}
 use Rattle.model.specs.Queues.{StartState}
 use Rattle.model.specs.Set.{Set}
 use Rattle.model.specs.World.{Shared, World, start_of}
-use Rattle.run_laws.specs.Holder.{thread_sum}
 use Rattle.run_laws.specs.OneToken.{frame_tokens, slot_tokens, start_tokens, tokens}
 use Rattle.run_laws.proofs.Holders.Sums.{top_le}
 use Rattle.run_laws.proofs.Runs.Events.{StepsFrame}
@@ -45,11 +44,11 @@ FewTokens states s f =
 pub few_tokens : (set : Set) (states : States) (w : World) → OneTokenEach states w → (t : ℕ)
     (h : StepsFrame set w t) → FewTokens states w.shared h.frame
 few_tokens set states w each t h d start there =
-    let le : frame_tokens states d h.frame ≤ thread_sum (λ f. frame_tokens states d f) w.threads =
-    top_le (λ f. frame_tokens states d f) w.threads t h.thread h.below h.frame h.found h.frames in
-    let all : tokens states w.threads d start ≡ (if start.busy then 1 else 0) =
-    each.one d start there in
-    omega arith
+    omega (
+      arith,
+      top_le (λ f. frame_tokens states d f) w.threads t h.thread h.below h.frame h.found h.frames,
+      each.one d start there,
+    )
 
 -- Where the top frame of a thread that steps has the token of its device, the current slot is
 -- empty, and StartIo has to begin for no packet.

@@ -354,7 +354,7 @@ module _ (past later : List Entry) (n : ℕ) (before after : Option Packet) (lat
       uses_of q turn.now (record {
         deep = ap length turn.used ∙ length_left (uses past n) ∙ ap (λ (d : ℕ). d - 1) deep
             ∙ sym higher;
-        some = let more : 1 < p.depth = turn.more used.some used.rooted in omega arith;
+        some = omega (arith, turn.more used.some used.rooted);
         rooted = ap (λ (ls : List Location). completion_of (slice_get ls 0)) turn.alike
             ∙ used.rooted;
         within = omega arith;

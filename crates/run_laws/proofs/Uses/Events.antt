@@ -257,15 +257,11 @@ module _ (set : Set) (states : States) (w : World) (past : List Entry)
       → late_marks states returned n (slice_set w.threads t after)
       ≡ late_marks states returned n w.threads
   root_late t thread after f n found idle begun returned =
-      let put : late_marks states returned n (slice_set w.threads t after)
-      + late_in states returned n None thread.frames.items
-      ≡ late_marks states returned n w.threads + late_in states returned n None after.frames.items =
-      late_set states returned n w.threads t thread after found in
       let none : late_in states returned n None thread.frames.items ≡ 0 =
       ap (λ (frames : List Frame). late_in states returned n None frames) idle in
       let new : late_in states returned n None after.frames.items ≡ 0 =
       ap (λ (frames : List Frame). late_in states returned n None frames) begun in
-      omega arith
+      omega (arith, late_set states returned n w.threads t thread after found)
 
   -- a packet is issued
   issue_turns : (actor : Actor) (h : IssuesPacket set w actor.thread) (n : ℕ) → WorldTurns states w

@@ -58,10 +58,7 @@ module _ (states : States) (returned : Bool) (n : ℕ) where
       ≡ lates under xs + lates (last_under under xs) ys
   late_append under [] ys = omega arith
   late_append under (f ∷ xs) ys =
-      let others : lates (Some f) (xs ++ ys) ≡ lates (Some f) xs
-      + lates (last_under (Some f) xs) ys =
-      late_append (Some f) xs ys in
-      omega arith
+      omega (arith, late_append (Some f) xs ys)
 
   -- the I/O manager's frame carries no mark late
   pub late_walk : (under : Option Frame) (m : ℕ) → late under (Walk m) ≡ 0
@@ -105,26 +102,16 @@ module _ (states : States) (returned : Bool) (n : ℕ) where
       (frames : List Frame) → lates (Some (told_frame set told g)) frames ≡ lates (Some g) frames
   on_told set told g [] = refl
   on_told set told g (f ∷ frames) =
-      let here : late (Some (told_frame set told g)) f ≡ late (Some g) f =
-      told_under set told g f in
-      omega arith
+      omega (arith, told_under set told g f)
 
   last_late : (set : Set) (under : Option Frame) (told : Option Status)
       (below frames : List Frame) → lates under (told_last set told below ++ frames)
       ≡ lates under below + lates (last_under under below) frames
   last_late set under told [] frames = omega arith
   last_late set under told (g ∷ []) frames =
-      let here : late under (told_frame set told g) ≡ late under g =
-      told_late set under told g in
-      let over : lates (Some (told_frame set told g)) frames ≡ lates (Some g) frames =
-      on_told set told g frames in
-      omega arith
+      omega (arith, told_late set under told g, on_told set told g frames)
   last_late set under told (g ∷ e ∷ below) frames =
-      let others : lates (Some g) (told_last set told (e ∷ below) ++ frames)
-      ≡ lates (Some g) (e ∷ below) + lates
-      (last_under (Some g) (e ∷ below)) frames =
-      last_late set (Some g) told (e ∷ below) frames in
-      omega arith
+      omega (arith, last_late set (Some g) told (e ∷ below) frames)
 
   pub told_to_late : (set : Set) (under : Option Frame)
       (told : Option Status) (below frames : List Frame)
@@ -156,10 +143,7 @@ module _ (states : States) (returned : Bool) (n : ℕ) where
   late_set [] t thread after found = cc
   late_set (x ∷ threads) zero thread after found = let one : x ≡ thread = cc in rw one (omega arith)
   late_set (x ∷ threads) (suc t) thread after found =
-      let others : all_late (slice_set threads t after) + lates None
-      thread.frames.items ≡ all_late threads + lates None after.frames.items =
-      late_set threads t thread after found in
-      omega arith
+      omega (arith, late_set threads t thread after found)
 
   -- frames in place of the top one
   pub late_replaced : (set : Set) (threads : List Thread) (t : ℕ)
@@ -170,16 +154,13 @@ module _ (states : States) (returned : Bool) (n : ℕ) where
       → all_late (slice_set threads t after) + late (last_under None below) f
       ≡ all_late threads + lates (last_under None below) frames
   late_replaced set threads t thread after below f told frames found items now =
-      let put : all_late (slice_set threads t after) + lates None
-      thread.frames.items ≡ all_late threads + lates None after.frames.items =
-      late_set threads t thread after found in
       let old : lates None thread.frames.items ≡ lates None below + lates (last_under None below)
       (f ∷ []) =
       ap (λ (all : List Frame). lates None all) items ∙ late_append None below (f ∷ []) in
       let new : lates None after.frames.items ≡ lates None below
       + lates (last_under None below) frames =
       ap (λ (all : List Frame). lates None all) now ∙ told_to_late set None told below frames in
-      omega arith
+      omega (arith, late_set threads t thread after found)
 
   -- the top frame is gone with the I/O manager's frame below it, and had nothing to carry up
   pub late_stopped : (threads : List Thread) (t : ℕ) (thread after : Thread) (others : List Frame)
@@ -189,20 +170,18 @@ module _ (states : States) (returned : Bool) (n : ℕ) where
       → late (last_under None (others ++ Walk m ∷ [])) f ≡ 0
       → all_late (slice_set threads t after) ≡ all_late threads
   late_stopped threads t thread after others m f found items now none =
-      let put : all_late (slice_set threads t after) + lates None
-      thread.frames.items ≡ all_late threads + lates None after.frames.items =
-      late_set threads t thread after found in
       let old : lates None thread.frames.items ≡ lates None (others ++ Walk m ∷ [])
       + lates (last_under None (others ++ Walk m ∷ [])) (f ∷ []) =
       ap (λ (all : List Frame). lates None all) items
       ∙ late_append None (others ++ Walk m ∷ []) (f ∷ []) in
-      let under : lates None (others ++ Walk m ∷ []) ≡ lates None others
-      + lates (last_under None others) (Walk m ∷ []) =
-      late_append None others (Walk m ∷ []) in
-      let top : late (last_under None others) (Walk m) ≡ 0 = late_walk (last_under None others) m in
       let new : lates None after.frames.items ≡ lates None others =
       ap (λ (all : List Frame). lates None all) now in
-      omega arith
+      omega (
+        arith,
+        late_set threads t thread after found,
+        late_append None others (Walk m ∷ []),
+        late_walk (last_under None others) m,
+      )
 
   -- the top frame's is among them
   late_thread : (threads : List Thread) (t : ℕ) (thread : Thread)
@@ -211,21 +190,17 @@ module _ (states : States) (returned : Bool) (n : ℕ) where
   late_thread [] t thread found = cc
   late_thread (x ∷ threads) zero thread found = let one : x ≡ thread = cc in rw one (omega arith)
   late_thread (x ∷ threads) (suc t) thread found =
-      let others : lates None thread.frames.items ≤ all_late threads =
-      late_thread threads t thread found in
-      omega arith
+      omega (arith, late_thread threads t thread found)
 
   pub late_top : (threads : List Thread) (t : ℕ) (thread : Thread)
       (below : List Frame) (f : Frame) → slice_get threads t ≡ Some thread
       → thread.frames.items ≡ below ++ f ∷ []
       → late (last_under None below) f ≤ all_late threads
   late_top threads t thread below f found items =
-      let all : lates None thread.frames.items ≤ all_late threads =
-      late_thread threads t thread found in
       let parts : lates None thread.frames.items ≡ lates None below + lates (last_under None below)
       (f ∷ []) =
       ap (λ (frames : List Frame). lates None frames) items ∙ late_append None below (f ∷ []) in
-      omega arith
+      omega (arith, late_thread threads t thread found)
 
 -- a routine that is lent a packet has none to carry up
 abbrev pub Carried : Set → States → Frame → Type 0
@@ -277,23 +252,16 @@ module _ (set : Set) (states : States) (returned : Bool) (n : ℕ) where
       → lates_on under frames ≤ unlent_under frames under + walking set frames n
   late_few under [] carried = omega arith
   late_few under (f ∷ frames) carried =
-      let here : late_on states returned n under f ≤ unlent_under (f ∷ frames) under =
-      late_unlent under f frames carried.0 in
-      let others : lates_on (Some f) frames ≤ unlent_under frames (Some f) + walking set frames n =
-      late_few (Some f) frames carried.1 in
       let walks : walking set (f ∷ frames) n ≡ unlent_under frames (Some f) + walking set frames n =
       refl in
       let parts : lates_on under (f ∷ frames)
       ≡ late_on states returned n under f + lates_on (Some f) frames = refl in
-      omega arith
+      omega (arith, late_unlent under f frames carried.0, late_few (Some f) frames carried.1)
 
   late_first : (frames : List Frame) → Each (Carried set states) frames
       → lates_on None frames ≤ walking set frames n
   late_first frames carried =
-      let few : lates_on None frames ≤ unlent_under frames None + walking set frames n =
-      late_few None frames carried in
-      let none : unlent_under frames None ≡ 0 = if_none (is_lent set frames) in
-      omega arith
+      omega (arith, late_few None frames carried, if_none (is_lent set frames))
 
   late_threads : (threads : List Thread) → AllCarried set states threads
       → late_marks states returned n threads ≤ all_walking set threads n
@@ -301,9 +269,7 @@ module _ (set : Set) (states : States) (returned : Bool) (n : ℕ) where
   late_threads (thread ∷ threads) carried =
       let here : lates_on None thread.frames.items ≤ walking set thread.frames.items n =
       late_first thread.frames.items (carried 0 thread refl) in
-      let others : late_marks states returned n threads ≤ all_walking set threads n =
-      late_threads threads (λ t other there. carried (suc t) other there) in
-      omega arith
+      omega (arith, late_threads threads (λ t other there. carried (suc t) other there))
 
   -- and none for the top one
   late_below : (under : Option Frame) (below : List Frame)
@@ -311,25 +277,22 @@ module _ (set : Set) (states : States) (returned : Bool) (n : ℕ) where
       → lates_on under (below ++ Walk n ∷ []) + 1
       ≤ unlent_under (below ++ Walk n ∷ []) under + walking set (below ++ Walk n ∷ []) n
   late_below under [] carried =
-      let top : late_on states returned n under (Walk n)
-      ≡ 0 = late_walk states returned n under n in
       let own : walking set (Walk n ∷ []) n ≡ 1 = rw (eq-eqb n n refl) refl in
       let parts : lates_on under (Walk n ∷ []) ≡ late_on states returned n under (Walk n)
       + 0 = refl in
-      omega arith
+      omega (arith, late_walk states returned n under n)
   late_below under (f ∷ below) carried =
-      let frames : List Frame = below ++ Walk n ∷ [] in
-      let here : late_on states returned n under f ≤ unlent_under (f ∷ below ++ Walk n ∷ []) under =
-      late_unlent under f (below ++ Walk n ∷ []) carried.0 in
-      let others : lates_on (Some f) (below ++ Walk n ∷ []) + 1
-      ≤ unlent_under (below ++ Walk n ∷ []) (Some f) + walking set (below ++ Walk n ∷ []) n =
-      late_below (Some f) below carried.1 in
       let walks : walking set (f ∷ below ++ Walk n ∷ []) n
       ≡ unlent_under (below ++ Walk n ∷ []) (Some f) + walking set (below ++ Walk n ∷ []) n =
       refl in
       let parts : lates_on under (f ∷ below ++ Walk n ∷ [])
       ≡ late_on states returned n under f + lates_on (Some f) (below ++ Walk n ∷ []) = refl in
-      omega arith
+      omega (
+        arith,
+        below ++ Walk n ∷ [],
+        late_unlent under f (below ++ Walk n ∷ []) carried.0,
+        late_below (Some f) below carried.1,
+      )
 
   late_less : (threads : List Thread) (t : ℕ) (thread : Thread) → slice_get threads t ≡ Some thread
       → AllCarried set states threads
@@ -338,15 +301,14 @@ module _ (set : Set) (states : States) (returned : Bool) (n : ℕ) where
   late_less [] t thread found carried h = cc
   late_less (x ∷ threads) zero thread found carried h =
       let one : x ≡ thread = cc in
-      let others : late_marks states returned n threads ≤ all_walking set threads n =
-      late_threads threads (λ t other there. carried (suc t) other there) in
-      rw one (omega arith)
+      rw one (omega (arith, late_threads threads (λ t other there. carried (suc t) other there)))
   late_less (x ∷ threads) (suc t) thread found carried h =
       let here : lates_on None x.frames.items ≤ walking set x.frames.items n =
       late_first x.frames.items (carried 0 x refl) in
-      let others : late_marks states returned n threads + 1 ≤ all_walking set threads n =
-      late_less threads t thread found (λ k other there. carried (suc k) other there) h in
-      omega arith
+      omega (
+        arith,
+        late_less threads t thread found (λ k other there. carried (suc k) other there) h,
+      )
 
 -- where the I/O manager's frame of a packet is a top one, none is late
 pub no_late_walk : (set : Set) (states : States) (w : World) (t n : ℕ) (thread : Thread)
@@ -365,18 +327,11 @@ no_late_walk set states w t n thread below returned kept carried found frames =
     if_none (is_lent set (below ++ Walk n ∷ [])) in
     let less : late_marks states returned n w.threads + 1 ≤ all_walking set w.threads n =
     late_less set states returned n w.threads t thread found carried (rw frames (omega arith)) in
-    let all : all_walking set w.threads n ≡ held (find w.shared.packets n) =
-    kept.walks n in
-    let one : held (find w.shared.packets n) ≤ 1 = held_one (find w.shared.packets n) in
-    omega arith
+    omega (arith, kept.walks n, held_one (find w.shared.packets n))
 
 -- nor of a packet that the I/O manager doesn't have
 pub no_late_free : (set : Set) (states : States) (w : World) (n : ℕ) (returned : Bool)
     → Held set states w → AllCarried set states w.threads
     → held (find w.shared.packets n) ≡ 0 → late_marks states returned n w.threads ≡ 0
 no_late_free set states w n returned kept carried free =
-    let few : late_marks states returned n w.threads ≤ all_walking set w.threads n =
-    late_threads set states returned n w.threads carried in
-    let all : all_walking set w.threads n ≡ held (find w.shared.packets n) =
-    kept.walks n in
-    omega arith
+    omega (arith, late_threads set states returned n w.threads carried, kept.walks n)

@@ -80,10 +80,7 @@ one_late : (states : States) (returned : Bool) (n : ℕ) (under : Option Frame) 
     → (state_of states b).settled ≡ (state_of states a).settled
     → late_in states returned n under (Routine b ∷ []) ≡ late_on states returned n under (Routine a)
 one_late states returned n under a b settled =
-    let same : late_on states returned n under (Routine b)
-    ≡ late_on states returned n under (Routine a) =
-    late_still states returned n under a b settled in
-    omega arith
+    omega (arith, late_still states returned n under a b settled)
 
 two_late : (states : States) (returned : Bool) (n : ℕ) (under : Option Frame) (a b : Activation)
     (g : Frame)
@@ -91,12 +88,7 @@ two_late : (states : States) (returned : Bool) (n : ℕ) (under : Option Frame) 
     → late_in states returned n under (Routine b ∷ g ∷ [])
     ≡ late_on states returned n under (Routine a)
 two_late states returned n under a b g settled =
-    let over : late_on states returned n (Some (Routine b)) g
-    ≡ 0 = on_routine states returned n b g in
-    let same : late_on states returned n under (Routine b)
-    ≡ late_on states returned n under (Routine a) =
-    late_still states returned n under a b settled in
-    omega arith
+    omega (arith, on_routine states returned n b g, late_still states returned n under a b settled)
 
 -- what has to be carried up changes with a mark or a look alone
 abbrev settles : Instr → Bool
@@ -349,10 +341,7 @@ module _ (set : Set) (states : States) (s : Shared) (past : List Entry) (actor :
         there = found_other s n m p (mark_current p) at number apart;
         quiet = rw apart refl;
         late = λ x is.
-            let same : late_on states x.pending_returned m under (Routine (next a))
-            ≡ late_on states x.pending_returned m under (Routine a) =
-            known.others m x.pending_returned apart in
-            omega arith;
+            omega (arith, known.others m x.pending_returned apart);
       })
 
   free_there : (r n : ℕ) (p : Packet) → is_right (kind_of (state_of states a) r) ≡ true
@@ -438,14 +427,12 @@ module _ (set : Set) (states : States) (s : Shared) (past : List Entry) (actor :
         free = free;
         none = none_late late (find s.packets n) none;
         still = none_late lately (find o.shared.packets n) (λ returned.
-            let even : lately returned + late_on states returned n under (Routine a)
-            ≡ late returned + late_in states returned n under o.frames =
-            lates.even returned in
-            let zero_before : late returned ≡ 0 = none returned in
-            let equal : late_in states returned n under o.frames ≡ late_on states returned n under
-            (Routine a) =
-            two_late states returned n under a (next a) g settled in
-            omega arith);
+            omega (
+              arith,
+              lates.even returned,
+              none returned,
+              two_late states returned n under a (next a) g settled,
+            ));
       })))
       (λ m apart. record {
         there = found_other s n m p q here number apart;

@@ -113,13 +113,7 @@ module _ (states : States) (s : Shared) (past : List Entry) (actor : Actor) (und
       (find o.shared.packets n) late lately
       (same_recorded past actor o.actions n h.quiet) h.there
       (λ p there.
-      let even : lately p.pending_returned + late_on states p.pending_returned n under f
-      ≡ late p.pending_returned + late_in states p.pending_returned n under o.frames =
-      lates.even p.pending_returned in
-      let same : late_in states p.pending_returned n under o.frames
-      ≡ late_on states p.pending_returned n under f =
-      h.late p there in
-      omega arith))
+      omega (arith, lates.even p.pending_returned, h.late p there)))
 
   -- something happens to one packet alone
   pub split_step : (o : Outcome) (n : ℕ) → UseAt o n → ((m : ℕ) → nat_eq n m ≡ false → Apart o m)

@@ -1,6 +1,6 @@
 -- What is known of a thread's top frame that steps, over another frame or none: it stands as it
 -- should, its rights are to live packets, and what it sees and stands on is as its sort says.
-use Rattle.std.proofs.Common.{◌≡◌, ℕ, ◌≤◌, List, Option, None, Some, true, false, refl, ap, sym, ◌∙◌, arith, inl, inr}
+use Rattle.std.proofs.Common.{◌≡◌, ℕ, List, Option, None, Some, true, false, refl, ap, sym, ◌∙◌, arith, inl, inr}
 use Rattle.std.specs.Prelude.{⊤}
 use Rattle.model.specs.declared.abs.Abs.{Abs}
 use Rattle.model.specs.declared.instr.Instr.TheVariants.{End}
@@ -14,7 +14,6 @@ use Rattle.model.specs.Kinds.{is_new, is_view}
 use Rattle.model.specs.Set.{Set, member, sort_of}
 use Rattle.model.specs.Trace.{Actor, Entry}
 use Rattle.model.specs.World.{Shared, register}
-use Rattle.run_laws.specs.Holder.{right, rights}
 use Rattle.run_laws.proofs.Holders.Counts.{Holding, reads_ref, walk_taken}
 use Rattle.run_laws.proofs.Holders.Rights.{one_right, right_le}
 use Rattle.run_laws.proofs.Past.LivePackets.{find, find_place}
@@ -123,13 +122,11 @@ module _ (set : Set) (states : States) (s : Shared) (past : List Entry) (under :
             (moved_end set states s a (runs set states s a End h.top at) l there).arrives;
         rights = h.holding.rights;
         owns = λ r n is reads.
-            let one : right (kind_of (state_of states a) r) (register a r) n ≡ 1 =
-            one_right (kind_of (state_of states a) r) (register a r) n is
-            (reads_ref s (register a r) n reads) in
-            let le : right (kind_of (state_of states a) r) (register a r) n
-            ≤ rights (state_of states a).kinds a.registers n =
-            right_le s.issued (state_of states a).kinds a.registers r n stays.kinds in
-            omega arith;
+            omega (
+              arith,
+              one_right (kind_of (state_of states a) r) (register a r) n is (reads_ref s (register a r) n reads),
+              right_le s.issued (state_of states a).kinds a.registers r n stays.kinds,
+            );
         views = views_under under h.seen;
         on = h.on;
         lent = lent_settled;

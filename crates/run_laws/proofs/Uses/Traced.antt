@@ -122,12 +122,11 @@ pub opened_recorded : (past : List Entry) (actor : Actor) (actions : List Action
     → uses_opened past ≤ uses_opened (recorded past actor actions)
 opened_recorded past actor [] = omega arith
 opened_recorded past actor (action ∷ actions) =
-    let one : uses_opened past ≤ opens action (uses_opened past) = opens_more action
-    (uses_opened past) in
-    let others : opens action (uses_opened past) ≤ uses_opened
-    (recorded (entry past actor action ∷ past) actor actions) =
-    opened_recorded (entry past actor action ∷ past) actor actions in
-    omega arith
+    omega (
+      arith,
+      opens_more action (uses_opened past),
+      opened_recorded (entry past actor action ∷ past) actor actions,
+    )
 
 pub traced_begun : Traced []
 traced_begun =

@@ -238,9 +238,7 @@ module _ (set : Set) (states : States) (s : Shared) (past : List Entry) (actor :
         there = found_other s n m p q at number apart;
         quiet = rw apart refl;
         late = λ x is.
-            let top : late_on states x.pending_returned m under (Walk n) ≡ 0 =
-            late_walk states x.pending_returned m under n in
-            omega arith;
+            omega (arith, late_walk states x.pending_returned m under n);
       })
 
   -- at the first location the packet tops out
@@ -274,8 +272,7 @@ module _ (set : Set) (states : States) (s : Shared) (past : List Entry) (actor :
 
   walk_late : (returned : Bool) (m : ℕ) → late_in states returned m under (Walk n ∷ []) ≡ 0
   walk_late returned m =
-      let top : late_on states returned m under (Walk n) ≡ 0 = late_walk states returned m under n
-      in omega arith
+      omega (arith, late_walk states returned m under n)
 
   -- a completion routine that begins has still to see whether there is a mark
   routine_late : (c : Completion) (returned : Bool) (m : ℕ) (b : Bool) → nat_eq n m ≡ b
@@ -283,22 +280,18 @@ module _ (set : Set) (states : States) (s : Shared) (past : List Entry) (actor :
       → late_in states returned m under (Walk n ∷ Routine (completes_with set c n) ∷ [])
       ≡ (if b then if returned then 1 else 0 else 0)
   routine_late c returned m b same starts =
-      let top : late_on states returned m under (Walk n)
-      ≡ 0 = late_walk states returned m under n in
       let over : late_on states returned m (Some (Walk n)) (Routine (completes_with set c n))
       ≡ (if b then if returned then 1 else 0 else 0) = rw (same, starts) refl in
-      omega arith
+      omega (arith, late_walk states returned m under n)
 
   -- one that is lent the packet has nothing to carry up
   lent_late : (c : Completion) (returned : Bool) (m : ℕ)
       → (state_of states (completes_with set c n)).settled ≡ SettledMark
       → late_in states returned m under (Walk n ∷ Routine (completes_with set c n) ∷ []) ≡ 0
   lent_late c returned m starts =
-      let top : late_on states returned m under (Walk n)
-      ≡ 0 = late_walk states returned m under n in
       let over : late_on states returned m (Some (Walk n)) (Routine (completes_with set c n)) ≡ 0 =
       rw starts (cond_both (nat_eq n m) 0 0 (λ x. x ≡ 0) (λ is. refl) (λ other. refl)) in
-      omega arith
+      omega (arith, late_walk states returned m under n)
 
   pub walk_used : (below : Option Frame) (o : Outcome) → Comes set s t below (Walk n) o
       → UseStep states s past actor under (Walk n) o
