@@ -1,1 +1,2 @@
 mod Releasing
+mod Same

@@ -7,6 +7,7 @@ ghost use Rattle.model.specs.LocalRule.{is_held, with_lock, moved};
 ghost use Rattle.model.specs.Kinds.{left_behind};
 ghost use Rattle.model.specs.LocalRule.{marked, given_down};
 ghost use Rattle.model.specs.Kinds.{duty_completed};
+ghost use Rattle.absstate.specs.Same.{queue_number, shape};
 
 use model::abs::{Abs, Duty, Kind, Settled};
 use model::instr::{Register, SpinLock};
@@ -73,16 +74,69 @@ pub fn are_same(a: &Abs, b: &Abs) -> bool
         && a.token == b.token
 }
 
-fn same_kinds(a: &[Kind], b: &[Kind]) -> bool
+/// Whether registers have the same kinds, looked at one after another up to the first that differ.
+fn same_kinds(a: &[Kind; REGISTERS], b: &[Kind; REGISTERS]) -> bool
     ensures { IsTrue result ↔ (a.now ≡ b.now) }
 {
-    a == b
+    for i in 0..REGISTERS {
+        if !is_same_kind(a[i], b[i]) {
+            return false;
+        }
+    }
+    true
 }
 
-fn same_locks(a: &[bool], b: &[bool]) -> bool
+/// Whether two kinds are one: two comparisons of numbers, where `==` has a case for each variant.
+#[inline(always)]
+#[tactic(auto, using(crate::proofs::Same::same_kind, crate::proofs::Same::other_kind))]
+fn is_same_kind(a: Kind, b: Kind) -> bool
+    ensures { IsTrue result ↔ (a ≡ b) }
+{
+    shape(a) == shape(b) && queue_number(a) == queue_number(b)
+}
+
+/// A number for what a kind says, its list apart.
+#[inline(always)]
+fn shape(kind: Kind) -> u8
+    ensures { result ≡ shape kind }
+{
+    match kind {
+        Kind::Blank => 0,
+        Kind::Num => 1,
+        Kind::Lower => 2,
+        Kind::New => 3,
+        Kind::Own => 4,
+        Kind::Listed(_) => 5,
+        Kind::Armed(_) => 6,
+        Kind::Taken(_) => 7,
+        Kind::Cancelling(_) => 8,
+        Kind::View => 9,
+    }
+}
+
+/// The number of the queue that a kind names, and 0 where it names none.
+#[inline(always)]
+fn queue_number(kind: Kind) -> u8
+    ensures { result ≡ queue_number kind }
+{
+    match kind {
+        Kind::Listed(QueueName::Declared(queue))
+        | Kind::Armed(QueueName::Declared(queue))
+        | Kind::Taken(QueueName::Declared(queue))
+        | Kind::Cancelling(QueueName::Declared(queue)) => queue,
+        _ => 0,
+    }
+}
+
+fn same_locks(a: &[bool; SPIN_LOCKS], b: &[bool; SPIN_LOCKS]) -> bool
     ensures { IsTrue result ↔ (a.now ≡ b.now) }
 {
-    a == b
+    for i in 0..SPIN_LOCKS {
+        if a[i] != b[i] {
+            return false;
+        }
+    }
+    true
 }
 
 /// What a register may be used for.

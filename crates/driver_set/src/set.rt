@@ -52,12 +52,20 @@ impl DriverSet {
         ensures back { IfErr result (λ lists. lists ≡ record { 0 = drivers; 1 = devices }) }
     {
         if is_sound(drivers.as_slice(), devices.as_slice()) {
-            Ok(DriverSet {
-                driver_list: drivers,
-                device_list: devices,
-            })
+            Ok(DriverSet::of_sound(drivers, devices))
         } else {
             Err((drivers, devices))
+        }
+    }
+
+    /// The set of drivers and devices that are known to make one: nothing is tested.
+    pub fn of_sound(drivers: Vec<Driver>, devices: Vec<Device>) -> DriverSet
+        requires { IsSound (record { drivers = drivers.items; devices = devices.items }) }
+        ensures { result ≡ record { drivers = drivers.items; devices = devices.items } }
+    {
+        DriverSet {
+            driver_list: drivers,
+            device_list: devices,
         }
     }
 
