@@ -1,3 +1,4 @@
+pub mod Evidence
+pub mod Fault
 pub mod Path
 pub mod Table
-pub mod Evidence

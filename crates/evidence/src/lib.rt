@@ -9,5 +9,5 @@ mod subject;
 mod trail;
 
 pub use evidence::{Evidence, evidence_at, evidence_of};
-pub use subject::Subject;
+pub use subject::{Fault, Subject};
 pub use trail::{Path, Step, path_to};

@@ -1,13 +1,22 @@
 //! The routine that a refusal speaks of.
 
-ghost use Rattle.std.specs.Prelude.{◌≡◌, length, option_and_then, option_map, slice_get};
+ghost use Rattle.std.specs.Prelude.{◌≡◌, IfOk, length, option_and_then, option_map, slice_get};
 ghost use Rattle.model.specs.declared.limits.TheConstants.{MAX_INSTRUCTIONS};
 
 use absstate::{Abs, Outs, Rule, transfer};
 use driver_set::DriverSet;
 use model::instr::Instr;
 use model::set::Routine;
+use std::alloc::{AllocError, Global};
 use std::marker::Model;
+use verifier::check_routine;
+
+/// A fault of a routine: its position, and the rule that is broken there.
+#[derive(Clone, Copy)]
+pub struct Fault {
+    pub at: u16,
+    pub rule: Rule,
+}
 
 /// A routine of the driver of a number, of a set, with its own number.
 #[derive(Drop)]
@@ -33,6 +42,7 @@ impl<'a> Subject<'a> {
     ghost use Rattle.std.specs.Prelude.{◌≤◌};
     ghost use Rattle.model.specs.LocalRule.{entry_state, local_rule, refuses};
     ghost use Rattle.model.specs.Set.{member};
+    ghost use Rattle.evidence.specs.Fault.{Finds};
     ghost use Rattle.evidence.specs.Path.{member_of};
 
     /// The routine of a number, of the driver of a number, if it is there.
@@ -70,5 +80,27 @@ impl<'a> Subject<'a> {
             self.now.driver }
     {
         transfer(state, instr, self.routine.sort, self.set, self.driver)
+    }
+
+    /// The first fault of the routine, if it has one.
+    ///
+    /// # Errors
+    ///
+    /// When memory runs out.
+    pub fn first_fault(&self, alloc: Global) -> Result<Option<Fault>, AllocError>
+        ensures { IfOk result (Finds self.now) }
+    {
+        match check_routine(alloc, self.set, self.driver, self.number, self.routine) {
+            Ok(_certificate) => Ok(None),
+            Err(refusal) => {
+                if refusal.rule == Rule::Memory {
+                    return Err(AllocError);
+                }
+                Ok(Some(Fault {
+                    at: refusal.at,
+                    rule: refusal.rule,
+                }))
+            }
+        }
     }
 }

@@ -6,6 +6,7 @@
 
 mod kinds;
 mod names;
+pub mod pages;
 mod path;
 mod place;
 mod rules;
@@ -13,4 +14,5 @@ mod source;
 mod state;
 mod telling;
 
-pub use telling::{explanation, roll};
+pub use pages::rule_words;
+pub use telling::{Told, explanation, explanations, roll};

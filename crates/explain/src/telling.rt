@@ -1,7 +1,7 @@
 //! Refusals explained, and the routines of an accepted set by name.
 
 ghost use Rattle.std.specs.Prelude.{◌≡◌, ◌⊎◌};
-ghost use Rattle.model.specs.Typable.{IsFirstFault, at_start};
+ghost use Rattle.model.specs.Typable.{IsFirstFault, IsFirstFaultOf, at_start};
 
 use crate::names::Names;
 use crate::path::add_path;
@@ -12,7 +12,7 @@ use crate::state::{add_differences, add_state};
 use absstate::Abs;
 use asm_source::instruction_lines;
 use driver_set::DriverSet;
-use evidence::{Evidence, Path, evidence_of};
+use evidence::{Evidence, Path, Subject, evidence_at, evidence_of};
 use model::abs::{Refusal, Rule};
 use model::instr::Instr;
 use model::set::{Driver, Routine};
@@ -41,6 +41,92 @@ pub fn explanation(
         let scene = scene_of(alloc, text, refusal, routine)?;
         add_evidence(&mut prose, &scene, routine, &evidence)?;
     }
+    Ok(prose)
+}
+
+/// A refusal, and what is told of it.
+#[derive(Drop)]
+pub struct Told {
+    pub refusal: Refusal,
+    pub words: String,
+}
+
+/// The first fault of each routine of a set that a text names, told in words as [`explanation`]
+/// tells a refusal: the set's own first, if it has no device, and then in order.
+///
+/// # Errors
+///
+/// When memory runs out.
+pub fn explanations(alloc: Global, text: &[u8], set: &DriverSet) -> Result<Vec<Told>, AllocError> {
+    let mut all = Vec::new(alloc);
+    if set.devices().is_empty() {
+        let mut words = String::new(alloc);
+        add_lesson(&mut words, of_set(Rule::Malformed))?;
+        all.push(Told {
+            refusal: at_start(Rule::Malformed),
+            words,
+        })?;
+    }
+    let mut number: u8 = 0;
+    for driver in set.drivers() {
+        add_faults(alloc, &mut all, text, set, number, driver)?;
+        number = number.saturating_add(1);
+    }
+    Ok(all)
+}
+
+/// The refusal of a set that isn't about one of its routines.
+fn at_start(rule: Rule) -> Refusal {
+    Refusal {
+        driver: 0,
+        routine: 0,
+        at: 0,
+        rule,
+    }
+}
+
+/// Adds the first fault of each routine of the driver of a number.
+fn add_faults(
+    alloc: Global,
+    all: &mut Vec<Told>,
+    text: &[u8],
+    set: &DriverSet,
+    number: u8,
+    driver: &Driver,
+) -> Result<(), AllocError> {
+    let mut place: u8 = 0;
+    for routine in driver.routines.as_slice() {
+        if let Some(subject) = Subject::of(set, number, place) {
+            if let Some(fault) = subject.first_fault(alloc)? {
+                let refusal = Refusal {
+                    driver: number,
+                    routine: place,
+                    at: fault.at,
+                    rule: fault.rule,
+                };
+                let words = fault_words(alloc, text, subject, routine, &refusal)?;
+                all.push(Told { refusal, words })?;
+            }
+        }
+        place = place.saturating_add(1);
+    }
+    Ok(())
+}
+
+/// The first fault of a routine in words.
+fn fault_words(
+    alloc: Global,
+    text: &[u8],
+    subject: Subject<'_>,
+    routine: &Routine,
+    refusal: &Refusal,
+) -> Result<String, AllocError>
+    requires { IsFirstFaultOf subject refusal.now.at refusal.now.rule }
+{
+    let mut prose = String::new(alloc);
+    let evidence = evidence_at(alloc, subject, refusal.at, refusal.rule)?;
+    let scene = scene_of(alloc, text, refusal, routine)?;
+    add_evidence(&mut prose, &scene, routine, &evidence)?;
     Ok(prose)
 }
 

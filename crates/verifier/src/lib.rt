@@ -14,6 +14,6 @@ mod survey;
 pub mod verdict;
 
 pub use model::abs::{Refusal, Rule};
-pub use routine::entry;
+pub use routine::{check_routine, entry};
 pub use survey::{certificate_through, innermost_loop};
 pub use verdict::{Accepted, verify};

@@ -1,0 +1,620 @@
+//! Each rule on a page of its own: what it says, where that is written, and a short text that it
+//! refuses, beside the same one mended. docs/RULES.md has the same examples.
+
+use model::abs::Rule;
+use std::alloc::{AllocError, Global};
+
+/// A short text that a rule refuses, and how it is mended.
+#[derive(Clone, Copy)]
+pub struct Example {
+    pub refused: &'static str,
+    pub mend: &'static str,
+    pub mended: &'static str,
+}
+
+/// What a rule says, where that is written, and an example of it, where a text can be one.
+#[derive(Clone, Copy)]
+pub struct Page {
+    pub says: &'static str,
+    pub source: &'static str,
+    pub example: Option<Example>,
+}
+
+/// The page of a rule.
+pub fn page_of(rule: Rule) -> Page {
+    match rule {
+        Rule::Malformed => MALFORMED,
+        Rule::Unreachable => UNREACHABLE,
+        Rule::StatesDiffer => STATES_DIFFER,
+        Rule::WrongKind => WRONG_KIND,
+        Rule::DoubleCompletion => DOUBLE_COMPLETION,
+        Rule::MarkIrpPending => MARK_IRP_PENDING,
+        Rule::CancelSpinLock => CANCEL_SPIN_LOCK,
+        Rule::SpinLock => SPIN_LOCK,
+        Rule::LockHeld => LOCK_HELD,
+        Rule::Level => LEVEL,
+        Rule::Guard => GUARD,
+        Rule::CancelState => CANCEL_STATE,
+        Rule::Dropped => DROPPED,
+        Rule::Token => TOKEN,
+        Rule::Sort => SORT,
+        Rule::Completion => COMPLETION,
+        Rule::StackTooSmall => STACK_TOO_SMALL,
+        Rule::NoLower => NO_LOWER,
+        Rule::TooLong => TOO_LONG,
+        Rule::Memory => MEMORY,
+    }
+}
+
+/// What is told of a rule behind its name: its page in words.
+///
+/// # Errors
+///
+/// When memory runs out.
+pub fn rule_words(alloc: Global, rule: Rule) -> Result<String, AllocError> {
+    let Page {
+        says,
+        source,
+        example,
+    } = page_of(rule);
+    let mut prose = String::new(alloc);
+    write!(prose, "\n{says}\nsee: {source}\n")?;
+    if let Some(
+        Example {
+            refused,
+            mend,
+            mended,
+        },
+    ) = example
+    {
+        write!(prose, "\nthis is refused:\n\n{refused}")?;
+        write!(prose, "\nmend it: {mend}\nthis is accepted:\n\n{mended}")?;
+    }
+    Ok(prose)
+}
+
+const MALFORMED: Page = Page {
+    says: "A set has a device. A routine has instructions, the last of which is a `ret`; a jump
+leads forward, and not into or out of a loop's body; each `loop` has its `end`, and
+at most four are nested.",
+    source: "nothing of the Kit: it is what makes a certificate possible",
+    example: Some(Example {
+        refused: "driver d
+routine f dpc
+const r0 0
+endr
+endd
+device v d 1
+",
+        mend: "end it with a `ret`",
+        mended: "driver d
+routine f dpc
+const r0 0
+ret void
+endr
+endd
+device v d 1
+",
+    }),
+};
+
+const UNREACHABLE: Page = Page {
+    says: "A path leads to each instruction.",
+    source: "nothing of the Kit: what no path reaches was meant for a path that is not there",
+    example: Some(Example {
+        refused: "driver d
+routine f dpc
+ret void
+ret void
+endr
+endd
+device v d 1
+",
+        mend: "take it out, or jump there",
+        mended: "driver d
+routine f dpc
+ret void
+endr
+endd
+device v d 1
+",
+    }),
+};
+
+const STATES_DIFFER: Page = Page {
+    says: "Where two paths meet, the verifier knows the same on both: the same kinds of
+registers, the same locks, the same that is still owed. At an `end` the same is known
+as at its `loop`.",
+    source: "nothing of the Kit. A packet that is completed on one of two paths alone is told so",
+    example: Some(Example {
+        refused: "driver d
+routine f dpc
+load r0 c0
+jz r0 on
+const r1 1
+on: ret void
+endr
+endd
+device v d 1
+",
+        mend: "clear `r1` before the paths meet, or set it on both of them",
+        mended: "driver d
+routine f dpc
+load r0 c0
+jz r0 on
+const r1 1
+clear r1
+on: ret void
+endr
+endd
+device v d 1
+",
+    }),
+};
+
+const WRONG_KIND: Page = Page {
+    says: "An operand has the kind that the instruction takes: a number, a packet, or a lower
+driver's status. A register whose packet was completed or given away is blank.",
+    source: "touching a packet after IoCompleteRequest, IoCallDriver or IoStartPacket; in a run, bug \
+        check 0x0A for a packet that topped out, and `wrong` for a register that has no such \
+        thing",
+    example: Some(Example {
+        refused: "driver d
+routine f dpc
+store c0 r0
+ret void
+endr
+endd
+device v d 1
+",
+        mend: "set the register first",
+        mended: "driver d
+routine f dpc
+const r0 1
+store c0 r0
+ret void
+endr
+endd
+device v d 1
+",
+    }),
+};
+
+const DOUBLE_COMPLETION: Page = Page {
+    says: "What is completed is a packet, and not one that was completed or given away already.",
+    source: "Static Driver Verifier, DoubleCompletion; IoCompleteRequest; bug check 0x44",
+    example: Some(Example {
+        refused: "driver d
+routine f dispatch
+complete r0 SUCCESS
+complete r0 SUCCESS
+ret SUCCESS
+endr
+endd
+device v d 1
+",
+        mend: "complete it once",
+        mended: "driver d
+routine f dispatch
+complete r0 SUCCESS
+ret SUCCESS
+endr
+endd
+device v d 1
+",
+    }),
+};
+
+const MARK_IRP_PENDING: Page = Page {
+    says: "A dispatch routine returns STATUS_PENDING exactly if it marked its packet; what the
+lower driver returned exactly if it sent the packet down without a mark; another
+status only where it did neither. No packet is completed with STATUS_PENDING. A
+packet that is put into a queue, or started, was marked; one that is passed on in the
+same location was not, nor is one marked twice.",
+    source: "Static Driver Verifier, MarkIrpPending; the Driver Kit, IoMarkIrpPending and \"Returning \
+        STATUS_PENDING\"",
+    example: Some(Example {
+        refused: "driver d
+routine f dispatch
+complete r0 SUCCESS
+ret PENDING
+endr
+endd
+device v d 1
+",
+        mend: "mark it before it is completed, or return the status",
+        mended: "driver d
+routine f dispatch
+mark r0
+complete r0 SUCCESS
+ret PENDING
+endr
+endd
+device v d 1
+",
+    }),
+};
+
+const CANCEL_SPIN_LOCK: Page = Page {
+    says: "The system cancel spin lock (`acqc`, `relc`) is acquired where it is not held,
+released where it is, and not kept at a return. A cancel routine begins with it held,
+and releases it.",
+    source: "Static Driver Verifier, CancelSpinLock; IoAcquireCancelSpinLock, IoReleaseCancelSpinLock; \
+        bug checks 0x0F and 0x10",
+    example: Some(Example {
+        refused: "driver d
+routine f dpc
+relc
+ret void
+endr
+endd
+device v d 1
+",
+        mend: "acquire it first, or leave it alone",
+        mended: "driver d
+routine f dpc
+acqc
+relc
+ret void
+endr
+endd
+device v d 1
+",
+    }),
+};
+
+const SPIN_LOCK: Page = Page {
+    says: "A spin lock (`l0` to `l7`) is acquired where it is not held, released where it is,
+and not kept at a return.",
+    source: "Static Driver Verifier, SpinLock; KeAcquireSpinLock, KeReleaseSpinLock; bug checks 0x0F \
+        and 0x10",
+    example: Some(Example {
+        refused: "driver d
+routine f dpc
+acquire l0
+ret void
+endr
+endd
+device v d 1
+",
+        mend: "release it on each path",
+        mended: "driver d
+routine f dpc
+acquire l0
+release l0
+ret void
+endr
+endd
+device v d 1
+",
+    }),
+};
+
+const LOCK_HELD: Page = Page {
+    says: "No packet is completed or sent down while a lock is held.",
+    source: "the Driver Kit on IoCompleteRequest and on spin locks: completion routines of the drivers \
+        above, or the lower driver, may come back to the lock",
+    example: Some(Example {
+        refused: "driver d
+routine f dispatch
+acquire l0
+complete r0 SUCCESS
+release l0
+ret SUCCESS
+endr
+endd
+device v d 1
+",
+        mend: "release the lock first",
+        mended: "driver d
+routine f dispatch
+acquire l0
+release l0
+complete r0 SUCCESS
+ret SUCCESS
+endr
+endd
+device v d 1
+",
+    }),
+};
+
+const LEVEL: Page = Page {
+    says: "A paged cell (`p0` to `p15`) is touched by a dispatch routine alone, while it holds
+no lock. All others may run at DISPATCH_LEVEL.",
+    source: "the Driver Kit on IRQL; bug check 0x0A",
+    example: Some(Example {
+        refused: "driver d
+routine f dpc
+loadp r0 p0
+ret void
+endr
+endd
+device v d 1
+",
+        mend: "use a cell that is not paged, or touch it in a dispatch routine before the lock",
+        mended: "driver d
+routine f dpc
+load r0 c0
+ret void
+endr
+endd
+device v d 1
+",
+    }),
+};
+
+const GUARD: Page = Page {
+    says: "`insert`, `remove`, `unlink` and `arm` stand where the lock of their queue is held. A
+guard is not released while a register has a packet that may still be cancelled
+behind its back: one that is listed, or taken off and not disarmed.",
+    source: "the Driver Kit on driver-managed IRP queues and their spin locks",
+    example: Some(Example {
+        refused: "driver d
+queue q l0
+routine f dispatch
+mark r0
+insert r0 q
+ret PENDING
+endr
+endd
+device v d 1
+",
+        mend: "acquire the lock round it",
+        mended: "driver d
+queue q l0
+routine f dispatch
+mark r0
+acquire l0
+insert r0 q
+release l0
+ret PENDING
+endr
+endd
+device v d 1
+",
+    }),
+};
+
+const CANCEL_STATE: Page = Page {
+    says: "A packet of a queue with a cancel routine is the routine's own, to be completed or
+moved, only when that is settled: after `unlink` by one who listed it or by the
+cancel routine, or after a `disarm` that found the cancel routine still set. A second
+packet of such a queue is not taken while a register names it.",
+    source: "the Driver Kit on IoSetCancelRoutine and on cancel routines: who gets NULL leaves the \
+        packet to the cancel routine; bug checks 0x44, 0x48 and 0x0A",
+    example: Some(Example {
+        refused: "driver d
+queue q l0 f
+routine f cancel
+relc
+complete r0 CANCELLED
+ret void
+endr
+endd
+device v d 1
+",
+        mend: "let the cancel routine take its packet off the queue, under the queue's lock",
+        mended: "driver d
+queue q l0 f
+routine f cancel
+relc
+acquire l0
+unlink r0 q
+release l0
+complete r0 CANCELLED
+ret void
+endr
+endd
+device v d 1
+",
+    }),
+};
+
+const DROPPED: Page = Page {
+    says: "No packet is lost: at a return no register has one, and none is written over.",
+    source: "the Driver Kit on dispatch routines: a packet is completed, passed on, or marked pending \
+        and kept",
+    example: Some(Example {
+        refused: "driver d
+routine f dispatch
+ret SUCCESS
+endr
+endd
+device v d 1
+",
+        mend: "complete it",
+        mended: "driver d
+routine f dispatch
+complete r0 SUCCESS
+ret SUCCESS
+endr
+endd
+device v d 1
+",
+    }),
+};
+
+const TOKEN: Page = Page {
+    says: "A busy device has one token: a StartIo routine begins with it, and a DPC routine gets
+it by `take`. Who has it begins a packet (`begin`) or starts the next one (`next`)
+before it returns, once. Who has none does neither, and who has it takes no second
+one.",
+    source: "IoStartPacket, IoStartNextPacket and StartIo routines: a device that is left busy starts \
+        no packet any more",
+    example: Some(Example {
+        refused: "driver d
+routine f startio
+complete r0 SUCCESS
+ret void
+endr
+endd
+device v d 1
+",
+        mend: "start the `next` packet, before the completion or after it",
+        mended: "driver d
+routine f startio
+next
+complete r0 SUCCESS
+ret void
+endr
+endd
+device v d 1
+",
+    }),
+};
+
+const SORT: Page = Page {
+    says: "Each sort of routine has its forms of return: `ret STATUS` and `ret lower` for
+dispatch, `ret continue` for propagate and hold, `ret stop` for hold, `ret void` for
+the others. `take` is for DPC routines, `pass` and `call` for dispatch routines,
+`start` for drivers that have a StartIo routine. Each cancel routine is that of
+exactly one queue; another one is told at its first position.",
+    source: "the Driver Kit on each sort of routine",
+    example: Some(Example {
+        refused: "driver d
+routine f dispatch
+complete r0 SUCCESS
+ret void
+endr
+endd
+device v d 1
+",
+        mend: "return as the sort does",
+        mended: "driver d
+routine f dispatch
+complete r0 SUCCESS
+ret SUCCESS
+endr
+endd
+device v d 1
+",
+    }),
+};
+
+const COMPLETION: Page = Page {
+    says: "A completion routine neither completes nor sends down. One that lets the completion
+go on (`propagate`) looks at PendingReturned, once, and marks the packet exactly
+where it is set. One that may hold its packet (`hold`) marks it before it keeps it,
+returns `ret stop` then, and `ret continue` where it did nothing. A packet that was
+not marked is not sent down with a `hold` routine.",
+    source: "the Driver Kit on IoCompletion routines, IoMarkIrpPending and \
+        STATUS_MORE_PROCESSING_REQUIRED",
+    example: Some(Example {
+        refused: "driver d
+routine f propagate
+ret continue
+endr
+endd
+device v d 1
+",
+        mend: "carry the mark up",
+        mended: "driver d
+routine f propagate
+ifpending r0 set
+ret continue
+set: mark r0
+ret continue
+endr
+endd
+device v d 1
+",
+    }),
+};
+
+const STACK_TOO_SMALL: Page = Page {
+    says: "Where a driver calls (`call`), each of its devices has at least one stack location
+more than the device under it; where it passes on (`pass`), at least as many.",
+    source: "the Driver Kit on I/O stack locations and StackSize; bug check 0x35",
+    example: Some(Example {
+        refused: "driver disk
+endd
+driver filter
+routine f dispatch
+call r0
+ret lower r0
+endr
+endd
+device low disk 1
+device up filter 1 low
+",
+        mend: "give the device one location for itself and those of the lower one",
+        mended: "driver disk
+endd
+driver filter
+routine f dispatch
+call r0
+ret lower r0
+endr
+endd
+device low disk 1
+device up filter 2 low
+",
+    }),
+};
+
+const NO_LOWER: Page = Page {
+    says: "Where a driver passes on or calls, each of its devices stands over another one.",
+    source: "the Driver Kit on IoCallDriver; a run stops there with `wrong`",
+    example: Some(Example {
+        refused: "driver d
+routine f dispatch
+pass r0
+ret lower r0
+endr
+endd
+device v d 1
+",
+        mend: "name the lower device, which has a driver of its own",
+        mended: "driver disk
+endd
+driver filter
+routine f dispatch
+pass r0
+ret lower r0
+endr
+endd
+device low disk 1
+device up filter 1 low
+",
+    }),
+};
+
+const TOO_LONG: Page = Page {
+    says: "A routine's certificate, how many instructions it executes at most, is at most
+1,000,000. Each instruction counts as often as the turns of the loops round it,
+multiplied. What is told is the position at which the sum passes that.",
+    source: "nothing of the Kit by number: what takes long belongs to several activations",
+    example: Some(Example {
+        refused: "driver d
+routine f dpc
+loop 1000
+loop 1000
+end
+end
+ret void
+endr
+endd
+device v d 1
+",
+        mend: "take fewer turns",
+        mended: "driver d
+routine f dpc
+loop 1000
+loop 100
+end
+end
+ret void
+endr
+endd
+device v d 1
+",
+    }),
+};
+
+const MEMORY: Page = Page {
+    says: "The verifier found no memory. The program tells it as `out of memory` on standard
+error, with status 3, and says nothing of the set. No text mends it.",
+    source: "nothing of the Kit: it is no fault of the set",
+    example: None,
+};
