@@ -16,9 +16,10 @@ use Rattle.model.specs.Set.{Set}
 use Rattle.model.specs.Sound.{IsSound}
 use Rattle.model.specs.Typable.{IsTypable}
 use Rattle.slot_laws.proofs.Fitting.Events.{all_fit}
-use Rattle.slot_laws.specs.Fits.{CancelFits, EventFits, FrameFits, HasKey, InstructionFits, ReturnFits, ThreadFits}
+use Rattle.slot_laws.specs.Fits.{CanBeListed, CancelFits, EventFits, FrameFits, HasKey, InstructionFits, ReturnFits, ThreadFits}
 use Rattle.slot_laws.specs.Fits as slots
 use Rattle.slot_laws.specs.Rep.{Means}
+use Rattle.slot_laws.specs.SlotStep.{key_at}
 use Rattle.slot_laws.specs.SlotStep as slot_steps
 use Rattle.slot_laws.specs.Slots.{SlotCancel, SlotFrame, SlotRoutine, SlotShared, SlotThread, SlotWalk, SlotWorld, packet_at}
 use Rattle.word_laws.specs.declared.activation.WordActivation.{WordActivation}
@@ -28,7 +29,7 @@ use Rattle.word_laws.specs.WordsFit.{CanGoDown, IsKey, WordEventFits, WordEvents
 use Rattle.word_laws.specs.WordsFit as words_fit
 use Rattle.word_laws.specs.WordStep.{top_frame}
 use Rattle.word_laws.proofs.Laws.{same_world}
-use Rattle.word_laws.proofs.Operands.{key_is, status_is}
+use Rattle.word_laws.proofs.Operands.{key_is, key_same, status_is}
 use Rattle.word_laws.proofs.Pairs.{Partner, paired_get, paired_last, paired_length, partner}
 use Rattle.word_laws.proofs.Stacks.{w as as_words}
 
@@ -46,6 +47,9 @@ module _ (s : SlotShared) (a : Activation) (words : List ℕ)
   goes_down r has down packet lies =
       down has.key packet has.is
       (ap (λ (k : ℕ). packet_at s k) (sym (key_is a words h s r has)) ∙ lies)
+
+  can_be_listed : (r : ℕ) → HasKey s a r → CanBeListed s (key_at a r) → CanBeListed s (word b r)
+  can_be_listed r has = subst (λ (k : ℕ). CanBeListed s k) (key_same a words h s r has)
 
   returns_fit : (form : Return) → ReturnFits a form → words_fit.ReturnFits b form
   returns_fit (WithStatus status) fits = tt
@@ -77,13 +81,15 @@ module _ (s : SlotShared) (a : Activation) (words : List ℕ)
     instruction_fits (Release lock) fits = fits
     instruction_fits AcquireCancel fits = fits
     instruction_fits ReleaseCancel fits = tt
-    instruction_fits (Insert r q) fits = (is_key r fits.0, fits.1, fits.2)
+    instruction_fits (Insert r q) fits =
+        (is_key r fits.0, fits.1, fits.2, can_be_listed r fits.0 fits.3)
     instruction_fits (Remove r q label) fits = fits
     instruction_fits (Unlink r q) fits = (is_key r fits.0, fits.1)
     instruction_fits (Arm r q) fits = is_key r fits
     instruction_fits (Disarm r label) fits = is_key r fits
     instruction_fits (IfCancel r label) fits = is_key r fits
-    instruction_fits (Start r) fits = (is_key r fits.0, fits.1, fits.2)
+    instruction_fits (Start r) fits =
+        (is_key r fits.0, fits.1, fits.2, can_be_listed r fits.0 fits.3)
     instruction_fits (Take r label) fits = fits
     instruction_fits (Begin r) fits = (is_key r fits.0, fits.1)
     instruction_fits Next fits = fits

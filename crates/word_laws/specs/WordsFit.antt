@@ -1,6 +1,6 @@
 -- What an event on words looks for, and finds: the instruction, the packet of a key, a word that is
--- the value of a status, a lock, a queue with room, room for another frame. Any word may be read as
--- a number. Who carries an event out tests none of it.
+-- the value of a status, a lock, a queue with room, lists without the key that is put into one, room
+-- for another frame. Any word may be read as a number. Who carries an event out tests none of it.
 use Rattle.std.specs.Prelude.{ℕ, ◌≡◌, ◌<◌, ⊤, true, List, length, Some, is_some, slice_get}
 use Rattle.model.specs.declared.event.Event.{Event}
 use Rattle.model.specs.declared.event.Event.TheVariants.{Issue, Cancel as CancelEvent, Interrupt, Dpc as DpcEvent, StartIo as StartIoEvent, Step}
@@ -17,7 +17,7 @@ use Rattle.model.specs.Set.{Set, instruction_at, lower_of}
 use Rattle.model.specs.Sound.{IsSound}
 use Rattle.model.specs.Status.{status_code}
 use Rattle.model.specs.Typable.{IsTypable}
-use Rattle.slot_laws.specs.Fits.{CanAcquire, CanStart, CanStartNext, CancelFits, HasCells, HasLock, HasQueue, HasStart, QueueHasRoom}
+use Rattle.slot_laws.specs.Fits.{CanAcquire, CanBeListed, CanStart, CanStartNext, CancelFits, HasCells, HasLock, HasQueue, HasStart, QueueHasRoom}
 use Rattle.slot_laws.specs.Slots.{SlotShared, packet_at}
 use Rattle.word_laws.specs.declared.activation.WordActivation.{WordActivation}
 use Rattle.word_laws.specs.Reads.{WordsMean}
@@ -71,6 +71,7 @@ WordInstructionFits set s t a AcquireCancel = CanAcquire s t SystemCancel
 WordInstructionFits set s t a ReleaseCancel = ⊤
 WordInstructionFits set s t a (Insert r q) =
     IsKey s (word a r) × HasQueue s a.device q × QueueHasRoom s a.device q
+    × CanBeListed s (word a r)
 WordInstructionFits set s t a (Remove r q label) = HasQueue s a.device q
 WordInstructionFits set s t a (Unlink r q) = IsKey s (word a r) × HasQueue s a.device q
 WordInstructionFits set s t a (Arm r q) = IsKey s (word a r)
@@ -78,6 +79,7 @@ WordInstructionFits set s t a (Disarm r label) = IsKey s (word a r)
 WordInstructionFits set s t a (IfCancel r label) = IsKey s (word a r)
 WordInstructionFits set s t a (Start r) =
     IsKey s (word a r) × HasStart s a.device × CanStart s a.device
+    × CanBeListed s (word a r)
 WordInstructionFits set s t a (Take r label) = HasStart s a.device
 WordInstructionFits set s t a (Begin r) = IsKey s (word a r) × HasStart s a.device
 WordInstructionFits set s t a Next = HasStart s a.device × CanStartNext s a.device
