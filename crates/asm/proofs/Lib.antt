@@ -4,6 +4,7 @@ pub mod Tidy
 pub mod Orderly
 pub mod Turns
 pub mod Plain
+pub mod Bare
 pub mod Least
 pub mod First
 pub mod Unknown

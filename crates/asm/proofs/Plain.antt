@@ -1,5 +1,5 @@
 -- A line of an instruction that has no label and uses no name.
-use Rattle.std.proofs.Common.{◌≡◌, ℕ, List, Some, None, Ok, Err, refl, sym, subst}
+use Rattle.std.proofs.Common.{◌≡◌, ℕ, List, Some, Ok, Err, refl, sym, subst}
 use Rattle.std.proofs.lemmas.List.{append-nil}
 use Rattle.model.specs.declared.instr.Instr.{Instr}
 use Rattle.asm_line.specs.Line.{read_line, BodyFits}

@@ -1,3 +1,4 @@
+pub mod Bare
 pub mod Outline
 pub mod Reading
 pub mod Plain

@@ -3,9 +3,9 @@
 ghost use Rattle.std.specs.Prelude.{◌≡◌};
 ghost use Rattle.asm.specs.Outline.{nothing_read};
 
+use crate::code::{ClosedCode, OpenCode};
 use indexmap::IndexSet;
 use model::instr::{Instr, SpinLock};
-use model::items::Items;
 use model::set::{Device, Driver, Sort};
 use std::alloc::Global;
 use std::marker::Model;
@@ -62,7 +62,7 @@ pub struct Linked {
 #[derive(Drop)]
 pub struct ClosedRoutine {
     pub sort: Sort,
-    pub code: Items<Linked>,
+    pub code: ClosedCode,
 }
 
 /// A queue of the open driver: the spin lock that guards it, and the use of the name of its cancel
@@ -96,7 +96,7 @@ pub struct Draft<'a> {
     pub(crate) sort: Sort,
     pub(crate) labels: IndexSet<Piece<'a>>,
     pub(crate) positions: Vec<u16>,
-    pub(crate) steps: Vec<Step<'a>>,
+    pub(crate) steps: OpenCode<'a>,
     pub(crate) unknown: Option<u64>,
 }
 
@@ -126,7 +126,7 @@ impl<'a> Model for Draft<'a> {
       sort = d.sort;
       labels = d.labels.keys;
       positions = d.positions.items;
-      steps = d.steps.items;
+      steps = d.steps;
       unknown = d.unknown;
     } };
 }
@@ -157,7 +157,7 @@ impl<'a> Draft<'a> {
             sort: Sort::Dispatch,
             labels: IndexSet::new(alloc),
             positions: Vec::new(alloc),
-            steps: Vec::new(alloc),
+            steps: OpenCode::new(alloc),
             unknown: None,
         }
     }

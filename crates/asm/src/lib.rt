@@ -7,6 +7,7 @@
 #![tactic(auto)]
 
 mod check;
+mod code;
 mod disassembly;
 mod draft;
 mod fault;

@@ -5,14 +5,13 @@ ghost use Rattle.model.specs.declared.limits.TheConstants.{MAX_DEVICES, MAX_DRIV
 ghost use Rattle.asm.specs.Outline.{device_added, device_of, dpc_handled, driver_closed, driver_opened, handled, is_among, is_known_label, is_stack_size, label_added, noted, queue_added, routine_closed, routine_opened, startio_handled, step_added, stepped, IsFitting, IsOrderly};
 
 use crate::draft::{ClosedRoutine, Draft, Place, QueueLine, Step, Use};
-use crate::link::{linked, missed_from};
 use crate::names::{add, add_use, earliest, missed, number_of, number_used, push_some, used_at};
 use asm_line::{Body, Line, UsedNames};
 use model::instr::{Instr, SpinLock};
-use model::items::Items;
 use model::set::{Device, Sort};
 use model::status::Major;
 use std::alloc::{AllocError, Global};
+use std::mem;
 use text::piece::Piece;
 
 impl<'a> Draft<'a> {
@@ -66,12 +65,13 @@ impl<'a> Draft<'a> {
         requires queues { length self.old.queue_names ≤ MAX_QUEUES }
         ensures { OnOk result (self.new ≡ driver_closed self.old) }
     {
-        let driver = self.finished_driver(alloc)?;
-        self.unknown = earliest(self.unknown, self.missed_in_driver());
+        let unknown = earliest(self.unknown, self.missed_in_driver());
+        let routines = mem::replace(&mut self.routines, Vec::new(alloc));
+        let driver = self.finished_driver(alloc, routines)?;
+        self.unknown = unknown;
         self.drivers.push(driver)?;
         self.routine_names.clear();
         self.sorts.clear();
-        self.routines.clear();
         self.calls.clear();
         self.queue_names.clear();
         self.queues.clear();
@@ -144,15 +144,16 @@ impl<'a> Draft<'a> {
     fn close_routine(&mut self, alloc: Global) -> Result<(), AllocError>
         ensures { OnOk result (self.new ≡ routine_closed self.old) }
     {
-        let code = linked(alloc, &self.labels, &self.positions, &self.steps)?;
-        self.unknown = missed_from(&self.labels, self.unknown, &self.steps);
+        self.unknown = self.steps.missed(&self.labels, self.unknown);
+        let code = self
+            .steps
+            .take_linked(alloc, &self.labels, &self.positions)?;
         self.routines.push(ClosedRoutine {
             sort: self.sort,
-            code: Items::of(code),
+            code,
         })?;
         self.labels.clear();
         self.positions.clear();
-        self.steps.clear();
         self.place = Place::InDriver;
         Ok(())
     }

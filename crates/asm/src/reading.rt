@@ -7,7 +7,7 @@ ghost use Rattle.asm.specs.declared.draft.Place.{Place};
 ghost use Rattle.asm.specs.Plain.{IsPlainOn};
 ghost use Rattle.asm.specs.Reading.{kind_of, memory, read_on, reading, resolved, set_in, IsFaultOf, IsNamed};
 
-use crate::draft::{Draft, Place, Step};
+use crate::draft::{Draft, Place};
 use crate::fault::{AsmFault, AsmKind};
 use asm_line::{LineFault, plain_line, read_other_line};
 use driver_set::DriverSet;
@@ -110,12 +110,7 @@ impl<'a> Draft<'a> {
         if self.steps.len() >= MAX_INSTRUCTIONS {
             return Ok(Err(AsmKind::OverLimit));
         }
-        self.steps.push(Step {
-            instr,
-            label: None,
-            call: None,
-            queue: None,
-        })?;
+        self.steps.push_bare(instr)?;
         Ok(Ok(()))
     }
 
@@ -162,10 +157,7 @@ impl<'a> Draft<'a> {
                 kind: AsmKind::UnknownName,
             });
         }
-        match DriverSet::of(drivers, devices) {
-            Ok(set) => Ok(set),
-            Err(_) => unreachable!(),
-        }
+        Ok(DriverSet::of_sound(drivers, devices))
     }
 }
 

@@ -1,9 +1,10 @@
 //! The routines of a driver put in place of their names, once all of them are known.
 
-ghost use Rattle.std.specs.Prelude.{◌≡◌, ◌≤◌, length, map, IfOk, None};
+ghost use Rattle.std.specs.Prelude.{◌≡◌, ◌≤◌, ◌++◌, length, map, IfOk, None};
 ghost use Rattle.model.specs.declared.limits.TheConstants.{MAX_QUEUES, MAX_ROUTINES};
 ghost use Rattle.asm.specs.Outline.{called, entry_in, finished, missed_calls, missed_cancels, missed_entry, missed_handler, missed_in_driver, missed_routine, missed_server, missed_use, number_for, finished_driver, routine_called, routine_named, serves, with_routine};
 
+use crate::code::ClosedCode;
 use crate::draft::{ClosedRoutine, Draft, Linked, Use};
 use crate::names::{earliest, number_of};
 use crate::queues::with_queue;
@@ -175,14 +176,19 @@ impl<'a> Draft<'a> {
         found
     }
 
-    /// The open driver, whose routines are all closed.
-    pub fn finished_driver(&self, alloc: Global) -> Result<Driver, AllocError>
+    /// The open driver, whose routines are all closed and are given.
+    pub fn finished_driver(
+        &self,
+        alloc: Global,
+        routines: Vec<ClosedRoutine>,
+    ) -> Result<Driver, AllocError>
         requires routines { length self.now.routine_names ≤ MAX_ROUTINES }
         requires queues { length self.now.queue_names ≤ MAX_QUEUES }
-        ensures { IfOk result (λ driver. driver ≡ finished_driver self.now) }
+        ensures { IfOk result (λ driver. driver
+            ≡ finished_driver (record self.now { routines = routines.items })) }
     {
         Ok(Driver {
-            routines: Items::of(self.finished_routines(alloc)?),
+            routines: Items::of(self.finished_routines(alloc, routines)?),
             queues: Items::of(self.finished_queues(alloc)?),
             read: self.entry_in(Role::Handler, &self.read),
             write: self.entry_in(Role::Handler, &self.write),
@@ -211,39 +217,54 @@ impl<'a> Draft<'a> {
         routine_named(&self.routine_names, &self.sorts, role, name)
     }
 
-    /// The open driver's routines, whose instructions have the numbers of what they name.
-    fn finished_routines(&self, alloc: Global) -> Result<Vec<Routine>, AllocError>
+    /// Closed routines of the open driver, whose instructions have the numbers of what they name.
+    fn finished_routines(
+        &self,
+        alloc: Global,
+        closed: Vec<ClosedRoutine>,
+    ) -> Result<Vec<Routine>, AllocError>
         requires routines { length self.now.routine_names ≤ MAX_ROUTINES }
         requires queues { length self.now.queue_names ≤ MAX_QUEUES }
-        ensures { IfOk result
-            (λ routines. routines.items ≡ map (finished self.now) self.now.routines) }
+        ensures { IfOk result (λ routines. routines.items ≡ map (finished self.now) closed.items) }
     {
-        let mut routines = Vec::new(alloc);
-        for routine in &self.routines {
-            routines.push(self.finished(alloc, routine)?)?;
+        let mut routines = Vec::with_capacity(alloc, closed.len())?;
+        for routine in closed {
+            routines.push(self.finished(routine)?)?;
         }
         Ok(routines)
     }
 
     /// A routine whose instructions have the numbers of what they name.
-    fn finished(&self, alloc: Global, routine: &ClosedRoutine) -> Result<Routine, AllocError>
+    fn finished(&self, routine: ClosedRoutine) -> Result<Routine, AllocError>
         requires routines { length self.now.routine_names ≤ MAX_ROUTINES }
         requires queues { length self.now.queue_names ≤ MAX_QUEUES }
-        ensures { IfOk result (λ whole. whole ≡ finished self.now routine.now) }
+        ensures { IfOk result (λ whole. whole ≡ finished self.now routine) }
     {
         Ok(Routine {
             sort: routine.sort,
-            code: Items::of(self.code_of(alloc, routine.code.as_slice())?),
+            code: Items::of(self.code_of(routine.code)?),
         })
     }
 
     /// Instructions that have the numbers of what they name.
-    fn code_of(&self, alloc: Global, steps: &[Linked]) -> Result<Vec<Instr>, AllocError>
+    #[tactic(auto, using(crate::proofs::Bare::bare_called))]
+    fn code_of(&self, code: ClosedCode) -> Result<Vec<Instr>, AllocError>
         requires routines { length self.now.routine_names ≤ MAX_ROUTINES }
         requires queues { length self.now.queue_names ≤ MAX_QUEUES }
-        ensures { IfOk result (λ code. code.items ≡ map (called self.now) steps.now) }
+        ensures { IfOk result (λ whole. whole.items ≡ map (called self.now) code) }
     {
-        let mut code = Vec::with_capacity(alloc, steps.len())?;
+        let ClosedCode { bare, rest } = code;
+        self.with_called(bare, &rest)
+    }
+
+    /// These instructions, and behind them others that have the numbers of what they name.
+    fn with_called(&self, before: Vec<Instr>, steps: &[Linked]) -> Result<Vec<Instr>, AllocError>
+        requires routines { length self.now.routine_names ≤ MAX_ROUTINES }
+        requires queues { length self.now.queue_names ≤ MAX_QUEUES }
+        ensures { IfOk result
+            (λ code. code.items ≡ before.items ++ map (called self.now) steps.now) }
+    {
+        let mut code = before;
         for step in steps {
             code.push(self.called(step))?;
         }

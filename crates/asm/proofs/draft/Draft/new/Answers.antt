@@ -17,5 +17,5 @@ returns c =
       c.new-11.ensures.items,
       c.new-12.ensures.empty,
       c.new-13.ensures.items,
-      c.new-14.ensures.items,
+      c.new-14.ensures.empty,
     ) refl

@@ -1,0 +1,78 @@
+-- What the instructions that name nothing are, wherever they are kept.
+use Rattle.std.proofs.Common.{◌≡◌, ℕ, true, List, [], ◌∷◌, ◌++◌, Option, None, Some, refl, ◌∙◌, ap, append-nil}
+use Rattle.std.specs.Prelude.{map}
+use Rattle.std.proofs.lemmas.List.{map_push}
+use Rattle.model.specs.declared.instr.Instr.{Instr}
+use Rattle.model.specs.declared.instr.Instr.TheVariants.{JumpIfZero, JumpIfLess, Jump, Insert, Remove, Unlink, Arm, Disarm, IfCancel, Take, Call, IfPending}
+use Rattle.asm.specs.declared.draft.Linked.{Linked}
+use Rattle.asm.specs.declared.draft.Step.{Step}
+use Rattle.asm.specs.Bare.{bare_link, bare_step, is_bare, AreBare}
+use Rattle.asm.specs.Outline.{Outline, called, earliest, missed_from, resolved, with_label, with_queue, with_routine}
+
+pub one_more_bare : (is : List Instr) (i : Instr) → AreBare is → is_bare i ≡ true
+    → AreBare (is ++ i ∷ [])
+one_more_bare [] i all bare = (bare, all)
+one_more_bare (j ∷ is) i all bare = (all.0, one_more_bare is i all.1 bare)
+
+-- one that names nothing is read behind others that don't
+pub bare_pushed : (is : List Instr) (rest : List Step) (i : Instr) → rest ≡ []
+    → map bare_step (is ++ i ∷ []) ++ rest ≡ (map bare_step is ++ rest) ++ bare_step i ∷ []
+bare_pushed is rest i none =
+    rw (
+      none,
+      map_push bare_step is i,
+      append-nil (map bare_step is ++ bare_step i ∷ []),
+      append-nil (map bare_step is),
+    ) refl
+
+-- no label stands for another position in it
+label_stays : (i : Instr) → is_bare i ≡ true → with_label i 0 ≡ i
+label_stays (JumpIfZero r label) bare = cc
+label_stays (JumpIfLess r s label) bare = cc
+label_stays (Jump label) bare = cc
+label_stays (Remove r queue label) bare = cc
+label_stays (Disarm r label) bare = cc
+label_stays (IfCancel r label) bare = cc
+label_stays (Take r label) bare = cc
+label_stays (IfPending r label) bare = cc
+label_stays _ bare = refl
+
+-- nor another routine or queue
+names_stay : (i : Instr) → is_bare i ≡ true → with_queue (with_routine i None) 0 ≡ i
+names_stay (Insert r queue) bare = cc
+names_stay (Remove r queue label) bare = cc
+names_stay (Unlink r queue) bare = cc
+names_stay (Arm r queue) bare = cc
+names_stay (Call r routine) bare = cc
+names_stay _ bare = refl
+
+pub bare_linked : (labels : List (List ℕ)) (positions : List ℕ) (is : List Instr)
+    (rest : List Step) → AreBare is
+    → map (resolved labels positions) (map bare_step is ++ rest)
+    ≡ map bare_link is ++ map (resolved labels positions) rest
+bare_linked labels positions [] rest all = refl
+bare_linked labels positions (i ∷ is) rest all =
+    let first : resolved labels positions (bare_step i) ≡ bare_link i =
+    ap bare_link (label_stays i all.0) in
+    rw (first, bare_linked labels positions is rest all.1) refl
+
+pub bare_called : (o : Outline) (is : List Instr) (rest : List Linked) → AreBare is
+    → map (called o) (map bare_link is ++ rest) ≡ is ++ map (called o) rest
+bare_called o [] rest all = refl
+bare_called o (i ∷ is) rest all =
+    let first : called o (bare_link i) ≡ i = names_stay i all.0 in
+    rw (first, bare_called o is rest all.1) refl
+
+earliest_none : (found : Option ℕ) → earliest found None ≡ found
+earliest_none None = refl
+earliest_none (Some line) = refl
+
+-- they use no label, so none that isn't there
+pub bare_missed : (labels : List (List ℕ)) (found : Option ℕ) (is : List Instr)
+    (rest : List Step)
+    → missed_from labels found (map bare_step is ++ rest) ≡ missed_from labels found rest
+bare_missed labels found [] rest = refl
+bare_missed labels found (i ∷ is) rest =
+    ap (λ (line : Option ℕ). missed_from labels line (map bare_step is ++ rest))
+    (earliest_none found)
+    ∙ bare_missed labels found is rest
