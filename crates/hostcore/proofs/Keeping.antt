@@ -84,10 +84,10 @@ counts_at seats t n (Some (Some count)) there h =
 module _ (before after : Shown) (threads : ℕ) (log : Log) (seats : List (Option ℕ)) (e : Event)
     (reply : Reply) (kept : IsKept before threads log seats)
     (applies : Applies before e after reply) where
-  shows_next : Shows after threads (events_of log.entries ++ e ∷ [])
+  pub shows_next : Shows after threads (events_of log.entries ++ e ∷ [])
   shows_next = applies.shows threads (events_of log.entries) kept.shows
 
-  reply_is : reply ≡ reply_to before.set threads (events_of log.entries) e
+  pub reply_is : reply ≡ reply_to before.set threads (events_of log.entries) e
   reply_is = applies.replies threads (events_of log.entries) kept.shows
 
   still_rules : (events : List Event) → KeepsTheRules after.set threads events
@@ -124,17 +124,21 @@ module _ (before after : Shown) (threads : ℕ) (log : Log) (seats : List (Optio
   kept_more entry grown more event told room log_is seats_are =
       rw (log_is, seats_are) (kept_with entry event told room)
 
-  -- one that isn't leaves the world as it was
-  pub kept_same : WaitingChangesNothing → is_kept reply ≡ false → IsKept after threads log seats
-  kept_same law waits =
-      let same : (run before.set threads (events_of log.entries ++ e ∷ [])).world
-      ≡ (run before.set threads (events_of log.entries)).world =
+  -- one that says that nothing has changed leaves the world as it was
+  pub world_same : WaitingChangesNothing → says_unchanged reply ≡ true
+      → (run before.set threads (events_of log.entries ++ e ∷ [])).world
+      ≡ (run before.set threads (events_of log.entries)).world
+  world_same law says =
       law before.set threads (events_of log.entries) e
-      (subst (λ (x : Reply). says_unchanged x ≡ true) reply_is (unkept_unchanged reply waits)) in
+      (subst (λ (x : Reply). says_unchanged x ≡ true) reply_is says)
+
+  pub kept_unchanged : WaitingChangesNothing → says_unchanged reply ≡ true
+      → IsKept after threads log seats
+  kept_unchanged law says =
       record {
         shows = subst (λ (s : Set). ShowsWorld after (run s threads (events_of log.entries)).world)
             (sym applies.set)
-            (subst (λ (w : World). ShowsWorld after w) same
+            (subst (λ (w : World). ShowsWorld after w) (world_same law says)
             (subst (λ (s : Set). ShowsWorld after
             (run s threads (events_of log.entries ++ e ∷ [])).world) applies.set shows_next));
         legal = rw applies.set kept.legal;
@@ -143,6 +147,10 @@ module _ (before after : Shown) (threads : ℕ) (log : Log) (seats : List (Optio
         short = kept.short;
         counts = kept.counts;
       }
+
+  -- so does one that isn't kept
+  pub kept_same : WaitingChangesNothing → is_kept reply ≡ false → IsKept after threads log seats
+  kept_same law waits = kept_unchanged law (unkept_unchanged reply waits)
 
 -- a new core has an empty history and no seat given out
 pub kept_new : (world : Shown) (threads most : ℕ) (log : Log) (seats : List (Option ℕ))

@@ -1,3 +1,4 @@
 pub mod Keeping
 pub mod Owing
 pub mod Indexing
+pub mod Stepping

@@ -1,3 +1,4 @@
 pub mod Core
 pub mod Kept
 pub mod Indexed
+pub mod Stepping

@@ -1,8 +1,10 @@
 //! The core: a world, the history of what was done to it, and the seats of its threads.
 
-ghost use Rattle.std.specs.Prelude.{◌≡◌, ◌≢◌, ◌≤◌, ◌↔◌, ◌++◌, ◌∷◌, [], All, None, Some, false, length, nat_eq, replicate, option_map, slice_get, slice_set, IfErr, IfNone, IfOk, IfSome, IsErr, OnErr, OnOk};
+ghost use Rattle.std.specs.Prelude.{◌≡◌, ◌≢◌, ◌≤◌, ◌↔◌, ◌++◌, ◌∷◌, [], All, MatchBool, None, Some, false, true, length, nat_eq, replicate, option_map, slice_get, slice_set, IfErr, IfNone, IfOk, IfSome, IsErr, OnErr, OnOk};
 ghost use Rattle.model.specs.declared.limits.TheConstants.{MAX_HISTORY, MAX_THREADS};
 ghost use Rattle.hostcore.specs.Core.{IsOwed, count_of, counted, entered, performed, reply_in, event_in, world_of};
+ghost use Rattle.hostcore.specs.Stepping.{Steps, is_of_none};
+ghost use Rattle.machine.specs.Runs.{TellsOf};
 ghost use Rattle.model.specs.History.{IsLegal, entry_named, event_of, events_of, is_kept, outcome_named};
 ghost use Rattle.model.specs.Run.{thread_of};
 ghost use Rattle.model.specs.View.{busy_at, due_at};
@@ -23,6 +25,19 @@ use verifier::Accepted;
 /// The history has all entries that it may have: nothing was done.
 #[derive(Clone, Copy)]
 pub struct LogFull;
+
+/// What became of a step of a seat's thread.
+#[derive(Clone, Copy)]
+pub enum Stepped {
+    /// The thread has no frames: nothing was done.
+    Idle,
+    /// The step is one entry more.
+    Entered,
+    /// The thread waits: nothing changed.
+    Waits,
+    /// The history has all entries that it may have: nothing was done.
+    Full,
+}
 
 /// The world of a run of an accepted set, with the stored history of that run. Its type keeps that
 /// each reply of the history is the one that the run makes there, and that the world is the run's.
@@ -57,6 +72,29 @@ fn is_kept(reply: &Reply) -> bool
     ensures { result ≡ is_kept reply.now }
 {
     !matches!(reply, Reply::Waited | Reply::Idle)
+}
+
+/// Whether a reply to a step is that of a thread without frames, or of no thread.
+#[inline]
+fn is_of_none(reply: &Reply) -> bool
+    ensures { result ≡ is_of_none reply.now }
+{
+    matches!(reply, Reply::Idle | Reply::Refused)
+}
+
+/// Whether a thread had frames before a step, by the reply to it where that tells, and else by the
+/// world after it, in which nothing has changed.
+fn had_frames(world: &World, thread: u8, reply: &Reply) -> bool
+    ensures { MatchBool (is_of_none reply.now) (TellsOf world.now (λ w. busy_at w thread) result)
+        (result ≡ true) }
+{
+    if !is_of_none(reply) {
+        return true;
+    }
+    match world.thread(thread) {
+        Some(view) => view.frames > 0,
+        None => false,
+    }
 }
 
 /// Appends an entry, which the seat of its thread counts, if it is given out.
@@ -169,6 +207,46 @@ impl Core {
             return Err(LogFull);
         }
         Ok(self.enter(seat.thread(), event, None))
+    }
+
+    /// Steps the seat's thread, if it has frames. The step becomes an entry, unless the thread waits:
+    /// then nothing changes. At a full history nothing is done.
+    pub fn step(&mut self, seat: &mut Seat) -> Stepped
+        ensures steps { Steps self.old seat.old self.new result }
+        ensures seat { seat.new ≡ seat.old }
+    {
+        if self.log.is_full() {
+            return if self.busy(seat) {
+                Stepped::Full
+            } else {
+                Stepped::Idle
+            };
+        }
+        self.step_on(seat.thread())
+    }
+
+    /// Steps a thread. Whether it has frames is seldom asked: most replies tell.
+    fn step_on(&mut self, thread: u8) -> Stepped
+        requires room { nat_eq (length self.old.history) self.old.log ≡ false }
+        ensures steps { Steps self.old thread self.new result }
+    {
+        waiting_changes_nothing();
+        let event = Event::Step { thread };
+        let told = self.world.apply(&event);
+        if !had_frames(&self.world, thread, &told) {
+            return Stepped::Idle;
+        }
+        if !is_kept(&told) {
+            return Stepped::Waits;
+        }
+        let step = Entry {
+            thread,
+            event,
+            reply: told,
+            name: None,
+        };
+        append(&mut self.log, &mut self.seats, step);
+        Stepped::Entered
     }
 
     /// Performs a command with a seat, and answers as the run does to its event. It always becomes

@@ -7,6 +7,6 @@ mod log;
 pub mod seat;
 pub mod ticket;
 
-pub use host_core::{Core, LogFull};
+pub use host_core::{Core, LogFull, Stepped};
 pub use seat::Seat;
 pub use ticket::{Desk, Queued, Taken, Ticket};

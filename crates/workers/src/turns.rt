@@ -1,11 +1,12 @@
 //! One turn of a worker.
 
-ghost use Rattle.std.specs.Prelude.{◌≡◌, None, Some};
+ghost use Rattle.std.specs.Prelude.{◌≡◌, None, Some, false};
+ghost use Rattle.model.specs.View.{busy_at};
 ghost use Rattle.hostcore.specs.Core.{world_of};
 ghost use Rattle.intake.specs.Ends.{TakerState};
 ghost use Rattle.workers.specs.Turned.{IsFirstDue, IsNext, Turned, start_of, took};
 
-use hostcore::{Core, Seat, Taken};
+use hostcore::{Core, Seat, Stepped, Taken};
 use intake::{Intake, Taker};
 use model::event::{Event, Reply};
 use model::limits::MAX_DEVICES;
@@ -47,18 +48,7 @@ fn first_due(core: &Core, thread: u8) -> Option<Event>
     None
 }
 
-/// What the seat's thread does next of itself: a step, or the start of what is due.
-fn next_event(core: &Core, seat: &Seat) -> Option<Event>
-    ensures next { IsNext (world_of core.now) seat.now result }
-{
-    let thread = seat.thread();
-    if core.busy(seat) {
-        return Some(Event::Step { thread });
-    }
-    first_due(core, thread)
-}
-
-/// Applies what the thread does next of itself.
+/// Starts what is due, on an idle thread.
 fn go(core: &mut Core, seat: &mut Seat, event: Event) -> Turn
     requires next { IsNext (world_of core.old) seat.old (Some event) }
     ensures turned { (taker : TakerState) → Turned seat.old core.old core.new taker taker result }
@@ -95,7 +85,29 @@ pub fn take_turn<R: Wait>(
     ensures turned { Turned seat.old core.old core.new taker.old taker.new result }
     ensures seat { seat.new ≡ seat.old }
 {
-    if let Some(event) = next_event(core, seat) {
+    match core.step(seat) {
+        Stepped::Entered => Turn::Entered,
+        Stepped::Waits => Turn::Waits,
+        Stepped::Full => Turn::Full(None),
+        Stepped::Idle => idle_turn(rt, core, seat, taker, intake),
+    }
+}
+
+/// A turn of a worker whose thread has no frames: it starts what is due, or else performs the next
+/// command.
+fn idle_turn<R: Wait>(
+    rt: &R,
+    core: &mut Core,
+    seat: &mut Seat,
+    taker: &mut Taker,
+    intake: &Intake,
+) -> Turn
+    requires idle { busy_at (world_of core.old) seat.old ≡ false }
+    requires queue { taker.old.queue ≡ intake.now }
+    ensures turned { Turned seat.old core.old core.new taker.old taker.new result }
+    ensures seat { seat.new ≡ seat.old }
+{
+    if let Some(event) = first_due(core, seat.thread()) {
         return go(core, seat, event);
     }
     let closed = intake.closed();

@@ -1,4 +1,4 @@
-use Rattle.workers.proofs.turns.take_turn.Goals as goal
+use Rattle.workers.proofs.turns.idle_turn.Goals as goal
 
 pub returns-in-Some-clause-turned : goal.returns-in-Some-clause-turned
 returns-in-Some-clause-turned g c = c.go.ensures.turned c.args.taker.now
