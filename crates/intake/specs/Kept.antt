@@ -1,6 +1,9 @@
 -- What the types of submitters, takers and left queues keep of their passes.
-use Rattle.std.specs.Prelude.{◌≡◌, ◌<◌, [], length}
+use Rattle.std.specs.Prelude.{◌≡◌, ◌<◌, Option, [], length}
+use Rattle.atomic_table.specs.Seated.{TableId}
 use Rattle.crossbeam_queue.specs.Passes.{Pass, view}
+use Rattle.crossbeam_queue.specs.declared.array_queue.Doing.{Doing}
+use Rattle.crossbeam_queue.specs.declared.array_queue.Slotted.{Slotted}
 use Rattle.model.specs.declared.history.Name.{Name}
 use Rattle.model.specs.History.{NamedCommand}
 use Rattle.intake.specs.declared.rule.Hand.{Hand}
@@ -13,6 +16,11 @@ Known = Pass NamedCommand Hand
 -- what the pass of a submitter or a taker knows
 abbrev pub known : Known → Hand
 known pass = view pass
+
+-- which queue it is: a pass says of which one it is
+module _ {T V Q A : Type 0} where
+  abbrev pub queue_of : Slotted (Option T) (Doing T V) Q A → TableId
+  queue_of line = line.table.shared.table_id
 
 -- no place of the queue is out with the pass
 abbrev pub IsAtHome : Known → Type 0

@@ -5,7 +5,7 @@ ghost use Rattle.crossbeam_queue.specs.Passes.{IsPassOf};
 ghost use Rattle.model.specs.History.{NamedCommand};
 ghost use Rattle.intake.specs.Ends.{AreInOrder, AreNumbered, AreSubmittersOf, AreTakersOf};
 ghost use Rattle.intake.specs.Ends.{submitter_shares, taker_shares, weigh_put, weigh_taken};
-ghost use Rattle.intake.specs.Kept.{HasAllShares, known};
+ghost use Rattle.intake.specs.Kept.{HasAllShares, known, queue_of};
 ghost use Rattle.intake.specs.Lists.{AreAmong, HasSame, weigh};
 
 use crate::rule::{Cut, Known, Line, Takes};
@@ -37,7 +37,7 @@ impl Model for Left {
 
 /// The pass with what the passes of these submitters know.
 pub(crate) fn with_submitters(line: &Line, mut pass: Known, mut submitters: Vec<Submitter>) -> Known
-    requires queue { AreSubmittersOf line.now.table.shared.table_id submitters.items }
+    requires queue { AreSubmittersOf (queue_of line.now) submitters.items }
     requires pass { IsPassOf line.now pass × (0 < (known pass).shares) }
     ensures pass { IsPassOf line.now result }
     ensures shares { (known result).shares
@@ -55,7 +55,7 @@ pub(crate) fn with_submitters(line: &Line, mut pass: Known, mut submitters: Vec<
 
 /// The pass with what the passes of these takers know.
 pub(crate) fn with_takers(line: &Line, mut pass: Known, mut takers: Vec<Taker>) -> Known
-    requires queue { AreTakersOf line.now.table.shared.table_id takers.items }
+    requires queue { AreTakersOf (queue_of line.now) takers.items }
     requires pass { IsPassOf line.now pass × (0 < (known pass).shares) }
     ensures pass { IsPassOf line.now result }
     ensures shares { (known result).shares

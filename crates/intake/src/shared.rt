@@ -9,7 +9,7 @@ ghost use Rattle.intake.specs.declared.limits.TheConstants.{MAX_TAKERS, SHARES};
 ghost use Rattle.intake.specs.Ends.{AreInOrder, AreNewSubmitters, AreNewTakers, AreNumbered};
 ghost use Rattle.intake.specs.Ends.{AreOtherSubmitters, AreSubmittersOf, AreTakersOf, room_of};
 ghost use Rattle.intake.specs.Ends.{submitter_shares, taker_shares, weigh_put, weigh_taken};
-ghost use Rattle.intake.specs.Kept.{known};
+ghost use Rattle.intake.specs.Kept.{known, queue_of};
 ghost use Rattle.intake.specs.Lists.{AreAmong, weigh};
 ghost use Rattle.intake.specs.Rule.{first_after};
 
@@ -31,10 +31,11 @@ pub struct Intake {
 
 impl Model for Intake {
     ghost use Rattle.atomic_table.specs.Seated.{TableId};
+    ghost use Rattle.intake.specs.Kept.{queue_of};
 
     ghost Value = { TableId };
 
-    ghost view = { λ s. s.line.table.shared.table_id };
+    ghost view = { λ s. queue_of s.line };
 }
 
 /// The submitters of a queue but for the one of number 0, which has its first pass: all others are
@@ -50,7 +51,7 @@ fn other_submitters(
     ensures pass { IsPassOf line.now first.new }
     ensures first { OnOk result (known first.new ≡ first_after (count - 1)) }
     ensures others { IfOk result (λ made.
-        AreOtherSubmitters line.now.table.shared.table_id (count - 1) made.items) }
+        AreOtherSubmitters (queue_of line.now) (count - 1) made.items) }
     ensures room { IfOk result (λ made. count ≤ vec_capacity made) }
 {
     let mut submitters = Vec::with_capacity(alloc, count as usize)?;
@@ -75,7 +76,7 @@ fn all_takers(
     ensures pass { IsPassOf line.now first.new }
     ensures first { OnOk result (known first.new ≡ first_after (cut + count)) }
     ensures takers { IfOk result (λ made.
-        AreNewTakers line.now.table.shared.table_id count made.items) }
+        AreNewTakers (queue_of line.now) count made.items) }
 {
     let mut takers = Vec::with_capacity(alloc, count as usize)?;
     for _number in 0..count {
