@@ -177,7 +177,10 @@ fn add_evidence(
         }
         Evidence::TooLong(path, count) => {
             add_arrival(prose, scene, "a path there:\n", path)?;
-            write!(prose, "up to there: {count} instructions, by these loops:\n")?;
+            write!(
+                prose,
+                "up to there: {count} instructions, by these loops:\n"
+            )?;
             add_loops(alloc, prose, scene, routine.code.as_slice(), path.last.at)?;
             add_why(prose, scene, routine, None)
         }
