@@ -112,6 +112,16 @@ def answers(program, folder):
     status, told, errors = run(program, 'host good.drv two.script --workers 4'.split(), folder)
     yield 'host, 4 workers', (0, True, b''), (status, told.endswith(b' agrees\n'), errors)
 
+def example_runs(program):
+    """The examples whose run is stored beside them, likewise."""
+    folder = os.path.join(TOP, 'examples')
+    for name in sorted(os.listdir(folder)):
+        set_name, kind = os.path.splitext(name)
+        if kind == '.txt':
+            with open(os.path.join(folder, name), 'rb') as stored:
+                wanted = (0, stored.read(), b'')
+            yield 'trace ' + set_name, wanted, run(program, ['trace', set_name + '.drv', set_name + '.sched'], folder)
+
 def main():
     program = os.path.abspath(sys.argv[1] if len(sys.argv) > 1 else os.path.join(TOP, 'crates/drvhost/out/drvhost'))
     tried = wrong = 0
@@ -119,7 +129,7 @@ def main():
         for name, content in FILES.items():
             with open(os.path.join(folder, name), 'wb') as out:
                 out.write(content)
-        for words, wanted, found in answers(program, folder):
+        for words, wanted, found in [*answers(program, folder), *example_runs(program)]:
             tried += 1
             if wanted[0] != found[0] or not all(map(is_as, wanted[1:], found[1:])):
                 wrong += 1

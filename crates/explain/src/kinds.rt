@@ -2,24 +2,27 @@
 
 use crate::rules::Lesson;
 use model::abs::{Abs, Kind};
-use model::instr::{Instr, Register};
+use model::instr::{Instr, Register, Return};
 
-/// The rule on what registers have to hold, at an instruction in the state that arrives there.
-pub(crate) fn wrong_kind(instr: &Instr, state: &Abs) -> Lesson {
+/// What an instruction wants of a register and doesn't find there.
+#[derive(Clone, Copy)]
+enum Lack {
+    /// The status that a lower driver returned.
+    Lower(Register),
+    Number(Register),
+    Packet(Register),
+}
+
+/// What an instruction lacks in the state that arrives there, where it lacks something.
+fn lack_of(instr: &Instr, state: &Abs) -> Lack {
     match *instr {
-        Instr::Ret(_) => Lesson::of(
-            "`ret lower` takes the status that a lower driver returned, and it isn't there",
-            "the Driver Kit on IoCallDriver",
-            "return the register that `pass` or `call` left",
-        ),
+        Instr::Ret(Return::Lower(r)) => Lack::Lower(r),
         Instr::Add(r, s) | Instr::Subtract(r, s) | Instr::JumpIfLess(r, s, _) => {
-            no_number(state, if is_number(state, r) { s } else { r })
+            Lack::Number(if is_number(state, r) { s } else { r })
         }
-        Instr::JumpIfZero(r, _) | Instr::Store(_, r) | Instr::StorePaged(_, r) => {
-            no_number(state, r)
-        }
-        Instr::Put(packet, number) if is_packet(state, packet) => no_number(state, number),
-        Instr::Put(r, _) | Instr::Get(_, r, _) => no_packet(state, r),
+        Instr::JumpIfZero(r, _) | Instr::Store(_, r) | Instr::StorePaged(_, r) => Lack::Number(r),
+        Instr::Put(packet, number) if is_packet(state, packet) => Lack::Number(number),
+        Instr::Put(r, _) | Instr::Get(_, r, _) => Lack::Packet(r),
         Instr::Mark(r)
         | Instr::Insert(r, _)
         | Instr::Unlink(r, _)
@@ -31,13 +34,38 @@ pub(crate) fn wrong_kind(instr: &Instr, state: &Abs) -> Lesson {
         | Instr::Pass(r)
         | Instr::Call(r, _)
         | Instr::Complete(r, _)
-        | Instr::IfPending(r, _) => no_packet(state, r),
-        _ => no_packet(state, Register::FIRST),
+        | Instr::IfPending(r, _) => Lack::Packet(r),
+        _ => Lack::Packet(Register::FIRST),
+    }
+}
+
+/// The register that is blank where an instruction wants something of it, if there is one.
+pub(crate) fn blank_register(instr: &Instr, state: &Abs) -> Option<Register> {
+    let register = match lack_of(instr, state) {
+        Lack::Lower(register) | Lack::Number(register) | Lack::Packet(register) => register,
+    };
+    if kind_of(state, register) == Kind::Blank {
+        Some(register)
+    } else {
+        None
+    }
+}
+
+/// The rule on what registers have to hold, at an instruction in the state that arrives there.
+pub(crate) fn wrong_kind(instr: &Instr, state: &Abs) -> Lesson {
+    match lack_of(instr, state) {
+        Lack::Lower(_) => Lesson::of(
+            "`ret lower` takes the status that a lower driver returned, and it isn't there",
+            "the Driver Kit on IoCallDriver",
+            "return the register that `pass` or `call` left",
+        ),
+        Lack::Number(register) => no_number(state, register),
+        Lack::Packet(register) => no_packet(state, register),
     }
 }
 
 /// What a register has.
-fn kind_of(state: &Abs, register: Register) -> Kind {
+pub(crate) fn kind_of(state: &Abs, register: Register) -> Kind {
     state.kinds[register.index()]
 }
 

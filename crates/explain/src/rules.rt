@@ -30,7 +30,7 @@ pub(crate) fn lesson_of(rule: Rule, instr: &Instr, sort: Sort, state: Option<&Ab
         Rule::MarkIrpPending => of_marks(instr, state),
         Rule::CancelSpinLock | Rule::SpinLock | Rule::LockHeld => of_locks(rule, instr),
         Rule::Level => of_level(sort),
-        Rule::Guard | Rule::CancelState => of_queues(rule, instr),
+        Rule::Guard | Rule::CancelState => of_queues(rule, instr, sort),
         Rule::Token => of_token(instr),
         Rule::Sort => of_sort(instr, sort),
         Rule::Completion => of_completion(instr, state),
@@ -219,7 +219,7 @@ fn of_level(sort: Sort) -> Lesson {
 }
 
 /// The rules on queues and cancellation.
-fn of_queues(rule: Rule, instr: &Instr) -> Lesson {
+fn of_queues(rule: Rule, instr: &Instr, sort: Sort) -> Lesson {
     let source = "the Driver Kit on driver-managed IRP queues and IoSetCancelRoutine";
     match (rule, instr) {
         (Rule::Guard, Instr::Release(_)) => Lesson::of(
@@ -241,6 +241,11 @@ fn of_queues(rule: Rule, instr: &Instr) -> Lesson {
             "the packet isn't in the state that this takes: in that queue, or armed",
             source,
             "insert, arm, disarm and unlink a packet in this order, under the lock",
+        ),
+        _ if matches!(sort, Sort::Cancel) => Lesson::of(
+            "the packet may still stand in its queue, so it isn't the cancel routine's own",
+            source,
+            "`acquire` the lock of its queue, `unlink` it and `release` the lock first",
         ),
         _ => Lesson::of(
             "the packet may still be cancelled, so it isn't the routine's own",

@@ -3,6 +3,7 @@
 ghost use Rattle.std.specs.Prelude.{◌≡◌, ◌⊎◌};
 ghost use Rattle.model.specs.Typable.{IsFirstFault, IsFirstFaultOf, at_start};
 
+use crate::history::{add_blanking, add_loops};
 use crate::names::Names;
 use crate::path::add_path;
 use crate::place::{Scene, sort_word};
@@ -39,7 +40,7 @@ pub fn explanation(
     };
     if let Some(routine) = routine_of(set, refusal) {
         let scene = scene_of(alloc, text, refusal, routine)?;
-        add_evidence(&mut prose, &scene, routine, &evidence)?;
+        add_evidence(alloc, &mut prose, &scene, routine, &evidence)?;
     }
     Ok(prose)
 }
@@ -126,7 +127,7 @@ fn fault_words(
     let mut prose = String::new(alloc);
     let evidence = evidence_at(alloc, subject, refusal.at, refusal.rule)?;
     let scene = scene_of(alloc, text, refusal, routine)?;
-    add_evidence(&mut prose, &scene, routine, &evidence)?;
+    add_evidence(alloc, &mut prose, &scene, routine, &evidence)?;
     Ok(prose)
 }
 
@@ -157,6 +158,7 @@ fn scene_of<'t>(
 
 /// Adds where a refusal stands, what leads there, and why the rule is broken.
 fn add_evidence(
+    alloc: Global,
     prose: &mut String,
     scene: &Scene<'_>,
     routine: &Routine,
@@ -168,11 +170,18 @@ fn add_evidence(
         Evidence::NotEntered => add_lesson(prose, not_entered()),
         Evidence::Broken(path) => {
             add_arrival(prose, scene, "a path there:\n", path)?;
+            if matches!(scene.refusal.rule, Rule::WrongKind | Rule::DoubleCompletion) {
+                add_blanking(prose, scene, routine.code.as_slice(), path)?;
+            }
             add_why(prose, scene, routine, Some(&path.last.state))
         }
         Evidence::TooLong(path, count) => {
             add_arrival(prose, scene, "a path there:\n", path)?;
-            write!(prose, "up to there: {count} instructions\n")?;
+            write!(
+                prose,
+                "up to there: {count} instructions, by these loops:\n"
+            )?;
+            add_loops(alloc, prose, scene, routine.code.as_slice(), path.last.at)?;
             add_why(prose, scene, routine, None)
         }
         Evidence::Differing(one, other) => {

@@ -40,6 +40,29 @@ rule_text NoLower = codes "V18 NoLower"
 rule_text TooLong = codes "V19 TooLong"
 rule_text Memory = codes "V20 Memory"
 
+-- the word of a rule: its number
+abbrev pub rule_word : Rule → List ℕ
+rule_word Malformed = codes "V1"
+rule_word Unreachable = codes "V2"
+rule_word StatesDiffer = codes "V3"
+rule_word WrongKind = codes "V4"
+rule_word DoubleCompletion = codes "V5"
+rule_word MarkIrpPending = codes "V6"
+rule_word CancelSpinLock = codes "V7"
+rule_word SpinLock = codes "V8"
+rule_word LockHeld = codes "V9"
+rule_word Level = codes "V10"
+rule_word Guard = codes "V11"
+rule_word CancelState = codes "V12"
+rule_word Dropped = codes "V13"
+rule_word Token = codes "V14"
+rule_word SortRule = codes "V15"
+rule_word Completion = codes "V16"
+rule_word StackTooSmall = codes "V17"
+rule_word NoLower = codes "V18"
+rule_word TooLong = codes "V19"
+rule_word Memory = codes "V20"
+
 -- the first line of an accepted set
 abbrev pub accepted_line : List ℕ
 accepted_line = line_of (codes "accepted" ∷ [])

@@ -10,6 +10,7 @@ pub mod host;
 pub mod lines;
 mod ready_line;
 pub mod reply;
+pub mod rule;
 pub mod verdict;
 pub mod word;
 mod word_lines;

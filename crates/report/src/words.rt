@@ -53,7 +53,7 @@ pub(crate) fn sort_text(sort: Sort) -> &'static str
 }
 
 /// A rule by its number and name.
-pub(crate) fn rule_text(rule: Rule) -> &'static str
+pub fn rule_text(rule: Rule) -> &'static str
     ensures { result.now ≡ rule_text rule }
 {
     match rule {

@@ -1,0 +1,37 @@
+//! Rules by their words.
+
+ghost use Rattle.std.specs.Prelude.{◌≡◌, IfNone, IfSome};
+ghost use Rattle.report.specs.Verdict.{rule_word};
+
+pub use crate::words::rule_text;
+use model::abs::Rule;
+
+/// The rule of a word such as `V12`, if there is one.
+pub fn rule_named(word: &str) -> Option<Rule>
+    ensures some { IfSome result (λ rule. word.now ≡ rule_word rule) }
+    ensures none { IfNone result ((rule : Rule) → word.now ≡ rule_word rule → ⊥) }
+{
+    match word {
+        "V1" => Some(Rule::Malformed),
+        "V2" => Some(Rule::Unreachable),
+        "V3" => Some(Rule::StatesDiffer),
+        "V4" => Some(Rule::WrongKind),
+        "V5" => Some(Rule::DoubleCompletion),
+        "V6" => Some(Rule::MarkIrpPending),
+        "V7" => Some(Rule::CancelSpinLock),
+        "V8" => Some(Rule::SpinLock),
+        "V9" => Some(Rule::LockHeld),
+        "V10" => Some(Rule::Level),
+        "V11" => Some(Rule::Guard),
+        "V12" => Some(Rule::CancelState),
+        "V13" => Some(Rule::Dropped),
+        "V14" => Some(Rule::Token),
+        "V15" => Some(Rule::Sort),
+        "V16" => Some(Rule::Completion),
+        "V17" => Some(Rule::StackTooSmall),
+        "V18" => Some(Rule::NoLower),
+        "V19" => Some(Rule::TooLong),
+        "V20" => Some(Rule::Memory),
+        _ => None,
+    }
+}
