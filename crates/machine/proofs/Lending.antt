@@ -1,8 +1,7 @@
 -- The words that are lent of a thread, and the packet that is told of a slot.
-use Rattle.std.proofs.Common.{◌≡◌, ◌<◌, ℕ, List, Option, None, Some, is_some, length, map, true, refl, sym, ◌∙◌, ap, subst}
+use Rattle.std.proofs.Common.{◌≡◌, ◌<◌, ℕ, List, Option, None, Some, is_some, map, refl, sym, ◌∙◌, ap, subst}
 use Rattle.std.specs.Prelude.{option_map, slice_get, slice_index_or}
 use Rattle.model.specs.declared.event.Event.{Event}
-use Rattle.model.specs.declared.limits.TheConstants.{REGISTERS}
 use Rattle.model.specs.declared.world.Activation.{Activation}
 use Rattle.model.specs.declared.world.Packet.{Packet}
 use Rattle.model.specs.declared.world.Value.{Value}
@@ -10,11 +9,11 @@ use Rattle.model.specs.declared.world.Value.TheVariants.{Blank, Num, Ref, Status
 use Rattle.model.specs.Machine.{Shows}
 use Rattle.model.specs.Run.{run}
 use Rattle.model.specs.Set.{Set}
-use Rattle.model.specs.Shown.{MayBeTaken, Reads, Shown, ShownRegister}
+use Rattle.model.specs.Shown.{Reads, Shown, ShownRegister}
 use Rattle.model.specs.Sound.{IsSound}
 use Rattle.model.specs.Typable.{IsTypable}
-use Rattle.model.specs.World.{Shared, World, packet_of, register}
-use Rattle.machine.proofs.Kinds.{live_at}
+use Rattle.model.specs.World.{Shared, World, register}
+use Rattle.machine.proofs.LiveRegisters.{live_at}
 use Rattle.machine.proofs.Registers.{StandsOn, named_by, number_of, registers_shown, shown_at, stands_on, status_is, threads_none, unmapped}
 use Rattle.machine.proofs.Whole.{run_shown}
 use Rattle.machine.specs.Registers.{IsLive, LendsWords, Names, TellsOfSlot, WordIs, WordsOfRoutine, routine_at}

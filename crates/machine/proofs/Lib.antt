@@ -2,7 +2,7 @@ pub mod Whole
 pub mod Walking
 pub mod Telling
 pub mod TellingWords
-pub mod Kinds
+pub mod LiveRegisters
 pub mod Registers
 pub mod Lending
 pub mod Applying

@@ -1,5 +1,5 @@
 -- The words of a routine on the top of a thread, by what is shown of its registers.
-use Rattle.std.proofs.Common.{◌≡◌, ◌<◌, ◌-◌, ℕ, zero, suc, List, [], ◌∷◌, Option, None, Some, length, map, true, false, refl, sym, ◌∙◌, ap, subst, arith, inl, inr}
+use Rattle.std.proofs.Common.{◌≡◌, ◌<◌, ◌-◌, ℕ, zero, suc, List, [], ◌∷◌, Option, None, Some, length, map, refl, sym, ◌∙◌, ap, subst, arith, inl, inr}
 use Rattle.std.specs.Prelude.{nat_eq, option_map, slice_get, slice_index_or, if◌then◌else◌}
 use Rattle.std.proofs.lemmas.Bool.Decides.{eqb_tells}
 use Rattle.std.proofs.lemmas.List.{length-map}
@@ -124,34 +124,34 @@ last_above x y xs =
 module _ (set : Set) (s : Shared) where
   top_none : (x : ShownFrame) (above : Option Frame) (f : Frame) → ShowsFrame set s above x f
       → routine_of_frame (Some f) ≡ None → registers_of_frame (Some x) ≡ None
-  top_none (ShownRoutine x) above (Routine a) h no = cc
-  top_none (ShownRoutine x) above (Walk n) h no = absurd h
-  top_none (ShownRoutine x) above (CancelFrame c) h no = absurd h
-  top_none (ShownWalk m) above f h no = refl
-  top_none (ShownCancel b) above f h no = refl
+  top_none (ShownRoutine x) above (Routine a) h empty = cc
+  top_none (ShownRoutine x) above (Walk n) h empty = absurd h
+  top_none (ShownRoutine x) above (CancelFrame c) h empty = absurd h
+  top_none (ShownWalk m) above f h empty = refl
+  top_none (ShownCancel b) above f h empty = refl
 
   frames_none : (xs : List ShownFrame) (frames : List Frame) → ShowsFrames set s xs frames
       → routine_of_frame (top_of frames) ≡ None
       → registers_of_frame (slice_get xs (length xs - 1)) ≡ None
-  frames_none [] [] h no = refl
-  frames_none [] (f ∷ frames) h no = absurd h
-  frames_none (x ∷ xs) [] h no = absurd h
-  frames_none (x ∷ []) (f ∷ []) h no = top_none x None f h.0 no
-  frames_none (x ∷ []) (f ∷ g ∷ frames) h no = absurd h.1
-  frames_none (x ∷ y ∷ xs) (f ∷ []) h no = absurd h.1
-  frames_none (x ∷ y ∷ xs) (f ∷ g ∷ frames) h no =
+  frames_none [] [] h empty = refl
+  frames_none [] (f ∷ frames) h empty = absurd h
+  frames_none (x ∷ xs) [] h empty = absurd h
+  frames_none (x ∷ []) (f ∷ []) h empty = top_none x None f h.0 empty
+  frames_none (x ∷ []) (f ∷ g ∷ frames) h empty = absurd h.1
+  frames_none (x ∷ y ∷ xs) (f ∷ []) h empty = absurd h.1
+  frames_none (x ∷ y ∷ xs) (f ∷ g ∷ frames) h empty =
       ap registers_of_frame (last_above x y xs)
       ∙ frames_none (y ∷ xs) (g ∷ frames) h.1
-      (ap routine_of_frame (sym (top_above f g frames)) ∙ no)
+      (ap routine_of_frame (sym (top_above f g frames)) ∙ empty)
 
   pub threads_none : (xs : List ShownThread) (threads : List Thread) (t : ℕ)
       → ShowsThreads set s xs threads → routine_of_thread (slice_get threads t) ≡ None
       → registers_of_thread (slice_get xs t) ≡ None
-  threads_none [] threads t h no = refl
-  threads_none (x ∷ xs) [] t h no = absurd h
-  threads_none (x ∷ xs) (thread ∷ threads) zero h no =
-      frames_none x.frames thread.frames.items h.0.1 no
-  threads_none (x ∷ xs) (thread ∷ threads) (suc t) h no = threads_none xs threads t h.1 no
+  threads_none [] threads t h empty = refl
+  threads_none (x ∷ xs) [] t h empty = absurd h
+  threads_none (x ∷ xs) (thread ∷ threads) zero h empty =
+      frames_none x.frames thread.frames.items h.0.1 empty
+  threads_none (x ∷ xs) (thread ∷ threads) (suc t) h empty = threads_none xs threads t h.1 empty
 
 -- a routine that stands on the top of a thread
 pub record StandsOn (w : World) (t : ℕ) (a : Activation) : Type 0 where

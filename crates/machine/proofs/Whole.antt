@@ -1,5 +1,5 @@
 -- Words that mean the world of a run show it.
-use Rattle.std.proofs.Common.{◌≡◌, ℕ, List, [], ◌∷◌, map, length, ap, refl, sym, ◌∙◌, subst}
+use Rattle.std.proofs.Common.{◌≡◌, ℕ, [], length, ap, sym, ◌∙◌, subst}
 use Rattle.model.specs.Run.{run}
 use Rattle.model.specs.Set.{Set}
 use Rattle.word_laws.specs.WordsDone.{FreeWordsMeanTheBeginning}

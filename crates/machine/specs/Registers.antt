@@ -5,7 +5,6 @@ use Rattle.std.specs.Prelude.{ℕ, ◌≡◌, ◌<◌, ◌-◌, ⊤, true, List,
 use Rattle.model.specs.declared.event.Event.{Event}
 use Rattle.model.specs.declared.limits.TheConstants.{REGISTERS}
 use Rattle.model.specs.declared.world.Activation.{Activation}
-use Rattle.model.specs.declared.world.Canceller.{Canceller}
 use Rattle.model.specs.declared.world.Frame.{Frame}
 use Rattle.model.specs.declared.world.Frame.TheVariants.{Routine, Walk, Cancel as CancelFrame}
 use Rattle.model.specs.declared.world.Thread.{Thread}
@@ -14,8 +13,7 @@ use Rattle.model.specs.declared.world.Value.TheVariants.{Blank, Num, Ref, Status
 use Rattle.model.specs.Effect.{top_of}
 use Rattle.model.specs.Machine.{Shows}
 use Rattle.model.specs.Run.{run}
-use Rattle.model.specs.Set.{Set}
-use Rattle.model.specs.Shown.{MayBeTaken, Shown, ShownActivation, ShownCancel, ShownFrame, ShownRegister, ShownRoutine, ShownThread, ShownWalk, blank_register}
+use Rattle.model.specs.Shown.{MayBeTaken, Shown, ShownCancel, ShownFrame, ShownRegister, ShownRoutine, ShownThread, ShownWalk, blank_register}
 use Rattle.model.specs.Status.{status_code}
 use Rattle.model.specs.World.{Shared, World, packet_of, register}
 use Rattle.machine.specs.Runs.{IsShown}
@@ -35,13 +33,14 @@ registers_of_thread (Some thread) =
 abbrev pub registers_at : Shown → ℕ → Option (List ShownRegister)
 registers_at m t = registers_of_thread (slice_get m.threads t)
 
--- a word names a packet: a register of a routine on the top of a thread shows both
-pub record Names (m : Shown) (word n : ℕ) : Type 0 where
+-- a slot names a packet: a register of a routine on the top of a thread has the slot for its word,
+-- and shows the packet
+pub record Names (m : Shown) (slot n : ℕ) : Type 0 where
   pub thread : ℕ
   pub registers : List ShownRegister
   pub at : registers_at m thread ≡ Some registers
   pub r : ℕ
-  pub word : (slice_index_or registers r blank_register).number ≡ Some word
+  pub word : (slice_index_or registers r blank_register).number ≡ Some slot
   pub packet : (slice_index_or registers r blank_register).packet ≡ Some n
 
 -- a packet was issued, and is live

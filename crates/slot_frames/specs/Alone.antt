@@ -1,5 +1,5 @@
 -- What an instruction looks for that changes nothing but its routine.
-use Rattle.std.specs.Prelude.{ℕ, ◌≡◌}
+use Rattle.std.specs.Prelude.{ℕ}
 use Rattle.model.specs.declared.instr.Instr.{Instr}
 use Rattle.word_laws.specs.declared.activation.WordActivation.{WordActivation}
 use Rattle.model.specs.Set.{Set}

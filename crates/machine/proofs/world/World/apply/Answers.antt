@@ -1,10 +1,11 @@
-use Rattle.std.proofs.Common.{[], ◌∷◌, ◌++◌, subst}
+use Rattle.std.proofs.Common.{[], ◌∷◌, ◌++◌, subst, sym}
 use Rattle.model.specs.Machine.{Applies}
 use Rattle.model.specs.Set.{Set}
 use Rattle.model.specs.Shown.{Shown}
+use Rattle.word_laws.specs.WordsFit.{WordEventFits}
 use Rattle.word_laws.specs.WordsDone.{WordEventDone}
 use Rattle.word_laws.specs.ShownWords.{shown_words}
-use Rattle.machine.proofs.Applying.{answered, applies_shown, goes_on, meant_after, steps_threads}
+use Rattle.machine.proofs.Applying.{answered, applies_shown, fits, goes_on, meant_after, steps_threads}
 use Rattle.machine.specs.Runs.{GoesOn, RulesKept, StepsThreads}
 use Rattle.machine.proofs.world.World.apply.Goals as goal
 
@@ -15,6 +16,13 @@ done : (c : goal.After-apply)
 done c =
     subst (λ (s : Set). WordEventDone s c.self.inside.slots c.args.event.now
     (answered c.apply.new.self c.apply.result)) c.set.ensures.same c.apply.ensures
+
+pub apply-requires : goal.apply-requires
+apply-requires c =
+    subst (λ (s : Set). WordEventFits s c.self.inside.slots c.args.event.now)
+    (sym c.set.ensures.same)
+    (fits c.word_events_fit.ensures c.self.inside.accepted c.self.invariant.0 c.self.invariant.1.0
+    c.self.inside.slots c.args.event.now c.self.invariant.1.1)
 
 pub invariant_of-self : goal.invariant_of-self
 invariant_of-self c = (

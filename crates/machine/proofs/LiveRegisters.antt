@@ -1,11 +1,10 @@
 -- What a register of a routine on the top of a thread has where it refers to a packet: a live one.
-use Rattle.std.proofs.Common.{◌≡◌, ◌<◌, ◌+◌, ◌-◌, ℕ, List, Option, None, Some, false, true, length, is_some, refl, sym, ◌∙◌, ap, subst, arith}
+use Rattle.std.proofs.Common.{◌≡◌, ◌<◌, ◌+◌, ◌-◌, ℕ, List, Option, None, Some, false, length, sym, subst, arith}
 use Rattle.std.specs.Prelude.{slice_get}
 use Rattle.std.proofs.lemmas.Option.{slice_get_past, slice_get_within}
 use Rattle.model.specs.declared.abs.Kind.{Kind}
 use Rattle.model.specs.declared.abs.Kind.TheVariants.{Blank, Num, Lower, New, Own, Listed, Armed, Taken, Cancelling, View}
 use Rattle.model.specs.declared.event.Event.{Event}
-use Rattle.model.specs.declared.status.Status.{Status}
 use Rattle.model.specs.declared.world.Activation.{Activation}
 use Rattle.model.specs.declared.world.Frame.{Frame}
 use Rattle.model.specs.declared.world.Frame.TheVariants.{Routine}
@@ -20,7 +19,6 @@ use Rattle.model.specs.Set.{Set}
 use Rattle.model.specs.Shown.{MayBeTaken}
 use Rattle.model.specs.World.{Shared, World, register}
 use Rattle.machine.specs.Registers.{IsLive}
-use Rattle.run_laws.proofs.Runs.Threads.{frames_there}
 use Rattle.run_laws.specs.KindsAgree.{IsOfKind, NamesLive, RegistersAreOfTheirKinds}
 
 live_named : (s : Shared) (n : ℕ) → NamesLive s (Ref n) → IsLive s n
