@@ -1,4 +1,4 @@
--- An event that is carried out on slots is applied to what they show.
+-- An event that is carried out on words is applied to what they show.
 use Rattle.std.proofs.Common.{◌≢◌, ℕ, List, [], ◌∷◌, ◌++◌, refl, sym, subst, ap, ◌∙◌}
 use Rattle.model.specs.declared.event.Event.{Event}
 use Rattle.model.specs.declared.event.Reply.{Reply}
@@ -9,27 +9,27 @@ use Rattle.model.specs.Set.{Set}
 use Rattle.model.specs.Sound.{IsSound}
 use Rattle.model.specs.Typable.{IsTypable}
 use Rattle.machine.specs.Runs.{GoesOn, IsMeant, StepsThreads}
-use Rattle.machine.proofs.Whole.{means_shown}
 use Rattle.run_laws.specs.NeverStops.{LetsGoOn}
 use Rattle.run_laws.specs.Rules.{AcceptedRunsKeepTheRules}
-use Rattle.slot_laws.specs.Done.{DoneShowsRuns, EventDone, MeansAfter}
-use Rattle.slot_laws.specs.Fits.{EventFits, EventsFit}
-use Rattle.slot_laws.specs.ShownSlots.{SlotsShowWhatTheyMean, shown_slots}
-use Rattle.slot_laws.specs.SlotStep.{SlotAnswer}
-use Rattle.slot_laws.specs.Slots.{SlotWorld}
+use Rattle.word_laws.specs.WordsDone.{WordEventsShowRuns, WordEventDone, WordsMeanAfter}
+use Rattle.word_laws.specs.WordsFit.{WordEventFits, WordEventsFit}
+use Rattle.word_laws.specs.ShownWords.{WordsMeanWhatTheyShow, WordsShowWhatTheyMean, shown_words}
+use Rattle.word_laws.specs.WordStep.{WordAnswer}
+use Rattle.word_laws.specs.Words.{WordWorld}
 
 -- what an event left, and the reply
-abbrev pub answered : SlotWorld → Reply → SlotAnswer
+abbrev pub answered : WordWorld → Reply → WordAnswer
 answered v reply = record { world = v; reply = reply }
 
 -- the event finds what it looks for
-pub fits : EventsFit → (set : Set) → IsTypable set → IsSound set → (v : SlotWorld) (e : Event)
-    → IsMeant set v → EventFits set v e
+pub fits : WordEventsFit → (set : Set) → IsTypable set → IsSound set → (v : WordWorld) (e : Event)
+    → IsMeant set v → WordEventFits set v e
 fits law set typable sound v e is = law set typable sound is.threads is.events v e is.means
 
-module _ (law : DoneShowsRuns) (set : Set) (typable : IsTypable set) (sound : IsSound set)
-    (before after : SlotWorld) (e : Event) (reply : Reply) (is : IsMeant set before)
-    (done : EventDone set before e (answered after reply)) where
+module _ (law : WordEventsShowRuns) (same : WordsMeanWhatTheyShow) (set : Set)
+    (typable : IsTypable set) (sound : IsSound set)
+    (before after : WordWorld) (e : Event) (reply : Reply) (is : IsMeant set before)
+    (done : WordEventDone set before e (answered after reply)) where
   -- of some run whose world is meant, and of every run that is shown
   pub meant_after : IsMeant set after
   meant_after =
@@ -41,15 +41,14 @@ module _ (law : DoneShowsRuns) (set : Set) (typable : IsTypable set) (sound : Is
             done).means;
       }
 
-  shown_after : (threads : ℕ) (events : List Event) → Shows (shown_slots set before) threads events
-      → MeansAfter set threads events e (answered after reply)
+  shown_after : (threads : ℕ) (events : List Event) → Shows (shown_words set before) threads events
+      → WordsMeanAfter set threads events e (answered after reply)
   shown_after threads events shows =
       law set typable sound threads events before e (answered after reply)
-      (means_shown set before (run set is.threads is.events).world (run set threads events).world
-      is.means shows) done
+      (same set typable sound is.threads threads is.events events before is.means shows) done
 
-  pub applies_shown : SlotsShowWhatTheyMean
-      → Applies (shown_slots set before) e (shown_slots set after) reply
+  pub applies_shown : WordsShowWhatTheyMean
+      → Applies (shown_words set before) e (shown_words set after) reply
   applies_shown show =
       record {
         set = refl;
@@ -60,14 +59,14 @@ module _ (law : DoneShowsRuns) (set : Set) (typable : IsTypable set) (sound : Is
       }
 
   -- the reply is neither a bug check nor that something went wrong
-  pub goes_on : AcceptedRunsKeepTheRules → GoesOn (shown_slots set before) reply
+  pub goes_on : AcceptedRunsKeepTheRules → GoesOn (shown_words set before) reply
   goes_on rules =
       λ threads events shows.
       subst (λ (r : Reply). LetsGoOn r) (sym (shown_after threads events shows).reply)
       ((rules set typable sound threads events).lasting.replies e)
 
   -- and a step of a thread is not refused
-  pub steps_threads : AcceptedRunsKeepTheRules → StepsThreads (shown_slots set before) e reply
+  pub steps_threads : AcceptedRunsKeepTheRules → StepsThreads (shown_words set before) e reply
   steps_threads rules =
       λ threads events t shows within is_step.
       subst (λ (r : Reply). r ≢ Refused)

@@ -1,6 +1,10 @@
 pub mod Whole
 pub mod Walking
 pub mod Telling
+pub mod TellingWords
+pub mod LiveRegisters
+pub mod Registers
+pub mod Lending
 pub mod Applying
 pub mod Stepping
 pub mod GoingOn

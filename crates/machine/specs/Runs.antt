@@ -11,14 +11,14 @@ use Rattle.model.specs.Shown.{Shown}
 use Rattle.model.specs.World.{World}
 use Rattle.run_laws.specs.NeverStops.{LetsGoOn}
 use Rattle.run_laws.specs.Rules.{KeepsTheRules}
-use Rattle.slot_laws.specs.Rep.{Means}
-use Rattle.slot_laws.specs.Slots.{SlotWorld}
+use Rattle.word_laws.specs.Reads.{WordsMean}
+use Rattle.word_laws.specs.Words.{WordWorld}
 
--- slots mean the world of some run of a set
-pub record IsMeant (set : Set) (v : SlotWorld) : Type 0 where
+-- words mean the world of some run of a set
+pub record IsMeant (set : Set) (v : WordWorld) : Type 0 where
   pub threads : ℕ
   pub events : List Event
-  pub means : Means set v (run set threads events).world
+  pub means : WordsMean set v (run set threads events).world
 
 -- what a machine shows is some run
 pub record IsShown (m : Shown) : Type 0 where

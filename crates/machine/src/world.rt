@@ -1,6 +1,7 @@
 //! The world of an accepted driver set.
 
-ghost use Rattle.std.specs.Prelude.{◌≡◌, ◌≢◌, ◌≤◌, ◌<◌, List, [], IfOk, IfErr};
+ghost use Rattle.std.specs.Prelude.{◌≡◌, ◌≢◌, ◌≤◌, ◌<◌, List, [], IfOk, IfErr, option_map};
+ghost use Rattle.machine.specs.Registers.{LendsWords, TellsOfSlot};
 ghost use Rattle.machine.specs.Runs.{GoesOn, RulesKept, StepsThreads, TellsOf};
 ghost use Rattle.machine.specs.Steps.{MakesSteps, Stepping};
 ghost use Rattle.model.specs.declared.event.Event.{Event};
@@ -12,16 +13,20 @@ ghost use Rattle.model.specs.View.{due_at, packet_at, thread_at};
 ghost use Rattle.run_laws.specs.Rules.{KeepsTheRules};
 
 use model::event::{Event, Reply};
+use model::limits::REGISTERS;
 use model::memory::OutOfMemory;
 use model::view::{PacketView, ThreadView};
 use run_laws::accepted_runs_keep_the_rules;
-use slot_laws::{
-    done_events_show_runs, events_fit, free_slots_mean_the_beginning, slots_show_what_they_mean,
-};
+use slot_laws::slots_show_what_they_mean;
 use slot_world::Slots;
 use std::alloc::Global;
 use std::marker::Model;
 use verifier::Accepted;
+use word_laws::{
+    free_words_mean_the_beginning, word_events_fit, word_events_show_runs,
+    words_mean_what_they_show, words_show_what_they_mean, words_tell_as_slots,
+    words_tell_registers,
+};
 
 /// Steps of a thread that were made one after another.
 #[derive(Clone, Copy)]
@@ -45,11 +50,11 @@ impl Model for World {
     ghost use Rattle.model.specs.Shown.{Shown};
     ghost use Rattle.model.specs.Sound.{IsSound};
     ghost use Rattle.model.specs.Typable.{IsTypable};
-    ghost use Rattle.slot_laws.specs.ShownSlots.{shown_slots};
+    ghost use Rattle.word_laws.specs.ShownWords.{shown_words};
 
     ghost Value = { Shown };
 
-    ghost view = { λ w. shown_slots w.accepted w.slots };
+    ghost view = { λ w. shown_words w.accepted w.slots };
 
     ghost invariant = { λ w. IsTypable w.accepted
         × (IsSound w.accepted × IsMeant w.accepted w.slots) };
@@ -72,8 +77,8 @@ impl World {
         ensures back { IfErr result (λ refused. refused.0 ≡ accepted) }
     {
         accepted_runs_keep_the_rules();
-        free_slots_mean_the_beginning();
-        slots_show_what_they_mean();
+        free_words_mean_the_beginning();
+        words_show_what_they_mean();
         let devices = accepted.set().devices().len();
         match Slots::new(alloc, devices, threads) {
             Ok(slots) => Ok(World { accepted, slots }),
@@ -91,9 +96,10 @@ impl World {
         ensures steps { StepsThreads self.old event.now result }
     {
         accepted_runs_keep_the_rules();
-        events_fit();
-        done_events_show_runs();
-        slots_show_what_they_mean();
+        word_events_fit();
+        word_events_show_runs();
+        words_show_what_they_mean();
+        words_mean_what_they_show();
         self.slots.apply(self.accepted.set(), event)
     }
 
@@ -130,9 +136,10 @@ impl World {
         ensures few { result ≤ count }
         ensures steps { Stepping self.old thread result self.new }
     {
-        events_fit();
-        done_events_show_runs();
-        slots_show_what_they_mean();
+        word_events_fit();
+        word_events_show_runs();
+        words_show_what_they_mean();
+        words_mean_what_they_show();
         self.slots.go_on(self.accepted.set(), thread, count)
     }
 
@@ -141,15 +148,45 @@ impl World {
         ensures { TellsOf self.now (λ w. thread_at w number) result }
     {
         accepted_runs_keep_the_rules();
+        words_show_what_they_mean();
+        words_mean_what_they_show();
         slots_show_what_they_mean();
+        words_tell_as_slots();
         self.slots.thread(number)
+    }
+
+    /// The words in the registers of the routine on the top of a thread: None unless there is such
+    /// a thread, and a routine stands there. A word doesn't say what it is: a number stands for
+    /// itself, a status as its 32-bit value, and a packet as the slot in which it stands, whose
+    /// packet `number` tells. Where no instruction may take anything from a register, its word may
+    /// be any.
+    pub fn words(&self, thread: u8) -> Option<&[u64; REGISTERS]>
+        ensures { LendsWords self.now thread (option_map (λ words. words.now) result) }
+    {
+        accepted_runs_keep_the_rules();
+        words_show_what_they_mean();
+        words_mean_what_they_show();
+        words_tell_registers();
+        self.slots.words(thread)
+    }
+
+    /// The number of the live packet in a slot. None where the slot has none.
+    pub fn number(&self, slot: u64) -> Option<u64>
+        ensures { TellsOfSlot self.now slot result }
+    {
+        words_show_what_they_mean();
+        words_mean_what_they_show();
+        self.slots.number(slot)
     }
 
     /// What there is to tell of the packet of a number.
     pub fn packet(&self, number: u64) -> PacketView
         ensures { TellsOf self.now (λ w. packet_at w number) result }
     {
+        words_show_what_they_mean();
+        words_mean_what_they_show();
         slots_show_what_they_mean();
+        words_tell_as_slots();
         self.slots.packet(number)
     }
 
@@ -158,7 +195,10 @@ impl World {
     pub fn due(&self, device: u8) -> (bool, bool)
         ensures { TellsOf self.now (λ w. due_at w device) result }
     {
+        words_show_what_they_mean();
+        words_mean_what_they_show();
         slots_show_what_they_mean();
+        words_tell_as_slots();
         self.slots.due(device)
     }
 }

@@ -1,24 +1,23 @@
 -- What the machine's own account of a frame's step says.
 use Rattle.std.specs.Prelude.{true, [], ◌∷◌, Some}
 use Rattle.model.specs.declared.event.Reply.TheVariants.{Topped, Waited}
-use Rattle.model.specs.declared.world.Value.TheVariants.{Ref}
-use Rattle.model.specs.World.{entered}
+use Rattle.word_laws.specs.Words.{entered, WordFrame, WordRoutine}
 use Rattle.slot_frames.specs.declared.ran.Over.{Over}
 use Rattle.slot_frames.specs.declared.ran.Over.TheVariants.{Manager, Routine}
 use Rattle.slot_frames.specs.declared.ran.Ran.{Ran}
 use Rattle.slot_frames.specs.declared.ran.Ran.TheVariants.{Steps, Waits, Under, Becomes, Ends, TopsOut, Stopped, Returned}
 use Rattle.slot_frames.specs.Frames.{manager_frame}
-use Rattle.slot_laws.specs.SlotStep.{SlotOutcome, leaves}
-use Rattle.slot_laws.specs.Slots.{SlotFrame, SlotRoutine, SlotShared}
+use Rattle.word_laws.specs.WordStep.{WordOutcome, leaves}
+use Rattle.slot_laws.specs.Slots.{SlotShared}
 
 -- a frame that is put over another, or into its place
-abbrev pub frame_over : Over → SlotFrame
+abbrev pub frame_over : Over → WordFrame
 frame_over (Manager m) = manager_frame m
 frame_over (Routine driver routine device key) =
-    SlotRoutine (entered driver routine device (Ref key))
+    WordRoutine (entered driver routine device key)
 
 -- what a step has left, of a frame that is now f
-abbrev pub left_of : SlotShared → SlotFrame → Ran → SlotOutcome
+abbrev pub left_of : SlotShared → WordFrame → Ran → WordOutcome
 left_of s f Steps = leaves s (f ∷ [])
 left_of s f Waits = record (leaves s (f ∷ [])) { reply = Waited }
 left_of s f (Under over) = leaves s (f ∷ frame_over over ∷ [])

@@ -1,10 +1,10 @@
 -- The routine of a frame that is lent, to be stepped.
 use Rattle.std.specs.Borrow.{Lends, MutBor, Fml}
-use Rattle.model.specs.contracts.world.Activation.{the_row as activation_row}
-use Rattle.model.specs.declared.world.Activation.{Activation}
+use Rattle.word_laws.specs.contracts.activation.WordActivation.{the_row as activation_row}
+use Rattle.word_laws.specs.declared.activation.WordActivation.{WordActivation}
 use Rattle.slot_frames.specs.contracts.frame.Frame.{the_row as frame_row}
-use Rattle.slot_laws.specs.Slots.{SlotFrame, SlotRoutine}
+use Rattle.word_laws.specs.Words.{WordFrame, WordRoutine}
 
 -- the frame ends as that of the last value behind r
-abbrev pub LendsActivation : MutBor SlotFrame → MutBor Activation → Fml
-LendsActivation f r = Lends frame_row activation_row f r (λ a. SlotRoutine a)
+abbrev pub LendsActivation : MutBor WordFrame → MutBor WordActivation → Fml
+LendsActivation f r = Lends frame_row activation_row f r (λ a. WordRoutine a)

@@ -2,26 +2,25 @@
 
 ghost use Rattle.std.specs.Prelude.{◌≡◌, option_map, slice_get};
 ghost use Rattle.slot_frames.specs.Left.{frame_over};
-ghost use Rattle.slot_laws.specs.Slots.{SlotRoutine};
-ghost use Rattle.model.specs.declared.world.Value.TheVariants.{Ref};
-ghost use Rattle.model.specs.Effect.{completes_with, dispatched as dispatched_of, routine_of_device, serving_for as serving_for_of};
+ghost use Rattle.word_laws.specs.Words.{WordRoutine, completes_with, dispatched as dispatched_of, entered as entered_of};
+ghost use Rattle.model.specs.Effect.{routine_of_device, serving_for as serving_for_of};
 ghost use Rattle.model.specs.Set.{cancel_routine_named};
-ghost use Rattle.model.specs.World.{entered as entered_of};
 
 use crate::ran::Over;
 use arrayvec::ArrayVec;
 use driver_set::DriverSet;
 use model::limits::{DEFAULT_ROUTINE, REGISTERS};
 use model::status::Major;
-use model::world::{Activation, Armer, Completion, Value};
+use model::world::{Armer, Completion};
+use word_laws::WordActivation;
 
-/// A routine that begins, with what it is handed in its first register.
-pub fn entered(driver: u8, routine: u8, device: u8, first: Value) -> Activation
+/// A routine that begins, with the word that it is handed in its first register.
+pub fn entered(driver: u8, routine: u8, device: u8, first: u64) -> WordActivation
     ensures { result ≡ entered_of driver routine device first }
 {
-    let mut registers = [Value::Blank; REGISTERS];
+    let mut registers = [0; REGISTERS];
     registers[0] = first;
-    Activation {
+    WordActivation {
         driver,
         routine,
         device,
@@ -54,7 +53,7 @@ fn serving_for(set: &DriverSet, driver: u8, major: Option<Major>) -> u8
 /// The dispatch routine begins that serves what a packet asks of a device.
 pub fn dispatched(set: &DriverSet, device: u8, major: Option<Major>, key: u64) -> Over
     ensures { let target = slice_get set.now.devices device in
-        frame_over result ≡ SlotRoutine (dispatched_of set.now device target major key) }
+        frame_over result ≡ WordRoutine (dispatched_of set.now device target major key) }
 {
     let driver = match set.devices().get(device as usize) {
         Some(target) => target.driver,
@@ -78,7 +77,7 @@ pub fn dispatched(set: &DriverSet, device: u8, major: Option<Major>, key: u64) -
 
 /// A completion routine begins, for the device whose driver set it.
 pub fn completing(set: &DriverSet, completion: Completion, key: u64) -> Over
-    ensures { frame_over result ≡ SlotRoutine (completes_with set.now completion key) }
+    ensures { frame_over result ≡ WordRoutine (completes_with set.now completion key) }
 {
     Over::Routine {
         driver: driver_of(set, completion.device),
@@ -92,7 +91,7 @@ pub fn completing(set: &DriverSet, completion: Completion, key: u64) -> Over
 pub fn cancelled_by(set: &DriverSet, armer: Armer, key: u64) -> Option<Over>
     ensures { let driver = routine_of_device (slice_get set.now.devices armer.device) in
         option_map (λ over. frame_over over) result
-        ≡ option_map (λ routine. SlotRoutine (entered_of driver routine armer.device (Ref key)))
+        ≡ option_map (λ routine. WordRoutine (entered_of driver routine armer.device key))
         (cancel_routine_named set.now driver armer.queue) }
 {
     let driver = driver_of(set, armer.device);

@@ -6,8 +6,8 @@ ghost use Rattle.slot_frames.specs.Left.{frame_over as frame_over_of};
 
 use crate::activation::entered;
 use crate::ran::{Managing, Over};
-use model::world::{Activation, Value};
 use std::marker::Model;
+use word_laws::WordActivation;
 
 /// One frame of a thread: a routine that runs, or the I/O manager's. It is a struct, and no enum,
 /// so that a routine is stepped where it stands.
@@ -16,14 +16,14 @@ pub struct Frame {
     /// What the I/O manager does, where the frame is its.
     manager: Option<Managing>,
     /// The routine that runs, where it isn't.
-    activation: Activation,
+    activation: WordActivation,
 }
 
 impl Model for Frame {
-    ghost use Rattle.slot_laws.specs.Slots.{SlotFrame};
+    ghost use Rattle.word_laws.specs.Words.{WordFrame};
     ghost use Rattle.slot_frames.specs.Frames.{frame_of};
 
-    ghost Value = { SlotFrame };
+    ghost Value = { WordFrame };
 
     ghost view = { λ f. frame_of f.manager f.activation };
 }
@@ -32,19 +32,19 @@ impl Default for Frame {
     fn default() -> Frame {
         Frame {
             manager: Some(Managing::Completes(0)),
-            activation: entered(0, 0, 0, Value::Blank),
+            activation: entered(0, 0, 0, 0),
         }
     }
 }
 
 impl Frame {
-    ghost use Rattle.slot_laws.specs.Slots.{SlotRoutine};
+    ghost use Rattle.word_laws.specs.Words.{WordRoutine};
     ghost use Rattle.slot_frames.specs.Frames.{manager_of};
     ghost use Rattle.slot_frames.specs.Lending.{LendsActivation};
 
     /// The frame of a routine.
-    pub fn routine(activation: Activation) -> Frame
-        ensures { result ≡ SlotRoutine activation }
+    pub fn routine(activation: WordActivation) -> Frame
+        ensures { result ≡ WordRoutine activation }
     {
         Frame {
             manager: None,
@@ -59,14 +59,14 @@ impl Frame {
         match over {
             Over::Manager(managing) => Frame {
                 manager: Some(managing),
-                activation: entered(0, 0, 0, Value::Blank),
+                activation: entered(0, 0, 0, 0),
             },
             Over::Routine {
                 driver,
                 routine,
                 device,
                 key,
-            } => Frame::routine(entered(driver, routine, device, Value::Ref(key))),
+            } => Frame::routine(entered(driver, routine, device, key)),
         }
     }
 
@@ -78,18 +78,18 @@ impl Frame {
     }
 
     /// The routine of a frame that is a routine's.
-    pub fn activation(&self) -> &Activation
+    pub fn activation(&self) -> &WordActivation
         requires { manager_of self.now ≡ None }
-        ensures { self.now ≡ SlotRoutine result.now }
+        ensures { self.now ≡ WordRoutine result.now }
     {
         &self.activation
     }
 
     /// The same, to be stepped where it stands.
-    pub fn activation_mut(&mut self) -> &mut Activation
+    pub fn activation_mut(&mut self) -> &mut WordActivation
         requires { manager_of self.old ≡ None }
         ensures* writes_back { sem 𝓛 (LendsActivation self.entry result) }
-        ensures activation { self.old ≡ SlotRoutine result.now }
+        ensures activation { self.old ≡ WordRoutine result.now }
     {
         &mut self.activation
     }

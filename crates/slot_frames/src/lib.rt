@@ -1,5 +1,5 @@
-//! The frames of threads in a world whose packets stand in slots, and the instructions that change
-//! nothing but their routine. Nothing is tested here that an accepted set can never do.
+//! The frames of threads in a world whose registers hold plain words, and the instructions that
+//! change nothing but their routine. Nothing is tested here that an accepted set can never do.
 #![tactic(auto)]
 
 pub mod activation;

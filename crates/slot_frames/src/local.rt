@@ -3,52 +3,55 @@
 ghost use Rattle.std.specs.Prelude.{◌≡◌, ◌<◌, ◌++◌, ◌∷◌, [], ◌+◌, ℕ, IsSome, IsTrue, Option, false, length, nat_eq, nat_lt, if◌then◌else◌};
 ghost use Rattle.model.specs.declared.limits.TheConstants.{MAX_INSTRUCTIONS, MAX_LOOPS};
 ghost use Rattle.model.specs.declared.world.OpenLoop.{OpenLoop};
-ghost use Rattle.model.specs.declared.world.Value.TheVariants.{Num};
-ghost use Rattle.model.specs.World.{at_label, innermost, next, with_loops, with_register};
+ghost use Rattle.word_laws.specs.Words.{at_label, innermost, next, with_loops, with_word, WordFrame, word as word_in};
 ghost use Rattle.slot_frames.specs.Turns.{turned_on};
 ghost use Rattle.model.specs.Set.{Set};
 ghost use Rattle.slot_frames.specs.Alone.{FitsAlone};
-ghost use Rattle.slot_laws.specs.Fits.{HasNumber};
-ghost use Rattle.slot_laws.specs.Slots.{SlotFrame, SlotShared};
-ghost use Rattle.slot_laws.specs.SlotStep.{difference_at, goes_on, instruction_step, number_at, sum_at};
+ghost use Rattle.slot_laws.specs.Slots.{SlotShared};
+ghost use Rattle.word_laws.specs.WordStep.{difference_at, goes_on, instruction_step, sum_at};
 
-use crate::reading::number;
+use crate::reading::word;
 use driver_set::{Instr, Register, Turns};
-use model::world::{Activation, OpenLoop, Value};
+use model::world::OpenLoop;
+use word_laws::WordActivation;
 
-/// The register becomes this value.
-pub fn set(r: Register, value: Value, a: &mut Activation)
+/// The register becomes this word.
+pub fn set(r: Register, value: u64, a: &mut WordActivation)
     requires { a.old.position < MAX_INSTRUCTIONS }
-    ensures { a.new ≡ next (with_register a.old r value) }
+    ensures { a.new ≡ next (with_word a.old r value) }
 {
     a.registers[r.index()] = value;
     a.position += 1;
 }
 
-/// `add r s`: r becomes the sum, modulo 2^64.
-pub fn add(r: Register, s: Register, a: &mut Activation)
-    requires near { a.old.position < MAX_INSTRUCTIONS }
-    requires left { HasNumber a.old r }
-    requires right { HasNumber a.old s }
-    ensures { a.new ≡ next (with_register a.old r (Num (sum_at a.old r s))) }
+/// `clear r`: nothing may be taken from the register from now on, so the word in it stays.
+pub fn clear(a: &mut WordActivation)
+    requires { a.old.position < MAX_INSTRUCTIONS }
+    ensures { a.new ≡ next a.old }
 {
-    let sum = number(a, r).wrapping_add(number(a, s));
-    set(r, Value::Num(sum), a);
+    a.position += 1;
+}
+
+/// `add r s`: r becomes the sum, modulo 2^64.
+pub fn add(r: Register, s: Register, a: &mut WordActivation)
+    requires { a.old.position < MAX_INSTRUCTIONS }
+    ensures { a.new ≡ next (with_word a.old r (sum_at a.old r s)) }
+{
+    let sum = word(a, r).wrapping_add(word(a, s));
+    set(r, sum, a);
 }
 
 /// `sub r s`: r becomes the difference, modulo 2^64.
-pub fn subtract(r: Register, s: Register, a: &mut Activation)
-    requires near { a.old.position < MAX_INSTRUCTIONS }
-    requires left { HasNumber a.old r }
-    requires right { HasNumber a.old s }
-    ensures { a.new ≡ next (with_register a.old r (Num (difference_at a.old r s))) }
+pub fn subtract(r: Register, s: Register, a: &mut WordActivation)
+    requires { a.old.position < MAX_INSTRUCTIONS }
+    ensures { a.new ≡ next (with_word a.old r (difference_at a.old r s)) }
 {
-    let difference = number(a, r).wrapping_sub(number(a, s));
-    set(r, Value::Num(difference), a);
+    let difference = word(a, r).wrapping_sub(word(a, s));
+    set(r, difference, a);
 }
 
 /// Goes to the label where a test says so, and else to the next instruction.
-pub fn jump_if(label: u16, jumps: bool, a: &mut Activation)
+pub fn jump_if(label: u16, jumps: bool, a: &mut WordActivation)
     requires { a.old.position < MAX_INSTRUCTIONS }
     ensures { a.new ≡ (if jumps then at_label a.old label else next a.old) }
 {
@@ -60,30 +63,27 @@ pub fn jump_if(label: u16, jumps: bool, a: &mut Activation)
 }
 
 /// `jz r L`: jumps if r is 0.
-pub fn jump_if_zero(r: Register, label: u16, a: &mut Activation)
-    requires near { a.old.position < MAX_INSTRUCTIONS }
-    requires number { HasNumber a.old r }
+pub fn jump_if_zero(r: Register, label: u16, a: &mut WordActivation)
+    requires { a.old.position < MAX_INSTRUCTIONS }
     ensures { a.new
-        ≡ (if nat_eq (number_at a.old r) 0 then at_label a.old label else next a.old) }
+        ≡ (if nat_eq (word_in a.old r) 0 then at_label a.old label else next a.old) }
 {
-    let jumps = number(a, r) == 0;
+    let jumps = word(a, r) == 0;
     jump_if(label, jumps, a);
 }
 
 /// `jlt r s L`: jumps if r is less than s.
-pub fn jump_if_less(r: Register, s: Register, label: u16, a: &mut Activation)
-    requires near { a.old.position < MAX_INSTRUCTIONS }
-    requires left { HasNumber a.old r }
-    requires right { HasNumber a.old s }
-    ensures { let jumps = nat_lt (number_at a.old r) (number_at a.old s) in
+pub fn jump_if_less(r: Register, s: Register, label: u16, a: &mut WordActivation)
+    requires { a.old.position < MAX_INSTRUCTIONS }
+    ensures { let jumps = nat_lt (word_in a.old r) (word_in a.old s) in
         a.new ≡ (if jumps then at_label a.old label else next a.old) }
 {
-    let jumps = number(a, r) < number(a, s);
+    let jumps = word(a, r) < word(a, s);
     jump_if(label, jumps, a);
 }
 
 /// `loop n`: opens a loop of n turns; there is room for it.
-pub fn open_loop(turns: Turns, a: &mut Activation)
+pub fn open_loop(turns: Turns, a: &mut WordActivation)
     requires near { a.old.position < MAX_INSTRUCTIONS }
     requires room { length a.old.loops.items < MAX_LOOPS }
     ensures { let opened : OpenLoop = record { start = a.old.position + 1; turns = turns } in
@@ -97,7 +97,7 @@ pub fn open_loop(turns: Turns, a: &mut Activation)
 }
 
 /// `end`: goes back to the start of the innermost loop's body, or closes the loop. One is open.
-pub fn end_turn(a: &mut Activation)
+pub fn end_turn(a: &mut WordActivation)
     requires near { a.old.position < MAX_INSTRUCTIONS }
     requires open { IsSome (innermost a.old) }
     ensures { a.new ≡ turned_on a.old }
@@ -117,18 +117,18 @@ pub fn end_turn(a: &mut Activation)
 
 /// Executes an instruction that changes nothing but its routine. False, and nothing has changed,
 /// where it is another one.
-pub fn execute(instruction: Instr, a: &mut Activation) -> bool
+pub fn execute(instruction: Instr, a: &mut WordActivation) -> bool
     requires near { a.old.position < MAX_INSTRUCTIONS }
     requires fits { FitsAlone a.old instruction }
-    ensures goes { IsTrue result → (set : Set) (s : SlotShared) (t : ℕ) (under : Option SlotFrame)
+    ensures goes { IsTrue result → (set : Set) (s : SlotShared) (t : ℕ) (under : Option WordFrame)
         → goes_on s a.new ≡ instruction_step set s t under a.old instruction }
     ensures same { (a.new.driver ≡ a.old.driver) × (a.new.routine ≡ a.old.routine) }
     ensures other { result ≡ false → a.new ≡ a.old }
 {
     match instruction {
-        Instr::Const(r, number) => set(r, Value::Num(u64::from(number)), a),
+        Instr::Const(r, number) => set(r, u64::from(number), a),
         Instr::Move(r, s) => set(r, a.registers[s.index()], a),
-        Instr::Clear(r) => set(r, Value::Blank, a),
+        Instr::Clear(_) => clear(a),
         Instr::Add(r, s) => add(r, s, a),
         Instr::Subtract(r, s) => subtract(r, s, a),
         Instr::JumpIfZero(r, label) => jump_if_zero(r, label, a),

@@ -1,44 +1,38 @@
-//! What a register has, where it is known to be a number, a status or the key of a packet.
+//! What a register has: a word, which the instruction that reads it takes for a number, a status or
+//! the key of a packet.
 
 ghost use Rattle.std.specs.Prelude.{◌≡◌};
-ghost use Rattle.slot_laws.specs.Fits.{HasNumber, HasStatus};
-ghost use Rattle.slot_laws.specs.SlotStep.{key_at, number_at, status_read};
-ghost use Rattle.model.specs.World.{register};
-ghost use Rattle.slot_frames.specs.Registers.{NamesKey};
+ghost use Rattle.word_laws.specs.Words.{status_of_word, word as word_in};
 
 use driver_set::Register;
 use model::status::Status;
-use model::world::{Activation, Value};
+use word_laws::WordActivation;
 
-/// The number in a register.
-pub fn number(a: &Activation, r: Register) -> u64
-    requires { HasNumber a.now r }
-    ensures { result ≡ number_at a.now r }
+/// The word in a register.
+pub fn word(a: &WordActivation, r: Register) -> u64
+    ensures { result ≡ word_in a.now r }
 {
-    match a.registers[r.index()] {
-        Value::Num(number) => number,
-        _ => unreachable!(),
+    a.registers[r.index()]
+}
+
+/// The status that a word is the 32-bit value of; `Success` where it is none's.
+pub fn status_of(word: u64) -> Status
+    ensures { result ≡ status_of_word word }
+{
+    match word {
+        0x0000_0103 => Status::Pending,
+        0x8000_0011 => Status::Busy,
+        0xC000_0001 => Status::Unsuccessful,
+        0xC000_000D => Status::InvalidParameter,
+        0xC000_0010 => Status::InvalidDeviceRequest,
+        0xC000_0120 => Status::Cancelled,
+        _ => Status::Success,
     }
 }
 
 /// The status in a register.
-pub fn status(a: &Activation, r: Register) -> Status
-    requires { HasStatus a.now r }
-    ensures { result ≡ status_read (register a.now r) }
+pub fn status(a: &WordActivation, r: Register) -> Status
+    ensures { result ≡ status_of_word (word_in a.now r) }
 {
-    match a.registers[r.index()] {
-        Value::Status(status) => status,
-        _ => unreachable!(),
-    }
-}
-
-/// The key in a register.
-pub fn key(a: &Activation, r: Register) -> u64
-    requires { NamesKey a.now r }
-    ensures { result ≡ key_at a.now r }
-{
-    match a.registers[r.index()] {
-        Value::Ref(key) => key,
-        _ => unreachable!(),
-    }
+    status_of(word(a, r))
 }

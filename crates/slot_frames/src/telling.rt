@@ -1,13 +1,14 @@
 //! What a routine is told that waits for a lower driver.
 
 ghost use Rattle.std.specs.Prelude.{◌≡◌, Some};
-ghost use Rattle.model.specs.Effect.{answered, answered_in, operand_of};
+ghost use Rattle.word_laws.specs.Words.{answered, answered_in};
+ghost use Rattle.model.specs.Effect.{operand_of};
 ghost use Rattle.slot_frames.specs.Frames.{told};
 
 use crate::frame::Frame;
 use driver_set::{DriverSet, Instr};
 use model::status::Status;
-use model::world::{Activation, Value};
+use word_laws::WordActivation;
 
 /// A frame is told the status that a lower driver returned, if it is a routine's.
 pub fn tell(frame: &mut Frame, set: &DriverSet, status: Status)
@@ -18,19 +19,20 @@ pub fn tell(frame: &mut Frame, set: &DriverSet, status: Status)
     }
 }
 
-/// The register of a `pass` or a `call` becomes the status that the lower driver returned.
-fn answer_to(instruction: Instr, a: &mut Activation, status: Status)
+/// The register of a `pass` or a `call` becomes the value of the status that the lower driver
+/// returned.
+fn answer_to(instruction: Instr, a: &mut WordActivation, status: Status)
     ensures { a.new ≡ answered_in a.old status (operand_of (Some instruction)) }
 {
     match instruction {
-        Instr::Pass(r) => a.registers[r.index()] = Value::Status(status),
-        Instr::Call(r, _) => a.registers[r.index()] = Value::Status(status),
+        Instr::Pass(r) => a.registers[r.index()] = u64::from(status.code()),
+        Instr::Call(r, _) => a.registers[r.index()] = u64::from(status.code()),
         _ => {}
     }
 }
 
 /// A routine that waits for a lower driver is told what that returned.
-fn answer(set: &DriverSet, a: &mut Activation, status: Status)
+fn answer(set: &DriverSet, a: &mut WordActivation, status: Status)
     ensures { a.new ≡ answered set.now a.old status }
 {
     let before = a.position.saturating_sub(1);

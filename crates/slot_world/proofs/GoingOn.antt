@@ -2,18 +2,19 @@
 use Rattle.std.proofs.Common.{◌≡◌, ℕ, suc, List, Option, Some, sym, ◌∙◌, ap, subst}
 use Rattle.std.specs.Prelude.{slice_get}
 use Rattle.model.specs.declared.instr.Instr.{Instr}
-use Rattle.model.specs.declared.world.Activation.{Activation}
+use Rattle.word_laws.specs.declared.activation.WordActivation.{WordActivation}
 use Rattle.model.specs.Set.{Set, instruction_at}
 use Rattle.slot_frames.specs.Alone.{FitsAlone}
-use Rattle.slot_laws.specs.Fits.{InstructionFits, RoutineFits}
-use Rattle.slot_laws.specs.SlotStep.{goes_on, instruction_step, routine_step}
-use Rattle.slot_laws.specs.Slots.{SlotFrame, SlotShared}
+use Rattle.word_laws.specs.WordsFit.{WordInstructionFits, WordRoutineFits}
+use Rattle.word_laws.specs.WordStep.{goes_on, instruction_step, routine_step}
+use Rattle.word_laws.specs.Words.{WordFrame}
+use Rattle.slot_laws.specs.Slots.{SlotShared}
 use Rattle.slot_world.specs.GoingOn.{Goes, steps}
 
-module _ (set : Set) (s : SlotShared) (t : ℕ) (under : Option SlotFrame) (a : Activation)
+module _ (set : Set) (s : SlotShared) (t : ℕ) (under : Option WordFrame) (a : WordActivation)
     (code : List Instr)
     (coded : (p : ℕ) → instruction_at set a.driver a.routine p ≡ slice_get code p)
-    (k : ℕ) (b : Activation) (goes : Goes set s t under a k b) (about : RoutineFits set s t b)
+    (k : ℕ) (b : WordActivation) (goes : Goes set s t under a k b) (about : WordRoutineFits set s t b)
     (driver : b.driver ≡ a.driver) (routine : b.routine ≡ a.routine) where
   -- the instruction that is next stands in the code
   pub stands : slice_get code b.position ≡ Some about.instruction
@@ -30,10 +31,10 @@ module _ (set : Set) (s : SlotShared) (t : ℕ) (under : Option SlotFrame) (a : 
           set = set;
           shared = s;
           thread = t;
-          fits = subst (λ (j : Instr). InstructionFits set s t b j) one about.fits;
+          fits = subst (λ (j : Instr). WordInstructionFits set s t b j) one about.fits;
         }
 
-    pub goes_more : (c : Activation) → goes_on s c ≡ instruction_step set s t under b i
+    pub goes_more : (c : WordActivation) → goes_on s c ≡ instruction_step set s t under b i
         → Goes set s t under a (suc k) c
     goes_more c is =
         steps k b c goes

@@ -6,53 +6,53 @@ use Rattle.model.specs.declared.event.Reply.{Reply}
 use Rattle.model.specs.declared.event.Reply.TheVariants.{Stepped}
 use Rattle.model.specs.declared.status.Status.{Status}
 use Rattle.model.specs.declared.world.Irql.{Irql}
-use Rattle.model.specs.Effect.{answered}
+use Rattle.word_laws.specs.Words.{answered, WordCancel, WordFrame, WordRoutine, WordThread, WordWalk}
 use Rattle.model.specs.Set.{Set}
 use Rattle.run_laws.proofs.Lists.{before_last, last_of}
 use Rattle.slot_frames.proofs.Lists.{refill_all, set_back, set_last}
 use Rattle.slot_frames.specs.Frames.{told}
-use Rattle.slot_laws.specs.SlotStep.{SlotOutcome, ends_or, frame_step, leaves, level_over, told_frame, told_frames, top_frame}
-use Rattle.slot_laws.specs.Slots.{SlotCancel, SlotFrame, SlotRoutine, SlotShared, SlotThread, SlotWalk}
+use Rattle.word_laws.specs.WordStep.{WordOutcome, ends_or, frame_step, leaves, level_over, told_frame, told_frames, top_frame}
+use Rattle.slot_laws.specs.Slots.{SlotShared}
 use Rattle.slot_world.specs.Threads.{Moved, moved_by, standing_on, thread_moves}
 
 -- a thread with frames has not finished, and keeps its level
-pub finished_more : (below : List SlotFrame) (f : SlotFrame) (frames : List SlotFrame) (reply : Reply)
+pub finished_more : (below : List WordFrame) (f : WordFrame) (frames : List WordFrame) (reply : Reply)
     → ends_or (below ++ f ∷ frames) reply ≡ reply
 finished_more [] f frames reply = refl
 finished_more (b ∷ below) f frames reply = refl
 
-pub root_more : (root : Irql) (below : List SlotFrame) (f : SlotFrame) (frames : List SlotFrame)
+pub root_more : (root : Irql) (below : List WordFrame) (f : WordFrame) (frames : List WordFrame)
     → level_over root (below ++ f ∷ frames) ≡ root
 root_more root [] f frames = refl
 root_more root (b ∷ below) f frames = refl
 
 -- a thread with other frames, of the same level
-abbrev pub with_items : SlotThread → List SlotFrame → SlotThread
+abbrev pub with_items : WordThread → List WordFrame → WordThread
 with_items thread items = record thread { frames = items }
 
-abbrev pub moved_as : SlotShared → SlotThread → Reply → Moved
+abbrev pub moved_as : SlotShared → WordThread → Reply → Moved
 moved_as after thread reply = record { shared = after; thread = thread; reply = reply }
 
 -- the frame stays
-abbrev pub stays : SlotShared → SlotFrame → Reply → SlotOutcome
+abbrev pub stays : SlotShared → WordFrame → Reply → WordOutcome
 stays s f reply = record (leaves s (f ∷ [])) { reply = reply }
 
-module _ (set : Set) (s : SlotShared) (n : ℕ) (thread : SlotThread) (below : List SlotFrame)
-    (f : SlotFrame) (split : IsLastAndRest thread.frames f below) where
+module _ (set : Set) (s : SlotShared) (n : ℕ) (thread : WordThread) (below : List WordFrame)
+    (f : WordFrame) (split : IsLastAndRest thread.frames f below) where
   -- what the step of the top frame has left is what the thread's step leaves
-  moved : (left : SlotOutcome) → left ≡ frame_step set s n (top_frame below) f
+  moved : (left : WordOutcome) → left ≡ frame_step set s n (top_frame below) f
       → moved_by set thread below left ≡ thread_moves set s n thread
   moved left same = rw (same, split.0, last_of below f, before_last below f) refl
 
   -- the frame as written back where it stood
-  abbrev pub written : SlotFrame → List SlotFrame
+  abbrev pub written : WordFrame → List WordFrame
   written g = refill (length thread.frames) thread.frames (below ++ g ∷ [])
 
-  written_top : (g : SlotFrame) → written g ≡ below ++ g ∷ []
+  written_top : (g : WordFrame) → written g ≡ below ++ g ∷ []
   written_top g =
       refill_all thread.frames (below ++ g ∷ []) (length-append below (g ∷ []) ∙ split.1)
 
-  pub moved_stays : (after : SlotShared) (g : SlotFrame) (reply : Reply)
+  pub moved_stays : (after : SlotShared) (g : WordFrame) (reply : Reply)
       → stays after g reply ≡ frame_step set s n (top_frame below) f →
       moved_as after (with_items thread (written g)) reply ≡ thread_moves set s n thread
   moved_stays after g reply same =
@@ -61,7 +61,7 @@ module _ (set : Set) (s : SlotShared) (n : ℕ) (thread : SlotThread) (below : L
       rw (written_top g)
       (rw (root_more thread.root below g [], finished_more below g [] reply) at now)
 
-  abbrev pub under : SlotShared → SlotFrame → SlotFrame → SlotOutcome
+  abbrev pub under : SlotShared → WordFrame → WordFrame → WordOutcome
   under after g h =
       record {
         shared = after;
@@ -71,7 +71,7 @@ module _ (set : Set) (s : SlotShared) (n : ℕ) (thread : SlotThread) (below : L
         told = None;
       }
 
-  pub moved_under : (after : SlotShared) (g h : SlotFrame) (items : List SlotFrame)
+  pub moved_under : (after : SlotShared) (g h : WordFrame) (items : List WordFrame)
       → under after g h ≡ frame_step set s n (top_frame below) f →
       items ≡ written g ++ h ∷ [] → moved_as after (with_items thread items) Stepped
       ≡ thread_moves set s n thread
@@ -79,17 +79,17 @@ module _ (set : Set) (s : SlotShared) (n : ℕ) (thread : SlotThread) (below : L
       let now : moved_by set thread below (under after g h) ≡ thread_moves set s n thread =
       moved (under after g h) same in
       let whole : items ≡ below ++ g ∷ h ∷ [] =
-      is ∙ ap (λ (xs : List SlotFrame). xs ++ h ∷ []) (written_top g)
+      is ∙ ap (λ (xs : List WordFrame). xs ++ h ∷ []) (written_top g)
       ∙ append_assoc below (g ∷ []) (h ∷ []) in
       rw whole (rw (root_more thread.root below g (h ∷ []), finished_more below g (h ∷ []) Stepped)
       at now)
 
   -- the frame goes, and the one below is told a status or not
-  abbrev pub gone : SlotShared → Reply → Option Status → SlotOutcome
+  abbrev pub gone : SlotShared → Reply → Option Status → WordOutcome
   gone after reply told =
       record { shared = after; frames = []; reply = reply; taken_below = false; told = told }
 
-  pub popped : (g : SlotFrame) → take (length (written g) - 1) (written g) ≡ below
+  pub popped : (g : WordFrame) → take (length (written g) - 1) (written g) ≡ below
   popped g = rw (written_top g) (before_last below g)
 
   pub moved_gone : (after : SlotShared) (reply : Reply) (said : Option Status)
@@ -102,7 +102,7 @@ module _ (set : Set) (s : SlotShared) (n : ℕ) (thread : SlotThread) (below : L
       rw (append-nil (told_frames set below said)) at now
 
   -- the frame goes, and the I/O manager's below it too
-  abbrev pub stopped : SlotShared → SlotOutcome
+  abbrev pub stopped : SlotShared → WordOutcome
   stopped after =
       record { shared = after; frames = []; reply = Stepped; taken_below = true; told = None }
 
@@ -116,11 +116,11 @@ module _ (set : Set) (s : SlotShared) (n : ℕ) (thread : SlotThread) (below : L
       rw (append-nil (take (length below - 1) below)) at now
 
 -- the frame on the top is told a status
-pub told_by : (set : Set) (items : List SlotFrame) (status : Status) (f : SlotFrame)
+pub told_by : (set : Set) (items : List WordFrame) (status : Status) (f : WordFrame)
     → top_frame items ≡ Some f
     → slice_set items (length items - 1) (told set status f) ≡ told_frame set items status (Some f)
-told_by set items status (SlotWalk k) there = set_back items (length items - 1) (SlotWalk k) there
-told_by set items status (SlotCancel k m step) there =
-    set_back items (length items - 1) (SlotCancel k m step) there
-told_by set items status (SlotRoutine a) there =
-    set_last items (SlotRoutine a) (SlotRoutine (answered set a status)) there
+told_by set items status (WordWalk k) there = set_back items (length items - 1) (WordWalk k) there
+told_by set items status (WordCancel k m step) there =
+    set_back items (length items - 1) (WordCancel k m step) there
+told_by set items status (WordRoutine a) there =
+    set_last items (WordRoutine a) (WordRoutine (answered set a status)) there

@@ -4,53 +4,54 @@ use Rattle.model.specs.declared.event.Reply.{Reply}
 use Rattle.model.specs.declared.event.Reply.TheVariants.{Idle, Refused}
 use Rattle.model.specs.declared.view.ThreadView.{ThreadView}
 use Rattle.model.specs.Set.{Set}
-use Rattle.model.specs.View.{thread_view}
-use Rattle.slot_laws.specs.Rep.{meant_thread, named}
-use Rattle.slot_laws.specs.SlotStep.{SlotAnswer, SlotOutcome, ends_or, frame_step, frames_after, level_over, stays, top_frame}
-use Rattle.slot_laws.specs.Slots.{SlotFrame, SlotShared, SlotThread, SlotWorld}
+use Rattle.slot_laws.specs.Rep.{named}
+use Rattle.word_laws.specs.WordViews.{word_thread_view}
+use Rattle.word_laws.specs.WordStep.{WordAnswer, WordOutcome, ends_or, frame_step, frames_after, level_over, stays, top_frame}
+use Rattle.word_laws.specs.Words.{WordFrame, WordThread, WordWorld}
+use Rattle.slot_laws.specs.Slots.{SlotShared}
 
 -- what a thread's step leaves: the shared part, the thread, and the reply
 pub record Moved : Type 0 where
   pub shared : SlotShared
-  pub thread : SlotThread
+  pub thread : WordThread
   pub reply : Reply
 
 -- a thread with other frames: one that is left without any is idle, at PASSIVE_LEVEL
-abbrev pub standing_on : SlotThread → List SlotFrame → SlotThread
+abbrev pub standing_on : WordThread → List WordFrame → WordThread
 standing_on thread frames =
     record { root = level_over thread.root frames; frames = frames }
 
-abbrev pub moved_to : SlotShared → SlotThread → List SlotFrame → Reply → Moved
+abbrev pub moved_to : SlotShared → WordThread → List WordFrame → Reply → Moved
 moved_to s thread frames reply =
     record { shared = s; thread = standing_on thread frames; reply = ends_or frames reply }
 
-abbrev pub moved_by : Set → SlotThread → List SlotFrame → SlotOutcome → Moved
+abbrev pub moved_by : Set → WordThread → List WordFrame → WordOutcome → Moved
 moved_by set thread below o = moved_to o.shared thread (frames_after set below o) o.reply
 
-abbrev pub top_moves : Set → SlotShared → ℕ → SlotThread → List SlotFrame → Option SlotFrame
+abbrev pub top_moves : Set → SlotShared → ℕ → WordThread → List WordFrame → Option WordFrame
     → Moved
 top_moves set s t thread below None = record { shared = s; thread = thread; reply = Idle }
 top_moves set s t thread below (Some f) =
     moved_by set thread below (frame_step set s t (top_frame below) f)
 
-abbrev pub thread_moves : Set → SlotShared → ℕ → SlotThread → Moved
+abbrev pub thread_moves : Set → SlotShared → ℕ → WordThread → Moved
 thread_moves set s t thread =
     top_moves set s t thread (take (length thread.frames - 1) thread.frames)
     (top_frame thread.frames)
 
 -- the world in which a thread has moved in its place, if it is there
-abbrev pub placed : SlotWorld → ℕ → Moved → SlotAnswer
+abbrev pub placed : WordWorld → ℕ → Moved → WordAnswer
 placed v t m =
     record {
       world = record { threads = slice_set v.threads t m.thread; shared = m.shared };
       reply = m.reply;
     }
 
-abbrev pub stepped_on : Set → SlotWorld → ℕ → Option SlotThread → SlotAnswer
+abbrev pub stepped_on : Set → WordWorld → ℕ → Option WordThread → WordAnswer
 stepped_on set v t None = stays v Refused
 stepped_on set v t (Some x) = placed v t (thread_moves set v.shared t x)
 
 -- what there is to tell of a thread, if it is there
-abbrev pub told_of : SlotWorld → Option SlotThread → Option ThreadView
+abbrev pub told_of : WordWorld → Option WordThread → Option ThreadView
 told_of v None = None
-told_of v (Some x) = Some (thread_view (meant_thread (named v.shared) x))
+told_of v (Some x) = Some (word_thread_view (named v.shared) x)

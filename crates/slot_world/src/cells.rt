@@ -2,17 +2,18 @@
 
 ghost use Rattle.std.specs.Prelude.{◌≡◌, ◌<◌, slice_get};
 ghost use Rattle.model.specs.declared.limits.TheConstants.{MAX_INSTRUCTIONS};
-ghost use Rattle.slot_laws.specs.Fits.{HasCells, HasNumber};
-ghost use Rattle.slot_laws.specs.SlotStep.{goes_on, load_paged_step, load_step, number_at, store_paged_step, store_step};
+ghost use Rattle.slot_laws.specs.Fits.{HasCells};
+ghost use Rattle.word_laws.specs.WordStep.{goes_on, load_paged_step, load_step, store_paged_step, store_step};
+ghost use Rattle.word_laws.specs.Words.{word};
 
 use crate::reading::cells_are_there;
 use driver_set::{Cell, Register};
-use model::world::{Activation, Value};
 use slot_frames::{local, reading};
 use slot_parts::Shared;
+use word_laws::WordActivation;
 
 /// `load r c`: the register becomes the number in a cell.
-pub fn load(shared: &Shared, r: Register, cell: Cell, a: &mut Activation)
+pub fn load(shared: &Shared, r: Register, cell: Cell, a: &mut WordActivation)
     requires near { a.old.position < MAX_INSTRUCTIONS }
     requires cells { HasCells shared.now a.old.device }
     ensures { let cells = slice_get shared.now.cells a.old.device in
@@ -20,11 +21,11 @@ pub fn load(shared: &Shared, r: Register, cell: Cell, a: &mut Activation)
 {
     cells_are_there(shared, a.device);
     let number = shared.load(a.device, cell);
-    local::set(r, Value::Num(number), a);
+    local::set(r, number, a);
 }
 
 /// `loadp r p`: the same of a paged cell.
-pub fn load_paged(shared: &Shared, r: Register, cell: Cell, a: &mut Activation)
+pub fn load_paged(shared: &Shared, r: Register, cell: Cell, a: &mut WordActivation)
     requires near { a.old.position < MAX_INSTRUCTIONS }
     requires cells { HasCells shared.now a.old.device }
     ensures { let cells = slice_get shared.now.cells a.old.device in
@@ -32,32 +33,30 @@ pub fn load_paged(shared: &Shared, r: Register, cell: Cell, a: &mut Activation)
 {
     cells_are_there(shared, a.device);
     let number = shared.load_paged(a.device, cell);
-    local::set(r, Value::Num(number), a);
+    local::set(r, number, a);
 }
 
 /// `store c r`: a cell becomes the number in the register.
-pub fn store(shared: &mut Shared, cell: Cell, r: Register, a: &mut Activation)
+pub fn store(shared: &mut Shared, cell: Cell, r: Register, a: &mut WordActivation)
     requires near { a.old.position < MAX_INSTRUCTIONS }
     requires cells { HasCells shared.old a.old.device }
-    requires number { HasNumber a.old r }
     ensures { let cells = slice_get shared.old.cells a.old.device in
-        goes_on shared.new a.new ≡ store_step shared.old a.old cell (number_at a.old r) cells }
+        goes_on shared.new a.new ≡ store_step shared.old a.old cell (word a.old r) cells }
 {
     cells_are_there(shared, a.device);
-    shared.store(a.device, cell, reading::number(a, r));
+    shared.store(a.device, cell, reading::word(a, r));
     a.position += 1;
 }
 
 /// `storep p r`: the same of a paged cell.
-pub fn store_paged(shared: &mut Shared, cell: Cell, r: Register, a: &mut Activation)
+pub fn store_paged(shared: &mut Shared, cell: Cell, r: Register, a: &mut WordActivation)
     requires near { a.old.position < MAX_INSTRUCTIONS }
     requires cells { HasCells shared.old a.old.device }
-    requires number { HasNumber a.old r }
     ensures { let cells = slice_get shared.old.cells a.old.device in
         goes_on shared.new a.new
-        ≡ store_paged_step shared.old a.old cell (number_at a.old r) cells }
+        ≡ store_paged_step shared.old a.old cell (word a.old r) cells }
 {
     cells_are_there(shared, a.device);
-    shared.store_paged(a.device, cell, reading::number(a, r));
+    shared.store_paged(a.device, cell, reading::word(a, r));
     a.position += 1;
 }

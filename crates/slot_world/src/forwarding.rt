@@ -2,23 +2,24 @@
 
 ghost use Rattle.std.specs.Prelude.{◌≡◌, ◌<◌, IsSome, Some};
 ghost use Rattle.model.specs.declared.limits.TheConstants.{MAX_INSTRUCTIONS};
-ghost use Rattle.model.specs.Effect.{set_by};
+ghost use Rattle.word_laws.specs.Words.{set_by, word, WordRoutine};
 ghost use Rattle.model.specs.Set.{lower_of};
 ghost use Rattle.slot_frames.specs.Left.{left_of};
-ghost use Rattle.slot_laws.specs.Fits.{CanGoDown, HasKey};
-ghost use Rattle.slot_laws.specs.SlotStep.{call_step, complete_step, key_at, pass_step};
-ghost use Rattle.slot_laws.specs.Slots.{SlotRoutine, packet_at};
+ghost use Rattle.word_laws.specs.WordsFit.{CanGoDown, IsKey};
+ghost use Rattle.word_laws.specs.WordStep.{call_step, complete_step, pass_step};
+ghost use Rattle.slot_laws.specs.Slots.{packet_at};
 
 use crate::reading::key;
 use driver_set::{DriverSet, Register};
 use model::status::Status;
-use model::world::{Activation, Completion};
+use model::world::Completion;
 use slot_frames::activation::dispatched;
 use slot_frames::{Managing, Over, Ran};
 use slot_parts::Shared;
+use word_laws::WordActivation;
 
 /// The completion routine that a routine's driver sets, if it names one.
-fn completion(a: &Activation, routine: Option<u8>) -> Option<Completion>
+fn completion(a: &WordActivation, routine: Option<u8>) -> Option<Completion>
     ensures { result ≡ set_by a.now routine }
 {
     let routine = routine?;
@@ -41,14 +42,14 @@ fn lower(set: &DriverSet, device: u8) -> u8
 
 /// `pass r`: the lower driver is asked in the caller's location. Its routine then stands over the
 /// caller's frame.
-pub fn pass(shared: &mut Shared, set: &DriverSet, r: Register, a: &mut Activation) -> Ran
+pub fn pass(shared: &mut Shared, set: &DriverSet, r: Register, a: &mut WordActivation) -> Ran
     requires near { a.old.position < MAX_INSTRUCTIONS }
-    requires key { HasKey shared.old a.old r }
+    requires key { IsKey shared.old (word a.old r) }
     requires lower { IsSome (lower_of set.now a.old.device) }
     ensures { let lower = lower_of set.now a.old.device in
-        let packet = packet_at shared.old (key_at a.old r) in
-        left_of shared.new (SlotRoutine a.new) result
-        ≡ pass_step set.now shared.old a.old (key_at a.old r) lower packet }
+        let packet = packet_at shared.old (word a.old r) in
+        left_of shared.new (WordRoutine a.new) result
+        ≡ pass_step set.now shared.old a.old (word a.old r) lower packet }
 {
     let key = key(shared, a, r);
     let lower = lower(set, a.device);
@@ -65,16 +66,16 @@ pub fn call(
     set: &DriverSet,
     r: Register,
     routine: Option<u8>,
-    a: &mut Activation,
+    a: &mut WordActivation,
 ) -> Ran
     requires near { a.old.position < MAX_INSTRUCTIONS }
-    requires key { HasKey shared.old a.old r }
+    requires key { IsKey shared.old (word a.old r) }
     requires lower { IsSome (lower_of set.now a.old.device) }
-    requires room { CanGoDown shared.old a.old r }
+    requires room { CanGoDown shared.old (word a.old r) }
     ensures { let lower = lower_of set.now a.old.device in
-        let packet = packet_at shared.old (key_at a.old r) in
-        left_of shared.new (SlotRoutine a.new) result
-        ≡ call_step set.now shared.old a.old routine (key_at a.old r) lower packet }
+        let packet = packet_at shared.old (word a.old r) in
+        left_of shared.new (WordRoutine a.new) result
+        ≡ call_step set.now shared.old a.old routine (word a.old r) lower packet }
 {
     let key = key(shared, a, r);
     let lower = lower(set, a.device);
@@ -84,12 +85,12 @@ pub fn call(
     Ran::Under(dispatched(set, lower, asked, key))
 }
 /// `complete r STATUS`: IoCompleteRequest. The I/O manager's frame then stands over the routine's.
-pub fn complete(shared: &mut Shared, r: Register, status: Status, a: &mut Activation) -> Ran
+pub fn complete(shared: &mut Shared, r: Register, status: Status, a: &mut WordActivation) -> Ran
     requires near { a.old.position < MAX_INSTRUCTIONS }
-    requires key { HasKey shared.old a.old r }
-    ensures { let packet = packet_at shared.old (key_at a.old r) in
-        left_of shared.new (SlotRoutine a.new) result
-        ≡ complete_step shared.old a.old status (key_at a.old r) packet }
+    requires key { IsKey shared.old (word a.old r) }
+    ensures { let packet = packet_at shared.old (word a.old r) in
+        left_of shared.new (WordRoutine a.new) result
+        ≡ complete_step shared.old a.old status (word a.old r) packet }
 {
     let key = key(shared, a, r);
     shared.complete(key, status);

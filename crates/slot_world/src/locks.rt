@@ -2,21 +2,20 @@
 
 ghost use Rattle.std.specs.Prelude.{◌≡◌, ◌<◌};
 ghost use Rattle.model.specs.declared.limits.TheConstants.{MAX_INSTRUCTIONS};
-ghost use Rattle.model.specs.Effect.{spin_lock as spin_lock_of};
+ghost use Rattle.word_laws.specs.Words.{spin_lock as spin_lock_of, WordRoutine};
 ghost use Rattle.model.specs.World.{owner_of};
 ghost use Rattle.slot_frames.specs.Left.{left_of};
 ghost use Rattle.slot_laws.specs.Fits.{CanAcquire, HasLock};
-ghost use Rattle.slot_laws.specs.SlotStep.{acquire_step, goes_on, release_step};
-ghost use Rattle.slot_laws.specs.Slots.{SlotRoutine};
+ghost use Rattle.word_laws.specs.WordStep.{acquire_step, goes_on, release_step};
 
 use driver_set::SpinLock;
 use model::event::{Lock, OfDevice};
-use model::world::Activation;
 use slot_frames::Ran;
 use slot_parts::Shared;
+use word_laws::WordActivation;
 
 /// A spin lock of the routine's device.
-pub fn spin_lock(a: &Activation, lock: SpinLock) -> Lock
+pub fn spin_lock(a: &WordActivation, lock: SpinLock) -> Lock
     ensures { result ≡ spin_lock_of a.now lock }
 {
     Lock::Spin(OfDevice {
@@ -26,11 +25,11 @@ pub fn spin_lock(a: &Activation, lock: SpinLock) -> Lock
 }
 
 /// `acquire l` and `acqc`: the thread acquires a lock, or waits for its owner.
-pub fn acquire(shared: &mut Shared, thread: u8, lock: Lock, a: &mut Activation) -> Ran
+pub fn acquire(shared: &mut Shared, thread: u8, lock: Lock, a: &mut WordActivation) -> Ran
     requires near { a.old.position < MAX_INSTRUCTIONS }
     requires lock { CanAcquire shared.old thread lock }
     ensures { let owner = owner_of shared.old.locks lock in
-        left_of shared.new (SlotRoutine a.new) result
+        left_of shared.new (WordRoutine a.new) result
         ≡ acquire_step shared.old thread a.old lock owner }
 {
     if !shared.acquire(lock, thread) {
@@ -41,7 +40,7 @@ pub fn acquire(shared: &mut Shared, thread: u8, lock: Lock, a: &mut Activation) 
 }
 
 /// `release l` and `relc`: the lock has no owner any more.
-pub fn release(shared: &mut Shared, lock: Lock, a: &mut Activation)
+pub fn release(shared: &mut Shared, lock: Lock, a: &mut WordActivation)
     requires near { a.old.position < MAX_INSTRUCTIONS }
     requires lock { HasLock shared.old lock }
     ensures { goes_on shared.new a.new ≡ release_step shared.old a.old lock }

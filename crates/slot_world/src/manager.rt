@@ -5,8 +5,10 @@ ghost use Rattle.model.specs.declared.event.Lock.TheVariants.{SystemCancel};
 ghost use Rattle.model.specs.declared.world.CancelStep.TheVariants.{Acquire as AcquireStep};
 ghost use Rattle.slot_frames.specs.Left.{left_of};
 ghost use Rattle.slot_laws.specs.Fits.{CanAcquire, CancelFits};
-ghost use Rattle.slot_laws.specs.SlotStep.{cancel_acquires_step, cancel_ends_step, cancel_exchanges_step, cancel_flags_step, cancel_step, if_numbered, walk_step};
-ghost use Rattle.slot_laws.specs.Slots.{SlotCancel, SlotFrame, SlotWalk, packet_at};
+ghost use Rattle.word_laws.specs.WordStep.{cancel_acquires_step, cancel_ends_step, cancel_exchanges_step, cancel_flags_step, cancel_step, walk_step};
+ghost use Rattle.slot_laws.specs.SlotStep.{if_numbered};
+ghost use Rattle.word_laws.specs.Words.{WordCancel, WordFrame, WordWalk};
+ghost use Rattle.slot_laws.specs.Slots.{packet_at};
 
 use driver_set::DriverSet;
 use model::event::Lock;
@@ -19,7 +21,7 @@ use slot_parts::{Shared, Walked};
 pub fn walk(set: &DriverSet, shared: &mut Shared, key: u64) -> Ran
     requires { IsSome (packet_at shared.old key) }
     ensures { let packet = packet_at shared.old key in
-        left_of shared.new (SlotWalk key) result
+        left_of shared.new (WordWalk key) result
         ≡ walk_step set.now shared.old key packet }
 {
     match shared.walk(key) {
@@ -47,7 +49,7 @@ pub fn cancel(
     next: CancelStep,
 ) -> Ran
     requires { CancelFits shared.old thread next }
-    ensures { left_of shared.new (SlotCancel key number next) result
+    ensures { left_of shared.new (WordCancel key number next) result
         ≡ cancel_step set.now shared.old thread key number next }
 {
     match next {
@@ -68,7 +70,7 @@ fn cancelling(key: u64, number: u64, next: CancelStep) -> Ran
 fn acquire(shared: &mut Shared, thread: u8, key: u64, number: u64) -> Ran
     requires { CanAcquire shared.old thread SystemCancel }
     ensures { let owner = shared.old.locks.system_cancel in
-        left_of shared.new (SlotCancel key number AcquireStep) result
+        left_of shared.new (WordCancel key number AcquireStep) result
         ≡ cancel_acquires_step shared.old thread key number owner }
 {
     if !shared.acquire(Lock::SystemCancel, thread) {
@@ -79,7 +81,7 @@ fn acquire(shared: &mut Shared, thread: u8, key: u64, number: u64) -> Ran
 
 /// The second step: it sets the packet's cancel flag, if the packet is in its slot.
 fn set_flag(shared: &mut Shared, key: u64, number: u64) -> Ran
-    ensures { (f : SlotFrame)
+    ensures { (f : WordFrame)
         → let packet = if_numbered (packet_at shared.old key) number in
         left_of shared.new f result ≡ cancel_flags_step shared.old key number packet }
 {
@@ -93,7 +95,7 @@ fn set_flag(shared: &mut Shared, key: u64, number: u64) -> Ran
 /// The third step: it exchanges the packet's cancel routine with none, if the packet is in its
 /// slot. The one that was set begins in the place of IoCancelIrp, with the lock held.
 fn exchange(set: &DriverSet, shared: &mut Shared, key: u64, number: u64) -> Ran
-    ensures { (f : SlotFrame)
+    ensures { (f : WordFrame)
         → let packet = if_numbered (packet_at shared.old key) number in
         left_of shared.new f result ≡ cancel_exchanges_step set.now shared.old key packet }
 {
@@ -111,7 +113,7 @@ fn exchange(set: &DriverSet, shared: &mut Shared, key: u64, number: u64) -> Ran
 
 /// The system cancel spin lock is released, and IoCancelIrp has ended.
 fn release(shared: &mut Shared) -> Ran
-    ensures { (f : SlotFrame) → left_of shared.new f result ≡ cancel_ends_step shared.old }
+    ensures { (f : WordFrame) → left_of shared.new f result ≡ cancel_ends_step shared.old }
 {
     shared.release(Lock::SystemCancel);
     Ran::Ends

@@ -2,47 +2,48 @@
 
 ghost use Rattle.std.specs.Prelude.{◌≡◌, ◌<◌};
 ghost use Rattle.model.specs.declared.limits.TheConstants.{MAX_INSTRUCTIONS};
-ghost use Rattle.slot_laws.specs.Fits.{HasKey, HasNumber};
-ghost use Rattle.slot_laws.specs.SlotStep.{arm_step, ask_step, disarm_step, get_step, goes_on, key_at, look_step, mark_step, number_at, put_step};
+ghost use Rattle.word_laws.specs.WordsFit.{IsKey};
+ghost use Rattle.word_laws.specs.WordStep.{arm_step, ask_step, disarm_step, get_step, goes_on, look_step, mark_step, put_step};
+ghost use Rattle.word_laws.specs.Words.{word};
 ghost use Rattle.slot_laws.specs.Slots.{packet_at};
 
 use crate::reading::key;
 use driver_set::{Field, QueueName, Register};
-use model::world::{Activation, Armer, Value};
+use model::world::Armer;
 use slot_frames::{local, reading};
 use slot_parts::Shared;
+use word_laws::WordActivation;
 
 /// `get r s F`: the register becomes a field of the packet.
-pub fn get(shared: &Shared, r: Register, s: Register, field: Field, a: &mut Activation)
+pub fn get(shared: &Shared, r: Register, s: Register, field: Field, a: &mut WordActivation)
     requires near { a.old.position < MAX_INSTRUCTIONS }
-    requires key { HasKey shared.now a.old s }
-    ensures { let packet = packet_at shared.now (key_at a.old s) in
+    requires key { IsKey shared.now (word a.old s) }
+    ensures { let packet = packet_at shared.now (word a.old s) in
         goes_on shared.now a.new ≡ get_step shared.now a.old r field packet }
 {
     let number = shared.get(key(shared, a, s), field);
-    local::set(r, Value::Num(number), a);
+    local::set(r, number, a);
 }
 
 /// `put s r`: IoStatus.Information of the packet becomes a number.
-pub fn put(shared: &mut Shared, s: Register, r: Register, a: &mut Activation)
+pub fn put(shared: &mut Shared, s: Register, r: Register, a: &mut WordActivation)
     requires near { a.old.position < MAX_INSTRUCTIONS }
-    requires key { HasKey shared.old a.old s }
-    requires number { HasNumber a.old r }
-    ensures { let packet = packet_at shared.old (key_at a.old s) in
+    requires key { IsKey shared.old (word a.old s) }
+    ensures { let packet = packet_at shared.old (word a.old s) in
         goes_on shared.new a.new
-        ≡ put_step shared.old a.old (key_at a.old s) (number_at a.old r) packet }
+        ≡ put_step shared.old a.old (word a.old s) (word a.old r) packet }
 {
     let key = key(shared, a, s);
-    shared.put(key, reading::number(a, r));
+    shared.put(key, reading::word(a, r));
     a.position += 1;
 }
 
 /// `mark r`: IoMarkIrpPending.
-pub fn mark(shared: &mut Shared, r: Register, a: &mut Activation)
+pub fn mark(shared: &mut Shared, r: Register, a: &mut WordActivation)
     requires near { a.old.position < MAX_INSTRUCTIONS }
-    requires key { HasKey shared.old a.old r }
-    ensures { let packet = packet_at shared.old (key_at a.old r) in
-        goes_on shared.new a.new ≡ mark_step shared.old a.old (key_at a.old r) packet }
+    requires key { IsKey shared.old (word a.old r) }
+    ensures { let packet = packet_at shared.old (word a.old r) in
+        goes_on shared.new a.new ≡ mark_step shared.old a.old (word a.old r) packet }
 {
     let key = key(shared, a, r);
     shared.mark(key);
@@ -50,11 +51,11 @@ pub fn mark(shared: &mut Shared, r: Register, a: &mut Activation)
 }
 
 /// `arm r q`: IoSetCancelRoutine with the cancel routine of a queue.
-pub fn arm(shared: &mut Shared, r: Register, q: u8, a: &mut Activation)
+pub fn arm(shared: &mut Shared, r: Register, q: u8, a: &mut WordActivation)
     requires near { a.old.position < MAX_INSTRUCTIONS }
-    requires key { HasKey shared.old a.old r }
-    ensures { let packet = packet_at shared.old (key_at a.old r) in
-        goes_on shared.new a.new ≡ arm_step shared.old a.old q (key_at a.old r) packet }
+    requires key { IsKey shared.old (word a.old r) }
+    ensures { let packet = packet_at shared.old (word a.old r) in
+        goes_on shared.new a.new ≡ arm_step shared.old a.old q (word a.old r) packet }
 {
     let key = key(shared, a, r);
     let word = Armer {
@@ -66,11 +67,11 @@ pub fn arm(shared: &mut Shared, r: Register, q: u8, a: &mut Activation)
 }
 
 /// `disarm r L`: IoSetCancelRoutine with none; jumps where none was set.
-pub fn disarm(shared: &mut Shared, r: Register, label: u16, a: &mut Activation)
+pub fn disarm(shared: &mut Shared, r: Register, label: u16, a: &mut WordActivation)
     requires near { a.old.position < MAX_INSTRUCTIONS }
-    requires key { HasKey shared.old a.old r }
-    ensures { let packet = packet_at shared.old (key_at a.old r) in
-        goes_on shared.new a.new ≡ disarm_step shared.old a.old label (key_at a.old r) packet }
+    requires key { IsKey shared.old (word a.old r) }
+    ensures { let packet = packet_at shared.old (word a.old r) in
+        goes_on shared.new a.new ≡ disarm_step shared.old a.old label (word a.old r) packet }
 {
     let key = key(shared, a, r);
     let was = shared.exchange(key, None);
@@ -78,10 +79,10 @@ pub fn disarm(shared: &mut Shared, r: Register, label: u16, a: &mut Activation)
 }
 
 /// `ifcancel r L`: jumps if Irp->Cancel is set.
-pub fn jump_if_cancelled(shared: &Shared, r: Register, label: u16, a: &mut Activation)
+pub fn jump_if_cancelled(shared: &Shared, r: Register, label: u16, a: &mut WordActivation)
     requires near { a.old.position < MAX_INSTRUCTIONS }
-    requires key { HasKey shared.now a.old r }
-    ensures { let packet = packet_at shared.now (key_at a.old r) in
+    requires key { IsKey shared.now (word a.old r) }
+    ensures { let packet = packet_at shared.now (word a.old r) in
         goes_on shared.now a.new ≡ ask_step shared.now a.old label packet }
 {
     let cancelled = shared.is_cancelled(key(shared, a, r));
@@ -89,10 +90,10 @@ pub fn jump_if_cancelled(shared: &Shared, r: Register, label: u16, a: &mut Activ
 }
 
 /// `ifpending r L`: jumps if Irp->PendingReturned is set.
-pub fn jump_if_pending(shared: &Shared, r: Register, label: u16, a: &mut Activation)
+pub fn jump_if_pending(shared: &Shared, r: Register, label: u16, a: &mut WordActivation)
     requires near { a.old.position < MAX_INSTRUCTIONS }
-    requires key { HasKey shared.now a.old r }
-    ensures { let packet = packet_at shared.now (key_at a.old r) in
+    requires key { IsKey shared.now (word a.old r) }
+    ensures { let packet = packet_at shared.now (word a.old r) in
         goes_on shared.now a.new ≡ look_step shared.now a.old label packet }
 {
     let pending = shared.is_pending(key(shared, a, r));

@@ -2,24 +2,26 @@
 
 ghost use Rattle.std.specs.Prelude.{◌≡◌, ◌<◌};
 ghost use Rattle.model.specs.declared.limits.TheConstants.{MAX_INSTRUCTIONS};
-ghost use Rattle.slot_laws.specs.Fits.{CanBeListed, HasKey, HasQueue};
-ghost use Rattle.slot_laws.specs.SlotStep.{goes_on, insert_step, key_at, remove_step, unlink_step};
+ghost use Rattle.slot_laws.specs.Fits.{CanBeListed, HasQueue};
+ghost use Rattle.word_laws.specs.WordsFit.{IsKey};
+ghost use Rattle.word_laws.specs.WordStep.{goes_on, insert_step, remove_step, unlink_step};
+ghost use Rattle.word_laws.specs.Words.{word};
 ghost use Rattle.slot_laws.specs.Slots.{slot_queue};
 
 use crate::reading::{key, queue_is_there};
 use driver_set::Register;
-use model::world::{Activation, Value};
 use slot_frames::local;
 use slot_parts::Shared;
+use word_laws::WordActivation;
 
 /// `insert r q`: the packet goes to the back of a queue.
-pub fn insert(shared: &mut Shared, r: Register, q: u8, a: &mut Activation)
+pub fn insert(shared: &mut Shared, r: Register, q: u8, a: &mut WordActivation)
     requires near { a.old.position < MAX_INSTRUCTIONS }
-    requires key { HasKey shared.old a.old r }
+    requires key { IsKey shared.old (word a.old r) }
     requires queue { HasQueue shared.old a.old.device q }
-    requires unlisted { CanBeListed shared.old (key_at a.old r) }
+    requires unlisted { CanBeListed shared.old (word a.old r) }
     ensures { let entries = slot_queue shared.old a.old.device q in
-        goes_on shared.new a.new ≡ insert_step shared.old a.old q (key_at a.old r) entries }
+        goes_on shared.new a.new ≡ insert_step shared.old a.old q (word a.old r) entries }
 {
     queue_is_there(shared, a.device, q);
     let key = key(shared, a, r);
@@ -28,7 +30,7 @@ pub fn insert(shared: &mut Shared, r: Register, q: u8, a: &mut Activation)
 }
 
 /// `remove r q L`: the first packet of a queue is taken off; jumps where it is empty.
-pub fn remove(shared: &mut Shared, r: Register, q: u8, label: u16, a: &mut Activation)
+pub fn remove(shared: &mut Shared, r: Register, q: u8, label: u16, a: &mut WordActivation)
     requires near { a.old.position < MAX_INSTRUCTIONS }
     requires queue { HasQueue shared.old a.old.device q }
     ensures { let entries = slot_queue shared.old a.old.device q in
@@ -36,18 +38,18 @@ pub fn remove(shared: &mut Shared, r: Register, q: u8, label: u16, a: &mut Activ
 {
     queue_is_there(shared, a.device, q);
     match shared.remove(a.device, q) {
-        Some(key) => local::set(r, Value::Ref(key), a),
+        Some(key) => local::set(r, key, a),
         None => a.position = label,
     }
 }
 
 /// `unlink r q`: the packet is taken off a queue, wherever it stands there.
-pub fn unlink(shared: &mut Shared, r: Register, q: u8, a: &mut Activation)
+pub fn unlink(shared: &mut Shared, r: Register, q: u8, a: &mut WordActivation)
     requires near { a.old.position < MAX_INSTRUCTIONS }
-    requires key { HasKey shared.old a.old r }
+    requires key { IsKey shared.old (word a.old r) }
     requires queue { HasQueue shared.old a.old.device q }
     ensures { let entries = slot_queue shared.old a.old.device q in
-        goes_on shared.new a.new ≡ unlink_step shared.old a.old q (key_at a.old r) entries }
+        goes_on shared.new a.new ≡ unlink_step shared.old a.old q (word a.old r) entries }
 {
     queue_is_there(shared, a.device, q);
     let key = key(shared, a, r);

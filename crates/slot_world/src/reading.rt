@@ -2,26 +2,27 @@
 
 ghost use Rattle.std.specs.Prelude.{◌≡◌, ◌<◌, IsSome, Some, length, slice_get};
 ghost use Rattle.model.specs.declared.limits.TheConstants.{MAX_QUEUES};
-ghost use Rattle.slot_laws.specs.Fits.{HasCells, HasKey, HasQueue, HasStart};
-ghost use Rattle.slot_laws.specs.SlotStep.{key_at};
+ghost use Rattle.slot_laws.specs.Fits.{HasCells, HasQueue, HasStart};
+ghost use Rattle.word_laws.specs.WordsFit.{IsKey};
+ghost use Rattle.word_laws.specs.Words.{word};
 ghost use Rattle.slot_laws.specs.Slots.{packet_at, slot_queue, slot_start};
 ghost use Rattle.slot_parts.specs.Devices.{cells_in, entries_in, start_in};
 ghost use Rattle.slot_parts.specs.Packets.{packet_in_slot};
 
 use driver_set::Register;
-use model::world::Activation;
 use slot_frames::reading;
 use slot_parts::Shared;
+use word_laws::WordActivation;
 
 /// The key in a register, of a slot that has a packet.
-pub fn key(shared: &Shared, a: &Activation, r: Register) -> u64
-    requires { HasKey shared.now a.now r }
-    ensures key { result ≡ key_at a.now r }
+pub fn key(shared: &Shared, a: &WordActivation, r: Register) -> u64
+    requires { IsKey shared.now (word a.now r) }
+    ensures key { result ≡ word a.now r }
     ensures used { IsSome (packet_at shared.now result) }
     ensures packet { packet_at shared.now result ≡ Some (packet_in_slot shared.now result) }
 {
     let _ = shared;
-    reading::key(a, r)
+    reading::word(a, r)
 }
 
 /// The cells of a device are there. It runs nothing.

@@ -3,20 +3,21 @@
 ghost use Rattle.std.specs.Prelude.{◌≡◌, ◌<◌};
 ghost use Rattle.model.specs.declared.limits.TheConstants.{MAX_INSTRUCTIONS};
 ghost use Rattle.slot_frames.specs.Left.{left_of};
-ghost use Rattle.slot_laws.specs.Fits.{InstructionFits, ReturnFits, RoutineFits};
-ghost use Rattle.slot_laws.specs.SlotStep.{frame_step, instruction_step, is_slot_walk, return_step, top_frame};
-ghost use Rattle.slot_laws.specs.Slots.{SlotRoutine, SlotShared};
+ghost use Rattle.word_laws.specs.WordsFit.{WordInstructionFits, ReturnFits, WordRoutineFits};
+ghost use Rattle.word_laws.specs.WordStep.{frame_step, instruction_step, is_walk, return_step, top_frame};
+ghost use Rattle.word_laws.specs.Words.{WordRoutine};
+ghost use Rattle.slot_laws.specs.Slots.{SlotShared};
 
 use crate::{cells, forwarding, locks, packets, queues, starting};
 use driver_set::{DriverSet, Instr, Return};
 use model::event::Lock;
-use model::world::{Activation, Value};
 use slot_frames::{Frame, Managing, Ran, local, reading};
 use slot_parts::Shared;
+use word_laws::WordActivation;
 
 /// The I/O manager's frame below, which completes a packet, is gone too.
 fn stop(below: &[Frame]) -> Ran
-    ensures { (s : SlotShared) (a : Activation) → left_of s (SlotRoutine a) result
+    ensures { (s : SlotShared) (a : WordActivation) → left_of s (WordRoutine a) result
         ≡ return_step s a (top_frame below.now) Return.Stop }
 {
     match below.last() {
@@ -26,9 +27,9 @@ fn stop(below: &[Frame]) -> Ran
 }
 
 /// `ret ..`: the routine returns. It stands over the frames `below`.
-fn leave(below: &[Frame], a: &Activation, form: Return) -> Ran
+fn leave(below: &[Frame], a: &WordActivation, form: Return) -> Ran
     requires { ReturnFits a.now form }
-    ensures { (s : SlotShared) → left_of s (SlotRoutine a.now) result
+    ensures { (s : SlotShared) → left_of s (WordRoutine a.now) result
         ≡ return_step s a.now (top_frame below.now) form }
 {
     match form {
@@ -45,18 +46,18 @@ fn execute(
     shared: &mut Shared,
     thread: u8,
     below: &[Frame],
-    a: &mut Activation,
+    a: &mut WordActivation,
     instruction: Instr,
 ) -> Ran
     requires near { a.old.position < MAX_INSTRUCTIONS }
-    requires fits { InstructionFits set.now shared.old thread a.old instruction }
-    ensures { left_of shared.new (SlotRoutine a.new) result
+    requires fits { WordInstructionFits set.now shared.old thread a.old instruction }
+    ensures { left_of shared.new (WordRoutine a.new) result
         ≡ instruction_step set.now shared.old thread (top_frame below.now) a.old instruction }
 {
     match instruction {
-        Instr::Const(r, number) => local::set(r, Value::Num(u64::from(number)), a),
+        Instr::Const(r, number) => local::set(r, u64::from(number), a),
         Instr::Move(r, s) => local::set(r, a.registers[s.index()], a),
-        Instr::Clear(r) => local::set(r, Value::Blank, a),
+        Instr::Clear(_) => local::clear(a),
         Instr::Add(r, s) => local::add(r, s, a),
         Instr::Subtract(r, s) => local::subtract(r, s, a),
         Instr::JumpIfZero(r, label) => local::jump_if_zero(r, label, a),
@@ -103,11 +104,11 @@ pub fn step(
     shared: &mut Shared,
     thread: u8,
     below: &[Frame],
-    a: &mut Activation,
+    a: &mut WordActivation,
 ) -> Ran
-    requires { RoutineFits set.now shared.old thread a.old }
-    ensures { left_of shared.new (SlotRoutine a.new) result
-        ≡ frame_step set.now shared.old thread (top_frame below.now) (SlotRoutine a.old) }
+    requires { WordRoutineFits set.now shared.old thread a.old }
+    ensures { left_of shared.new (WordRoutine a.new) result
+        ≡ frame_step set.now shared.old thread (top_frame below.now) (WordRoutine a.old) }
 {
     match set.instruction(a.driver, a.routine, a.position) {
         Some(instruction) => execute(set, shared, thread, below, a, instruction),

@@ -1,18 +1,18 @@
 //! A routine that goes on by itself for some steps.
 
 ghost use Rattle.std.specs.Prelude.{◌≡◌, ◌≤◌, ℕ, IfSome, slice_get};
-ghost use Rattle.model.specs.declared.world.Activation.{Activation};
+ghost use Rattle.word_laws.specs.declared.activation.WordActivation.{WordActivation};
 ghost use Rattle.model.specs.Set.{instruction_at};
-ghost use Rattle.slot_laws.specs.Fits.{RoutineFits};
-ghost use Rattle.slot_laws.specs.SlotStep.{top_frame};
+ghost use Rattle.word_laws.specs.WordsFit.{WordRoutineFits};
+ghost use Rattle.word_laws.specs.WordStep.{top_frame};
 ghost use Rattle.slot_world.specs.GoingOn.{FrameGoes, Goes};
-ghost use Rattle.slot_laws.specs.Slots.{SlotRoutine};
+ghost use Rattle.word_laws.specs.Words.{WordRoutine};
 
 use driver_set::{DriverSet, Instr};
 use model::limits::DEFAULT_ROUTINE;
-use model::world::Activation;
 use slot_frames::{Frame, local};
 use slot_parts::Shared;
+use word_laws::WordActivation;
 
 /// The code of a routine of a driver. None of the default routine.
 fn code_of(set: &DriverSet, driver: u8, routine: u8) -> Option<&[Instr]>
@@ -35,12 +35,12 @@ fn run(
     shared: &Shared,
     thread: u8,
     below: &[Frame],
-    a: &mut Activation,
+    a: &mut WordActivation,
     count: usize,
 ) -> usize
     requires { let under = top_frame below.now in
-        (k : ℕ) (b : Activation) → Goes set.now shared.now thread under a.old k b
-        → RoutineFits set.now shared.now thread b }
+        (k : ℕ) (b : WordActivation) → Goes set.now shared.now thread under a.old k b
+        → WordRoutineFits set.now shared.now thread b }
     ensures few { result ≤ count }
     ensures goes { let under = top_frame below.now in
         Goes set.now shared.now thread under a.old result a.new }
@@ -70,8 +70,8 @@ pub fn go_on(
     count: usize,
 ) -> usize
     requires { let under = top_frame below.now in
-        (a b : Activation) (k : ℕ) → frame.old ≡ SlotRoutine a
-        → Goes set.now shared.now thread under a k b → RoutineFits set.now shared.now thread b }
+        (a b : WordActivation) (k : ℕ) → frame.old ≡ WordRoutine a
+        → Goes set.now shared.now thread under a k b → WordRoutineFits set.now shared.now thread b }
     ensures few { result ≤ count }
     ensures goes { let under = top_frame below.now in
         FrameGoes set.now shared.now thread under frame.old result frame.new }

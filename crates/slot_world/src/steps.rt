@@ -2,8 +2,8 @@
 
 ghost use Rattle.std.specs.Prelude.{◌≡◌};
 ghost use Rattle.slot_frames.specs.Left.{left_of};
-ghost use Rattle.slot_laws.specs.Fits.{FrameFits};
-ghost use Rattle.slot_laws.specs.SlotStep.{frame_step, top_frame};
+ghost use Rattle.word_laws.specs.WordsFit.{WordFrameFits};
+ghost use Rattle.word_laws.specs.WordStep.{frame_step, top_frame};
 
 use crate::{manager, routine};
 use driver_set::DriverSet;
@@ -18,7 +18,7 @@ pub fn step(
     thread: u8,
     below: &[Frame],
 ) -> Ran
-    requires { FrameFits set.now shared.old thread frame.old }
+    requires { WordFrameFits set.now shared.old thread frame.old }
     ensures { left_of shared.new frame.new result
         ≡ frame_step set.now shared.old thread (top_frame below.now) frame.old }
 {

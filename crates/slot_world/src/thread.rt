@@ -1,11 +1,12 @@
 //! A thread: its frames, and their steps.
 
-ghost use Rattle.std.specs.Prelude.{◌≡◌, ◌≤◌, ◌-◌, ◌∷◌, [], Some, length, take, true};
-ghost use Rattle.model.specs.View.{frame_view, thread_view};
-ghost use Rattle.slot_laws.specs.Rep.{meant_frame, meant_thread, named};
-ghost use Rattle.slot_laws.specs.Fits.{ThreadFits};
-ghost use Rattle.slot_laws.specs.SlotEvents.{has_none, idle_slots, rooted_slot};
-ghost use Rattle.slot_laws.specs.SlotStep.{ends_or, told_frames};
+ghost use Rattle.std.specs.Prelude.{◌≡◌, ◌≤◌, ◌-◌, ◌∷◌, [], Some, length, option_map, take, true};
+ghost use Rattle.slot_laws.specs.Rep.{named};
+ghost use Rattle.word_laws.specs.ShownWords.{words_of_frame};
+ghost use Rattle.word_laws.specs.WordViews.{word_frame_view, word_thread_view};
+ghost use Rattle.word_laws.specs.WordsFit.{WordThreadFits};
+ghost use Rattle.word_laws.specs.WordEvents.{has_none, idle_words, rooted_word};
+ghost use Rattle.word_laws.specs.WordStep.{ends_or, told_frames, top_frame};
 ghost use Rattle.slot_world.specs.GoingOn.{GoesOn, GoingOnFits};
 ghost use Rattle.slot_world.specs.Threads.{standing_on, thread_moves};
 
@@ -13,7 +14,7 @@ use crate::{running, steps};
 use arrayvec::ArrayVec;
 use driver_set::DriverSet;
 use model::event::Reply;
-use model::limits::MAX_FRAMES;
+use model::limits::{MAX_FRAMES, REGISTERS};
 use model::status::Status;
 use model::view::{FrameView, ThreadView};
 use model::world::{Canceller, Irql};
@@ -30,9 +31,9 @@ pub struct Thread {
 }
 
 impl Model for Thread {
-    ghost use Rattle.slot_laws.specs.Slots.{SlotThread};
+    ghost use Rattle.word_laws.specs.Words.{WordThread};
 
-    ghost Value = { SlotThread };
+    ghost Value = { WordThread };
 
     ghost view = { λ t. record { root = t.root; frames = t.frames.items } };
 }
@@ -49,8 +50,7 @@ fn tell(set: &DriverSet, frames: &mut ArrayVec<Frame, MAX_FRAMES>, status: Statu
 
 /// What there is to tell of a frame: of a packet the number.
 fn told_of(frame: &Frame, shared: &Shared) -> FrameView
-    ensures { let meant = meant_frame (named shared.now) frame.now in
-        result ≡ frame_view meant }
+    ensures { result ≡ word_frame_view (named shared.now) frame.now }
 {
     match frame.manager() {
         Some(Managing::Completes(key)) => FrameView::Walk(shared.named(key)),
@@ -76,10 +76,20 @@ fn told_of(frame: &Frame, shared: &Shared) -> FrameView
     }
 }
 
+/// The words in the registers of a frame that is a routine's.
+fn words_of(frame: &Frame) -> Option<&[u64; REGISTERS]>
+    ensures { option_map (λ words. words.now) result ≡ words_of_frame (Some frame.now) }
+{
+    if frame.manager().is_some() {
+        return None;
+    }
+    Some(&frame.activation().registers)
+}
+
 impl Thread {
     /// A thread without frames.
     pub fn idle() -> Thread
-        ensures { result ≡ idle_slots }
+        ensures { result ≡ idle_words }
     {
         Thread {
             root: Irql::Passive,
@@ -96,8 +106,7 @@ impl Thread {
 
     /// What there is to tell of it, where keys name these packets.
     pub fn view(&self, shared: &Shared) -> ThreadView
-        ensures { let meant = meant_thread (named shared.now) self.now in
-            result ≡ thread_view meant }
+        ensures { result ≡ word_thread_view (named shared.now) self.now }
     {
         let top = match self.frames.last() {
             Some(frame) => Some(told_of(frame, shared)),
@@ -110,10 +119,21 @@ impl Thread {
         }
     }
 
+    /// The words in the registers of the routine on top, if one stands there.
+    pub fn words(&self) -> Option<&[u64; REGISTERS]>
+        ensures { option_map (λ words. words.now) result
+            ≡ words_of_frame (top_frame self.now.frames) }
+    {
+        match self.frames.last() {
+            Some(frame) => words_of(frame),
+            None => None,
+        }
+    }
+
     /// A frame is put on an idle thread, at a level.
     pub fn begin(&mut self, level: Irql, root: Frame)
         requires { has_none self.old ≡ true }
-        ensures { self.new ≡ rooted_slot level root }
+        ensures { self.new ≡ rooted_word level root }
     {
         self.root = level;
         self.frames.push(root);
@@ -158,7 +178,7 @@ impl Thread {
 
     /// A step of the top frame of the thread of this number, if it has one.
     pub fn step(&mut self, set: &DriverSet, shared: &mut Shared, number: u8) -> Reply
-        requires { ThreadFits set.now shared.old number self.old }
+        requires { WordThreadFits set.now shared.old number self.old }
         ensures { record { shared = shared.new; thread = self.new; reply = result }
             ≡ thread_moves set.now shared.old number self.old }
     {

@@ -1,15 +1,18 @@
 //! The world of a run, and what an event does to it.
 
-ghost use Rattle.std.specs.Prelude.{◌≡◌, ◌≤◌, ◌<◌, ℕ, IfOk, IfSome, Some, slice_get};
+ghost use Rattle.std.specs.Prelude.{◌≡◌, ◌≤◌, ◌<◌, ℕ, IfOk, IfSome, Some, option_map, slice_get};
 ghost use Rattle.model.specs.declared.limits.TheConstants.{MAX_DEVICES, MAX_STACK};
 ghost use Rattle.model.specs.Events.{irql_of as irql_of_level};
 ghost use Rattle.model.specs.Set.{dpc_of, startio_of};
-ghost use Rattle.model.specs.View.{due_at, packet_at, thread_at};
-ghost use Rattle.slot_laws.specs.Done.{EventDone, IssueDone};
-ghost use Rattle.slot_laws.specs.Fits.{EventFits};
-ghost use Rattle.slot_laws.specs.ShownSlots.{meant};
-ghost use Rattle.slot_laws.specs.SlotEvents.{cancel_slot, dpc_slot, interrupt_slot, opening_slots, startio_slot};
-ghost use Rattle.slot_laws.specs.SlotStep.{slot_step};
+ghost use Rattle.model.specs.View.{due_view, packet_view};
+ghost use Rattle.word_laws.specs.WordsDone.{WordEventDone, IssueDone};
+ghost use Rattle.word_laws.specs.WordsFit.{WordEventFits};
+ghost use Rattle.slot_laws.specs.ShownSlots.{meant_shared};
+ghost use Rattle.slot_laws.specs.Slots.{packet_at};
+ghost use Rattle.word_laws.specs.ShownWords.{words_at, words_of_thread};
+ghost use Rattle.word_laws.specs.WordViews.{word_thread_at};
+ghost use Rattle.word_laws.specs.WordEvents.{cancel_word, dpc_word, interrupt_word, opening_words, startio_word};
+ghost use Rattle.word_laws.specs.WordStep.{word_step};
 ghost use Rattle.model.specs.declared.event.Reply.TheVariants.{Stepped};
 ghost use Rattle.slot_world.specs.GoingOn.{after, reply_after};
 ghost use Rattle.slot_world.specs.Threads.{stepped_on, told_of};
@@ -17,16 +20,17 @@ ghost use Rattle.slot_world.specs.Threads.{stepped_on, told_of};
 use crate::thread::Thread;
 use driver_set::{Device, DriverSet};
 use model::event::{Event, Reply};
+use model::limits::REGISTERS;
 use model::status::Major;
 use model::view::{PacketView, ThreadView};
-use model::world::{CancelStep, Irql, Value};
+use model::world::{CancelStep, Irql};
 use slot_frames::activation::{driver_of, entered};
 use slot_frames::{Frame, Managing, Over};
 use slot_parts::Shared;
 use std::alloc::{AllocError, Global};
 use std::marker::Model;
 
-/// The threads with their frames, and what they share. Contracts see a world of slots.
+/// The threads with their frames, and what they share. Contracts see a world of words.
 #[derive(Drop)]
 pub struct Slots {
     thread_list: Vec<Thread>,
@@ -34,9 +38,9 @@ pub struct Slots {
 }
 
 impl Model for Slots {
-    ghost use Rattle.slot_laws.specs.Slots.{SlotWorld};
+    ghost use Rattle.word_laws.specs.Words.{WordWorld};
 
-    ghost Value = { SlotWorld };
+    ghost Value = { WordWorld };
 
     ghost view = { λ w. record { threads = w.thread_list.items; shared = w.shared } };
 }
@@ -66,7 +70,7 @@ impl Slots {
     /// is taken here: an error where some of it is refused.
     pub fn new(alloc: Global, devices: usize, threads: u8) -> Result<Slots, AllocError>
         requires { devices ≤ MAX_DEVICES }
-        ensures { IfOk result (λ w. w ≡ opening_slots devices threads 0) }
+        ensures { IfOk result (λ w. w ≡ opening_words devices threads 0) }
     {
         let mut thread_list = Vec::with_capacity(alloc, threads as usize)?;
         for _thread in 0..threads {
@@ -81,8 +85,8 @@ impl Slots {
 
     /// Carries an event out, which finds what it looks for, and answers its reply.
     pub fn apply(&mut self, set: &DriverSet, event: &Event) -> Reply
-        requires { EventFits set.now self.old event.now }
-        ensures { EventDone set.now self.old event.now
+        requires { WordEventFits set.now self.old event.now }
+        ensures { WordEventDone set.now self.old event.now
             (record { world = self.new; reply = result }) }
     {
         match *event {
@@ -106,9 +110,9 @@ impl Slots {
 
     /// A step of a thread's top frame.
     pub fn step(&mut self, set: &DriverSet, thread: u8) -> Reply
-        requires { EventFits set.now self.old (Event.Step thread) }
+        requires { WordEventFits set.now self.old (Event.Step thread) }
         ensures { record { world = self.new; reply = result }
-            ≡ slot_step set.now self.old thread }
+            ≡ word_step set.now self.old thread }
     {
         self.step_on(set, thread)
     }
@@ -117,7 +121,7 @@ impl Slots {
     /// how many: each of them changes that routine alone, and replies that the thread stepped.
     pub fn go_on(&mut self, set: &DriverSet, thread: u8, count: usize) -> usize
         requires { (k : ℕ)
-            → EventFits set.now (after set.now self.old thread k) (Event.Step thread) }
+            → WordEventFits set.now (after set.now self.old thread k) (Event.Step thread) }
         ensures few { result ≤ count }
         ensures world { self.new ≡ after set.now self.old thread result }
         ensures replies { (k : ℕ) → k < result
@@ -131,7 +135,7 @@ impl Slots {
 
     /// A step of a thread where it stands.
     fn step_on(&mut self, set: &DriverSet, thread: u8) -> Reply
-        requires { EventFits set.now self.old (Event.Step thread) }
+        requires { WordEventFits set.now self.old (Event.Step thread) }
         ensures { let on = slice_get self.old.threads thread in
             record { world = self.new; reply = result }
             ≡ stepped_on set.now self.old thread on }
@@ -144,7 +148,7 @@ impl Slots {
 
     /// What there is to tell of a thread, if there is one of this number.
     pub fn thread(&self, number: u8) -> Option<ThreadView>
-        ensures { result ≡ thread_at (meant self.now) number }
+        ensures { result ≡ word_thread_at self.now number }
     {
         self.view_of(number)
     }
@@ -161,16 +165,46 @@ impl Slots {
 
     /// What there is to tell of the packet of a number.
     pub fn packet(&self, number: u64) -> PacketView
-        ensures { result ≡ packet_at (meant self.now) number }
+        ensures { result ≡ packet_view (meant_shared self.now.shared) number }
     {
         self.shared.packet(number)
     }
 
     /// Whether the start list of a device has a packet, and whether its DPC is queued.
     pub fn due(&self, device: u8) -> (bool, bool)
-        ensures { result ≡ due_at (meant self.now) device }
+        ensures { result ≡ due_view (meant_shared self.now.shared) device }
     {
         self.shared.due(device)
+    }
+
+    /// The words in the registers of the routine on the top of a thread, if one stands there.
+    pub fn words(&self, thread: u8) -> Option<&[u64; REGISTERS]>
+        ensures { option_map (λ words. words.now) result ≡ words_at self.now thread }
+    {
+        self.words_of(thread)
+    }
+
+    /// The same of the thread where it stands.
+    fn words_of(&self, thread: u8) -> Option<&[u64; REGISTERS]>
+        ensures { option_map (λ words. words.now) result
+            ≡ words_of_thread (slice_get self.now.threads thread) }
+    {
+        match self.thread_list.get(thread as usize) {
+            Some(runner) => runner.words(),
+            None => None,
+        }
+    }
+
+    /// The number of the packet in a slot that has one.
+    pub fn number(&self, slot: u64) -> Option<u64>
+        ensures { result ≡ option_map (λ packet. packet.number) (packet_at self.now.shared slot) }
+    {
+        let number = self.shared.named(slot);
+        if self.shared.is_there(slot, number) {
+            Some(number)
+        } else {
+            None
+        }
     }
 
     /// A new packet is sent to a device by an idle thread.
@@ -200,7 +234,7 @@ impl Slots {
         let routine = set.handler(target.driver, major);
         let packet = self.shared.issued();
         let key = self.shared.issue(device, major, argument, target.stack);
-        let root = entered(target.driver, routine, device, Value::Ref(key));
+        let root = entered(target.driver, routine, device, key);
         self.thread_list[thread as usize].begin(Irql::Passive, Frame::routine(root));
         Reply::Started(packet)
     }
@@ -209,7 +243,7 @@ impl Slots {
     fn cancel(&mut self, thread: u8, packet: u64, level: u8) -> Reply
         ensures { let on = slice_get self.old.threads thread in
             record { world = self.new; reply = result }
-            ≡ cancel_slot self.old thread packet (irql_of_level level) on }
+            ≡ cancel_word self.old thread packet (irql_of_level level) on }
     {
         let idle = match self.thread_list.get(thread as usize) {
             Some(canceller) => canceller.is_idle(),
@@ -236,7 +270,7 @@ impl Slots {
     /// A device interrupts: its DPC is queued.
     fn interrupt(&mut self, set: &DriverSet, device: u8) -> Reply
         ensures { record { world = self.new; reply = result }
-            ≡ interrupt_slot self.old device (dpc_of set.now device) }
+            ≡ interrupt_word self.old device (dpc_of set.now device) }
     {
         if set.dpc(device).is_none() {
             return Reply::Refused;
@@ -252,7 +286,7 @@ impl Slots {
     fn begin_dpc(&mut self, set: &DriverSet, thread: u8, device: u8) -> Reply
         ensures { let on = slice_get self.old.threads thread in
             record { world = self.new; reply = result }
-            ≡ dpc_slot set.now self.old thread device on (dpc_of set.now device) }
+            ≡ dpc_word set.now self.old thread device on (dpc_of set.now device) }
     {
         let idle = match self.thread_list.get(thread as usize) {
             Some(runner) => runner.is_idle(),
@@ -268,7 +302,7 @@ impl Slots {
             return Reply::Idle;
         }
         self.shared.set_queued(device, false);
-        let root = entered(driver_of(set, device), routine, device, Value::Blank);
+        let root = entered(driver_of(set, device), routine, device, 0);
         self.thread_list[thread as usize].begin(Irql::Dispatch, Frame::routine(root));
         Reply::Stepped
     }
@@ -278,7 +312,7 @@ impl Slots {
     fn begin_startio(&mut self, set: &DriverSet, thread: u8, device: u8) -> Reply
         ensures { let on = slice_get self.old.threads thread in
             record { world = self.new; reply = result }
-            ≡ startio_slot set.now self.old thread device on (startio_of set.now device) }
+            ≡ startio_word set.now self.old thread device on (startio_of set.now device) }
     {
         let idle = match self.thread_list.get(thread as usize) {
             Some(runner) => runner.is_idle(),
@@ -298,7 +332,7 @@ impl Slots {
         };
         let packet = self.shared.named(key);
         let _key = self.shared.start_io(device);
-        let root = entered(driver_of(set, device), routine, device, Value::Ref(key));
+        let root = entered(driver_of(set, device), routine, device, key);
         self.thread_list[thread as usize].begin(Irql::Dispatch, Frame::routine(root));
         Reply::Started(packet)
     }

@@ -2,8 +2,8 @@ use Rattle.std.proofs.Common.{◌≡◌, ◌∙◌, ◌+◌, suc, None, Some, ap
 use Rattle.std.specs.Prelude.{slice_get}
 use Rattle.std.proofs.lemmas.Option.{slice_get-get_or, slice_get_past}
 use Rattle.model.specs.declared.instr.Instr.{Instr}
-use Rattle.slot_laws.specs.Fits.{RoutineFits}
-use Rattle.slot_laws.specs.SlotStep.{top_frame}
+use Rattle.word_laws.specs.WordsFit.{WordRoutineFits}
+use Rattle.word_laws.specs.WordStep.{top_frame}
 use Rattle.slot_world.proofs.GoingOn.{fits_alone, goes_more, stands}
 use Rattle.slot_world.specs.GoingOn.{stays}
 use Rattle.slot_world.proofs.running.run.Goals as goal
@@ -16,7 +16,7 @@ loop-made-init c = (stays, refl, refl)
 
 pub unreachable-requires : goal.unreachable-requires
 unreachable-requires c =
-    let about : RoutineFits c.args.set.now c.args.shared.now c.args.thread c.loop-made.a =
+    let about : WordRoutineFits c.args.set.now c.args.shared.now c.args.thread c.loop-made.a =
     c.requires c.loop-made.made c.loop-made.a c.loop-made.invariant.0 in
     let none : slice_get c.in-Some.code.now c.loop-made.a.position ≡ None =
     slice_get_past c.in-Some.code.now c.loop-made.a.position c.in_default-get.ensures.lookup.3 in
@@ -28,7 +28,7 @@ unreachable-requires c =
 
 pub execute-requires-clause-fits : goal.execute-requires-clause-fits
 execute-requires-clause-fits c =
-    let about : RoutineFits c.args.set.now c.args.shared.now c.args.thread c.loop-made.a =
+    let about : WordRoutineFits c.args.set.now c.args.shared.now c.args.thread c.loop-made.a =
     c.requires c.loop-made.made c.loop-made.a c.loop-made.invariant.0 in
     let i : Instr = c.in-Some-get.instruction.now in
     let here : slice_get c.in-Some.code.now c.loop-made.a.position ≡ Some i =
@@ -41,7 +41,7 @@ execute-requires-clause-fits c =
 
 pub loop-made-preserved : goal.loop-made-preserved
 loop-made-preserved c =
-    let about : RoutineFits c.args.set.now c.args.shared.now c.args.thread c.loop-made.a =
+    let about : WordRoutineFits c.args.set.now c.args.shared.now c.args.thread c.loop-made.a =
     c.requires c.loop-made.made c.loop-made.a c.loop-made.invariant.0 in
     let i : Instr = c.in-Some-get.instruction.now in
     let here : slice_get c.in-Some.code.now c.loop-made.a.position ≡ Some i =

@@ -1,5 +1,5 @@
 use Rattle.std.proofs.Common.{◌≡◌}
-use Rattle.slot_laws.specs.SlotStep.{top_frame}
+use Rattle.word_laws.specs.WordStep.{top_frame}
 use Rattle.slot_world.specs.GoingOn.{Goes}
 use Rattle.slot_world.proofs.running.run.Given as goal
 

@@ -1,14 +1,14 @@
 use Rattle.std.proofs.Common.{◌≡◌, ◌-◌, ℕ, List, Some, length, ap, refl, ◌∙◌}
 use Rattle.std.specs.Prelude.{slice_get}
 use Rattle.slot_frames.proofs.Lists.{found_last}
-use Rattle.slot_laws.specs.Slots.{SlotFrame}
+use Rattle.word_laws.specs.Words.{WordFrame}
 use Rattle.slot_world.proofs.Stacks.{told_by}
 use Rattle.slot_world.proofs.thread.tell.Goals as goal
 
 pub returns-in-Some : goal.returns-in-Some
 returns-in-Some c =
-    let items : List SlotFrame = c.args.frames.now.items in
-    let f : SlotFrame = c.in-Some.caller.now in
+    let items : List WordFrame = c.args.frames.now.items in
+    let f : WordFrame = c.in-Some.caller.now in
     let last : c.saturating_sub-top.result ≡ length items - 1 = c.saturating_sub-top.ensures
     ∙ ap (λ (n : ℕ). n - 1) c.len.ensures.value in
     let there : slice_get items (length items - 1) ≡ Some f =

@@ -3,9 +3,9 @@ use Rattle.model.specs.declared.event.Event.TheVariants.{Step}
 use Rattle.model.specs.declared.event.Reply.TheVariants.{Stepped}
 use Rattle.model.specs.Set.{Set}
 use Rattle.model.specs.Shown.{Shown}
-use Rattle.slot_laws.specs.Fits.{EventFits}
-use Rattle.slot_laws.specs.ShownSlots.{shown_slots}
-use Rattle.slot_laws.specs.Slots.{SlotWorld}
+use Rattle.word_laws.specs.WordsFit.{WordEventFits}
+use Rattle.word_laws.specs.ShownWords.{shown_words}
+use Rattle.word_laws.specs.Words.{WordWorld}
 use Rattle.slot_world.specs.GoingOn.{after, reply_after}
 use Rattle.machine.proofs.GoingOn.{all_fit, steps_made, still_meant}
 use Rattle.machine.specs.Runs.{IsMeant}
@@ -14,13 +14,14 @@ use Rattle.machine.proofs.world.World.go_on.Goals as goal
 
 pub go_on-requires : goal.go_on-requires
 go_on-requires c =
-    subst (λ (s : Set). (k : ℕ) → EventFits s (after s c.self.inside.slots c.args.thread k)
+    subst (λ (s : Set). (k : ℕ) → WordEventFits s (after s c.self.inside.slots c.args.thread k)
     (Step c.args.thread)) (sym c.set.ensures.same)
-    (all_fit c.done_events_show_runs.ensures c.self.inside.accepted c.self.invariant.0
+    (all_fit c.word_events_show_runs.ensures
+    c.words_mean_what_they_show.ensures c.self.inside.accepted c.self.invariant.0
     c.self.invariant.1.0 c.self.inside.slots c.args.thread c.self.invariant.1.1
-    c.events_fit.ensures)
+    c.word_events_fit.ensures)
 
--- the slots are those after so many steps of the accepted set
+-- the words are those after so many steps of the accepted set
 made : (c : goal.After-go_on)
     → c.go_on.new.self ≡ after c.self.inside.accepted c.self.inside.slots c.args.thread c.go_on.result
 made c =
@@ -40,8 +41,9 @@ invariant_of-self c = (
   c.self.invariant.0,
   (
     c.self.invariant.1.0,
-    subst (λ (v : SlotWorld). IsMeant c.self.inside.accepted v) (sym (made c))
-        (still_meant c.done_events_show_runs.ensures c.self.inside.accepted c.self.invariant.0
+    subst (λ (v : WordWorld). IsMeant c.self.inside.accepted v) (sym (made c))
+        (still_meant c.word_events_show_runs.ensures
+        c.words_mean_what_they_show.ensures c.self.inside.accepted c.self.invariant.0
         c.self.invariant.1.0 c.self.inside.slots c.args.thread c.self.invariant.1.1
         c.go_on.result),
   ),
@@ -50,9 +52,10 @@ invariant_of-self c = (
 pub returns-clause-steps : goal.returns-clause-steps
 returns-clause-steps c =
     subst (λ (m : Shown). Stepping m c.args.thread c.go_on.result
-    (shown_slots c.self.inside.accepted c.go_on.new.self)) c.self.view_is
-    (subst (λ (v : SlotWorld). Stepping (shown_slots c.self.inside.accepted c.self.inside.slots)
-    c.args.thread c.go_on.result (shown_slots c.self.inside.accepted v)) (sym (made c))
-    (steps_made c.done_events_show_runs.ensures c.self.inside.accepted c.self.invariant.0
+    (shown_words c.self.inside.accepted c.go_on.new.self)) c.self.view_is
+    (subst (λ (v : WordWorld). Stepping (shown_words c.self.inside.accepted c.self.inside.slots)
+    c.args.thread c.go_on.result (shown_words c.self.inside.accepted v)) (sym (made c))
+    (steps_made c.word_events_show_runs.ensures
+    c.words_mean_what_they_show.ensures c.self.inside.accepted c.self.invariant.0
     c.self.invariant.1.0 c.self.inside.slots c.args.thread c.self.invariant.1.1
-    c.slots_show_what_they_mean.ensures c.go_on.result (replied c)))
+    c.words_show_what_they_mean.ensures c.go_on.result (replied c)))

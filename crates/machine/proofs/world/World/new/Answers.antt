@@ -3,19 +3,19 @@ use Rattle.model.specs.declared.set.Device.{Device}
 use Rattle.model.specs.Run.{run}
 use Rattle.model.specs.Set.{Set}
 use Rattle.model.specs.Sound.{IsSound}
-use Rattle.slot_laws.specs.Rep.{Means}
-use Rattle.slot_laws.specs.SlotEvents.{opening_slots}
+use Rattle.word_laws.specs.Reads.{WordsMean}
+use Rattle.word_laws.specs.WordEvents.{opening_words}
 use Rattle.machine.proofs.Whole.{begun_meant, opening_meant}
 use Rattle.machine.proofs.world.World.new.Goals as goal
 
--- the slots mean the world before the first event
-begun : (c : goal.In-Ok) → Means c.args.accepted c.in-Ok.slots
+-- the words mean the world before the first event
+begun : (c : goal.In-Ok) → WordsMean c.args.accepted c.in-Ok.slots
     (run c.args.accepted c.args.threads []).world
 begun c =
-    opening_meant c.free_slots_mean_the_beginning.ensures c.args.accepted c.set.result.now
+    opening_meant c.free_words_mean_the_beginning.ensures c.args.accepted c.set.result.now
     c.in-Ok.slots c.args.threads c.set.ensures.same
     (c.in-Ok.ensures
-    ∙ ap (λ (devices : List Device). opening_slots (length devices) c.args.threads 0)
+    ∙ ap (λ (devices : List Device). opening_words (length devices) c.args.threads 0)
     c.devices-devices.ensures.devices)
 
 pub invariant_of-result : goal.invariant_of-result
@@ -29,7 +29,7 @@ invariant_of-result c = (
 
 pub returns-in-Ok-clause-shows : goal.returns-in-Ok-clause-shows
 returns-in-Ok-clause-shows c =
-    c.slots_show_what_they_mean.ensures c.args.accepted c.in-Ok.slots
+    c.words_show_what_they_mean.ensures c.args.accepted c.in-Ok.slots
     (run c.args.accepted c.args.threads []).world (begun c)
 
 pub returns-in-Ok-clause-rules : goal.returns-in-Ok-clause-rules

@@ -1,8 +1,7 @@
 use Rattle.std.proofs.Common.{subst, ◌∙◌}
 use Rattle.model.specs.Shown.{Shown}
 use Rattle.model.specs.View.{thread_at}
-use Rattle.slot_laws.specs.ShownSlots.{meant}
-use Rattle.machine.proofs.Telling.{tells_thread}
+use Rattle.machine.proofs.TellingWords.{words_thread}
 use Rattle.machine.proofs.Whole.{run_shown}
 use Rattle.machine.specs.Runs.{TellsOf}
 use Rattle.machine.proofs.world.World.thread.Goals as goal
@@ -12,12 +11,15 @@ returns c =
     subst (λ (m : Shown). TellsOf m (λ w. thread_at w c.args.number) c.thread.result) c.self.view_is
     (record {
       shown =
-          run_shown c.slots_show_what_they_mean.ensures c.self.inside.accepted c.self.inside.slots
+          run_shown c.words_show_what_they_mean.ensures c.self.inside.accepted c.self.inside.slots
           c.self.invariant.1.1;
       tells = λ threads events shows.
           c.thread.ensures
-          ∙ tells_thread c.self.inside.accepted (meant c.self.inside.slots) threads events shows
+          ∙ words_thread c.words_mean_what_they_show.ensures c.slots_show_what_they_mean.ensures
+          c.words_tell_as_slots.ensures c.self.inside.accepted c.self.invariant.0
+          c.self.invariant.1.0 c.self.inside.slots c.self.invariant.1.1 threads events shows
           _
           (c.accepted_runs_keep_the_rules.ensures c.self.inside.accepted c.self.invariant.0
-          c.self.invariant.1.0 threads events).holders c.args.number;
+          c.self.invariant.1.0 threads events).holders
+          c.args.number;
     })

@@ -1,13 +1,13 @@
 use Rattle.std.proofs.Common.{◌≡◌, None, Some, ap, ◌∙◌}
 use Rattle.std.specs.List.{IsLastAndRest}
-use Rattle.slot_laws.specs.Slots.{SlotThread}
+use Rattle.word_laws.specs.Words.{WordThread}
 use Rattle.model.specs.declared.event.Reply.TheVariants.{Stepped, Topped, Waited}
 use Rattle.slot_world.proofs.Stacks.{moved_stays, moved_under, moved_gone, moved_stopped, popped}
 use Rattle.slot_world.proofs.thread.Thread.step.Goals as goal
 
 pub returns-in-Steps : goal.returns-in-Steps
 returns-in-Steps c =
-    let thread : SlotThread =
+    let thread : WordThread =
     record { root = c.self.inside.root; frames = c.self.inside.frames.items } in
     let split : IsLastAndRest thread.frames c.in-Some.top.now c.in-Some.below.now =
     rw c.as_mut_slice.ensures.value at c.in-Some.ensures.cases in
@@ -18,7 +18,7 @@ returns-in-Steps c =
 
 pub returns-in-Waits : goal.returns-in-Waits
 returns-in-Waits c =
-    let thread : SlotThread =
+    let thread : WordThread =
     record { root = c.self.inside.root; frames = c.self.inside.frames.items } in
     let split : IsLastAndRest thread.frames c.in-Some.top.now c.in-Some.below.now =
     rw c.as_mut_slice.ensures.value at c.in-Some.ensures.cases in
@@ -29,7 +29,7 @@ returns-in-Waits c =
 
 pub returns-in-Under : goal.returns-in-Under
 returns-in-Under c =
-    let thread : SlotThread =
+    let thread : WordThread =
     record { root = c.self.inside.root; frames = c.self.inside.frames.items } in
     let split : IsLastAndRest thread.frames c.in-Some.top.now c.in-Some.below.now =
     rw c.as_mut_slice.ensures.value at c.in-Some.ensures.cases in
@@ -40,7 +40,7 @@ returns-in-Under c =
 
 pub returns-in-Becomes : goal.returns-in-Becomes
 returns-in-Becomes c =
-    let thread : SlotThread =
+    let thread : WordThread =
     record { root = c.self.inside.root; frames = c.self.inside.frames.items } in
     let split : IsLastAndRest thread.frames c.in-Some.top.now c.in-Some.below.now =
     rw c.as_mut_slice.ensures.value at c.in-Some.ensures.cases in
@@ -51,7 +51,7 @@ returns-in-Becomes c =
 
 pub returns-in-Stopped : goal.returns-in-Stopped
 returns-in-Stopped c =
-    let thread : SlotThread =
+    let thread : WordThread =
     record { root = c.self.inside.root; frames = c.self.inside.frames.items } in
     let split : IsLastAndRest thread.frames c.in-Some.top.now c.in-Some.below.now =
     rw c.as_mut_slice.ensures.value at c.in-Some.ensures.cases in
@@ -69,16 +69,16 @@ returns-in-Stopped c =
 
 pub returns-in-Returned : goal.returns-in-Returned
 returns-in-Returned c =
-    let thread : SlotThread =
+    let thread : WordThread =
     record { root = c.self.inside.root; frames = c.self.inside.frames.items } in
     let split : IsLastAndRest thread.frames c.in-Some.top.now c.in-Some.below.now =
     rw c.as_mut_slice.ensures.value at c.in-Some.ensures.cases in
     let lower : c.self-in-Returned.inside.frames.items ≡ c.in-Some.below.now =
-    ap (λ (t : SlotThread). t.frames) (c.self-in-Returned.view_is ∙ c.pop-in-Returned.ensures)
+    ap (λ (t : WordThread). t.frames) (c.self-in-Returned.view_is ∙ c.pop-in-Returned.ensures)
     ∙ popped c.args.set.now c.args.shared.now c.args.number thread c.in-Some.below.now
     c.in-Some.top.now split c.step.new.frame in
     let root : c.self-in-Returned.inside.root ≡ c.self.inside.root =
-    ap (λ (t : SlotThread). t.root) (c.self-in-Returned.view_is ∙ c.pop-in-Returned.ensures) in
+    ap (λ (t : WordThread). t.root) (c.self-in-Returned.view_is ∙ c.pop-in-Returned.ensures) in
     rw (
       ← c.self.view_is,
       c.finish-in-Returned.ensures.thread,
@@ -93,7 +93,7 @@ returns-in-Returned c =
 
 pub returns-in-Ends : goal.returns-in-Ends
 returns-in-Ends c =
-    let thread : SlotThread =
+    let thread : WordThread =
     record { root = c.self.inside.root; frames = c.self.inside.frames.items } in
     let split : IsLastAndRest thread.frames c.in-Some.top.now c.in-Some.below.now =
     rw c.as_mut_slice.ensures.value at c.in-Some.ensures.cases in
@@ -110,7 +110,7 @@ returns-in-Ends c =
 
 pub returns-in-TopsOut : goal.returns-in-TopsOut
 returns-in-TopsOut c =
-    let thread : SlotThread =
+    let thread : WordThread =
     record { root = c.self.inside.root; frames = c.self.inside.frames.items } in
     let split : IsLastAndRest thread.frames c.in-Some.top.now c.in-Some.below.now =
     rw c.as_mut_slice.ensures.value at c.in-Some.ensures.cases in
