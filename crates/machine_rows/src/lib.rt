@@ -8,3 +8,5 @@ mod rows;
 mod sets;
 #[cfg(test)]
 mod traces;
+#[cfg(test)]
+mod words;
