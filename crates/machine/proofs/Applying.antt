@@ -26,7 +26,8 @@ pub fits : WordEventsFit → (set : Set) → IsTypable set → IsSound set → (
     → IsMeant set v → WordEventFits set v e
 fits law set typable sound v e is = law set typable sound is.threads is.events v e is.means
 
-module _ (law : WordEventsShowRuns) (same : WordsMeanWhatTheyShow) (set : Set) (typable : IsTypable set) (sound : IsSound set)
+module _ (law : WordEventsShowRuns) (same : WordsMeanWhatTheyShow) (set : Set)
+    (typable : IsTypable set) (sound : IsSound set)
     (before after : WordWorld) (e : Event) (reply : Reply) (is : IsMeant set before)
     (done : WordEventDone set before e (answered after reply)) where
   -- of some run whose world is meant, and of every run that is shown

@@ -15,7 +15,8 @@ use Rattle.word_laws.specs.ShownWords.{WordsMeanWhatTheyShow, WordsShowWhatTheyM
 use Rattle.word_laws.specs.Words.{WordWorld}
 use Rattle.slot_world.specs.GoingOn.{after, reply_after}
 
-module _ (law : WordEventsShowRuns) (same : WordsMeanWhatTheyShow) (set : Set) (typable : IsTypable set) (sound : IsSound set)
+module _ (law : WordEventsShowRuns) (same : WordsMeanWhatTheyShow) (set : Set)
+    (typable : IsTypable set) (sound : IsSound set)
     (v : WordWorld) (t : ℕ) (is : IsMeant set v) where
   -- after so many steps the words still mean some run's world
   pub still_meant : (k : ℕ) → IsMeant set (after set v t k)

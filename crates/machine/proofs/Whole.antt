@@ -19,8 +19,8 @@ opening_meant law set given v threads same is =
     subst (λ (v : WordWorld). WordsMean set v (run set threads []).world) (sym begun)
     (law set threads 0)
 
-pub begun_meant : (set : Set) (v : WordWorld) (threads : ℕ) → WordsMean set v (run set threads []).world
-    → IsMeant set v
+pub begun_meant : (set : Set) (v : WordWorld) (threads : ℕ)
+    → WordsMean set v (run set threads []).world → IsMeant set v
 begun_meant set v threads means = record { threads = threads; events = []; means = means }
 
 -- words that mean the world of some run show that

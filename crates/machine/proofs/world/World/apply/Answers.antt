@@ -29,7 +29,8 @@ invariant_of-self c = (
   c.self.invariant.0,
   (
     c.self.invariant.1.0,
-    meant_after c.word_events_show_runs.ensures c.words_mean_what_they_show.ensures c.self.inside.accepted c.self.invariant.0
+    meant_after c.word_events_show_runs.ensures
+        c.words_mean_what_they_show.ensures c.self.inside.accepted c.self.invariant.0
         c.self.invariant.1.0 c.self.inside.slots c.apply.new.self c.args.event.now c.apply.result
         c.self.invariant.1.1 (done c),
   ),
@@ -39,7 +40,8 @@ pub returns-clause-applies : goal.returns-clause-applies
 returns-clause-applies c =
     subst (λ (m : Shown). Applies m c.args.event.now
     (shown_words c.self.inside.accepted c.apply.new.self) c.apply.result) c.self.view_is
-    (applies_shown c.word_events_show_runs.ensures c.words_mean_what_they_show.ensures c.self.inside.accepted c.self.invariant.0
+    (applies_shown c.word_events_show_runs.ensures
+    c.words_mean_what_they_show.ensures c.self.inside.accepted c.self.invariant.0
     c.self.invariant.1.0 c.self.inside.slots c.apply.new.self c.args.event.now c.apply.result
     c.self.invariant.1.1 (done c)
     c.words_show_what_they_mean.ensures)
@@ -53,7 +55,8 @@ returns-clause-rules c =
 pub returns-clause-goes_on : goal.returns-clause-goes_on
 returns-clause-goes_on c =
     subst (λ (m : Shown). GoesOn m c.apply.result) c.self.view_is
-    (goes_on c.word_events_show_runs.ensures c.words_mean_what_they_show.ensures c.self.inside.accepted c.self.invariant.0
+    (goes_on c.word_events_show_runs.ensures
+    c.words_mean_what_they_show.ensures c.self.inside.accepted c.self.invariant.0
     c.self.invariant.1.0 c.self.inside.slots c.apply.new.self c.args.event.now c.apply.result
     c.self.invariant.1.1 (done c)
     c.accepted_runs_keep_the_rules.ensures)
@@ -61,7 +64,8 @@ returns-clause-goes_on c =
 pub returns-clause-steps : goal.returns-clause-steps
 returns-clause-steps c =
     subst (λ (m : Shown). StepsThreads m c.args.event.now c.apply.result) c.self.view_is
-    (steps_threads c.word_events_show_runs.ensures c.words_mean_what_they_show.ensures c.self.inside.accepted c.self.invariant.0
+    (steps_threads c.word_events_show_runs.ensures
+    c.words_mean_what_they_show.ensures c.self.inside.accepted c.self.invariant.0
     c.self.invariant.1.0 c.self.inside.slots c.apply.new.self c.args.event.now c.apply.result
     c.self.invariant.1.1 (done c)
     c.accepted_runs_keep_the_rules.ensures)

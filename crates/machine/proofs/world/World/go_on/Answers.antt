@@ -16,7 +16,8 @@ pub go_on-requires : goal.go_on-requires
 go_on-requires c =
     subst (λ (s : Set). (k : ℕ) → WordEventFits s (after s c.self.inside.slots c.args.thread k)
     (Step c.args.thread)) (sym c.set.ensures.same)
-    (all_fit c.word_events_show_runs.ensures c.words_mean_what_they_show.ensures c.self.inside.accepted c.self.invariant.0
+    (all_fit c.word_events_show_runs.ensures
+    c.words_mean_what_they_show.ensures c.self.inside.accepted c.self.invariant.0
     c.self.invariant.1.0 c.self.inside.slots c.args.thread c.self.invariant.1.1
     c.word_events_fit.ensures)
 
@@ -41,7 +42,8 @@ invariant_of-self c = (
   (
     c.self.invariant.1.0,
     subst (λ (v : WordWorld). IsMeant c.self.inside.accepted v) (sym (made c))
-        (still_meant c.word_events_show_runs.ensures c.words_mean_what_they_show.ensures c.self.inside.accepted c.self.invariant.0
+        (still_meant c.word_events_show_runs.ensures
+        c.words_mean_what_they_show.ensures c.self.inside.accepted c.self.invariant.0
         c.self.invariant.1.0 c.self.inside.slots c.args.thread c.self.invariant.1.1
         c.go_on.result),
   ),
@@ -53,6 +55,7 @@ returns-clause-steps c =
     (shown_words c.self.inside.accepted c.go_on.new.self)) c.self.view_is
     (subst (λ (v : WordWorld). Stepping (shown_words c.self.inside.accepted c.self.inside.slots)
     c.args.thread c.go_on.result (shown_words c.self.inside.accepted v)) (sym (made c))
-    (steps_made c.word_events_show_runs.ensures c.words_mean_what_they_show.ensures c.self.inside.accepted c.self.invariant.0
+    (steps_made c.word_events_show_runs.ensures
+    c.words_mean_what_they_show.ensures c.self.inside.accepted c.self.invariant.0
     c.self.invariant.1.0 c.self.inside.slots c.args.thread c.self.invariant.1.1
     c.words_show_what_they_mean.ensures c.go_on.result (replied c)))
