@@ -1,7 +1,8 @@
 #!/usr/bin/env python3
-"""try_tested_bodies.py: a test has to fail for each wrong body of tools/tested_bodies, most of which the prover lets through,
-since it can't know how much memory there is. An edit there has two lines more than one of tools/wrong_bodies: the test of
-`rows` that has to fail, and the crate that is changed. Each is tried, without a proof, in a copy of the sources; that takes
+"""try_tested_bodies.py [NAME ..]: a test has to fail for each wrong body of tools/tested_bodies named, or each of all. The
+prover lets most of them through, since it knows neither how much memory there is, nor what a device does, nor what a cell
+holds. An edit there has two lines more than one of tools/wrong_bodies: the test that has to fail, and the crate that is
+changed; and a third where the test isn't one of `rows`. Each is tried, without a proof, in a copy of the sources; that takes
 some minutes. The last line counts."""
 import glob, os, re, shutil, subprocess, sys, tempfile
 
@@ -18,9 +19,9 @@ def copy(folder):
         shutil.copy(os.path.join(TOP, name), folder)
     shutil.copytree(os.path.join(TOP, 'crates'), os.path.join(folder, 'crates'), ignore=shutil.ignore_patterns('out', 'must-fail'))
 
-def failed(folder):
-    """The tests that fail, or None where they can't be run."""
-    done = subprocess.run(['rt', 'try', '--test'], cwd=os.path.join(folder, 'crates', TESTS),
+def failed(folder, tests):
+    """The tests of a crate that fail."""
+    done = subprocess.run(['rt', 'try', '--test'], cwd=os.path.join(folder, 'crates', tests),
                           stdin=subprocess.DEVNULL, stdout=subprocess.PIPE, stderr=subprocess.STDOUT, text=True)
     names = set(re.findall(r'^test (\S+) \.\.\. FAILED', done.stdout, re.M))
     if not names and 'test result' not in done.stdout:
@@ -36,7 +37,7 @@ def is_seen(folder, edit):
         print('%s: does not apply' % os.path.basename(edit))
         return False
     open(path, 'w').write(text.replace(said['old'], said['new']))
-    found = failed(folder)
+    found = failed(folder, said.get('tests', TESTS))
     open(path, 'w').write(text)
     seen = said['test'] in found
     print('%s: %d tests fail, %s %s' % (os.path.basename(edit), len(found), said['test'], 'among them' if seen else 'NOT among them'), flush=True)
@@ -44,6 +45,11 @@ def is_seen(folder, edit):
 
 def main():
     edits = sorted(glob.glob(os.path.join(EDITS, '*.edit')))
+    if sys.argv[1:]:
+        edits = [os.path.join(EDITS, name.removesuffix('.edit') + '.edit') for name in sys.argv[1:]]
+    unknown = [edit for edit in edits if not os.path.isfile(edit)]
+    if unknown:
+        sys.exit('no such wrong body: ' + ' '.join(map(os.path.basename, unknown)))
     with tempfile.TemporaryDirectory() as folder:
         copy(folder)
         seen = sum(is_seen(folder, edit) for edit in edits)

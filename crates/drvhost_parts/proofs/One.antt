@@ -11,7 +11,7 @@ use Rattle.drvhost_parts.specs.declared.verification.Verification.TheVariants.{R
 use Rattle.asm.specs.Reading.{set_in}
 use Rattle.interleave.specs.Listing.{schedule_in}
 use Rattle.report.specs.Fault.{image_fault_line, text_fault_line}
-use Rattle.drvhost_parts.specs.Answer.{Answer, ImageSays, IsCheck, IsIfAccepted, IsOfFile, IsOfSaid, IsRefused, IsTraced, IsVerdict, SaysAs, TextSays, acceptance, ended, is_image, ran}
+use Rattle.drvhost_parts.specs.Answer.{Answer, ImageSays, IsCheck, IsIfAccepted, IsListing, IsOfFile, IsOfSaid, IsRefused, IsTraced, IsVerdict, SaysAs, TextSays, acceptance, ended, is_image, ran}
 use Rattle.drvhost_parts.specs.Device.{Bytes}
 use Rattle.drvhost_parts.specs.Ends.{IsRunOf, IsTrace}
 
@@ -120,3 +120,7 @@ module _ (spell : BytesSpellOne) (faultless : ImagesAreFaultless) (single : Faul
       let P : List ℕ → Type 0 = λ bytes. IsOfFile R bytes one in
       file_once R (traced_once alone none v IsRun (run_once schedule)) b.0 one other
       (subst P (a.1 ∙ sym b.1) a.2) b.2
+
+  pub list_once : (set : List ℕ) (one other : Answer) → IsOfFile IsListing set one
+      → IsOfFile IsListing set other → one ≡ other
+  list_once set one other a b = file_once IsListing (λ _ _ _ c d. c ∙ sym d) set one other a b

@@ -1,4 +1,4 @@
-use Rattle.drvhost_parts.proofs.One.{check_once, trace_once}
+use Rattle.drvhost_parts.proofs.One.{check_once, list_once, trace_once}
 use Rattle.drvhost_parts.proofs.laws.answer_is_one.Goals as goal
 
 pub returns-clause-check : goal.returns-clause-check
@@ -10,3 +10,8 @@ pub returns-clause-trace : goal.returns-clause-trace
 returns-clause-trace c = λ v set schedule one other.
     trace_once c.bytes_spell_one.ensures c.images_are_faultless.ensures c.fault_is_one.ensures
     c.first_fault_is_one.ensures.one c.first_fault_is_one.ensures.none v set schedule one other
+
+pub returns-clause-list : goal.returns-clause-list
+returns-clause-list c = λ set one other.
+    list_once c.bytes_spell_one.ensures c.images_are_faultless.ensures c.fault_is_one.ensures set one
+    other
