@@ -171,6 +171,20 @@ impl Core {
         Ok(self.enter(seat.thread(), event, None))
     }
 
+    /// Steps the seat's thread: applies that event, and answers as [`Core::apply`] does.
+    pub fn step(&mut self, seat: &mut Seat) -> Result<Reply, LogFull>
+        ensures full { IsErr result ↔ (length self.old.history ≡ self.old.log) }
+        ensures unchanged { OnErr result (self.new ≡ self.old) }
+        ensures reply { IfOk result (λ reply. reply
+            ≡ reply_in self.old (Event.Step seat.old)) }
+        ensures stepped { OnOk result
+            (self.new ≡ entered self.old seat.old (Event.Step seat.old) None) }
+        ensures seat { seat.new ≡ seat.old }
+    {
+        let thread = seat.thread();
+        self.apply(seat, Event::Step { thread })
+    }
+
     /// Performs a command with a seat, and answers as the run does to its event. It always becomes
     /// an entry. At a full history the command comes back, and nothing is done.
     pub fn perform(&mut self, seat: &mut Seat, taken: Taken) -> Result<Reply, (LogFull, Taken)>
