@@ -209,9 +209,23 @@ impl Core {
         Ok(self.enter(seat.thread(), event, None))
     }
 
+    /// Steps the seat's thread: applies that event, and answers as [`Core::apply`] does.
+    pub fn step(&mut self, seat: &mut Seat) -> Result<Reply, LogFull>
+        ensures full { IsErr result ↔ (length self.old.history ≡ self.old.log) }
+        ensures unchanged { OnErr result (self.new ≡ self.old) }
+        ensures reply { IfOk result (λ reply. reply
+            ≡ reply_in self.old (Event.Step seat.old)) }
+        ensures stepped { OnOk result
+            (self.new ≡ entered self.old seat.old (Event.Step seat.old) None) }
+        ensures seat { seat.new ≡ seat.old }
+    {
+        let thread = seat.thread();
+        self.apply(seat, Event::Step { thread })
+    }
+
     /// Steps the seat's thread, if it has frames. The step becomes an entry, unless the thread waits:
     /// then nothing changes. At a full history nothing is done.
-    pub fn step(&mut self, seat: &mut Seat) -> Stepped
+    pub fn step_if_busy(&mut self, seat: &mut Seat) -> Stepped
         ensures steps { Steps self.old seat.old self.new result }
         ensures seat { seat.new ≡ seat.old }
     {

@@ -190,7 +190,9 @@ a path there:
 what is known where it arrives:
   r0: the packet as it was handed in
   owed: the packet that was handed in, with which nothing was done
-up to there: 1001001 instructions
+up to there: 1001001 instructions, by these loops:
+  1000 times the body of the loop at 0, line 4: loop 1000
+  1000000 times the body of the loop at 1, line 5: loop 1000
 why: an activation may execute more than 1,000,000 instructions
 see: this project's limit
 mend it: take fewer turns, or split the work over several activations
@@ -280,6 +282,7 @@ a path there:
 what is known where it arrives:
   r0: the packet as it was handed in
   owed: the packet that was handed in, with which nothing was done
+r1 was never set on this path
 why: a number is wanted, and the register is blank on this path
 see: this bytecode's form: a register is a number or a packet, not both
 mend it: set it first, by `const`, `load` or `get`, on each path that leads here
@@ -305,6 +308,7 @@ a path there:
      at 1, line 5: get r1 r0 ARG
 what is known where it arrives:
   owed: the final status, since the packet was completed unmarked
+r0 went blank, since its packet was completed, at 0, line 4: complete r0 SUCCESS
 why: a packet is wanted, and the register is blank: it was given away, or never there
 see: the Driver Kit: a packet isn't touched after IoCompleteRequest or IoCallDriver
 mend it: do this before the packet is completed, passed on or put away
@@ -339,6 +343,7 @@ a path there:
      at 1, line 5: complete r0 SUCCESS
 what is known where it arrives:
   owed: the final status, since the packet was completed unmarked
+r0 went blank, since its packet was completed, at 0, line 4: complete r0 SUCCESS
 why: the register is blank: its packet was completed or given away before, or never there
 see: Static Driver Verifier, DoubleCompletion; IoCompleteRequest; bug check 0x44
 mend it: complete a packet once, and before it is handed on

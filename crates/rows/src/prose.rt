@@ -19,7 +19,8 @@ const TOLD: &str =
      \x20   10  ; once more\n  > 11  complete r0 SUCCESS\n    12  ret SUCCESS\n    13  endr\n\
      a path there:\n     at 0, line 9: complete r0 SUCCESS\n     at 1, line 11: \
      complete r0 SUCCESS\nwhat is known where it arrives:\n  owed: the final status, \
-     since the packet was completed unmarked\n";
+     since the packet was completed unmarked\nr0 went blank, since its packet was completed, \
+     at 0, line 9: complete r0 SUCCESS\n";
 
 /// Two drivers without faults.
 const ACCEPTED: &str =

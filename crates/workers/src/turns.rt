@@ -85,7 +85,7 @@ pub fn take_turn<R: Wait>(
     ensures turned { Turned seat.old core.old core.new taker.old taker.new result }
     ensures seat { seat.new ≡ seat.old }
 {
-    match core.step(seat) {
+    match core.step_if_busy(seat) {
         Stepped::Entered => Turn::Entered,
         Stepped::Waits => Turn::Waits,
         Stepped::Full => Turn::Full(None),
