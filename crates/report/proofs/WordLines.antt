@@ -1,5 +1,5 @@
 -- Lines of events whose replies are one word, one after another, and where they are written.
-use Rattle.std.proofs.Common.{◌≡◌, ◌≤◌, ℕ, zero, suc, ◌+◌, ◌-◌, ◌*◌, ◌/◌, ◌%◌, List, ◌++◌, length, take, codes, arith, ap, sym, ◌∙◌, append_assoc, drop_at, length-take-le, take-add, take-take, take_at}
+use Rattle.std.proofs.Common.{◌≡◌, ◌≤◌, ℕ, zero, suc, ◌+◌, ◌-◌, ◌*◌, ◌/◌, ◌%◌, List, ◌++◌, length, take, arith, ap, sym, ◌∙◌, append_assoc, drop_at, length-take-le, take-add, take-take, take_at}
 use Rattle.std.proofs.lemmas.List.{append-nil}
 use Rattle.std.proofs.lemmas.Slice.{take-put_mid}
 use Rattle.std.specs.Fmt.{decimal}
@@ -66,6 +66,18 @@ ten_next w n digit before was now ten lines line =
     ∙ append_assoc before (word_lines w n digit) (word_line w (n / 10 * 10 + digit))
     ∙ ap (λ m. before ++ (word_lines w n digit ++ word_line w m)) same
     ∙ ap (λ l. before ++ l) (sym (words_next w n digit))
+
+-- one more of lines whose numbers differ in the last digit alone
+pub some_next : (w : Word) (n i first : ℕ) (before was now : List ℕ) → first ≡ n % 10
+    → was ≡ before ++ word_lines w n i
+    → now ≡ was ++ word_line w (n / 10 * 10 + (first + i))
+    → now ≡ before ++ word_lines w n (i + 1)
+some_next w n i first before was now digit lines line =
+    let same : n / 10 * 10 + (first + i) ≡ n + i = omega arith in
+    line ∙ ap (λ l. l ++ word_line w (n / 10 * 10 + (first + i))) lines
+    ∙ append_assoc before (word_lines w n i) (word_line w (n / 10 * 10 + (first + i)))
+    ∙ ap (λ m. before ++ (word_lines w n i ++ word_line w m)) same
+    ∙ ap (λ l. before ++ l) (sym (words_next w n i))
 
 -- some of the lines more
 pub told_more : (w : Word) (n j k m : ℕ) (before was now : List ℕ) → m ≡ n + j

@@ -1,6 +1,6 @@
 //! The numbers of a run's events, counted up as they are written.
 
-ghost use Rattle.std.specs.Prelude.{◌≡◌, ◌+◌, ◌%◌, ◌^◌, ◌<◌, ℕ};
+ghost use Rattle.std.specs.Prelude.{◌≡◌, ◌+◌, ◌%◌, ◌^◌, ◌<◌, ◌≤◌, ℕ};
 
 use crate::ready_line::{LONGEST_WORD_LINE, ReadyLine, line_of, put_word};
 use crate::word::Word;
@@ -109,6 +109,25 @@ impl EventNumber {
         self.number += 9;
         self.last_digit = 9;
         self.advance_to_ten();
+    }
+
+    /// Goes on by so many, at most to the next number that ends in 0.
+    #[inline]
+    pub(crate) fn advance_by(&mut self, count: u8)
+        requires some { 1 ≤ count }
+        requires digits { self.old % 10 + count ≤ 10 }
+        requires fits { self.old + count < 2 ^ 64 }
+        ensures { self.new ≡ self.old + count }
+    {
+        let digit = self.last_digit + count;
+        if digit < 10 {
+            self.number += u64::from(count);
+            self.last_digit = digit;
+        } else {
+            self.number += u64::from(count - 1);
+            self.last_digit = 9;
+            self.advance_to_ten();
+        }
     }
 
     /// Goes on from a number that ends in 9.

@@ -7,7 +7,7 @@ ghost use Rattle.report.specs.Word.{word_line, word_lines};
 use crate::event_number::EventNumber;
 use crate::ready_line::{LONGEST_NUMBER, LONGEST_WORD_LINE};
 use crate::word::Word;
-use crate::word_lines::{LONGEST_TEN, write_line, write_ten};
+use crate::word_lines::{LONGEST_TEN, write_line, write_some, write_ten};
 use itoa::Buffer;
 use std::alloc::{AllocError, Global};
 use std::marker::Model;
@@ -124,8 +124,8 @@ impl Lines {
         told
     }
 
-    /// Adds the line of one such event or those of ten, at most so many. Answers how many, and goes
-    /// on to the number behind them.
+    /// Adds the lines of some such events, at least one and at most so many: of numbers that differ
+    /// in the last digit alone. Answers how many, and goes on to the number behind them.
     fn some_words(&mut self, number: &mut EventNumber, word: Word, most: u64) -> u64
         requires room { HasRoom self.old }
         requires some { 0 < most }
@@ -135,13 +135,36 @@ impl Lines {
         ensures lines { self.new ≡ self.old ++ word_lines word number.old result }
         ensures number { number.new ≡ number.old + result }
     {
-        if most >= 10 && number.last_digit() == 0 && self.used + LONGEST_TEN <= ROOM {
+        if most == 1 || self.used + LONGEST_TEN > ROOM {
+            self.one_word(number, word);
+            number.advance();
+            return 1;
+        }
+        let left = 10 - number.last_digit();
+        if most < u64::from(left) {
+            self.words_of_ten(number, word, most as u8);
+            return most;
+        }
+        if left == 10 {
             self.ten_words(number, word);
             return 10;
         }
-        self.one_word(number, word);
-        number.advance();
-        1
+        self.words_of_ten(number, word, left);
+        u64::from(left)
+    }
+
+    /// Adds the lines of some such events, whose numbers differ in the last digit alone, and goes on
+    /// to the number behind them.
+    fn words_of_ten(&mut self, number: &mut EventNumber, word: Word, count: u8)
+        requires some { 1 ≤ count }
+        requires digits { number.old % 10 + count ≤ 10 }
+        requires fits { number.old + count < 2 ^ 64 }
+        requires room { length self.old + LONGEST_TEN ≤ ROOM }
+        ensures lines { self.new ≡ self.old ++ word_lines word number.old count }
+        ensures number { number.new ≡ number.old + count }
+    {
+        self.used = write_some(&mut self.buffer, self.used, number, word, count);
+        number.advance_by(count);
     }
 
     /// Adds the lines of ten such events, of a number that ends in 0 and of the nine after it, and

@@ -69,3 +69,31 @@ pub(crate) fn write_ten(
     }
     at
 }
+
+/// Writes the lines of so many events in a row that all replied this word into a buffer, from a
+/// place on; their numbers differ in the last digit alone. Answers where they end. Bytes behind them
+/// may change.
+pub(crate) fn write_some(
+    buffer: &mut [u8],
+    start: usize,
+    number: &mut EventNumber,
+    word: Word,
+    count: u8,
+) -> usize
+    requires digits { number.old % 10 + count ≤ 10 }
+    requires room { start + LONGEST_TEN ≤ length buffer.old }
+    ensures len { length buffer.new ≡ length buffer.old }
+    ensures lines { take result buffer.new
+        ≡ take start buffer.old ++ word_lines word number.old count }
+    ensures end { result ≤ start + LONGEST_TEN }
+    ensures number { number.new ≡ number.old }
+{
+    let line = number.line_with(word);
+    let length = word.length();
+    let first = number.last_digit();
+    let mut at = start;
+    for i in 0..count {
+        at += write_line(buffer, at, &line, first + i) + length;
+    }
+    at
+}

@@ -1,6 +1,5 @@
-use Rattle.std.proofs.Common.{◌≡◌, ◌≤◌, ◌+◌, ◌^◌, ◌%◌, ◌<◌, arith, refl, sym}
+use Rattle.std.proofs.Common.{◌≡◌, arith}
 use Rattle.report.proofs.Digits.{place_short, ready_with}
-use Rattle.report.specs.ReadyLine.{IsReady}
 use Rattle.report.specs.Word.{word_text}
 use Rattle.report.proofs.event_number.EventNumber.line_with.Goals.{then-not-is, else-not-is}
 use Rattle.report.proofs.event_number.EventNumber.line_with.Goals as goal

@@ -1,4 +1,4 @@
-use Rattle.std.proofs.Common.{◌≡◌, arith}
+use Rattle.std.proofs.Common.{arith}
 use Rattle.report.proofs.WordLines.{told_more, words_split}
 use Rattle.report.proofs.lines.Lines.words.Goals as goal
 
