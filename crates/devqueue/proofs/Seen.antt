@@ -84,11 +84,6 @@ module _ (f : ℕ → ℕ) (slots from to : ℕ) where
       let few = below n here in
       absurd (omega (arith, p.0, few, past))
 
-  pub some_first : (ns : List ℕ) → Path f from ns to → f from < slots → slots ≤ to
-      → Some (f from) ≡ head_of ns
-  some_first [] p few past = absurd (omega (arith, p, few, past))
-  some_first (n ∷ ns) p few past = ap (λ (m : ℕ). Some m) p.0
-
 -- taking the first one off is taking it out
 pub first_linked : (ns : List ℕ) (n : ℕ) → head_of ns ≡ Some n → is_linked ns n ≡ true
 first_linked [] n h = cc

@@ -256,21 +256,6 @@ module _ {M : Type 0} (set_of : M → Set) (ShowsRun : M → ℕ → List Event 
 abbrev pub IsTraceOfAll : List Reply → Answer → Type 0
 IsTraceOfAll all answer = answer ≡ trace_of all
 
--- no event is still to come
-pub followed_end : {M : Type 0} (set_of : M → Set) (ShowsRun : M → ℕ → List Event → Type 0)
-    (m : M) (set : Set) (threads : ℕ) (all : List Reply) (number : ℕ) (b n : Option (List ℕ))
-    (l : List ℕ)
-    → Followed set_of ShowsRun set threads all m number [] b n l
-    → Goes (IsTraceOfAll all) b n [] l (Ok Complete)
-followed_end {M} set_of ShowsRun m set threads all number b n l f =
-    let any : list_any is_last all ≡ false =
-    f.last ∙ ap (λ told. list_any is_last told) f.remains.are in (
-      reply_lines 0 all,
-      sym (ap (λ (x : Bool). ended (if x then Stopped else Complete) (reply_lines 0 all)) any),
-      certified_all (reply_lines 0 all) (reply_lines number f.later) b n [] l f.lines
-          (ap (λ told. reply_lines number told) f.remains.are),
-    )
-
 -- the replies that are told together, and the last of them apart
 abbrev earlier_of : Replies → List Reply
 earlier_of r = replicate r.stepped Stepped ++ replicate (r.times - 1) r.last

@@ -51,10 +51,6 @@ abbrev pub IsTrace : Verification → List ℕ → List ℕ → Answer → Type 
 IsTrace verification set schedule answer =
     IsTraceOf verification (Bytes set) (Bytes schedule) answer
 
--- what `host` answers for the bytes of its files, with so many workers
-abbrev pub IsHost : ℕ → List ℕ → List ℕ → Answer → Type 0
-IsHost workers set script answer = IsHostOf workers (Bytes set) (Bytes script) answer
-
 -- a source has such a set
 abbrev pub HoldsSet : (Set → Type 0) → Supply → Type 0
 HoldsSet Such supply =

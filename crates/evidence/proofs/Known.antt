@@ -108,21 +108,6 @@ blank_at n p a there =
 blank_traced : (m : Member) (n : ℕ) → IsTraced m (replicate n None)
 blank_traced m n p a there = absurd (blank_at n p a there)
 
-covered_none : (m : Member) (table : List (Option Arrival)) → entry_state m ≡ None → (p : ℕ)
-    (s : Abs) → p < length m.routine.code → FromBelow m 0 p s → HasArrival table p
-covered_none m table none p s within (inl h) =
-    let some : entry_state m ≡ Some s = h.1 in cc
-covered_none m table none p s within (inr h) =
-    let low : h.from < 0 = h.below in absurd (omega arith)
-
-pub known_unentered : (m : Member) → entry_state m ≡ None
-    → AreKnown m 0 (replicate (length m.routine.code) None)
-known_unentered m none = record {
-  long = length-replicate (length m.routine.code) None;
-  traced = blank_traced m (length m.routine.code);
-  covered = covered_none m (replicate (length m.routine.code) None) none;
-}
-
 abbrev pub at_entry : Abs → Arrival
 at_entry s = record { from = None; state = s }
 

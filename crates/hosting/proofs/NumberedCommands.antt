@@ -77,27 +77,6 @@ once_at_most k from (c ∷ commands) =
       )
     ]
 
--- which is there where there is a command at its place
-once_there : (k from : ℕ) (commands : List Command) (i : ℕ) (c : Command)
-    → slice_get commands i ≡ Some c → from + i ≡ k
-    → 1 ≤ weigh (command_of (command_name k)) (named_from from commands)
-once_there k from [] i c at same = cc
-once_there k from (d ∷ commands) zero c at same =
-    let its = command_of (command_name k) in
-    let parts = sum_by-cons its (named_at from d) (named_from (from + 1) commands) in
-    let number : from ≡ k = omega (arith, same) in
-    let one = one_true (is_name (command_name from) (command_name k)) (eq-eqb from k number) in
-    omega (arith, parts, one)
-once_there k from (d ∷ commands) (suc i) c at same =
-    let its = command_of (command_name k) in
-    let parts = sum_by-cons its (named_at from d) (named_from (from + 1) commands) in
-    let number : from + 1 + i ≡ k = omega (arith, same) in
-    omega (arith, parts, once_there k (from + 1) commands i c at number)
-
-pub put_once : (k : ℕ) (commands : List Command) (c : Command) → slice_get commands k ≡ Some c
-    → 1 ≤ weigh (command_of (command_name k)) (named_from 0 commands)
-put_once k commands c at = once_there k 0 commands k c at (omega arith)
-
 -- one of them is the command at its place, under the place's name
 at_place : (from : ℕ) (commands : List Command) (i : ℕ) (asked : NamedCommand)
     → slice_get (named_from from commands) i ≡ Some asked

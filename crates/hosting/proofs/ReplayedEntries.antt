@@ -84,21 +84,6 @@ replied set threads history m n e rest reply h applies =
     let R : Set → Type 0 = λ s. reply ≡ reply_to s threads h.past e.event in
     subst R h.same (applies.replies threads h.past h.shows)
 
--- where that is another one than is told, or stops the run, the history doesn't replay
-pub same_reply : (set : Set) (threads : ℕ) (history : List Entry) (m n : Machine) (e : Entry)
-    (rest : List Entry) (reply : Reply) → (h : Follows set threads history m (e ∷ rest))
-    → AppliesWhole m e.event n reply → Replays set threads history → reply ≡ e.reply
-same_reply set threads history m n e rest reply h applies all =
-    replied set threads history m n e rest reply h applies
-    ∙ (first_of set (run set threads h.past) e rest (h.left all)).same
-
-pub reply_goes_on : (set : Set) (threads : ℕ) (history : List Entry) (m : Machine) (e : Entry)
-    (rest : List Entry) (reply : Reply) → (h : Follows set threads history m (e ∷ rest))
-    → Replays set threads history → reply ≡ e.reply → LetsGoOn reply
-reply_goes_on set threads history m e rest reply h all same =
-    let R : Reply → Type 0 = LetsGoOn in
-    subst R (sym same) (first_of set (run set threads h.past) e rest (h.left all)).goes_on
-
 -- where it is the one that is told and lets the run go on, what comes behind it is left
 pub follows_next : (set : Set) (threads : ℕ) (history : List Entry) (m n : Machine) (e : Entry)
     (rest : List Entry) (reply : Reply) → Follows set threads history m (e ∷ rest)

@@ -16,11 +16,6 @@ pub new_of_queue : (queue : _) (count : ℕ) (takers : List TakerState)
 new_of_queue queue count takers new i d within =
     (new.each i (get_or takers i d) (slice_get-get_or takers i d within)).of_queue
 
-pub new_took_nothing : (queue : _) (count : ℕ) (takers : List TakerState)
-    → AreNewTakers queue count takers → All (λ (t : TakerState). t.taken ≡ []) takers
-new_took_nothing queue count takers new i d within =
-    (new.each i (get_or takers i d) (slice_get-get_or takers i d within)).taken_nothing
-
 pub new_count : (queue : _) (count : ℕ) (takers : List TakerState)
     → AreNewTakers queue count takers → length takers ≡ count
 new_count queue count takers new = new.counted
@@ -64,19 +59,3 @@ abbrev pub AreOfPut : List NamedCommand → List TakerState → Type 0
 AreOfPut put takers =
     (rest : List NamedCommand)
     × ((h : NamedCommand → ℕ) → weigh h put ≡ weigh_taken h takers + weigh h rest)
-
--- so it is where one submitter has put all, and takers and submitter have left the queue
-pub left_of_put : (submitter : SubmitterState) (takers : List TakerState) (left : LeftState)
-    → ((h : NamedCommand → ℕ) → weigh h left.put ≡ weigh_put h (submitter ∷ []))
-    → ((h : NamedCommand → ℕ) → weigh h left.taken ≡ weigh_taken h takers)
-    → AreAmong left.taken left.put → AreOfPut submitter.put takers
-left_of_put submitter takers left put taken among = (
-  among.0,
-  λ h. omega (
-    arith,
-    put h,
-    taken h,
-    among.1 h,
-    sum_by-cons (λ (s : SubmitterState). weigh h s.put) submitter [],
-  ),
-)

@@ -121,15 +121,3 @@ two_digits text after behind rest later first second third tens ones is begins g
     (omega arith)
     (omega (arith, byte), omega (arith, byte, few), (omega (arith, next), omega (arith, next, less), tt))
     value (omega (arith, few, less))
-
--- the events with that step after them
-pub step_listed : (events more : List Event) (n : ℕ) (lines later : List (List ℕ)) (thread : ℕ)
-    → TakesStep lines thread later → length events < 1000000 → more ≡ events ++ Step thread ∷ []
-    → listing events n lines ≡ listing more (n + 1) later
-step_listed events more n lines later thread takes few same =
-    rw (
-      takes.parts,
-      takes.says,
-      le-leb (length events + 1) 1000000 (omega (arith, few)),
-      same,
-    ) refl

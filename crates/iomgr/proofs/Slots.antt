@@ -230,13 +230,6 @@ counted_set slots key p there =
     let sums = sum_by-set one slots.slots key (Some p) None within in
     omega (arith, rw there at sums)
 
--- and one fewer where one is removed
-pub fewer_slots : (old new : Slab Packet) (key : ℕ) (removed : Option Packet)
-    → ContainsKey old key → removed ≡ get old key
-    → OnSome removed (slab_len new + 1 ≡ slab_len old) → slab_len new + 1 ≡ slab_len old
-fewer_slots old new key None full is len = absurd (false≢true (rw (← is) at full))
-fewer_slots old new key (Some p) full is len = len
-
 -- the place of a key that is among them
 pub key_there : (keys : List ℕ) (key : ℕ) → number_place keys key < length keys
     → slice_get keys (number_place keys key) ≡ Some key

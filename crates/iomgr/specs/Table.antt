@@ -30,10 +30,6 @@ shared_of table =
       dpcs = [];
     }
 
--- before the first packet
-abbrev pub no_packets : Table
-no_packets = record { packets = []; issued = 0 }
-
 -- the live packet of a number
 abbrev pub live_packet : Table → ℕ → Option Packet
 live_packet table n = slice_get table.packets (place_of table.packets n)

@@ -73,28 +73,10 @@ module _ (before m n : Shown) (t made : ℕ) (reply : Reply) (h : Stepping befor
   stepped_on stepped =
       record { set = applies.set ∙ h.set; shows = shown_next; each = each_next stepped }
 
--- after so many steps that replied so, a reply that goes on there does so from the beginning
-pub goes_on_from : (before m : Shown) (t made : ℕ) (reply : Reply) → Stepping before t made m
-    → GoesOn m reply → GoesOn before reply
-goes_on_from before m t made reply h goes threads events shows =
-    goes threads (events ++ steps_of t made) (h.shows threads events shows)
-
 pub steps_from : (before m : Shown) (t made : ℕ) (reply : Reply) → Stepping before t made m
     → StepsThreads m (Step t) reply → StepsThreads before (Step t) reply
 steps_from before m t made reply h steps threads events u shows below is =
     steps threads (events ++ steps_of t made) u (h.shows threads events shows) below is
-
--- all of them replied that they stepped
-pub all_stepped : (before m : Shown) (t made : ℕ) → Stepping before t made m
-    → MakesSteps before t made m Stepped
-all_stepped before m t made h =
-    record {
-      set = h.set;
-      shows = h.shows;
-      earlier = λ threads events k shows lt. h.each threads events k shows (omega (arith, lt));
-      last = λ threads events k shows is.
-          sym (h.each threads events k shows (omega (arith, is)));
-    }
 
 -- steps after steps
 module _ (before m n : Shown) (t made more : ℕ) (h : Stepping before t made m)
