@@ -1,5 +1,5 @@
-//! Verdicts, listings and runs of texts and of images, and scripts that one worker serves, over
-//! devices that move few bytes a call, or fail at each call in turn.
+//! Verdicts, explanations, listings and runs of texts and of images, and scripts that one worker
+//! serves, over devices that move few bytes a call, or fail at each call in turn.
 
 ghost use Rattle.std.specs.Prelude.{◌≡◌};
 
@@ -8,6 +8,7 @@ use crate::devices::{Narrow, Slow};
 use crate::images::{EMPTY, ONE_READ};
 use drvhost_parts::check::check;
 use drvhost_parts::device::{Reader, Sink, Source};
+use drvhost_parts::explaining::explain;
 use drvhost_parts::host::host;
 use drvhost_parts::list::list;
 use drvhost_parts::trace::trace;
@@ -24,6 +25,25 @@ pub(crate) const TEXT: &[u8] =
       device v d 1\n";
 
 const VERDICT: &[u8] = b"accepted\ndriver 0 routine 0 dispatch certificate 2\n";
+
+/// What is said of `TEXT`, whose lines are those of a text that a person wrote.
+const ROLL_OF_TEXT: &[u8] = b"accepted\ndriver 0 routine 0 dispatch certificate 2\n\
+      driver 0 routine 0: driver d, routine f (dispatch)\n";
+
+/// The same of `ONE_READ`, which has no names: those of its listing.
+const ROLL_OF_IMAGE: &[u8] = b"accepted\ndriver 0 routine 0 dispatch certificate 2\n\
+      driver 0 routine 0: driver d0, routine f0 (dispatch)\n";
+
+/// A set whose last instruction is no return.
+const ENDLESS: &[u8] = b"driver d\ndispatch READ f\nroutine f dispatch\ncomplete r0 SUCCESS\n\
+      clear r1\nendr\nendd\ndevice v d 1\n";
+
+const ENDLESS_EXPLAINED: &[u8] = b"refused V1 Malformed driver 0 routine 0 at 1\n\n\
+      in driver d, routine f (dispatch), position 1, line 5:\n    3  routine f dispatch\n    \
+      4  complete r0 SUCCESS\n  > 5  clear r1\n    6  endr\n    7  endd\n\
+      why: the routine's last instruction isn't a return\n\
+      see: this bytecode's form, which makes a certificate possible\n\
+      mend it: end the routine with a `ret`\n";
 
 pub(crate) const SCHEDULE: &[u8] = b"threads 1\nissue 0 0 READ 7\nstep 0 4\n";
 
@@ -47,6 +67,7 @@ impl Gate for Open {
 #[derive(Clone, Copy)]
 enum Job {
     Check,
+    Explain,
     List,
     /// A schedule is run.
     Trace(&'static [u8], Verification),
@@ -86,7 +107,7 @@ const WHOLE: Devices = Devices {
     err: None,
 };
 
-static CASES: [Case; 15] = [
+static CASES: [Case; 19] = [
     Case {
         set: TEXT,
         job: Job::Check,
@@ -159,6 +180,34 @@ static CASES: [Case; 15] = [
     },
     Case {
         set: TEXT,
+        job: Job::Explain,
+        status: 0,
+        lines: ROLL_OF_TEXT,
+        told: b"",
+    },
+    Case {
+        set: &ONE_READ,
+        job: Job::Explain,
+        status: 0,
+        lines: ROLL_OF_IMAGE,
+        told: b"",
+    },
+    Case {
+        set: ENDLESS,
+        job: Job::Explain,
+        status: 1,
+        lines: ENDLESS_EXPLAINED,
+        told: b"",
+    },
+    Case {
+        set: b"driver d\n",
+        job: Job::Explain,
+        status: 2,
+        lines: b"",
+        told: b"text fault 6 Unclosed line 2\n",
+    },
+    Case {
+        set: TEXT,
         job: Job::List,
         status: 0,
         lines: LISTED,
@@ -210,6 +259,7 @@ fn answer<R: Threads + Wait + Sync>(
 {
     match case.job {
         Job::Check => check(alloc, set, out, err),
+        Job::Explain => explain(alloc, set, out, err),
         Job::List => list(alloc, set, out, err),
         Job::Trace(schedule, verification) => {
             let mut schedule = Slow::new(schedule, devices.step, devices.orders);
@@ -286,7 +336,7 @@ fn each_read_of_orders_fails_in_turn(rt: HostRuntime) {
     for case in CASES.iter() {
         let calls = match case.job {
             Job::Trace(orders, _) | Job::Host(orders) => orders.len() + 1,
-            Job::Check | Job::List => 0,
+            Job::Check | Job::Explain | Job::List => 0,
         };
         for calls in 0..calls {
             let devices = Devices {
