@@ -4,10 +4,13 @@ use Rattle.clap.specs.Words.{App, Row, Rule, Text, first_of, new_app, new_rule, 
 use Rattle.clap.specs.declared.builder.ArgAction.TheVariants.{Set, SetTrue}
 use Rattle.clap.specs.declared.builder.value_parser.ValueParser.TheVariants.{Signed}
 use Rattle.interleave.specs.Line.{number_within}
+use Rattle.report.specs.Verdict.{rule_word}
 use Rattle.command_line.specs.declared.job.Job.{Job}
-use Rattle.command_line.specs.declared.job.Job.TheVariants.{Check, Explain, List as ListJob, Version, Trace, Host}
+use Rattle.command_line.specs.declared.job.Job.TheVariants.{Check, Explain, ExplainRule, List as ListJob, Version, Trace, Host}
 use Rattle.command_line.specs.declared.job.JobFault.{JobFault}
 use Rattle.command_line.specs.declared.job.JobFault.TheVariants.{Usage, Memory}
+use Rattle.drvhost_parts.specs.declared.explaining.Extent.{Extent}
+use Rattle.drvhost_parts.specs.declared.explaining.Extent.TheVariants.{First, Each}
 use Rattle.drvhost_parts.specs.declared.verification.Verification.{Verification}
 use Rattle.drvhost_parts.specs.declared.verification.Verification.TheVariants.{Required, Skipped}
 
@@ -24,9 +27,24 @@ unchecked_flag =
 abbrev pub check_command : App
 check_command = with_rule (new_app (codes "check")) (file_argument (codes "FILE"))
 
--- `explain FILE`
+-- `--all`
+abbrev pub all_flag : Rule
+all_flag = record (new_rule (codes "all")) { long = Some (codes "all"); action = Some SetTrue }
+
+-- `--rule RULE`
+abbrev pub rule_option : Rule
+rule_option =
+    record (new_rule (codes "RULE")) { long = Some (codes "rule"); action = Some Set }
+
+-- `explain [FILE] [--all] [--rule RULE]`, of which `NamesTask` says what goes with what
 abbrev pub explain_command : App
-explain_command = with_rule (new_app (codes "explain")) (file_argument (codes "FILE"))
+explain_command =
+    with_rule
+    (with_rule
+    (with_rule (new_app (codes "explain"))
+    (record (file_argument (codes "FILE")) { required = false }))
+    all_flag)
+    rule_option
 
 -- `list FILE`
 abbrev pub list_command : App
@@ -90,12 +108,23 @@ pub record IsFlag (value : Option Text) (verification : Verification) : Type 0 w
   pub set : value ≡ Some (codes "true") → verification ≡ Skipped
   pub other : value ≢ Some (codes "true") → verification ≡ Required
 
--- a subcommand with its matches names a task
+-- of which faults words are asked for, by the value of `--all`
+pub record IsExtent (value : Option Text) (extent : Extent) : Type 0 where
+  pub set : value ≡ Some (codes "true") → extent ≡ Each
+  pub other : value ≢ Some (codes "true") → extent ≡ First
+
+-- a subcommand with its matches names a task; a file is explained, or a rule, and that without
+-- `--all`
 abbrev pub NamesTask : Text × List Row → Job → Type 0
 NamesTask found (Check set) = (found.0 ≡ codes "check")
     × (first_of (codes "FILE") found.1 ≡ Some set.now)
-NamesTask found (Explain set) = (found.0 ≡ codes "explain")
-    × (first_of (codes "FILE") found.1 ≡ Some set.now)
+NamesTask found (Explain set extent) = (found.0 ≡ codes "explain")
+    × (first_of (codes "FILE") found.1 ≡ Some set.now) × (first_of (codes "RULE") found.1 ≡ None)
+    × IsExtent (first_of (codes "all") found.1) extent
+NamesTask found (ExplainRule rule) = (found.0 ≡ codes "explain")
+    × (first_of (codes "FILE") found.1 ≡ None)
+    × (first_of (codes "RULE") found.1 ≡ Some (rule_word rule))
+    × IsExtent (first_of (codes "all") found.1) First
 NamesTask found (ListJob set) = (found.0 ≡ codes "list")
     × (first_of (codes "FILE") found.1 ≡ Some set.now)
 NamesTask found Version = found.0 ≡ codes "version"

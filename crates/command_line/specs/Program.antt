@@ -4,7 +4,7 @@ use Rattle.std.specs.Global.{Global, Vec}
 use Rattle.std.specs.declared.io.ErrorKind.{ErrorKind}
 use Rattle.std.specs.declared.io.ErrorKind.TheVariants.{OutOfMemory}
 use Rattle.clap.specs.Words.{Text, fault_of, subcommand_of, takes}
-use Rattle.drvhost_parts.specs.Answer.{Answer, IsVersion}
+use Rattle.drvhost_parts.specs.Answer.{Answer, IsRuleExplained, IsVersion}
 use Rattle.drvhost_parts.specs.Device.{Supply}
 use Rattle.drvhost_parts.specs.declared.verification.Verification.{Verification}
 use Rattle.drvhost_parts.specs.declared.verification.Verification.TheVariants.{Required}
@@ -12,7 +12,7 @@ use Rattle.drvhost_parts.specs.Ends.{HoldsRun, IsCheckOf, IsExplainedOf, IsHostO
 use Rattle.command_line.specs.declared.answer.Way.{Way}
 use Rattle.command_line.specs.declared.answer.Way.TheVariants.{BySchedule, ByWorkers}
 use Rattle.command_line.specs.declared.job.Job.{Job}
-use Rattle.command_line.specs.declared.job.Job.TheVariants.{Check, Explain, List as ListJob, Version, Trace, Host}
+use Rattle.command_line.specs.declared.job.Job.TheVariants.{Check, Explain, ExplainRule, List as ListJob, Version, Trace, Host}
 use Rattle.command_line.specs.CommandLine.{Names, program, usage}
 
 -- what a run of a set by an input answers, where these are what their files have
@@ -28,7 +28,8 @@ verification_of (ByWorkers workers) = Required
 -- what is right for a job, where the files of these names have this to give
 abbrev pub IsJobOf : (List ℕ → Supply) → Job → Answer → Type 0
 IsJobOf supply (Check set) answer = IsCheckOf (supply set.now) answer
-IsJobOf supply (Explain set) answer = IsExplainedOf (supply set.now) answer
+IsJobOf supply (Explain set extent) answer = IsExplainedOf (supply set.now) answer
+IsJobOf supply (ExplainRule rule) answer = IsRuleExplained rule answer
 IsJobOf supply (ListJob set) answer = IsListOf (supply set.now) answer
 IsJobOf supply Version answer = IsVersion answer
 IsJobOf supply (Trace set schedule verification) answer =
@@ -44,7 +45,8 @@ OpensToTrace verification set count =
 -- how many files a job opens
 abbrev pub Opens : (List ℕ → Supply) → Job → ℕ → Type 0
 Opens supply (Check set) count = count ≡ 1
-Opens supply (Explain set) count = count ≡ 1
+Opens supply (Explain set extent) count = count ≡ 1
+Opens supply (ExplainRule rule) count = count ≡ 0
 Opens supply (ListJob set) count = count ≡ 1
 Opens supply Version count = count ≡ 0
 Opens supply (Trace set schedule verification) count =

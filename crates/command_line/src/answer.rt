@@ -9,9 +9,10 @@ use crate::files::{Files, Later};
 use crate::job::{Job, JobFault, Workers, refuse_unknown_words, refuse_words};
 use drvhost_parts::check::check;
 use drvhost_parts::device::{Sink, Source};
-use drvhost_parts::explaining::explain;
+use drvhost_parts::explaining::{Extent, explain};
 use drvhost_parts::host::host;
 use drvhost_parts::list::list;
+use drvhost_parts::rule::explain_rule;
 use drvhost_parts::trace::trace;
 use drvhost_parts::verification::Verification;
 use drvhost_parts::version::version;
@@ -127,7 +128,8 @@ fn perform<F: Files, O: Sink, E: Sink, R: Threads + Wait + Sync>(
 {
     match job {
         Job::Check { set } => check_file(alloc, set, files, out, err),
-        Job::Explain { set } => explain_file(alloc, set, files, out, err),
+        Job::Explain { set, extent } => explain_file(alloc, extent, set, files, out, err),
+        Job::ExplainRule { rule } => explain_rule(alloc, rule, out, err),
         Job::List { set } => list_file(alloc, set, files, out, err),
         Job::Version => version(out, err),
         Job::Trace {
@@ -183,6 +185,7 @@ fn check_file<F: Files, O: Sink, E: Sink>(
 /// Judges the set of a file, and explains the verdict.
 fn explain_file<F: Files, O: Sink, E: Sink>(
     alloc: Global,
+    extent: Extent,
     set: &str,
     files: &mut F,
     out: &mut O,
@@ -200,7 +203,7 @@ fn explain_file<F: Files, O: Sink, E: Sink>(
     ensures opened { F.opened files.new ≡ F.opened files.old + 1 }
 {
     let mut file = files.open(set);
-    let status = explain(alloc, &mut file, out, err);
+    let status = explain(alloc, extent, &mut file, out, err);
     files.close(file);
     status
 }

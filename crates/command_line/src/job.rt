@@ -1,22 +1,25 @@
 //! The program's command line.
 
-ghost use Rattle.std.specs.Prelude.{◌≡◌, ◌≤◌, List, ℕ, false, true, codes, map, IfErr, IfNone, IfOk, IfSome, OnOk, option_map, []};
+ghost use Rattle.std.specs.Prelude.{◌≡◌, ◌≤◌, List, ℕ, false, true, codes, map, IfErr, IfNone, IfOk, IfSome, None, OnOk, Some, option_map, []};
 ghost use Rattle.clap.specs.Words.{app_of, fault_of, first_of, found_of, kind_of, rows_of, rule_of, subcommand_of, subcommand_rows_of, takes};
 ghost use Rattle.clap.specs.declared.builder.command.Command.TheViews.{out-Command as fields_of};
 ghost use Rattle.drvhost_parts.specs.Device.{CanCount, Says};
 ghost use Rattle.interleave.specs.Line.{number_within};
 ghost use Rattle.model.specs.declared.limits.TheConstants.{MAX_THREADS};
-ghost use Rattle.command_line.specs.CommandLine.{check_command, explain_command, file_argument, host_command, job_fault_status, job_fault_told, judging_program, list_command, program, program_of_files, text_told, trace_command, unchecked_flag, unrun_program, unthreaded_program, usage, version_command, workers_option, IsFlag, Names, NamesTask};
+ghost use Rattle.command_line.specs.CommandLine.{all_flag, check_command, explain_command, file_argument, host_command, job_fault_status, job_fault_told, judging_program, list_command, program, program_of_files, rule_option, text_told, trace_command, unchecked_flag, unrun_program, unthreaded_program, usage, version_command, workers_option, IsExtent, IsFlag, Names, NamesTask};
 
 use clap::builder::ValueParser;
 use clap::error::ErrorKind;
 use clap::{Arg, ArgAction, ArgMatches, Command};
 use drvhost_parts::device::Sink;
+use drvhost_parts::explaining::Extent;
 use drvhost_parts::fault::say;
 use drvhost_parts::verification::Verification;
 use interleave::read::number_within;
+use model::abs::Rule;
 use model::limits::MAX_THREADS;
 use report::fault::OUT_OF_MEMORY;
+use report::rule::rule_named;
 use std::alloc::{AllocError, Global};
 use std::convert::AsStr;
 use std::fmt;
@@ -29,6 +32,10 @@ const NAME: &str = "drvhost";
 /// How the program is used, where there is nothing better to say.
 const USAGE: &str = "Usage: drvhost <COMMAND>";
 
+/// How `explain` is used.
+const EXPLAIN_USAGE: &str =
+    "drvhost explain [--all] <FILE>\n       drvhost explain --rule <RULE>";
+
 /// What the file of a driver set is, in the texts of help.
 const SET: &str = "The text or the image of the driver set";
 
@@ -39,9 +46,14 @@ pub enum Job<'a> {
     Check {
         set: &'a str,
     },
-    /// `explain FILE`
+    /// `explain FILE [--all]`
     Explain {
         set: &'a str,
+        extent: Extent,
+    },
+    /// `explain --rule RULE`
+    ExplainRule {
+        rule: Rule,
     },
     /// `list FILE`
     List {
@@ -164,7 +176,7 @@ impl<'a> Job<'a> {
         match program.try_get_matches_from_mut(words) {
             Ok(matches) => match named(&matches) {
                 Some(job) => Ok(job),
-                None => Err(JobFault::Usage(program.render_usage()?)),
+                None => Err(JobFault::Usage(unnamed(alloc, &mut program, &matches)?)),
             },
             Err(error) => Err(refused(alloc, &error)),
         }
@@ -269,11 +281,13 @@ fn explain_command<'a>(alloc: Global) -> Result<Command<'a>, AllocError>
     ensures app { IfOk result (λ command. app_of command ≡ explain_command) }
     ensures local { IfOk result (λ command. (fields_of command).has_globals ≡ false) }
 {
-    let set = file(alloc, "FILE", SET);
-    let command = Command::new(alloc, "explain").about(
-        "Accepts or refuses a driver set, and says in words why",
-    );
-    command.arg(set)
+    let set = file(alloc, "FILE", SET).required(false);
+    let all = all_flag(alloc);
+    let rule = rule_option(alloc);
+    let command = Command::new(alloc, "explain")
+        .about("Accepts or refuses a driver set, and says in words why; or says a rule in words")
+        .override_usage(EXPLAIN_USAGE);
+    command.arg(set)?.arg(all)?.arg(rule)
 }
 
 fn list_command<'a>(alloc: Global) -> Result<Command<'a>, AllocError>
@@ -327,6 +341,28 @@ fn file<'a>(alloc: Global, id: &'a str, help: &'a str) -> Arg<'a>
         .required(true)
         .action(ArgAction::Set)
         .help(help)
+}
+
+/// `--all`.
+fn all_flag<'a>(alloc: Global) -> Arg<'a>
+    ensures rule { rule_of result ≡ all_flag }
+    ensures local { result.global ≡ false }
+{
+    Arg::new(alloc, "all")
+        .long("all")
+        .action(ArgAction::SetTrue)
+        .help("Explains the first fault of each routine")
+}
+
+/// `--rule RULE`.
+fn rule_option<'a>(alloc: Global) -> Arg<'a>
+    ensures rule { rule_of result ≡ rule_option }
+    ensures local { result.global ≡ false }
+{
+    Arg::new(alloc, "RULE")
+        .long("rule")
+        .action(ArgAction::Set)
+        .help("Says this rule in words, V1 to V20, with an example")
 }
 
 fn unchecked_flag<'a>(alloc: Global) -> Arg<'a>
@@ -383,8 +419,38 @@ fn explain_named<'a>(matches: &ArgMatches<'a>) -> Option<Job<'a>>
     ensures none { IfNone result
         ((job : Job) → NamesTask (codes "explain", rows_of (found_of matches.now)) job → ⊥) }
 {
+    match argument(matches, "RULE") {
+        Some(word) => rule_to_explain(matches, word),
+        None => set_to_explain(matches),
+    }
+}
+
+/// The rule of a word, if no set is to be explained beside it.
+fn rule_to_explain<'a>(matches: &ArgMatches<'a>, word: &str) -> Option<Job<'a>>
+    requires { first_of (codes "RULE") (rows_of (found_of matches.now)) ≡ Some word.now }
+    ensures some { IfSome result (NamesTask (codes "explain", rows_of (found_of matches.now))) }
+    ensures none { IfNone result
+        ((job : Job) → NamesTask (codes "explain", rows_of (found_of matches.now)) job → ⊥) }
+{
+    match (argument(matches, "FILE"), extent_asked(matches)) {
+        (None, Extent::First) => {
+            let rule = rule_named(word)?;
+            Some(Job::ExplainRule { rule })
+        }
+        _ => None,
+    }
+}
+
+/// The set that is to be explained, where no rule is.
+fn set_to_explain<'a>(matches: &ArgMatches<'a>) -> Option<Job<'a>>
+    requires { first_of (codes "RULE") (rows_of (found_of matches.now)) ≡ None }
+    ensures some { IfSome result (NamesTask (codes "explain", rows_of (found_of matches.now))) }
+    ensures none { IfNone result
+        ((job : Job) → NamesTask (codes "explain", rows_of (found_of matches.now)) job → ⊥) }
+{
     let set = argument(matches, "FILE")?;
-    Some(Job::Explain { set })
+    let extent = extent_asked(matches);
+    Some(Job::Explain { set, extent })
 }
 
 fn list_named<'a>(matches: &ArgMatches<'a>) -> Option<Job<'a>>
@@ -434,6 +500,16 @@ fn argument<'a>(matches: &ArgMatches<'a>, id: &str) -> Option<&'a str>
     matches.get_str(id)
 }
 
+/// Of which faults words are asked for.
+fn extent_asked(matches: &ArgMatches<'_>) -> Extent
+    ensures { IsExtent (first_of (codes "all") (rows_of (found_of matches.now))) result }
+{
+    match argument(matches, "all") {
+        Some("true") => Extent::Each,
+        _ => Extent::First,
+    }
+}
+
 /// Whether the flag is given.
 fn flagged(matches: &ArgMatches<'_>) -> Verification
     ensures { IsFlag (first_of (codes "unchecked") (rows_of (found_of matches.now))) result }
@@ -442,4 +518,33 @@ fn flagged(matches: &ArgMatches<'_>) -> Verification
         Some("true") => Verification::Skipped,
         _ => Verification::Required,
     }
+}
+
+/// What is told of words that the command line takes, and that name no task.
+fn unnamed(
+    alloc: Global,
+    program: &mut Command<'_>,
+    matches: &ArgMatches<'_>,
+) -> Result<String, AllocError> {
+    match matches.subcommand() {
+        Some(("explain", inner)) => unexplained(alloc, inner),
+        _ => program.render_usage(),
+    }
+}
+
+/// What is told where `explain` isn't told what to explain.
+fn unexplained(alloc: Global, matches: &ArgMatches<'_>) -> Result<String, AllocError> {
+    let mut text = String::from_str(alloc, "error: ")?;
+    match argument(matches, "RULE") {
+        None => text.push_str("a FILE is wanted, or a rule by '--rule'")?,
+        Some(word) if rule_named(word).is_none() => {
+            write!(text, "there is no rule '{word}': the rules are V1 to V20")?;
+        }
+        Some(_) => text.push_str("'--rule' goes with no FILE and with no '--all'")?,
+    }
+    write!(
+        text,
+        "\n\nUsage: {EXPLAIN_USAGE}\n\nFor more information, try '--help'.\n"
+    )?;
+    Ok(text)
 }

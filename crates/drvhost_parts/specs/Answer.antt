@@ -10,6 +10,7 @@ use Rattle.image.specs.Spelling.{Spells}
 use Rattle.interleave.specs.declared.schedule.Schedule.{Schedule}
 use Rattle.interleave.specs.declared.schedule.ScheduleFault.{ScheduleFault}
 use Rattle.model.specs.declared.abs.Refusal.{Refusal}
+use Rattle.model.specs.declared.abs.Rule.{Rule}
 use Rattle.model.specs.declared.event.Event.{Event}
 use Rattle.model.specs.declared.event.Reply.{Reply}
 use Rattle.model.specs.declared.event.Reply.TheVariants.{Started, Stepped, Finished, Topped, Waited, Idle, Refused, Bug, Wrong}
@@ -27,7 +28,7 @@ use Rattle.hosting.specs.Told.{all_told}
 use Rattle.report.specs.Fault.{image_fault_line, schedule_fault_line, script_fault_line, text_fault_line}
 use Rattle.report.specs.Host.{agrees_line, differs_line, left_line}
 use Rattle.report.specs.Reply.{reply_line}
-use Rattle.report.specs.Verdict.{accepted_line, certificate_line, refusal_line}
+use Rattle.report.specs.Verdict.{accepted_line, certificate_line, refusal_line, rule_text}
 use Rattle.drvhost_parts.specs.declared.fault.End.{End}
 use Rattle.drvhost_parts.specs.declared.fault.End.TheVariants.{Complete, Stopped}
 use Rattle.drvhost_parts.specs.declared.verification.Verification.{Verification}
@@ -176,6 +177,11 @@ IsListing set answer = answer ≡ ended Complete (listing set)
 -- the program's name and its version
 abbrev pub IsVersion : Answer → Type 0
 IsVersion answer = answer ≡ ended Complete (codes "drvhost 0.1.0\n")
+
+-- a rule explained: its number and its name, with some words behind them
+pub record IsRuleExplained (rule : Rule) (answer : Answer) : Type 0 where
+  pub words : List ℕ
+  pub is : answer ≡ ended Complete (rule_text rule ++ words)
 
 -- what `check` answers for the bytes of its file
 abbrev pub IsCheck : List ℕ → Answer → Type 0

@@ -14,20 +14,30 @@ use crate::reading::begins_image;
 use crate::task::{Task, answer};
 use crate::transfer::write_words;
 use asm::disassemble;
-use explain::{explanation, roll};
+use explain::{Told, explanation, explanations, roll};
 use image::DriverSet;
 use model::abs::{Refusal, Rule};
 use report::lines::Lines;
-use std::alloc::Global;
+use std::alloc::{AllocError, Global};
 use verifier::{Accepted, verify};
+
+/// Of which faults of a refused set words are written.
+#[derive(Clone, Copy, Debug, PartialEq, Eq)]
+pub enum Extent {
+    /// Of its first fault, for which it is refused.
+    First,
+    /// Of the first fault of each routine that has one.
+    Each,
+}
 
 /// Writes whether a driver set is accepted, as [`check`](crate::check::check) does, and then words
 /// on it: the names of its routines, or what leads to the place of its refusal and why the rule is
-/// broken there. The answer is the exit status, as that of `check`: 0 accepted, 1 refused, 2 where
-/// its text or its image is faulty or a read or a write failed, 3 where memory ran out. Faults are
-/// told on the error writer.
+/// broken there, and to those of its other routines, if asked for. The answer is the exit status, as
+/// that of `check`: 0 accepted, 1 refused, 2 where its text or its image is faulty or a read or a
+/// write failed, 3 where memory ran out. Faults are told on the error writer.
 pub fn explain<S: Source, O: Sink, E: Sink>(
     alloc: Global,
+    extent: Extent,
     set: &mut S,
     out: &mut O,
     err: &mut E,
@@ -41,11 +51,14 @@ pub fn explain<S: Source, O: Sink, E: Sink>(
         (Says (E.failures err.old) (E.failures err.new) (E.contents err.old) (E.contents err.new))
         result }
 {
-    answer(&Explaining, alloc, set, out, err)
+    answer(&Explaining { extent }, alloc, set, out, err)
 }
 
 /// The task of explaining the verdict on a set.
-struct Explaining;
+#[derive(Drop)]
+struct Explaining {
+    extent: Extent,
+}
 
 impl Task for Explaining {
     ghost use Rattle.drvhost_parts.specs.Answer.{IsExplained};
@@ -61,9 +74,9 @@ impl Task for Explaining {
         out: &mut O,
     ) -> Result<End, Fault> {
         if begins_image(bytes) {
-            explain_image(alloc, set, lines, out)
+            explain_image(alloc, self.extent, set, lines, out)
         } else {
-            explain_text(alloc, bytes, set, lines, out)
+            explain_text(alloc, self.extent, bytes, set, lines, out)
         }
     }
 }
@@ -71,6 +84,7 @@ impl Task for Explaining {
 /// Explains the verdict on the set of an image, over its listing.
 fn explain_image<O: Sink>(
     alloc: Global,
+    extent: Extent,
     set: DriverSet,
     lines: &mut Lines,
     out: &mut O,
@@ -83,12 +97,13 @@ fn explain_image<O: Sink>(
     ensures writes { O.failures out.new ≡ O.failures out.old + writes_failed result }
 {
     let listing = disassemble(alloc, &set)?;
-    explain_text(alloc, listing.as_bytes(), set, lines, out)
+    explain_text(alloc, extent, listing.as_bytes(), set, lines, out)
 }
 
 /// Explains the verdict on a set, over a text that names it.
 fn explain_text<O: Sink>(
     alloc: Global,
+    extent: Extent,
     text: &[u8],
     set: DriverSet,
     lines: &mut Lines,
@@ -103,7 +118,7 @@ fn explain_text<O: Sink>(
 {
     match verify(alloc, set) {
         Ok(accepted) => explain_acceptance(alloc, text, &accepted, lines, out),
-        Err((set, refusal)) => explain_refusal(alloc, text, &set, &refusal, lines, out),
+        Err((set, refusal)) => explain_refusal(alloc, extent, text, &set, &refusal, lines, out),
     }
 }
 
@@ -133,6 +148,7 @@ fn explain_acceptance<O: Sink>(
 /// anything goes out.
 fn explain_refusal<O: Sink>(
     alloc: Global,
+    extent: Extent,
     text: &[u8],
     set: &DriverSet,
     refusal: &Refusal,
@@ -147,8 +163,41 @@ fn explain_refusal<O: Sink>(
     ensures reads { reads_failed result ≡ 0 }
     ensures writes { O.failures out.new ≡ O.failures out.old + writes_failed result }
 {
-    let words = explanation(alloc, text, set, refusal)?;
+    let words = refusal_words(alloc, extent, text, set, refusal)?;
     let end = refuse(refusal, lines)?;
-    write_words(lines, words.as_bytes(), out)?;
+    write_words(lines, words.as_slice(), out)?;
     Ok(end)
+}
+
+/// What is told of a refused set behind the line of its refusal.
+fn refusal_words(
+    alloc: Global,
+    extent: Extent,
+    text: &[u8],
+    set: &DriverSet,
+    refusal: &Refusal,
+) -> Result<Vec<u8>, AllocError>
+    requires { (refusal.now ≡ at_start Rule.Memory) ⊎ IsFirstFault set.now refusal.now }
+{
+    match extent {
+        Extent::First => Ok(explanation(alloc, text, set, refusal)?.into_bytes()),
+        Extent::Each => one_by_one(alloc, explanations(alloc, text, set)?.as_slice()),
+    }
+}
+
+/// The words on several refusals. The line of the first stands before them; before the words on each
+/// other stands its own, behind an empty one.
+fn one_by_one(alloc: Global, all: &[Told]) -> Result<Vec<u8>, AllocError> {
+    let mut words = Vec::new(alloc);
+    let mut line = Lines::new(alloc)?;
+    for (place, told) in all.iter().enumerate() {
+        if place > 0 {
+            line.clear();
+            line.refusal(&told.refusal);
+            words.push(b'\n')?;
+            words.extend_from_slice(line.bytes())?;
+        }
+        words.extend_from_slice(told.words.as_bytes())?;
+    }
+    Ok(words)
 }

@@ -1,5 +1,5 @@
 //! What the program does, over any devices: the verdict on a driver set, explained or not, its
-//! trace and its listing, and what comes of a script of commands that workers serve.
+//! trace and its listing, a rule in words, and what comes of a script of commands that workers serve.
 #![tactic(auto)]
 
 pub mod check;
@@ -11,6 +11,7 @@ pub mod host;
 pub mod laws;
 pub mod list;
 mod reading;
+pub mod rule;
 mod running;
 mod task;
 pub mod trace;

@@ -2,7 +2,7 @@
 
 use asm::assemble;
 use drvhost_parts::device::{Reader, Sink, Source, Writer};
-use drvhost_parts::explaining::explain;
+use drvhost_parts::explaining::{Extent, explain};
 use image::encode;
 use std::alloc::Global;
 
@@ -370,7 +370,7 @@ fn is_explained_so(alloc: Global, set: &[u8], status: u8, out: &str, err: &str) 
     let mut source = Reader::new(Some(set));
     let mut output = Writer::new(Vec::<u8>::new(alloc));
     let mut errors = Writer::new(Vec::<u8>::new(alloc));
-    let answer = explain(alloc, &mut source, &mut output, &mut errors);
+    let answer = explain(alloc, Extent::First, &mut source, &mut output, &mut errors);
     answer == status
         && source.failures() == 0
         && output.failures() == 0
