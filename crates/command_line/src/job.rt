@@ -33,8 +33,7 @@ const NAME: &str = "drvhost";
 const USAGE: &str = "Usage: drvhost <COMMAND>";
 
 /// How `explain` is used.
-const EXPLAIN_USAGE: &str =
-    "drvhost explain [--all] <FILE>\n       drvhost explain --rule <RULE>";
+const EXPLAIN_USAGE: &str = "drvhost explain [--all] <FILE>\n       drvhost explain --rule <RULE>";
 
 /// What the file of a driver set is, in the texts of help.
 const SET: &str = "The text or the image of the driver set";

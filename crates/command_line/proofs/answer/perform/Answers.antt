@@ -8,6 +8,10 @@ pub returns-in-Explain-clause-answers : goal.returns-in-Explain-clause-answers
 returns-in-Explain-clause-answers g c =
     rw c.in-Explain.is c.explain_file.ensures.answers
 
+pub returns-in-ExplainRule-clause-answers : goal.returns-in-ExplainRule-clause-answers
+returns-in-ExplainRule-clause-answers g c =
+    rw c.in-ExplainRule.is (c.explain_rule.ensures (g.F.Files.failures c.args.files.now))
+
 pub returns-in-List-clause-answers : goal.returns-in-List-clause-answers
 returns-in-List-clause-answers g c =
     rw c.in-List.is c.list_file.ensures.answers

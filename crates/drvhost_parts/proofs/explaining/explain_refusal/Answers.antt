@@ -14,7 +14,7 @@ returns-in_err-write_words-clause-goes g c =
     let lines = c.refuse.new.lines in
     let end = c.in_ok-end.end in
     rw (p.1, p.2, c.in_err-write_words.ensures.fault)
-    (explained_broken set before before _ lines c.as_bytes.result.now end
+    (explained_broken set before before _ lines c.as_slice.result.now end
     (goes_rightly (IsRefused set) (IsVerdict set) before before [] lines (Ok end)
     (λ answer refused. inr refused)
     (goes_refused set c.args.refusal.now before lines (Ok end) c.requires.first
@@ -28,7 +28,7 @@ returns-clause-goes g c =
     let lines = c.refuse.new.lines in
     let end = c.in_ok-end.end in
     rw c.in_ok-write_words.ensures.forgotten
-    (explained set before before _ lines c.as_bytes.result.now end
+    (explained set before before _ lines c.as_slice.result.now end
     (goes_rightly (IsRefused set) (IsVerdict set) before before [] lines (Ok end)
     (λ answer refused. inr refused)
     (goes_refused set c.args.refusal.now before lines (Ok end) c.requires.first

@@ -33,10 +33,10 @@ returns-in-Some-clause-taken g c =
     ap is_simple_and_free app ∙ is_exact in
     sym (same_faults _ _ app) ∙ c.in-Ok.ensures.kinds exact
 
-pub returns-in_err-render_usage-in-None-clause-refused
-    : goal.returns-in_err-render_usage-in-None-clause-refused
-returns-in_err-render_usage-in-None-clause-refused g c =
-    of_memory _ _ _ c.from_residual-in_err-render_usage-in-None.ensures.1
+pub returns-in_err-unnamed-in-None-clause-refused
+    : goal.returns-in_err-unnamed-in-None-clause-refused
+returns-in_err-unnamed-in-None-clause-refused g c =
+    of_memory _ _ _ c.from_residual-in_err-unnamed-in-None.ensures.1
 
 pub returns-clause-refused : goal.returns-clause-refused
 returns-clause-refused g c =
