@@ -5,8 +5,8 @@ docs/RULES.md, and tells where it says anything else than the document does. An 
     <!-- example: COMMAND, status N -->
 
 and ends with the next fenced block that is called `output`, which has all that the program writes, standard output first; a
-single line `...` there stands for some text, whatever it is. COMMAND is `check`, `trace`, `trace --unchecked` or
-`host --workers N`, whose files are the blocks between, in their order: `drv`, `sched` and `script` are texts, and `image` has
+single line `...` there stands for some text, whatever it is. COMMAND is `check`, `explain --all`, `trace`,
+`trace --unchecked` or `host --workers N`, whose files are the blocks between, in their order: `drv`, `sched` and `script` are texts, and `image` has
 the bytes of an image in hexadecimal, up to `;` in a line. Or COMMAND is `run`, and each line of the block `sh` between is a
 command that starts at the top of the tree. The last line counts."""
 import os, re, shlex, subprocess, sys, tempfile

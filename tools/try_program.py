@@ -8,9 +8,11 @@ TOP = os.path.dirname(os.path.dirname(os.path.abspath(__file__)))
 
 GOOD = b'driver d\ndispatch READ f\nroutine f dispatch\ncomplete r0 SUCCESS\nret SUCCESS\nendr\nendd\ndevice v d 1\n'
 TWICE = GOOD.replace(b'ret SUCCESS', b'complete r0 SUCCESS\nret SUCCESS')
+BOTH = TWICE.replace(b'endd', b'routine g dpc\nret void\nret void\nendr\nendd')
 FILES = {
     'good.drv': GOOD,
     'twice.drv': TWICE,
+    'both.drv': BOTH,
     'open.drv': b'driver d\n',
     'short.image': b'DVB1',
     'good.sched': b'threads 1\nissue 0 0 READ 7\nstep 0 4\n',
@@ -40,6 +42,43 @@ why: the register is blank: its packet was completed or given away before, or ne
 see: Static Driver Verifier, DoubleCompletion; IoCompleteRequest; bug check 0x44
 mend it: complete a packet once, and before it is handed on
 '''
+EXPLAINED_EACH = EXPLAINED + b'''
+refused V2 Unreachable driver 0 routine 1 at 1
+
+in driver d, routine g (dpc), position 1, line 10:
+    8  routine g dpc
+    9  ret void
+  > 10  ret void
+    11  endr
+    12  endd
+why: no path leads to this instruction
+see: this bytecode's form
+mend it: take it out, or jump to it
+'''
+RULE = b'''V2 Unreachable
+A path leads to each instruction.
+see: nothing of the Kit: what no path reaches was meant for a path that is not there
+
+this is refused:
+
+driver d
+routine f dpc
+ret void
+ret void
+endr
+endd
+device v d 1
+
+mend it: take it out, or jump there
+this is accepted:
+
+driver d
+routine f dpc
+ret void
+endr
+endd
+device v d 1
+'''
 TRACED = b'0 started 0\n1 stepped\n2 topped 0 0x00000000 0\n3 finished\n4 idle\n'
 STOPPED = b'0 started 0\n1 stepped\n2 topped 0 0x00000000 0\n3 bug 0x44 packet 0\n'
 SERVED = b'0 topped 0 0x00000000 0\n1 refused\nhistory 5 agrees\n'
@@ -58,6 +97,19 @@ CASES = [
     ('explain open.drv', 2, b'', b'text fault 6 Unclosed line 2\n'),
     ('explain short.image', 2, b'', b'image fault 2 Truncated\n'),
     ('explain nothing.drv', 2, b'', b'read failed\n'),
+    ('explain --all good.drv', 0, NAMED, b''),
+    ('explain twice.drv --all', 1, EXPLAINED, b''),
+    ('explain both.drv', 1, EXPLAINED, b''),
+    ('explain --all both.drv', 1, EXPLAINED_EACH, b''),
+    ('explain --all open.drv', 2, b'', b'text fault 6 Unclosed line 2\n'),
+    ('explain --all nothing.drv', 2, b'', b'read failed\n'),
+    ('explain --rule V2', 0, RULE, b''),
+    ('explain --rule=V2', 0, RULE, b''),
+    ('explain --rule V21', 2, b'', SOME),
+    ('explain --rule', 2, b'', SOME),
+    ('explain --rule V2 --all', 2, b'', SOME),
+    ('explain good.drv --rule V2', 2, b'', SOME),
+    ('explain --all', 2, b'', SOME),
     ('explain', 2, b'', SOME),
     ('explain good.drv good.sched', 2, b'', SOME),
     ('list good.drv', 0, LISTED, b''),
