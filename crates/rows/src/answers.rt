@@ -4,6 +4,7 @@ ghost use Rattle.std.specs.Prelude.{◌≡◌};
 ghost use Rattle.drvhost_parts.specs.Device.{Unknown};
 
 use crate::failures::{LINES, SCHEDULE, TEXT};
+use crate::rule_pages::CANCEL_STATE;
 use command_line::answer::answer;
 use command_line::files::Files;
 use drvhost_parts::device::{Reader, Sink, Source, Writer};
@@ -31,6 +32,9 @@ const TWICE_LISTED: &[u8] =
     b"driver d0\ndispatch READ f0\nroutine f0 dispatch\ncomplete r0 SUCCESS\n\
       complete r0 SUCCESS\nret SUCCESS\nendr\nendd\ndevice v0 d0 1\n";
 
+const NAMED: &[u8] = b"accepted\ndriver 0 routine 0 dispatch certificate 2\n\
+      driver 0 routine 0: driver d, routine f (dispatch)\n";
+
 const REFUSED: &[u8] = b"refused V5 DoubleCompletion driver 0 routine 0 at 1\n";
 
 /// A driver with a queue whose packets may be cancelled. Its DPC routine completes them.
@@ -43,7 +47,104 @@ pub(crate) const QUEUES: &[u8] =
       acquire l0\nunlink r0 q\nrelease l0\ncomplete r0 CANCELLED\nret void\nendr\nendd\n\
       device v d 1\n";
 
-static ALL: [InMemory; 9] = [
+/// Two routines that are at fault.
+const FAULTS: &[u8] = b"driver d\ndispatch READ f\nroutine f dispatch\nret SUCCESS\nendr\n\
+      routine g dpc\nrelc\nret void\nendr\nendd\ndevice v d 1\n";
+
+/// What is told of the first of them, and of the second.
+const FIRST_FAULT: &[u8] = b"refused V13 Dropped driver 0 routine 0 at 0
+
+in driver d, routine f (dispatch), position 0, line 4:
+    2  dispatch READ f
+    3  routine f dispatch
+  > 4  ret SUCCESS
+    5  endr
+    6  routine g dpc
+a path there:
+     at 0, line 4: ret SUCCESS
+what is known where it arrives:
+  r0: the packet as it was handed in
+  owed: the packet that was handed in, with which nothing was done
+why: the routine returns while a register still has a packet, which would be lost
+see: the Driver Kit on dispatch routines
+mend it: complete the packet, pass it on, or mark it and put it into a queue
+";
+
+const EACH_FAULT: &[u8] = b"refused V13 Dropped driver 0 routine 0 at 0
+
+in driver d, routine f (dispatch), position 0, line 4:
+    2  dispatch READ f
+    3  routine f dispatch
+  > 4  ret SUCCESS
+    5  endr
+    6  routine g dpc
+a path there:
+     at 0, line 4: ret SUCCESS
+what is known where it arrives:
+  r0: the packet as it was handed in
+  owed: the packet that was handed in, with which nothing was done
+why: the routine returns while a register still has a packet, which would be lost
+see: the Driver Kit on dispatch routines
+mend it: complete the packet, pass it on, or mark it and put it into a queue
+
+refused V7 CancelSpinLock driver 0 routine 1 at 0
+
+in driver d, routine g (dpc), position 0, line 7:
+    5  endr
+    6  routine g dpc
+  > 7  relc
+    8  ret void
+    9  endr
+a path there:
+     at 0, line 7: relc
+what is known where it arrives:
+  nothing: each register is blank, and no lock is held
+why: the lock isn't held where it is released
+see: Static Driver Verifier, SpinLock and CancelSpinLock; bug checks 0x0F and 0x10
+mend it: acquire it first, or leave it alone
+";
+
+/// What is told where `explain` isn't told what to explain.
+const RULE_UNKNOWN: &[u8] = b"error: there is no rule 'V21': the rules are V1 to V20
+
+Usage: drvhost explain [--all] <FILE>
+       drvhost explain --rule <RULE>
+
+For more information, try '--help'.
+";
+
+const NOTHING_TO_EXPLAIN: &[u8] = b"error: a FILE is wanted, or a rule by '--rule'
+
+Usage: drvhost explain [--all] <FILE>
+       drvhost explain --rule <RULE>
+
+For more information, try '--help'.
+";
+
+const RULE_BESIDE_A_FILE: &[u8] = b"error: '--rule' goes with no FILE and with no '--all'
+
+Usage: drvhost explain [--all] <FILE>
+       drvhost explain --rule <RULE>
+
+For more information, try '--help'.
+";
+
+const EXPLAIN_HELP: &[u8] =
+    b"Accepts or refuses a driver set, and says in words why; or says a rule in words
+
+Usage: drvhost explain [--all] <FILE>
+       drvhost explain --rule <RULE>
+
+Arguments:
+  [FILE]  The text or the image of the driver set
+
+Options:
+      --all          Explains the first fault of each routine
+      --rule <RULE>  Says this rule in words, V1 to V20, with an example
+  -h, --help         Print help
+";
+
+static ALL: [InMemory; 10] = [
     InMemory {
         name: "queue.drv",
         bytes: QUEUES,
@@ -67,6 +168,10 @@ static ALL: [InMemory; 9] = [
     InMemory {
         name: "twice.drv",
         bytes: TWICE,
+    },
+    InMemory {
+        name: "faults.drv",
+        bytes: FAULTS,
     },
     InMemory {
         name: "open.drv",
@@ -120,7 +225,95 @@ struct Case {
     failures: u64,
 }
 
-static CASES: [Case; 20] = [
+static CASES: [Case; 31] = [
+    Case {
+        words: &["drvhost", "explain", "good.drv"],
+        status: 0,
+        out: NAMED,
+        err: b"",
+        opened: 1,
+        failures: 0,
+    },
+    Case {
+        words: &["drvhost", "explain", "--all", "good.drv"],
+        status: 0,
+        out: NAMED,
+        err: b"",
+        opened: 1,
+        failures: 0,
+    },
+    Case {
+        words: &["drvhost", "explain", "faults.drv"],
+        status: 1,
+        out: FIRST_FAULT,
+        err: b"",
+        opened: 1,
+        failures: 0,
+    },
+    Case {
+        words: &["drvhost", "explain", "faults.drv", "--all"],
+        status: 1,
+        out: EACH_FAULT,
+        err: b"",
+        opened: 1,
+        failures: 0,
+    },
+    Case {
+        words: &["drvhost", "explain", "--all", "open.drv"],
+        status: 2,
+        out: b"",
+        err: b"text fault 6 Unclosed line 2\n",
+        opened: 1,
+        failures: 0,
+    },
+    Case {
+        words: &["drvhost", "explain", "--all", "no.drv"],
+        status: 2,
+        out: b"",
+        err: b"read failed\n",
+        opened: 1,
+        failures: 1,
+    },
+    Case {
+        words: &["drvhost", "explain", "--rule", "V12"],
+        status: 0,
+        out: CANCEL_STATE,
+        err: b"",
+        opened: 0,
+        failures: 0,
+    },
+    Case {
+        words: &["drvhost", "explain", "--rule", "V21"],
+        status: 2,
+        out: b"",
+        err: RULE_UNKNOWN,
+        opened: 0,
+        failures: 0,
+    },
+    Case {
+        words: &["drvhost", "explain"],
+        status: 2,
+        out: b"",
+        err: NOTHING_TO_EXPLAIN,
+        opened: 0,
+        failures: 0,
+    },
+    Case {
+        words: &["drvhost", "explain", "good.drv", "--rule", "V12"],
+        status: 2,
+        out: b"",
+        err: RULE_BESIDE_A_FILE,
+        opened: 0,
+        failures: 0,
+    },
+    Case {
+        words: &["drvhost", "explain", "--help"],
+        status: 2,
+        out: b"",
+        err: EXPLAIN_HELP,
+        opened: 0,
+        failures: 0,
+    },
     Case {
         words: &[
             "drvhost",
@@ -363,8 +556,12 @@ fn told_of<R: Threads + Wait + Sync>(
 #[test]
 fn wrong_words(rt: HostRuntime) {
     let alloc = rt.alloc();
-    let all: [&[&str]; 12] = [
+    let all: [&[&str]; 16] = [
         &[],
+        &["drvhost", "explain", "--all"],
+        &["drvhost", "explain", "--rule"],
+        &["drvhost", "explain", "--rule", "V1", "--all"],
+        &["drvhost", "explain", "good.drv", "good.drv"],
         &["drvhost"],
         &["drvhost", "run", "good.drv"],
         &["drvhost", "check"],

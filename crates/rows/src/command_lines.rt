@@ -2,7 +2,9 @@
 
 use command_line::job::{Job, JobFault, refuse_words};
 use drvhost_parts::device::Writer;
+use drvhost_parts::explaining::Extent;
 use drvhost_parts::verification::Verification;
+use model::abs::Rule;
 use std::alloc::Global;
 use std::test::Fail;
 
@@ -26,6 +28,12 @@ fn tasks(rt: HostRuntime) -> Result<(), Fail> {
             }
         )
     );
+    let job = Job::of(alloc, &["explain", "a.set"])?;
+    assert!(rt; is_to_explain(&job, "a.set", Extent::First));
+    for words in [["explain", "a.set", "--all"], ["explain", "--all", "a.set"]] {
+        let job = Job::of(alloc, &words)?;
+        assert!(rt; is_to_explain(&job, "a.set", Extent::Each));
+    }
     for words in [
         ["trace", "a", "b", "--unchecked"],
         ["trace", "--unchecked", "a", "b"],
@@ -41,6 +49,34 @@ fn tasks(rt: HostRuntime) -> Result<(), Fail> {
                 }
             )
         );
+    }
+    Ok(())
+}
+
+/// Whether a job is to explain the set of a file so.
+fn is_to_explain(job: &Job<'_>, file: &str, all: Extent) -> bool {
+    match *job {
+        Job::Explain { set, extent } => set == file && extent == all,
+        _ => false,
+    }
+}
+
+/// The words of rules, and words that are no rule's.
+#[test]
+fn rules_by_their_words(rt: HostRuntime) -> Result<(), Fail> {
+    let alloc = rt.alloc();
+    let job = Job::of(alloc, &["explain", "--rule", "V1"])?;
+    let is_first = matches!(
+        job,
+        Job::ExplainRule {
+            rule: Rule::Malformed
+        }
+    );
+    assert!(rt; is_first);
+    let job = Job::of(alloc, &["explain", "--rule=V20"])?;
+    assert!(rt; matches!(job, Job::ExplainRule { rule: Rule::Memory }));
+    for word in ["V0", "V21", "v1", "V01", "V1 ", "V", "1", "Malformed", ""] {
+        assert!(rt; is_refused(alloc, &["explain", "--rule", word]), "{word}");
     }
     Ok(())
 }
@@ -63,8 +99,22 @@ fn is_refused(alloc: Global, words: &[&str]) -> bool {
 fn wrong_words(rt: HostRuntime) {
     let alloc = rt.alloc();
     assert!(rt; is_refused(alloc, &[]));
-    for word in ["check", "trace", "run", "help", "--help", ""] {
+    for word in ["check", "explain", "trace", "run", "help", "--help", ""] {
         assert!(rt; is_refused(alloc, &[word]), "{word}");
+    }
+    for words in [
+        ["explain", "--all"].as_slice(),
+        &["explain", "--rule"],
+        &["explain", "a", "b"],
+        &["explain", "a", "--unchecked"],
+        &["explain", "a", "--rule", "V1"],
+        &["explain", "--rule", "V1", "--all"],
+        &["explain", "--rule", "V1", "--rule", "V2"],
+        &["explain", "a", "--all", "--all"],
+        &["check", "a", "--all"],
+        &["list", "--rule", "V1"],
+    ] {
+        assert!(rt; is_refused(alloc, words), "{}", words[1]);
     }
     assert!(rt; is_refused(alloc, &["trace", "a"]));
     assert!(rt; is_refused(alloc, &["check", "a", "b"]));

@@ -349,6 +349,89 @@ see: Static Driver Verifier, DoubleCompletion; IoCompleteRequest; bug check 0x44
 mend it: complete a packet once, and before it is handed on
 ";
 
+/// Two drivers, with four routines of which three are at fault.
+const SEVERAL: Case = Case {
+    set: "driver disk\ndispatch READ read\ndpc later\nroutine read dispatch\ncomplete r0 SUCCESS\n\
+     complete r0 SUCCESS\nret SUCCESS\nendr\nroutine later dpc\nret void\nendr\nendd\n\
+     driver filter\ndispatch READ read\nroutine read dispatch\npass r0\nret PENDING\nendr\n\
+     routine gone cancel\nrelc\ncomplete r0 CANCELLED\nret void\nendr\nendd\n\
+     device low disk 1\ndevice up filter 1 low\n",
+    status: 1,
+    out: "refused V5 DoubleCompletion driver 0 routine 0 at 1
+
+in driver disk, routine read (dispatch), position 1, line 6:
+    4  routine read dispatch
+    5  complete r0 SUCCESS
+  > 6  complete r0 SUCCESS
+    7  ret SUCCESS
+    8  endr
+a path there:
+     at 0, line 5: complete r0 SUCCESS
+     at 1, line 6: complete r0 SUCCESS
+what is known where it arrives:
+  owed: the final status, since the packet was completed unmarked
+r0 went blank, since its packet was completed, at 0, line 5: complete r0 SUCCESS
+why: the register is blank: its packet was completed or given away before, or never there
+see: Static Driver Verifier, DoubleCompletion; IoCompleteRequest; bug check 0x44
+mend it: complete a packet once, and before it is handed on
+
+refused V6 MarkIrpPending driver 1 routine 0 at 1
+
+in driver filter, routine read (dispatch), position 1, line 17:
+    15  routine read dispatch
+    16  pass r0
+  > 17  ret PENDING
+    18  endr
+    19  routine gone cancel
+a path there:
+     at 0, line 16: pass r0
+     at 1, line 17: ret PENDING
+what is known where it arrives:
+  r0: the status that the lower driver returned
+  owed: what the lower driver returned
+why: the packet was sent down unmarked, so the lower driver's status is returned
+see: Static Driver Verifier, MarkIrpPending; \"Returning STATUS_PENDING\"
+mend it: `ret lower` with the register that `pass` or `call` left
+
+refused V15 Sort driver 1 routine 1 at 0
+
+in driver filter, routine gone (cancel), position 0, line 20:
+    18  endr
+    19  routine gone cancel
+  > 20  relc
+    21  complete r0 CANCELLED
+    22  ret void
+why: not exactly one queue names this cancel routine
+see: the Driver Kit on cancel routines
+mend it: name it on one `queue` line, or take it out
+",
+    err: "",
+};
+
+/// No device, and a routine at fault.
+const BARE: Case = Case {
+    set: "driver d\nroutine f dpc\nret void\nret void\nendr\nendd\n",
+    status: 1,
+    out: "refused V1 Malformed driver 0 routine 0 at 0
+why: the set has no device
+see: this bytecode's form
+mend it: write a `device` line
+
+refused V2 Unreachable driver 0 routine 0 at 1
+
+in driver d, routine f (dpc), position 1, line 4:
+    2  routine f dpc
+    3  ret void
+  > 4  ret void
+    5  endr
+    6  endd
+why: no path leads to this instruction
+see: this bytecode's form
+mend it: take it out, or jump to it
+",
+    err: "",
+};
+
 static CASES: [Case; 13] = [
     ACCEPTED,
     MISPLACED,
@@ -366,11 +449,18 @@ static CASES: [Case; 13] = [
 ];
 
 /// Whether the verdict on the set of these bytes is explained so.
-fn is_explained_so(alloc: Global, set: &[u8], status: u8, out: &str, err: &str) -> bool {
+fn is_explained_so(
+    alloc: Global,
+    extent: Extent,
+    set: &[u8],
+    status: u8,
+    out: &str,
+    err: &str,
+) -> bool {
     let mut source = Reader::new(Some(set));
     let mut output = Writer::new(Vec::<u8>::new(alloc));
     let mut errors = Writer::new(Vec::<u8>::new(alloc));
-    let answer = explain(alloc, Extent::First, &mut source, &mut output, &mut errors);
+    let answer = explain(alloc, extent, &mut source, &mut output, &mut errors);
     answer == status
         && source.failures() == 0
         && output.failures() == 0
@@ -380,33 +470,71 @@ fn is_explained_so(alloc: Global, set: &[u8], status: u8, out: &str, err: &str) 
 }
 
 /// Whether the set of a text is explained so as an image.
-fn is_explained_as_image(alloc: Global, text: &str, status: u8, out: &str) -> bool {
+fn is_explained_as_image(alloc: Global, extent: Extent, text: &str, status: u8, out: &str) -> bool {
     let Ok(set) = assemble(alloc, text.as_bytes()) else {
         return false;
     };
     match encode(alloc, &set) {
-        Ok(image) => is_explained_so(alloc, image.as_slice(), status, out, ""),
+        Ok(image) => is_explained_so(alloc, extent, image.as_slice(), status, out, ""),
+        Err(_) => false,
+    }
+}
+
+/// Whether a case is met.
+fn is_met(alloc: Global, extent: Extent, case: &Case) -> bool {
+    let Case {
+        set,
+        status,
+        out,
+        err,
+    } = case;
+    is_explained_so(alloc, extent, set.as_bytes(), *status, out, err)
+}
+
+/// Where one routine is at fault, or none, all faults are the first one.
+#[test]
+fn verdicts_are_explained(rt: HostRuntime) {
+    for case in CASES.iter() {
+        assert!(rt; is_met(rt.alloc(), Extent::First, case), "{}", case.set);
+        assert!(rt; is_met(rt.alloc(), Extent::Each, case), "{}", case.set);
+    }
+}
+
+#[test]
+fn the_first_fault_of_each_routine_is_explained(rt: HostRuntime) {
+    assert!(rt; is_met(rt.alloc(), Extent::Each, &SEVERAL));
+    assert!(rt; is_met(rt.alloc(), Extent::Each, &BARE));
+}
+
+/// Whether what is told of the first fault of a set is what is told first of all of them.
+fn is_told_first(alloc: Global, case: &Case) -> bool {
+    let Some((first, _others)) = case.out.split_once("\n\nrefused ") else {
+        return false;
+    };
+    match format!(in alloc; "{first}\n") {
+        Ok(first) => is_explained_so(
+            alloc,
+            Extent::First,
+            case.set.as_bytes(),
+            1,
+            first.as_str(),
+            "",
+        ),
         Err(_) => false,
     }
 }
 
 #[test]
-fn verdicts_are_explained(rt: HostRuntime) {
-    for case in CASES.iter() {
-        let Case {
-            set,
-            status,
-            out,
-            err,
-        } = case;
-        let is_met = is_explained_so(rt.alloc(), set.as_bytes(), *status, out, err);
-        assert!(rt; is_met, "{}", set);
-    }
+fn the_first_fault_is_told_alone(rt: HostRuntime) {
+    assert!(rt; is_told_first(rt.alloc(), &SEVERAL));
+    assert!(rt; is_told_first(rt.alloc(), &BARE));
 }
 
 /// An image has no lines: it is explained over its listing.
 #[test]
 fn an_image_is_explained_over_its_listing(rt: HostRuntime) {
-    let is_met = is_explained_as_image(rt.alloc(), TWICE, 1, TWICE_EXPLAINED);
-    assert!(rt; is_met);
+    for extent in [Extent::First, Extent::Each] {
+        let is_met = is_explained_as_image(rt.alloc(), extent, TWICE, 1, TWICE_EXPLAINED);
+        assert!(rt; is_met);
+    }
 }

@@ -57,6 +57,8 @@ mod readers;
 #[cfg(test)]
 mod routines;
 #[cfg(test)]
+mod rule_pages;
+#[cfg(test)]
 mod rules;
 #[cfg(test)]
 mod runs;
