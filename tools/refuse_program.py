@@ -50,6 +50,8 @@ endr
 endd
 device v d 1
 '''
+TWICE = QUEUES.replace('complete r0 SUCCESS\n', 'complete r0 SUCCESS\ncomplete r0 SUCCESS\n')
+BOTH = TWICE.replace('complete r0 CANCELLED\nret void\n', 'complete r0 CANCELLED\nret void\nret void\n')
 ONE_READ = bytes.fromhex('44564231 01010000 010000ff ffffff00 00000200 2200000000000000 2400000000000000 0001ff00')
 STEPS = lambda first, last: ''.join('%d stepped\n' % number for number in range(first, last + 1))
 TRACED = ('0 started 0\n' + STEPS(1, 6) + '7 finished\n8 stepped\n9 stepped\n10 started 0\n' + STEPS(11, 15) + '16 finished\n'
@@ -59,7 +61,8 @@ FILES = {
     'image': ONE_READ,
     'schedule': b'threads 3\nissue 0 0 READ 5\nstep 0 7\ninterrupt 0\ndpc 1 0\ncancel 2 0 0\nstep 2 2\nstep 1 3\nstep 2\nstep 1 4\n',
     'script': b'request 0 READ 0\ninterrupt 0\n',
-    'twice': QUEUES.replace('complete r0 SUCCESS\n', 'complete r0 SUCCESS\ncomplete r0 SUCCESS\n').encode(),
+    'twice': TWICE.encode(),
+    'both': BOTH.encode(),
     'open': b'driver d\n',
 }
 ACCEPTED = ('accepted\ndriver 0 routine 0 dispatch certificate 14\ndriver 0 routine 1 dpc certificate 8\n'
@@ -87,6 +90,24 @@ why: the register is blank: its packet was completed or given away before, or ne
 see: Static Driver Verifier, DoubleCompletion; IoCompleteRequest; bug check 0x44
 mend it: complete a packet once, and before it is handed on
 '''
+EXPLAINED_EACH = EXPLAINED + '''
+refused V2 Unreachable driver 0 routine 2 at 6
+
+in driver d, routine gone (cancel), position 6, line 39:
+    37  complete r0 CANCELLED
+    38  ret void
+  > 39  ret void
+    40  endr
+    41  endd
+why: no path leads to this instruction
+see: this bytecode's form
+mend it: take it out, or jump to it
+'''
+RULE = '''V20 Memory
+The verifier found no memory. The program tells it as `out of memory` on standard
+error, with status 3, and says nothing of the set. No text mends it.
+see: nothing of the Kit: it is no fault of the set
+'''
 # words, and the whole answer: exit status, standard output, error output
 CASES = [
     ('check set', 0, ACCEPTED, ''),
@@ -96,6 +117,10 @@ CASES = [
     ('explain image', 0, 'accepted\ndriver 0 routine 0 dispatch certificate 2\n'
      'driver 0 routine 0: driver d0, routine f0 (dispatch)\n', ''),
     ('explain twice', 1, EXPLAINED, ''),
+    ('explain --all twice', 1, EXPLAINED, ''),
+    ('explain --all both', 1, EXPLAINED_EACH, ''),
+    ('explain --rule V20', 0, RULE, ''),
+    ('explain --rule V21', 2, '', None),  # some text on how the program is used
     ('explain open', 2, '', 'text fault 6 Unclosed line 2\n'),
     ('list image', 0, LISTED, ''),
     ('list open', 2, '', 'text fault 6 Unclosed line 2\n'),
