@@ -8,7 +8,7 @@ use crate::devices::{Narrow, Slow};
 use crate::images::{EMPTY, ONE_READ};
 use drvhost_parts::check::check;
 use drvhost_parts::device::{Reader, Sink, Source};
-use drvhost_parts::explaining::explain;
+use drvhost_parts::explaining::{Extent, explain};
 use drvhost_parts::host::host;
 use drvhost_parts::list::list;
 use drvhost_parts::trace::trace;
@@ -67,7 +67,7 @@ impl Gate for Open {
 #[derive(Clone, Copy)]
 enum Job {
     Check,
-    Explain,
+    Explain(Extent),
     List,
     /// A schedule is run.
     Trace(&'static [u8], Verification),
@@ -180,28 +180,28 @@ static CASES: [Case; 19] = [
     },
     Case {
         set: TEXT,
-        job: Job::Explain,
+        job: Job::Explain(Extent::First),
         status: 0,
         lines: ROLL_OF_TEXT,
         told: b"",
     },
     Case {
         set: &ONE_READ,
-        job: Job::Explain,
+        job: Job::Explain(Extent::Each),
         status: 0,
         lines: ROLL_OF_IMAGE,
         told: b"",
     },
     Case {
         set: ENDLESS,
-        job: Job::Explain,
+        job: Job::Explain(Extent::Each),
         status: 1,
         lines: ENDLESS_EXPLAINED,
         told: b"",
     },
     Case {
         set: b"driver d\n",
-        job: Job::Explain,
+        job: Job::Explain(Extent::Each),
         status: 2,
         lines: b"",
         told: b"text fault 6 Unclosed line 2\n",
@@ -259,7 +259,7 @@ fn answer<R: Threads + Wait + Sync>(
 {
     match case.job {
         Job::Check => check(alloc, set, out, err),
-        Job::Explain => explain(alloc, set, out, err),
+        Job::Explain(extent) => explain(alloc, extent, set, out, err),
         Job::List => list(alloc, set, out, err),
         Job::Trace(schedule, verification) => {
             let mut schedule = Slow::new(schedule, devices.step, devices.orders);
@@ -336,7 +336,7 @@ fn each_read_of_orders_fails_in_turn(rt: HostRuntime) {
     for case in CASES.iter() {
         let calls = match case.job {
             Job::Trace(orders, _) | Job::Host(orders) => orders.len() + 1,
-            Job::Check | Job::Explain | Job::List => 0,
+            Job::Check | Job::Explain(_) | Job::List => 0,
         };
         for calls in 0..calls {
             let devices = Devices {
