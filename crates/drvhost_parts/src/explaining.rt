@@ -32,9 +32,9 @@ pub enum Extent {
 
 /// Writes whether a driver set is accepted, as [`check`](crate::check::check) does, and then words
 /// on it: the names of its routines, or what leads to the place of its refusal and why the rule is
-/// broken there, and to those of its other routines, if asked for. The answer is the exit status, as
-/// that of `check`: 0 accepted, 1 refused, 2 where its text or its image is faulty or a read or a
-/// write failed, 3 where memory ran out. Faults are told on the error writer.
+/// broken there; and, if asked for, the same of the first fault of each other routine. The answer
+/// is the exit status, as that of `check`: 0 accepted, 1 refused, 2 where its text or its image is
+/// faulty or a read or a write failed, 3 where memory ran out. Faults are told on the error writer.
 pub fn explain<S: Source, O: Sink, E: Sink>(
     alloc: Global,
     extent: Extent,
@@ -185,8 +185,8 @@ fn refusal_words(
     }
 }
 
-/// The words on several refusals. The line of the first stands before them; before the words on each
-/// other stands its own, behind an empty one.
+/// The words on several refusals. The line of the first stands before them; before the words on
+/// each other stands its own, behind an empty one.
 fn one_by_one(alloc: Global, all: &[Told]) -> Result<Vec<u8>, AllocError> {
     let mut words = Vec::new(alloc);
     let mut line = Lines::new(alloc)?;

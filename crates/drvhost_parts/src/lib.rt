@@ -1,5 +1,6 @@
 //! What the program does, over any devices: the verdict on a driver set, explained or not, its
-//! trace and its listing, a rule in words, and what comes of a script of commands that workers serve.
+//! trace and its listing, a rule in words, and what comes of a script of commands that workers
+//! serve.
 #![tactic(auto)]
 
 pub mod check;

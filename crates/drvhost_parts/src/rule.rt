@@ -16,8 +16,8 @@ use report::rule::rule_text;
 use std::alloc::{AllocError, Global};
 
 /// Writes a rule by its number and name, and then what it says, with an example. The answer is the
-/// exit status: 0, or 2 where the write failed, 3 where memory ran out. Faults are told on the error
-/// writer.
+/// exit status: 0, or 2 where the write failed, 3 where memory ran out. Faults are told on the
+/// error writer.
 pub fn explain_rule<O: Sink, E: Sink>(alloc: Global, rule: Rule, out: &mut O, err: &mut E) -> u8
     requires out { CanCount (O.failures out.old) }
     requires err { CanCount (E.failures err.old) }
