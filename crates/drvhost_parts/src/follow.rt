@@ -3,7 +3,6 @@
 ghost use Rattle.std.specs.Prelude.{◌≡◌, ◌+◌, ◌++◌, ◌∷◌, ◌<◌, ◌≤◌, ◌^◌, List, [], IfErr, IfSome, MatchOption, Ok, OnErr, OnOk, replicate};
 ghost use Rattle.interleave.specs.Listing.{IsWithinLimits};
 ghost use Rattle.model.specs.declared.event.Event.{Event};
-ghost use Rattle.model.specs.declared.event.Event.TheVariants.{Step};
 ghost use Rattle.report.specs.Word.{word_lines};
 ghost use Rattle.drvhost_parts.specs.Answer.{is_last, ran, reply_lines};
 ghost use Rattle.drvhost_parts.specs.Device.{Adds, CanCount, TakesBeginning};
@@ -43,8 +42,8 @@ pub(crate) fn follow<M: Machine, O: Sink>(
     let mut upcoming = schedule.events.upcoming();
     let mut rest = None;
     loop {
-        if let Some(thread) = next_step(&rest, &mut upcoming) {
-            let reply = machine.answer(&Event::Step { thread });
+        if let Some(event) = next_single(&rest, &mut upcoming) {
+            let reply = machine.answer(&event);
             add_reply(&mut number, &reply, lines, out)?;
             if is_last(&reply) {
                 return Ok(End::Stopped);
@@ -64,17 +63,17 @@ pub(crate) fn follow<M: Machine, O: Sink>(
     }
 }
 
-/// The thread of the next event, where nothing is left of a run, and that event is one step that is
-/// taken by itself: most events of a schedule with a line for each are.
+/// The next event, where nothing is left of a run, and it is one that happens once: so are most
+/// events of a schedule with a line for each.
 #[inline]
-fn next_step(rest: &Option<Repeated>, upcoming: &mut Upcoming<'_>) -> Option<u8>
-    ensures { MatchOption result (upcoming.new ≡ upcoming.old) (λ thread.
-        awaited rest.now upcoming.old ≡ Step thread ∷ awaited rest.now upcoming.new) }
+fn next_single(rest: &Option<Repeated>, upcoming: &mut Upcoming<'_>) -> Option<Event>
+    ensures { MatchOption result (upcoming.new ≡ upcoming.old) (λ event.
+        awaited rest.now upcoming.old ≡ event ∷ awaited rest.now upcoming.new) }
 {
     if rest.is_some() {
         return None;
     }
-    upcoming.next_step()
+    upcoming.next_single()
 }
 
 /// The events that come next: what is left of a run, or the next one.

@@ -178,20 +178,29 @@ impl<'a> Model for Upcoming<'a> {
 }
 
 impl Upcoming<'_> {
-    /// Takes the next event, if it is a step that is kept as a byte and the byte behind it is
-    /// another one: its thread.
+    /// Takes the next event, if it is one that happens once: a step that is kept as a byte, where
+    /// another byte stands behind it, or one of the others.
     #[inline]
-    pub fn next_step(&mut self) -> Option<u8>
+    pub fn next_single(&mut self) -> Option<Event>
         ensures { MatchOption result (self.new ≡ self.old)
-            (λ thread. self.old ≡ Step thread ∷ self.new) }
+            (λ event. self.old ≡ event ∷ self.new) }
     {
         let (byte, bytes) = self.bytes.split_first()?;
         let thread = *byte;
-        if thread == MARK || bytes.first() == Some(byte) {
+        if thread == MARK {
+            let (next, others) = self.others.split_first()?;
+            if next.count != 1 {
+                return None;
+            }
+            self.bytes = bytes;
+            self.others = others;
+            return Some(next.event);
+        }
+        if bytes.first() == Some(byte) {
             return None;
         }
         self.bytes = bytes;
-        Some(thread)
+        Some(Event::Step { thread })
     }
 
     /// Takes the next event and some of those that follow and are equal to it, if there is one:

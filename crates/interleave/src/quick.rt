@@ -1,6 +1,6 @@
 //! Lines of events in their usual form, read in one pass: most lines of a schedule have it.
 
-ghost use Rattle.std.specs.Prelude.{◌≡◌, ◌+◌, ◌<◌, ◌≤◌, ◌↔◌, ◌++◌, [], IfSome, IsTrue, Ok, Some, length, take};
+ghost use Rattle.std.specs.Prelude.{◌≡◌, ◌+◌, ◌<◌, ◌≤◌, ◌↔◌, ◌++◌, [], IfSome, IsTrue, Ok, Some, bytes_eq, length, take};
 ghost use Rattle.std.specs.Str.Parse.{digits_value};
 ghost use Rattle.interleave.specs.Line.{cancel_line, dpc_line, event_line, interrupt_line, issue_line, startio_line, step_line};
 ghost use Rattle.interleave.specs.Usual.{BeginsWith, Digits, IsCount, Reads, TakesMajor, TakesNumber};
@@ -227,17 +227,35 @@ impl Operands<'_> {
 }
 
 /// What stands behind this word, if the bytes begin with it.
-#[inline]
+#[inline(always)]
 pub(crate) fn after_word<'a>(bytes: &'a [u8], word: &[u8]) -> Option<&'a [u8]>
     ensures { IfSome result (λ rest. bytes.now ≡ word.now ++ rest.now) }
 {
-    let rest = bytes.get(word.len()..)?;
-    for (i, byte) in word.iter().enumerate() {
-        if bytes[i] != *byte {
-            return None;
-        }
+    if bytes.len() < word.len() {
+        return None;
     }
-    Some(rest)
+    let (head, rest) = bytes.split_at(word.len());
+    if are_same(head, word) {
+        Some(rest)
+    } else {
+        None
+    }
+}
+
+/// Whether as many bytes are the same: of a word that is written out, this becomes a comparison or
+/// two, where `==` has branches and a call.
+#[inline(always)]
+fn are_same(bytes: &[u8], word: &[u8]) -> bool
+    requires { length bytes.now ≡ length word.now }
+    ensures { result ≡ bytes_eq bytes.now word.now }
+{
+    let mut same = true;
+    let mut i = word.len();
+    while i > 0 {
+        i -= 1;
+        same = (bytes[i] == word[i]) & same;
+    }
+    same
 }
 
 /// A number, and what stands after its digits.

@@ -6,8 +6,8 @@ use Rattle.drvhost_parts.specs.Repeats.{awaited}
 use Rattle.drvhost_parts.proofs.Following.{Followed}
 use Rattle.drvhost_parts.proofs.follow.follow.Given as goal
 
-abbrev pub invariant-loop-thread : goal.invariant-loop-thread
-invariant-loop-thread g l =
+abbrev pub invariant-loop-event : goal.invariant-loop-event
+invariant-loop-event g l =
     let set = g.M.Machine.set_of l.initial.machine in
     record {
       numbered : l.number + length (awaited l.rest l.upcoming) ≡ length l.schedule.events;
@@ -20,5 +20,5 @@ invariant-loop-thread g l =
           (g.O.Sink.contents l.initial.out) (g.O.Sink.contents l.out) l.lines;
     }
 
-abbrev pub decreases-loop-thread : goal.decreases-loop-thread
-decreases-loop-thread g l = length (awaited l.rest l.upcoming)
+abbrev pub decreases-loop-event : goal.decreases-loop-event
+decreases-loop-event g l = length (awaited l.rest l.upcoming)
