@@ -129,7 +129,7 @@ impl<'a> OpenCode<'a> {
 }
 
 /// Whether an instruction names nothing.
-fn is_bare(instr: &Instr) -> bool
+pub fn is_bare(instr: &Instr) -> bool
     ensures { result ≡ is_bare instr.now }
 {
     match *instr {

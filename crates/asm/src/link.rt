@@ -3,6 +3,7 @@
 ghost use Rattle.std.specs.Prelude.{◌≡◌, IfOk, map};
 ghost use Rattle.asm.specs.Outline.{missed_from, position_of, resolved, target_position, with_label};
 
+use crate::code::is_bare;
 use crate::draft::{Linked, Step, Use};
 use crate::names::{earliest, missed};
 use indexmap::IndexSet;
@@ -32,10 +33,23 @@ fn resolved(labels: &IndexSet<Piece<'_>>, positions: &[u16], step: &Step<'_>) ->
     ensures { result ≡ resolved labels.now.keys positions.now step.now }
 {
     Linked {
-        instr: with_label(step.instr, target_position(labels, positions, &step.label)),
+        instr: labelled(labels, positions, step),
         call: step.call,
         queue: step.queue,
     }
+}
+
+/// The instruction of a step with the position of its label. Most have none, and are copied whole.
+#[inline(always)]
+#[tactic(auto, using(crate::proofs::Bare::label_stays))]
+fn labelled(labels: &IndexSet<Piece<'_>>, positions: &[u16], step: &Step<'_>) -> Instr
+    ensures { result ≡ with_label step.now.instr
+        (target_position labels.now.keys positions.now step.now.label) }
+{
+    if is_bare(&step.instr) {
+        return step.instr;
+    }
+    with_label(step.instr, target_position(labels, positions, &step.label))
 }
 
 /// The instruction with this label in place of its own, if it has one.
