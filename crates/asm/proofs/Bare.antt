@@ -26,25 +26,26 @@ bare_pushed is rest i none =
     ) refl
 
 -- no label stands for another position in it
-label_stays : (i : Instr) → is_bare i ≡ true → with_label i 0 ≡ i
-label_stays (JumpIfZero r label) bare = cc
-label_stays (JumpIfLess r s label) bare = cc
-label_stays (Jump label) bare = cc
-label_stays (Remove r queue label) bare = cc
-label_stays (Disarm r label) bare = cc
-label_stays (IfCancel r label) bare = cc
-label_stays (Take r label) bare = cc
-label_stays (IfPending r label) bare = cc
-label_stays _ bare = refl
+pub label_stays : (i : Instr) (label : ℕ) → is_bare i ≡ true → with_label i label ≡ i
+label_stays (JumpIfZero r old) label bare = cc
+label_stays (JumpIfLess r s old) label bare = cc
+label_stays (Jump old) label bare = cc
+label_stays (Remove r queue old) label bare = cc
+label_stays (Disarm r old) label bare = cc
+label_stays (IfCancel r old) label bare = cc
+label_stays (Take r old) label bare = cc
+label_stays (IfPending r old) label bare = cc
+label_stays _ label bare = refl
 
 -- nor another routine or queue
-names_stay : (i : Instr) → is_bare i ≡ true → with_queue (with_routine i None) 0 ≡ i
-names_stay (Insert r queue) bare = cc
-names_stay (Remove r queue label) bare = cc
-names_stay (Unlink r queue) bare = cc
-names_stay (Arm r queue) bare = cc
-names_stay (Call r routine) bare = cc
-names_stay _ bare = refl
+pub names_stay : (i : Instr) (routine : Option ℕ) (queue : ℕ) → is_bare i ≡ true
+    → with_queue (with_routine i routine) queue ≡ i
+names_stay (Insert r old) routine queue bare = cc
+names_stay (Remove r old label) routine queue bare = cc
+names_stay (Unlink r old) routine queue bare = cc
+names_stay (Arm r old) routine queue bare = cc
+names_stay (Call r old) routine queue bare = cc
+names_stay _ routine queue bare = refl
 
 pub bare_linked : (labels : List (List ℕ)) (positions : List ℕ) (is : List Instr)
     (rest : List Step) → AreBare is
@@ -53,14 +54,14 @@ pub bare_linked : (labels : List (List ℕ)) (positions : List ℕ) (is : List I
 bare_linked labels positions [] rest all = refl
 bare_linked labels positions (i ∷ is) rest all =
     let first : resolved labels positions (bare_step i) ≡ bare_link i =
-    ap bare_link (label_stays i all.0) in
+    ap bare_link (label_stays i 0 all.0) in
     rw (first, bare_linked labels positions is rest all.1) refl
 
 pub bare_called : (o : Outline) (is : List Instr) (rest : List Linked) → AreBare is
     → map (called o) (map bare_link is ++ rest) ≡ is ++ map (called o) rest
 bare_called o [] rest all = refl
 bare_called o (i ∷ is) rest all =
-    let first : called o (bare_link i) ≡ i = names_stay i all.0 in
+    let first : called o (bare_link i) ≡ i = names_stay i None 0 all.0 in
     rw (first, bare_called o is rest all.1) refl
 
 earliest_none : (found : Option ℕ) → earliest found None ≡ found

@@ -3,7 +3,7 @@ use Rattle.std.proofs.Common.{◌≡◌, ℕ, List, Some, Ok, Err, refl, sym, su
 use Rattle.std.proofs.lemmas.List.{append-nil}
 use Rattle.model.specs.declared.instr.Instr.{Instr}
 use Rattle.asm_line.specs.Line.{read_line, BodyFits}
-use Rattle.asm_line.specs.Plain.{plain_line}
+use Rattle.asm_line.specs.Plain.{blank_line, plain_line}
 use Rattle.asm.specs.declared.fault.AsmKind.{AsmKind}
 use Rattle.asm.specs.Outline.{Outline, misfit, noted, IsOrderly}
 use Rattle.asm.specs.Plain.{IsPlainOn}
@@ -38,3 +38,8 @@ pub plain_orderly : (o next : Outline) (i : Instr) → BodyFits (plain_line i).b
 plain_orderly o next i fits is h =
     subst IsOrderly (sym (plain_noted o next 0 i is))
     (orderly_on o 0 (plain_line i) (fitting o (plain_line i) is.fits) fits h)
+
+-- a line that says nothing leaves what was read
+pub blank_read : (o : Outline) (n : ℕ) (raw : List ℕ) → read_line raw ≡ Ok blank_line
+    → read_on o n raw ≡ Ok o
+blank_read o n raw line = rw line refl

@@ -6,7 +6,7 @@ ghost use Rattle.asm.specs.Bare.{bare_step, is_bare};
 ghost use Rattle.asm.specs.Outline.{missed_from, resolved};
 
 use crate::draft::{Linked, Step};
-use crate::link::{linked, missed_from};
+use crate::link::{LinkedCode, linked};
 use indexmap::IndexSet;
 use model::instr::Instr;
 use std::alloc::{AllocError, Global};
@@ -100,36 +100,44 @@ impl<'a> OpenCode<'a> {
         Ok(())
     }
 
-    /// The earliest line of these instructions that uses a label which isn't there, or the one
-    /// found already if that is earlier.
-    #[tactic(auto, using(crate::proofs::Bare::bare_missed))]
-    pub fn missed(&self, labels: &IndexSet<Piece<'_>>, found: Option<u64>) -> Option<u64>
-        ensures { result ≡ missed_from labels.now.keys found self.now }
-    {
-        missed_from(labels, found, &self.rest)
-    }
-
-    /// Takes all of them, each with the position of the label that it jumps to.
-    #[tactic(auto, using(crate::proofs::Bare::bare_linked))]
+    /// Takes all of them, each with the position of the label that it jumps to, and the earliest
+    /// line that uses a label which isn't there, or the one found already if that is earlier.
+    #[tactic(auto, using(crate::proofs::Bare::bare_linked, crate::proofs::Bare::bare_missed))]
     pub fn take_linked(
         &mut self,
         alloc: Global,
         labels: &IndexSet<Piece<'_>>,
         positions: &[u16],
-    ) -> Result<ClosedCode, AllocError>
+        found: Option<u64>,
+    ) -> Result<Closed, AllocError>
         ensures linked { IfOk result
-            (λ code. code ≡ map (resolved labels.now.keys positions.now) self.old) }
+            (λ closed. closed.code ≡ map (resolved labels.now.keys positions.now) self.old) }
+        ensures missed { IfOk result
+            (λ closed. closed.missed ≡ missed_from labels.now.keys found self.old) }
         ensures taken { OnOk result (self.new ≡ []) }
     {
-        let rest = linked(alloc, labels, positions, &self.rest)?;
+        let LinkedCode { code: rest, missed } = linked(
+            alloc, labels, positions, found, &self.rest,
+        )?;
         self.rest.clear();
         let bare = mem::replace(&mut self.bare, Vec::new(alloc));
-        Ok(ClosedCode { bare, rest })
+        Ok(Closed {
+            code: ClosedCode { bare, rest },
+            missed,
+        })
     }
 }
 
+/// What a routine is when it is closed: its instructions, and the earliest line that uses a label
+/// which isn't there, if one does.
+#[derive(Drop)]
+pub struct Closed {
+    pub code: ClosedCode,
+    pub missed: Option<u64>,
+}
+
 /// Whether an instruction names nothing.
-fn is_bare(instr: &Instr) -> bool
+pub fn is_bare(instr: &Instr) -> bool
     ensures { result ≡ is_bare instr.now }
 {
     match *instr {

@@ -1,40 +1,103 @@
 //! The labels of a routine put in place of their names, once all of them are known.
 
-ghost use Rattle.std.specs.Prelude.{◌≡◌, IfOk, map};
-ghost use Rattle.asm.specs.Outline.{missed_from, position_of, resolved, target_position, with_label};
+ghost use Rattle.std.specs.Prelude.{◌≡◌, IfOk, map, Some};
+ghost use Rattle.asm.specs.Outline.{earliest, missed, missed_from, resolved, target_position, with_label};
 
+use crate::code::is_bare;
 use crate::draft::{Linked, Step, Use};
-use crate::names::{earliest, missed};
+use crate::names::earliest;
 use indexmap::IndexSet;
 use model::instr::Instr;
 use std::alloc::{AllocError, Global};
 use text::piece::Piece;
 
-/// The instructions of a routine, each with the position of the label that it jumps to.
+/// The instructions of a routine that is closed, and the earliest line that uses a label which isn't
+/// there, if one does.
+#[derive(Drop)]
+pub struct LinkedCode {
+    pub code: Vec<Linked>,
+    pub missed: Option<u64>,
+}
+
+/// The instructions of a routine, each with the position of the label that it jumps to, and the
+/// earliest line that uses a label which isn't there, or the one found already if that is earlier.
 pub fn linked(
     alloc: Global,
     labels: &IndexSet<Piece<'_>>,
     positions: &[u16],
+    found: Option<u64>,
     steps: &[Step<'_>],
-) -> Result<Vec<Linked>, AllocError>
-    ensures { IfOk result
-        (λ code. code.items ≡ map (resolved labels.now.keys positions.now) steps.now) }
+) -> Result<LinkedCode, AllocError>
+    ensures code { IfOk result
+        (λ all. all.code.items ≡ map (resolved labels.now.keys positions.now) steps.now) }
+    ensures missed { IfOk result
+        (λ all. all.missed ≡ missed_from labels.now.keys found steps.now) }
 {
     let mut code = Vec::with_capacity(alloc, steps.len())?;
+    let mut missed = found;
     for step in steps {
-        code.push(resolved(labels, positions, step))?;
+        code.push(resolved(labels, positions, step, &mut missed))?;
     }
-    Ok(code)
+    Ok(LinkedCode { code, missed })
 }
 
-/// An instruction with the position of its label.
-fn resolved(labels: &IndexSet<Piece<'_>>, positions: &[u16], step: &Step<'_>) -> Linked
-    ensures { result ≡ resolved labels.now.keys positions.now step.now }
+/// An instruction with the position of its label; a line that uses one which isn't there is noted.
+#[inline(always)]
+fn resolved(
+    labels: &IndexSet<Piece<'_>>,
+    positions: &[u16],
+    step: &Step<'_>,
+    found: &mut Option<u64>,
+) -> Linked
+    ensures code { result ≡ resolved labels.now.keys positions.now step.now }
+    ensures missed { found.new ≡ earliest found.old (missed labels.now.keys step.now.label) }
 {
     Linked {
-        instr: with_label(step.instr, target_position(labels, positions, &step.label)),
+        instr: labelled(labels, positions, step, found),
         call: step.call,
         queue: step.queue,
+    }
+}
+
+/// The instruction of a step with the position of its label. Most have none, and are copied whole.
+#[inline(always)]
+#[tactic(auto, using(crate::proofs::Bare::label_stays, crate::proofs::Orderly::Names::earliest_none))]
+fn labelled(
+    labels: &IndexSet<Piece<'_>>,
+    positions: &[u16],
+    step: &Step<'_>,
+    found: &mut Option<u64>,
+) -> Instr
+    ensures instr { result ≡ with_label step.now.instr
+        (target_position labels.now.keys positions.now step.now.label) }
+    ensures missed { found.new ≡ earliest found.old (missed labels.now.keys step.now.label) }
+{
+    match &step.label {
+        Some(used) => jump(step.instr, labels, positions, used, found),
+        None if is_bare(&step.instr) => step.instr,
+        None => with_label(step.instr, 0),
+    }
+}
+
+/// The instruction that jumps to this label, which is looked up once.
+#[tactic(auto, using(crate::proofs::Orderly::Names::found_missed, crate::proofs::Orderly::Names::unfound_missed, crate::proofs::Orderly::Names::earliest_none))]
+fn jump(
+    instr: Instr,
+    labels: &IndexSet<Piece<'_>>,
+    positions: &[u16],
+    used: &Use<'_>,
+    found: &mut Option<u64>,
+) -> Instr
+    ensures instr { result ≡ with_label instr
+        (target_position labels.now.keys positions.now (Some used.now)) }
+    ensures missed { found.new ≡ earliest found.old (missed labels.now.keys (Some used.now)) }
+{
+    match labels.get_index_of(&used.name) {
+        Some(number) => with_label(instr, positions.get(number).copied().unwrap_or(0)),
+        None => {
+            *found = earliest(*found, Some(used.line));
+            with_label(instr, 0)
+        }
     }
 }
 
@@ -53,37 +116,4 @@ fn with_label(instr: Instr, label: u16) -> Instr
         Instr::IfPending(register, _) => Instr::IfPending(register, label),
         other => other,
     }
-}
-
-/// Where an instruction jumps to: 0 where nothing has the name, or where it doesn't jump.
-fn target_position(labels: &IndexSet<Piece<'_>>, positions: &[u16], target: &Option<Use<'_>>) -> u16
-    ensures { result ≡ target_position labels.now.keys positions.now target.now }
-{
-    match target {
-        Some(used) => position_of(labels, positions, &used.name).unwrap_or(0),
-        None => 0,
-    }
-}
-
-/// The position that a label names.
-fn position_of(labels: &IndexSet<Piece<'_>>, positions: &[u16], name: &Piece<'_>) -> Option<u16>
-    ensures { result ≡ position_of labels.now.keys positions.now name.now }
-{
-    positions.get(labels.get_index_of(name)?).copied()
-}
-
-/// The earliest line of these steps that uses a label which isn't there, or the one found already
-/// if that is earlier.
-pub fn missed_from(
-    labels: &IndexSet<Piece<'_>>,
-    found: Option<u64>,
-    steps: &[Step<'_>],
-) -> Option<u64>
-    ensures { result ≡ missed_from labels.now.keys found steps.now }
-{
-    let mut earliest_line = found;
-    for step in steps {
-        earliest_line = earliest(earliest_line, missed(labels, &step.label));
-    }
-    earliest_line
 }

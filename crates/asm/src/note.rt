@@ -144,13 +144,13 @@ impl<'a> Draft<'a> {
     fn close_routine(&mut self, alloc: Global) -> Result<(), AllocError>
         ensures { OnOk result (self.new ≡ routine_closed self.old) }
     {
-        self.unknown = self.steps.missed(&self.labels, self.unknown);
-        let code = self
+        let closed = self
             .steps
-            .take_linked(alloc, &self.labels, &self.positions)?;
+            .take_linked(alloc, &self.labels, &self.positions, self.unknown)?;
+        self.unknown = closed.missed;
         self.routines.push(ClosedRoutine {
             sort: self.sort,
-            code,
+            code: closed.code,
         })?;
         self.labels.clear();
         self.positions.clear();

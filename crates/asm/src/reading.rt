@@ -9,7 +9,7 @@ ghost use Rattle.asm.specs.Reading.{kind_of, memory, read_on, reading, resolved,
 
 use crate::draft::{Draft, Place};
 use crate::fault::{AsmFault, AsmKind};
-use asm_line::{LineFault, plain_line, read_other_line};
+use asm_line::{LineFault, comment_line, plain_line, read_other_line};
 use driver_set::DriverSet;
 use model::instr::Instr;
 use model::limits::MAX_INSTRUCTIONS;
@@ -94,6 +94,28 @@ impl<'a> Draft<'a> {
     {
         match plain_line(raw) {
             Some(instr) => self.read_plain(instr),
+            None => self.read_unplain(alloc, number, raw),
+        }
+    }
+
+    /// Reads one line of another kind, whose number is `number`. A comment says nothing, and is
+    /// weighed by its bytes alone.
+    #[tactic(auto, using(crate::proofs::Plain::blank_read))]
+    fn read_unplain(
+        &mut self,
+        alloc: Global,
+        number: u64,
+        raw: &'a [u8],
+    ) -> Result<Result<(), AsmKind>, AllocError>
+        requires { IsOrderly self.old }
+        ensures read { IfOk result
+            (λ answer. MatchResult answer (λ _. read_on self.old number raw.now ≡ Ok self.new)
+            (λ kind. read_on self.old number raw.now ≡ Err kind)) }
+        ensures orderly { IfOk result (λ answer. OnOk answer (IsOrderly self.new)) }
+    {
+        match comment_line(raw) {
+            Some(Ok(())) => Ok(Ok(())),
+            Some(Err(fault)) => Ok(Err(kind_of(fault))),
             None => self.read_other(alloc, number, raw),
         }
     }
@@ -114,7 +136,7 @@ impl<'a> Draft<'a> {
         Ok(Ok(()))
     }
 
-    /// Reads one line of another kind, whose number is `number`.
+    /// Reads one line that isn't of these kinds, whose number is `number`.
     fn read_other(
         &mut self,
         alloc: Global,

@@ -1,12 +1,13 @@
 //! One line read by its form.
 
-ghost use Rattle.std.specs.Prelude.{◌≡◌, ◌∷◌, IfOk, IfSome, None, option_and_then, option_map};
+ghost use Rattle.std.specs.Prelude.{◌≡◌, ◌∷◌, Err, IfOk, IfSome, MatchResult, None, Ok, option_and_then, option_map};
 ghost use Rattle.std.specs.List.{list_all};
 ghost use Rattle.std.specs.Option.{ok_or};
 ghost use Rattle.text.specs.Class.{is_token};
 ghost use Rattle.text.specs.Cut.{tokens_of};
 ghost use Rattle.asm_line.specs.Cursor.{Reads};
 ghost use Rattle.asm_line.specs.Line.{body, body_of, labelled, line_of, queue, read_line, step, BodyFits};
+ghost use Rattle.asm_line.specs.Plain.{blank_line};
 ghost use Rattle.asm_line.specs.declared.line.LineFault.{LineFault};
 
 use crate::cursor::Cursor;
@@ -48,6 +49,26 @@ pub fn read_other_line<'a>(raw: &'a [u8]) -> Result<Line<'a>, LineFault>
     match named_line(raw) {
         Some(line) => Ok(line),
         None => exact_line(raw),
+    }
+}
+
+/// A line that a comment begins, by the test of its bytes alone: it says nothing, if they may all
+/// stand in it.
+///
+/// # Errors
+///
+/// `Lex` where a byte is of no form.
+pub fn comment_line(raw: &[u8]) -> Option<Result<(), LineFault>>
+    ensures { IfSome result (λ answer. MatchResult answer (λ _. read_line raw.now ≡ Ok blank_line)
+        (λ fault. read_line raw.now ≡ Err fault)) }
+{
+    if *raw.first()? != b';' {
+        return None;
+    }
+    if is_clean(raw) {
+        Some(Ok(()))
+    } else {
+        Some(Err(LineFault::Lex))
     }
 }
 

@@ -10,6 +10,6 @@ mod operands;
 mod quick;
 mod words;
 
-pub use form::{read_line, read_other_line};
+pub use form::{comment_line, read_line, read_other_line};
 pub use line::{Body, Line, LineFault, UsedNames};
 pub use quick::plain_line;

@@ -11,3 +11,4 @@ pub mod Fields
 pub mod Faults
 pub mod Verdicts
 pub mod Pairs
+pub mod Tables

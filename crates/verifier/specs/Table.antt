@@ -1,5 +1,5 @@
 -- What the table of the pass says, and how it grows.
-use Rattle.std.specs.Prelude.{ℕ, ◌≡◌, ◌≢◌, ◌<◌, ◌⊎◌, List, length, slice_set, slice_index_or}
+use Rattle.std.specs.Prelude.{ℕ, ◌≡◌, ◌≢◌, ◌<◌, ◌⊎◌, Bool, List, [], ◌∷◌, length, slice_set, slice_index_or, if◌then◌else◌}
 use Rattle.model.specs.declared.abs.Abs.{Abs}
 use Rattle.model.specs.Set.{Flow, Onward, Branches, Jumps, Opens, Closes, Leaves}
 use Rattle.verifier.specs.declared.seen.Arrivals.{Arrivals}
@@ -50,3 +50,10 @@ abbrev pub seen_of : Arrivals → Abs → Seen
 seen_of Missing state = Nothing
 seen_of Alone state = One state
 seen_of Differing state = Several
+
+-- what has been seen at positions of which some are noted: nothing at the others, whatever is kept
+-- there
+abbrev pub seen_where : List Bool → List Seen → List Seen
+seen_where [] kept = []
+seen_where (b ∷ bs) [] = Nothing ∷ seen_where bs []
+seen_where (b ∷ bs) (seen ∷ kept) = (if b then seen else Nothing) ∷ seen_where bs kept

@@ -11,6 +11,7 @@ mod pass;
 mod routine;
 mod seen;
 mod survey;
+mod table;
 pub mod verdict;
 
 pub use model::abs::{Refusal, Rule};

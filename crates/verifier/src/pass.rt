@@ -8,7 +8,8 @@ ghost use Rattle.model.specs.declared.limits.TheConstants.{MAX_INSTRUCTIONS};
 use crate::certificate::turns_at;
 use crate::loops::{Place, survey};
 use crate::malformed::is_malformed;
-use crate::seen::{Arrivals, Seen, arrive, is_only, keep};
+use crate::seen::{Arrivals, arrive, is_only, keep};
+use crate::table::Table;
 use absstate::{Abs, Rule, broken_rule};
 use driver_set::DriverSet;
 use model::instr::Instr;
@@ -27,7 +28,7 @@ pub struct Pass<'a> {
     /// The loops of the routine, at each position.
     places: Vec<Place>,
     /// The states that jumps lead to a position ahead, and the one at the start of each loop.
-    table: Vec<Seen>,
+    table: Table,
     /// The certificate up to each position that was passed.
     sums: Vec<u32>,
     /// The position that it has come to.
@@ -48,7 +49,7 @@ impl<'a> Model for Pass<'a> {
     ghost view = { λ p. progress (member p.set.now p.driver p.number p.routine.now) p.at };
 
     ghost invariant = { λ p. IsRight (member p.set.now p.driver p.number p.routine.now)
-        p.at p.places.items (seen_of p.arrivals p.state) p.table.items p.sums.items };
+        p.at p.places.items (seen_of p.arrivals p.state) p.table p.sums.items };
 }
 
 impl<'a> Pass<'a> {
@@ -60,7 +61,7 @@ impl<'a> Pass<'a> {
     ghost use Rattle.model.specs.Typable.{ClosesAlike, ClosesUnlike};
     ghost use Rattle.verifier.specs.Pass.{IsPassed, progress};
 
-    /// A pass at the start of a routine that is entered in a state.
+    /// A pass at the start of a routine that is entered in a state, with a table of any other.
     pub fn begin(
         alloc: Global,
         set: &'a DriverSet,
@@ -68,6 +69,7 @@ impl<'a> Pass<'a> {
         number: u8,
         routine: &'a Routine,
         entry: Abs,
+        mut table: Table,
     ) -> Result<Pass<'a>, AllocError>
         requires some { length routine.now.code ≢ 0 }
         requires short { length routine.now.code ≤ MAX_INSTRUCTIONS }
@@ -77,7 +79,7 @@ impl<'a> Pass<'a> {
     {
         let code = routine.code.as_slice();
         let places = survey(alloc, code)?;
-        let table = vec![in alloc; Seen::Nothing; code.len() + 1]?;
+        table.open(code.len() + 1)?;
         let sums = vec![in alloc; 0; code.len() + 1]?;
         Ok(Pass {
             set,
@@ -112,7 +114,7 @@ impl<'a> Pass<'a> {
         self.sums[self.at + 1] = sum;
         let instr = &code[self.at];
         keep(&mut self.table, self.at, instr, &self.state);
-        let there = &self.table[self.at + 1];
+        let there = self.table.at(self.at + 1);
         self.arrivals = arrive(there, instr, &mut self.state, self.set, self.driver);
         self.at += 1;
         Ok(())
@@ -126,6 +128,12 @@ impl<'a> Pass<'a> {
         ensures certificate { result ≡ certificate self.now.member.routine.code }
     {
         self.sums[self.at]
+    }
+
+    /// Its table, for the pass over another routine.
+    pub fn into_table(self) -> Table {
+        let Pass { table, .. } = self;
+        table
     }
 
     /// The least rule that is broken at its position, but for that on length.

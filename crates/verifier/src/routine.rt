@@ -1,6 +1,6 @@
 //! The verdict on one routine.
 
-ghost use Rattle.std.specs.Prelude.{◌≡◌, ◌<◌, ◌≤◌, length, if◌then◌else◌, IfOk, IfErr, OnOk};
+ghost use Rattle.std.specs.Prelude.{◌≡◌, ◌≢◌, ◌<◌, ◌≤◌, None, length, if◌then◌else◌, IfOk, IfErr, OnOk};
 ghost use Rattle.model.specs.Certificate.{certificate};
 ghost use Rattle.model.specs.LocalRule.{entry_state};
 ghost use Rattle.model.specs.declared.limits.TheConstants.{MAX_INSTRUCTIONS};
@@ -14,6 +14,7 @@ use crate::loops::survey;
 use crate::malformed::is_malformed;
 use crate::named::cancels_for;
 use crate::pass::Pass;
+use crate::table::Table;
 use absstate::{Abs, Rule, entry_state};
 use driver_set::DriverSet;
 use model::abs::Refusal;
@@ -37,17 +38,44 @@ pub fn check_routine(
     ensures refused { IfErr result
         (IsRefusalOfRoutine (member set.now driver number routine.now)) }
 {
+    match check_over(alloc, set, driver, number, routine, Table::new(alloc)) {
+        Ok(checked) => Ok(checked.certificate),
+        Err(refusal) => Err(refusal),
+    }
+}
+
+/// The certificate of a routine that was accepted, and the table of the pass over it.
+#[derive(Drop)]
+pub struct Checked {
+    pub certificate: u32,
+    pub table: Table,
+}
+
+/// Accepts a routine like [`check_routine`], with the table of a pass over any other.
+pub(crate) fn check_over(
+    alloc: Global,
+    set: &DriverSet,
+    driver: u8,
+    number: u8,
+    routine: &Routine,
+    table: Table,
+) -> Result<Checked, Refusal>
+    requires { RoutineFits routine.now }
+    ensures typable { OnOk result
+        (IsTypableRoutine (member set.now driver number routine.now)) }
+    ensures certificate { IfOk result
+        (λ checked. checked.certificate ≡ certificate routine.now.code) }
+    ensures refused { IfErr result
+        (IsRefusalOfRoutine (member set.now driver number routine.now)) }
+{
     let code = routine.code.as_slice();
     if code.is_empty() {
         return Err(refusal(driver, number, 0, Rule::Malformed));
     }
     let Some(entry) = entry(set, driver, number, routine) else {
-        return Err(match rule_at_entry(alloc, code) {
-            Ok(rule) => refusal(driver, number, 0, rule),
-            Err(_) => at_start(Rule::Memory),
-        });
+        return Err(refusal_at_entry(alloc, set, driver, number, routine));
     };
-    let Ok(mut pass) = Pass::begin(alloc, set, driver, number, routine, entry) else {
+    let Ok(mut pass) = Pass::begin(alloc, set, driver, number, routine, entry, table) else {
         return Err(at_start(Rule::Memory));
     };
     for at in 0..code.len() {
@@ -55,7 +83,29 @@ pub fn check_routine(
             return Err(refusal(driver, number, at as u16, rule));
         }
     }
-    Ok(pass.certificate())
+    Ok(Checked {
+        certificate: pass.certificate(),
+        table: pass.into_table(),
+    })
+}
+
+/// The refusal of a routine that can't be entered.
+fn refusal_at_entry(
+    alloc: Global,
+    set: &DriverSet,
+    driver: u8,
+    number: u8,
+    routine: &Routine,
+) -> Refusal
+    requires some { length routine.now.code ≢ 0 }
+    requires fits { RoutineFits routine.now }
+    requires barred { entry_state (member set.now driver number routine.now) ≡ None }
+    ensures { IsRefusalOfRoutine (member set.now driver number routine.now) result }
+{
+    match rule_at_entry(alloc, routine.code.as_slice()) {
+        Ok(rule) => refusal(driver, number, 0, rule),
+        Err(_) => at_start(Rule::Memory),
+    }
 }
 
 /// The state in which a routine of a driver of a set, both by number, is entered, if it may be.

@@ -4,6 +4,7 @@ ghost use Rattle.std.specs.Prelude.{◌≡◌, ◌<◌, ◌↔◌, length, slice
 ghost use Rattle.model.specs.LocalRule.{handed, handed_at_label};
 ghost use Rattle.model.specs.Set.{flow_of};
 
+use crate::table::Table;
 use absstate::{Abs, advance, are_same, state_at_label};
 use driver_set::DriverSet;
 use model::instr::Instr;
@@ -32,29 +33,23 @@ pub enum Arrivals {
 
 ghost use Rattle.verifier.specs.Table.{IsJoined, IsNoted, IsKept, IsArrived, seen_of};
 
-/// What has been seen when one state more arrives.
-fn joined(seen: Seen, state: &Abs) -> Seen
-    ensures { IsJoined seen state.now result }
-{
-    match seen {
-        Seen::Nothing => Seen::One(*state),
-        Seen::One(first) if are_same(&first, state) => Seen::One(first),
-        Seen::One(_) | Seen::Several => Seen::Several,
-    }
-}
-
 /// Notes that a state arrives at a position of the routine, if it is one.
-fn note(table: &mut [Seen], to: usize, state: &Abs)
+fn note(table: &mut Table, to: usize, state: &Abs)
     ensures { IsNoted table.old to state.now table.new }
 {
-    if to < table.len() {
-        table[to] = joined(table[to], state);
+    if to >= table.len() {
+        return;
+    }
+    match *table.at(to) {
+        Seen::Nothing => table.put(to, Seen::One(*state)),
+        Seen::One(first) if are_same(&first, state) => {}
+        Seen::One(_) | Seen::Several => table.put(to, Seen::Several),
     }
 }
 
 /// Keeps what is looked at later of an instruction at a position that is reached in a state: what
 /// arrives at its label, and the state at a loop's start.
-pub fn keep(table: &mut [Seen], at: usize, instr: &Instr, state: &Abs)
+pub fn keep(table: &mut Table, at: usize, instr: &Instr, state: &Abs)
     requires { at < length table.old }
     ensures { IsKept (flow_of instr.now) at state.now (handed_at_label state.now instr.now)
         table.old table.new }
@@ -62,7 +57,7 @@ pub fn keep(table: &mut [Seen], at: usize, instr: &Instr, state: &Abs)
     if let Some(label) = instr.label() {
         note(table, label as usize, &state_at_label(state, instr));
     } else if let Instr::Loop(_) = *instr {
-        table[at] = Seen::One(*state);
+        table.put(at, Seen::One(*state));
     }
 }
 
@@ -107,11 +102,11 @@ fn meet(there: &Seen, state: &Abs) -> Arrivals
 }
 
 /// Whether a state and no other has been seen to arrive at a position.
-pub fn is_only(table: &[Seen], at: usize, state: &Abs) -> bool
+pub fn is_only(table: &Table, at: usize, state: &Abs) -> bool
     requires { at < length table.now }
     ensures { IsTrue result ↔ (slice_index_or table.now at Seen.Nothing ≡ Seen.One state.now) }
 {
-    match table[at] {
+    match *table.at(at) {
         Seen::One(first) => are_same(&first, state),
         Seen::Nothing | Seen::Several => false,
     }

@@ -8,7 +8,8 @@ ghost use Rattle.model.specs.Typable.{IsTypable, IsTypableDriver, IsFirstFault, 
 ghost use Rattle.verifier.specs.Certificates.{driver_certificates, AreCertificates};
 ghost use Rattle.verifier.specs.Verdict.{IsRefusalOf, IsRefusalOfDriver};
 
-use crate::routine::{at_start, check_routine};
+use crate::routine::{at_start, check_over};
+use crate::table::Table;
 use driver_set::{DriverSet, Items};
 use model::abs::{Refusal, Rule};
 use model::limits::DEFAULT_ROUTINE;
@@ -119,14 +120,16 @@ fn check_driver(
 {
     let routines = driver.routines.as_slice();
     let mut certificates = Vec::new(alloc);
+    let mut table = Table::new(alloc);
     for (number, routine) in routines.iter().enumerate() {
-        let certificate = match check_routine(alloc, set, driver_number, number as u8, routine) {
-            Ok(certificate) => certificate,
+        let checked = match check_over(alloc, set, driver_number, number as u8, routine, table) {
+            Ok(checked) => checked,
             Err(refusal) => return Err(refusal),
         };
-        let Ok(()) = certificates.push(certificate) else {
+        let Ok(()) = certificates.push(checked.certificate) else {
             return Err(at_start(Rule::Memory));
         };
+        table = checked.table;
     }
     Ok(Items::of(certificates))
 }

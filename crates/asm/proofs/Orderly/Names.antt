@@ -37,6 +37,51 @@ number_there names name h =
     grind (arith, nat_tests, within) in
     ap (λ (b : Bool). if b then Some (position_or_len (bytes_eq name) names) else None) test
 
+-- a name that isn't among these has none
+none_within : {X : Type 0} (p : X → Bool) (xs : List X) → list_any p xs ≡ false
+    → position_or_len p xs ≡ length xs
+none_within p [] h = refl
+none_within p (x ∷ xs) h = by (p x) (none_within p xs) h
+  where
+    by : (b : Bool) → (list_any p xs ≡ false → position_or_len p xs ≡ length xs)
+        → (b || list_any p xs) ≡ false → (if not b then 1 + position_or_len p xs else 0)
+        ≡ suc (length xs)
+    by true rest h = cc
+    by false rest h = let all = rest h in omega (arith, all)
+
+number_gone : (names : List (List ℕ)) (name : List ℕ) → is_among names name ≡ false
+    → number_of names name ≡ None
+number_gone names name h =
+    let none = none_within (bytes_eq name) names h in
+    let test : nat_lt (position_or_len (bytes_eq name) names) (length names) ≡ false =
+    grind (arith, nat_tests, none) in
+    ap (λ (b : Bool). if b then Some (position_or_len (bytes_eq name) names) else None) test
+
+-- so a name is missed exactly if it has no number
+numbered : (names : List (List ℕ)) (name : List ℕ) (n : ℕ) (b : Bool)
+    → is_among names name ≡ b → number_of names name ≡ Some n → b ≡ true
+numbered names name n true is h = refl
+numbered names name n false is h = let gone = number_gone names name is in cc
+
+unnumbered : (names : List (List ℕ)) (name : List ℕ) (b : Bool)
+    → is_among names name ≡ b → number_of names name ≡ None → b ≡ false
+unnumbered names name true is h = let there = number_there names name is in cc
+unnumbered names name false is h = refl
+
+pub found_missed : (names : List (List ℕ)) (u : Use) (n : ℕ) → number_of names u.name ≡ Some n
+    → missed names (Some u) ≡ None
+found_missed names u n h =
+    rw (numbered names u.name n (is_among names u.name) refl h) refl
+
+pub unfound_missed : (names : List (List ℕ)) (u : Use) → number_of names u.name ≡ None
+    → missed names (Some u) ≡ Some u.line
+unfound_missed names u h =
+    rw (unnumbered names u.name (is_among names u.name) refl h) refl
+
+pub earliest_none : (found : Option ℕ) → earliest found None ≡ found
+earliest_none None = refl
+earliest_none (Some line) = refl
+
 -- a name that isn't missed is among these
 pub is_there : (known : Bool) (line : ℕ) → (if known then None else Some line) ≡ None → known ≡ true
 is_there true line h = refl

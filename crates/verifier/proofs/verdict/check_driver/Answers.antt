@@ -22,7 +22,7 @@ loop-number-preserved c = (
       (c.in-Ok.ensures {u = tt}).typable,
   certificates_more routine_certificate c.as_slice-routines.result.now c.loop-number.number
       c.index-routines-number.result c.loop-number.certificates.items
-      c.push.new.self.items c.in-Ok.certificate c.loop-number-test.true c.loop-number.invariant.1
+      c.push.new.self.items c.in-Ok.checked.certificate c.loop-number-test.true c.loop-number.invariant.1
       c.index-routines-number.is
       (c.in-Ok.ensures {u = tt}).certificate (c.in-Ok-push.ensures {u = tt}).items,
 )

@@ -17,9 +17,8 @@ pub is_only-requires : goal.is_only-requires
 is_only-requires c =
     let within : c.self.inside.at < length c.self.inside.routine.now.code =
     within_fields c.self.inside c.args.self.now c.self.view_is c.requires.within in
-    let long : length c.deref.result.now ≡ length c.self.inside.routine.now.code + 1 =
-    ap (λ (table : List Seen). length table) c.deref.ensures.value ∙ c.self.invariant.known.long
-    in
+    let long : length c.self.inside.table ≡ length c.self.inside.routine.now.code + 1 =
+    c.self.invariant.known.long in
     let low : c.in-Some.q < c.self.inside.at =
     (first_open c.self.inside.routine.now.code c.self.inside.at c.in-Some.q
     (opened_read c.self.inside.routine.now.code c.self.inside.places.items c.self.inside.at
@@ -35,15 +34,14 @@ returns-in-Some-clause-alike c = λ yes.
     subst (λ (g : Progress). ClosesAlike g.member g.at c.args.state.now
     (slice_get g.member.routine.code g.at)) c.self.view_is
     (alike_there (member_of c.self.inside) c.self.inside.at c.in-Some.q
-    (seen_of c.self.inside.arrivals c.self.inside.state) c.self.inside.table.items
+    (seen_of c.self.inside.arrivals c.self.inside.state) c.self.inside.table
     c.args.state.now c.self.invariant.known
     (here_read c.self.inside.routine.now.code c.as_slice.result.now c.self.inside.at _ End
     c.as_slice.ensures within c.in-End.is)
     (opened_read c.self.inside.routine.now.code c.self.inside.places.items c.self.inside.at
     c.index.result.now (Some c.in-Some.q) c.self.invariant.placed within
     (ap (λ (place : Place). place.opened) (sym c.index.ensures) ∙ c.in-Some.is))
-    (subst (λ (table : List Seen). slice_index_or table c.in-Some.q Nothing ≡ One c.args.state.now)
-    c.deref.ensures.value (c.is_only.ensures.0 yes)))
+    (c.is_only.ensures.0 yes))
 
 pub returns-in-Some-clause-unlike : goal.returns-in-Some-clause-unlike
 returns-in-Some-clause-unlike c = λ no.
@@ -52,16 +50,14 @@ returns-in-Some-clause-unlike c = λ no.
     subst (λ (g : Progress). ClosesUnlike g.member g.at c.args.state.now
     (slice_get g.member.routine.code g.at)) c.self.view_is
     (unlike_there (member_of c.self.inside) c.self.inside.at c.in-Some.q
-    (seen_of c.self.inside.arrivals c.self.inside.state) c.self.inside.table.items
+    (seen_of c.self.inside.arrivals c.self.inside.state) c.self.inside.table
     c.args.state.now c.self.invariant.known
     (here_read c.self.inside.routine.now.code c.as_slice.result.now c.self.inside.at _ End
     c.as_slice.ensures within c.in-End.is)
     (opened_read c.self.inside.routine.now.code c.self.inside.places.items c.self.inside.at
     c.index.result.now (Some c.in-Some.q) c.self.invariant.placed within
     (ap (λ (place : Place). place.opened) (sym c.index.ensures) ∙ c.in-Some.is))
-    (λ entry. false_isnt_true c.is_only.result no (c.is_only.ensures.1
-    (subst (λ (table : List Seen). slice_index_or table c.in-Some.q Nothing ≡ One c.args.state.now)
-    (sym c.deref.ensures.value) entry))))
+    (λ entry. false_isnt_true c.is_only.result no (c.is_only.ensures.1 entry)))
 
 pub returns-in-None-clause-unlike : goal.returns-in-None-clause-unlike
 returns-in-None-clause-unlike c = λ no.

@@ -15,7 +15,7 @@ returns-in-Missing-clause-fault c =
     within_fields c.self.inside c.args.self.now c.self.view_is c.requires.within in
     subst (λ (g : Progress). IsFaultAt g.member g.at Unreachable) c.self.view_is
     (unreachable_there (member_of c.self.inside) c.self.inside.at
-    (seen_of c.self.inside.arrivals c.self.inside.state) c.self.inside.table.items
+    (seen_of c.self.inside.arrivals c.self.inside.state) c.self.inside.table
     c.self.invariant.known within
     (formed_read c.self.inside.routine.now.code c.as_slice-code.result.now c.self.inside.at
     c.is_malformed.result c.as_slice-code.ensures
@@ -28,7 +28,7 @@ returns-in-Differing-clause-fault c =
     within_fields c.self.inside c.args.self.now c.self.view_is c.requires.within in
     subst (λ (g : Progress). IsFaultAt g.member g.at StatesDiffer) c.self.view_is
     (several_there (member_of c.self.inside) c.self.inside.at
-    (seen_of c.self.inside.arrivals c.self.inside.state) c.self.inside.table.items
+    (seen_of c.self.inside.arrivals c.self.inside.state) c.self.inside.table
     c.self.invariant.known within
     (formed_read c.self.inside.routine.now.code c.as_slice-code.result.now c.self.inside.at
     c.is_malformed.result c.as_slice-code.ensures
@@ -41,7 +41,7 @@ returns-then-not-closes_alike-clause-fault c =
     within_fields c.self.inside c.args.self.now c.self.view_is c.requires.within in
     subst (λ (g : Progress). IsFaultAt g.member g.at StatesDiffer) c.self.view_is
     (unlike_fault (member_of c.self.inside) c.self.inside.at
-    (seen_of c.self.inside.arrivals c.self.inside.state) c.self.inside.table.items
+    (seen_of c.self.inside.arrivals c.self.inside.state) c.self.inside.table
     c.self.inside.state
     c.self.invariant.known within
     (formed_read c.self.inside.routine.now.code c.as_slice-code.result.now c.self.inside.at
@@ -66,7 +66,7 @@ returns-in-Some-clause-fault c =
     c.index-code-self.result c.as_slice-code.ensures within
     (sym c.index-code-self.is))
     (alone_there (member_of c.self.inside) c.self.inside.at
-    (seen_of c.self.inside.arrivals c.self.inside.state) c.self.inside.table.items
+    (seen_of c.self.inside.arrivals c.self.inside.state) c.self.inside.table
     c.self.inside.state
     c.self.invariant.known within
     (ap (λ (arrivals : Arrivals). seen_of arrivals c.self.inside.state) c.in-Alone.is))
@@ -87,7 +87,7 @@ returns-in-None-clause-passed c =
     c.index-code-self.result c.as_slice-code.ensures within
     (sym c.index-code-self.is))
     (alone_there (member_of c.self.inside) c.self.inside.at
-    (seen_of c.self.inside.arrivals c.self.inside.state) c.self.inside.table.items
+    (seen_of c.self.inside.arrivals c.self.inside.state) c.self.inside.table
     c.self.inside.state
     c.self.invariant.known within
     (ap (λ (arrivals : Arrivals). seen_of arrivals c.self.inside.state) c.in-Alone.is))

@@ -92,52 +92,20 @@ invariant_of-self c =
     in
     let short : c.index.result.now + c.turns_at.result ≤ MAX_CERTIFICATE =
     c.if-sum-gt-MAX_CERTIFICATE.false in
-    let lent : length c.deref_mut.result.now ≡ c.self.inside.table.len = c.deref_mut.ensures.len in
-    let items : length c.deref_mut.result.now ≡ length c.self.inside.table.items =
-    ap (λ (table : List Seen). length table) c.deref_mut.ensures.value in
-    let entries : length c.self.inside.table.items ≡ length c.self.inside.routine.now.code + 1 =
-    c.self.invariant.known.long in
-    let back : length c.keep.new.table ≡ length c.self.inside.table.items =
-    kept_long c.deref_mut.result.now c.keep.new.table c.self.inside.at
-    (flow_of c.index-code-self.result) c.self.inside.state
-    (handed_at_label c.self.inside.state c.index-code-self.result) c.keep.ensures
-    ∙ items
-    in
-    let whole : take c.self.inside.table.len
-    (c.keep.new.table ++ drop (length c.keep.new.table) c.self.inside.table.items)
-    ≡ c.keep.new.table =
-    lent_back c.self.inside.table.items c.keep.new.table c.self.inside.table.len (omega arith) back
-    in
-    let there : slice_index_or c.keep.new.table (c.self.inside.at + 1) Nothing
-    ≡ c.index-there.result.now =
-    read_as c.keep.new.table (c.self.inside.at + 1) c.index-there.result.now
-    c.index-there.result.now Nothing (omega arith)
-    (subst (λ (table : List Seen). c.index-there.result.now ≡ slice_index_or table
-    (c.self.inside.at + 1) c.index-there.result.now) whole c.index-there.ensures) refl
-    in
-    subst (λ (table : List Seen). IsRight (member_of c.self.inside) (c.self.inside.at + 1)
-    c.self.inside.places.items
-    (seen_of c.arrive-self-inside.result c.arrive-self-inside.new.state) table
-    (slice_set c.self.inside.sums.items (c.self.inside.at + 1)
-    (c.index.result.now + c.turns_at.result)))
-    (sym whole)
-    (right_more (member_of c.self.inside) c.self.inside.at c.index-code-self.result
+    right_more (member_of c.self.inside) c.self.inside.at c.index-code-self.result
     c.self.inside.arrivals c.arrive-self-inside.result c.self.inside.state
-    c.arrive-self-inside.new.state c.self.inside.places.items c.self.inside.table.items
+    c.arrive-self-inside.new.state c.self.inside.places.items c.self.inside.table
     c.keep.new.table c.self.inside.sums.items
     (c.index.result.now + c.turns_at.result) c.self.invariant within
     (passed_fields c.self.inside c.args.self.now c.self.view_is (c.in-Ok.ensures {u = tt}).passed)
     (here_read c.self.inside.routine.now.code c.as_slice-code.result.now c.self.inside.at _
     c.index-code-self.result c.as_slice-code.ensures within
     (sym c.index-code-self.is))
-    (subst (λ (table : List Seen). IsKept (flow_of c.index-code-self.result) c.self.inside.at
-    c.self.inside.state
-    (handed_at_label c.self.inside.state c.index-code-self.result) table c.keep.new.table)
-    c.deref_mut.ensures.value c.keep.ensures)
+    c.keep.ensures
     (subst (λ (seen : Seen). IsArrived (flow_of c.index-code-self.result)
     (handed c.self.inside.set.now c.self.inside.driver c.self.inside.state
     c.index-code-self.result) seen
     (seen_of c.arrive-self-inside.result c.arrive-self-inside.new.state))
-    (sym there) c.arrive-self-inside.ensures)
+    c.at-there.ensures c.arrive-self-inside.ensures)
     (ap (λ (n : ℕ). n + c.turns_at.result) (sym read) ∙ told)
-    short)
+    short
