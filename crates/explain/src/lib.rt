@@ -11,7 +11,6 @@ pub mod pages;
 mod path;
 mod place;
 mod rules;
-mod source;
 mod state;
 mod telling;
 

@@ -1,7 +1,7 @@
 //! The names that a text gives to what is in a driver.
 
-use crate::source::{Source, add_bytes};
 use asm_line::{Body, read_line};
+use excerpt::{SourceLines, add_bytes};
 use model::set::QueueName;
 use std::alloc::{AllocError, Global};
 use text::piece::Piece;
@@ -18,7 +18,7 @@ impl<'a> Names<'a> {
     /// The names of the driver before which so many others begin in a text.
     pub(crate) fn of(
         alloc: Global,
-        source: &Source<'a>,
+        source: &SourceLines<'a>,
         before: u8,
     ) -> Result<Names<'a>, AllocError> {
         let mut names = Names {
@@ -27,7 +27,7 @@ impl<'a> Names<'a> {
             queues: Vec::new(alloc),
         };
         let mut before = Some(before);
-        for line in &source.lines {
+        for line in source.all() {
             before = names.note(line, before)?;
         }
         Ok(names)

@@ -1,7 +1,7 @@
 //! Where a refusal stands.
 
 use crate::names::{Names, add_name};
-use crate::source::{Source, add_line};
+use excerpt::{SourceLines, add_excerpt, add_line};
 use model::abs::Refusal;
 use model::set::Sort;
 use std::alloc::AllocError;
@@ -11,7 +11,7 @@ use std::alloc::AllocError;
 pub(crate) struct Scene<'a> {
     pub(crate) refusal: Refusal,
     pub(crate) sort: Sort,
-    pub(crate) source: Source<'a>,
+    pub(crate) source: SourceLines<'a>,
     pub(crate) names: Names<'a>,
     /// The numbers of the lines of its instructions.
     pub(crate) lines: Vec<u64>,
@@ -55,20 +55,6 @@ impl Scene<'_> {
             None => write!(prose, ", position {at}\n"),
         }
     }
-}
-
-/// Adds a line and two lines round it.
-fn add_excerpt(prose: &mut String, source: &Source<'_>, line: u64) -> Result<(), AllocError> {
-    let first = line.saturating_sub(2);
-    for number in first..line.saturating_add(3) {
-        if source.line(number).is_some() {
-            let sign = if number == line { ">" } else { " " };
-            write!(prose, "  {sign} {number}  ")?;
-            add_line(prose, source, number)?;
-            prose.push_str("\n")?;
-        }
-    }
-    Ok(())
 }
 
 /// The word of a sort.

@@ -8,12 +8,12 @@ use crate::names::Names;
 use crate::path::add_path;
 use crate::place::{Scene, sort_word};
 use crate::rules::{Lesson, lesson_of, not_entered, of_set};
-use crate::source::Source;
 use crate::state::{add_differences, add_state};
 use absstate::Abs;
 use asm_source::instruction_lines;
 use driver_set::DriverSet;
 use evidence::{Evidence, Path, Subject, evidence_at, evidence_of};
+use excerpt::SourceLines;
 use model::abs::{Refusal, Rule};
 use model::instr::Instr;
 use model::set::{Driver, Routine};
@@ -144,7 +144,7 @@ fn scene_of<'t>(
     refusal: &Refusal,
     routine: &Routine,
 ) -> Result<Scene<'t>, AllocError> {
-    let source = Source::of(alloc, text)?;
+    let source = SourceLines::of(alloc, text)?;
     let names = Names::of(alloc, &source, refusal.driver)?;
     let lines = instruction_lines(alloc, text, refusal.driver, refusal.routine)?;
     Ok(Scene {
@@ -242,7 +242,7 @@ fn add_lesson(prose: &mut String, lesson: Lesson) -> Result<(), AllocError> {
 /// When memory runs out.
 pub fn roll(alloc: Global, text: &[u8], set: &DriverSet) -> Result<String, AllocError> {
     let mut prose = String::new(alloc);
-    let source = Source::of(alloc, text)?;
+    let source = SourceLines::of(alloc, text)?;
     let mut number: u8 = 0;
     for driver in set.drivers() {
         let names = Names::of(alloc, &source, number)?;

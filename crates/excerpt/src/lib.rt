@@ -1,0 +1,9 @@
+//! A text by its lines, and parts of it quoted in words for a reader. Plain code, which takes what
+//! memory it needs and writes nothing itself.
+#![tactic(auto)]
+
+mod lines;
+mod quote;
+
+pub use lines::SourceLines;
+pub use quote::{add_bytes, add_excerpt, add_line};
