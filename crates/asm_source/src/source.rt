@@ -2,7 +2,9 @@
 
 ghost use Rattle.std.specs.Prelude.{◌≡◌, IfOk};
 ghost use Rattle.asm_source.specs.Source.{body_on, instruction_lines, past};
+ghost use Rattle.asm_source.specs.Standing.{AreLinesOf};
 
+use asm::laws::code_is_of_its_lines;
 use asm_line::{Body, read_line};
 use std::alloc::{AllocError, Global};
 use text::cut::Lines;
@@ -50,7 +52,7 @@ fn body_on(raw: &[u8]) -> Body<'_>
 
 /// The numbers of the lines, from 1, on which the instructions of a routine stand, in order: those
 /// of the routine of a number in the driver of a number, both counted from 0 in the order of the
-/// text.
+/// text. In the set that the text names, each instruction of that routine is what its line says.
 ///
 /// # Errors
 ///
@@ -61,8 +63,11 @@ pub fn instruction_lines(
     driver: u8,
     routine: u8,
 ) -> Result<Vec<u64>, AllocError>
-    ensures { IfOk result (λ lines. lines.items ≡ instruction_lines driver routine text.now) }
+    ensures lines { IfOk result
+        (λ lines. lines.items ≡ instruction_lines driver routine text.now) }
+    ensures stand { IfOk result (λ lines. AreLinesOf text.now driver routine lines.items) }
 {
+    code_is_of_its_lines();
     let mut left = Lines::of(text);
     let mut sought = Sought::Driver(driver);
     let mut lines = Vec::new(alloc);
