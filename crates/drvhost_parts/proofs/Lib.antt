@@ -5,5 +5,6 @@ pub mod Repeating
 pub mod Following
 pub mod Judging
 pub mod One
+pub mod Explained
 pub mod Files
 pub mod Wording

@@ -1,11 +1,11 @@
 -- How a command ends, for what its devices hold.
-use Rattle.std.specs.Prelude.{ℕ, ◌≡◌, ◌+◌, List, codes, Ok, Option}
+use Rattle.std.specs.Prelude.{ℕ, ◌≡◌, ◌+◌, List, codes, Ok, Option, Result}
 use Rattle.std.specs.Io.KnownBytes.{Appends, Keeps}
 use Rattle.drvhost_parts.specs.declared.verification.Verification.{Verification}
 use Rattle.interleave.specs.Listing.{schedule_in}
 use Rattle.model.specs.Set.{Set}
 use Rattle.script.specs.Script.{script_in}
-use Rattle.drvhost_parts.specs.Answer.{Answer, FileSays, IsExplained, IsIfAccepted, IsListing, IsOfFile, IsServed, IsToRun, IsTraced, IsVerdict, ran}
+use Rattle.drvhost_parts.specs.Answer.{Answer, FileSays, IsExplainedSaid, IsIfAccepted, IsListing, IsOfFile, IsServed, IsToRun, IsTraced, IsVerdict, ran}
 use Rattle.drvhost_parts.specs.Device.{Bytes, Holds, Supply, TakesBeginning}
 
 -- what is right for the set that a source has, where these are the right answers for a set
@@ -17,10 +17,12 @@ IsOfSupply Right supply answer =
 abbrev pub IsCheckOf : Supply → Answer → Type 0
 IsCheckOf supply answer = IsOfSupply IsVerdict supply answer
 
--- what `explain` answers for what its source has: for a set the verdict, with some words behind it,
--- and for a fault the line that tells it
+-- what `explain` answers for what its source has: the verdict on the set, or the line that tells the
+-- fault, each with some words behind it
 abbrev pub IsExplainedOf : Supply → Answer → Type 0
-IsExplainedOf supply answer = IsOfSupply IsExplained supply answer
+IsExplainedOf supply answer =
+    (bytes : List ℕ) × Holds supply bytes
+    × ((said : Result Set (List ℕ)) × FileSays bytes said × IsExplainedSaid said answer)
 
 -- what `list` answers for what its source has
 abbrev pub IsListOf : Supply → Answer → Type 0

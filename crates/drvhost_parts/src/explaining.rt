@@ -1,20 +1,21 @@
 //! The verdict on a driver set, explained.
 
-ghost use Rattle.std.specs.Prelude.{◌≡◌, ◌+◌, ◌⊎◌, []};
+ghost use Rattle.std.specs.Prelude.{◌≡◌, ◌+◌, ◌++◌, ◌⊎◌, ℕ, List, [], IfOk};
 ghost use Rattle.model.specs.Typable.{IsFirstFault, at_start};
 ghost use Rattle.drvhost_parts.specs.Answer.{IsExplained};
-ghost use Rattle.drvhost_parts.specs.Device.{CanCount, Says};
+ghost use Rattle.drvhost_parts.specs.Device.{Bytes, CanCount, Says};
 ghost use Rattle.drvhost_parts.specs.Ends.{Answers, IsExplainedOf};
 ghost use Rattle.drvhost_parts.specs.Fault.{Goes, reads_failed, writes_failed};
+ghost use Rattle.report.specs.Fault.{text_fault_line};
 
 use crate::check::{accept, refuse};
 use crate::device::{Sink, Source};
-use crate::fault::{End, Fault};
-use crate::reading::begins_image;
-use crate::task::{Task, answer};
-use crate::transfer::write_words;
-use asm::disassemble;
+use crate::fault::{End, Fault, finish, no_memory, say};
+use crate::reading::{begins_image, set_of};
+use crate::transfer::{read_whole, write_lines, write_words};
+use asm::{AsmFault, disassemble};
 use explain::{Told, explanation, explanations, roll};
+use fault_words::fault_words;
 use image::DriverSet;
 use model::abs::{Refusal, Rule};
 use report::lines::Lines;
@@ -34,7 +35,8 @@ pub enum Extent {
 /// on it: the names of its routines, or what leads to the place of its refusal and why the rule is
 /// broken there; and, if asked for, the same of the first fault of each other routine. The answer
 /// is the exit status, as that of `check`: 0 accepted, 1 refused, 2 where its text or its image is
-/// faulty or a read or a write failed, 3 where memory ran out. Faults are told on the error writer.
+/// faulty or a read or a write failed, 3 where memory ran out. Faults are told on the error writer,
+/// that of a text with words on it behind its line.
 pub fn explain<S: Source, O: Sink, E: Sink>(
     alloc: Global,
     extent: Extent,
@@ -51,33 +53,144 @@ pub fn explain<S: Source, O: Sink, E: Sink>(
         (Says (E.failures err.old) (E.failures err.new) (E.contents err.old) (E.contents err.new))
         result }
 {
-    answer(&Explaining { extent }, alloc, set, out, err)
+    match Lines::new(alloc) {
+        Ok(mut lines) => explain_source(alloc, extent, set, &mut lines, out, err),
+        Err(AllocError) => no_memory(err),
+    }
 }
 
-/// The task of explaining the verdict on a set.
-#[derive(Drop)]
-struct Explaining {
+/// Explains what a source has, with room for lines.
+fn explain_source<S: Source, O: Sink, E: Sink>(
+    alloc: Global,
     extent: Extent,
+    set: &mut S,
+    lines: &mut Lines,
+    out: &mut O,
+    err: &mut E,
+) -> u8
+    requires set { CanCount (S.failures set.old) }
+    requires out { CanCount (O.failures out.old) }
+    requires err { CanCount (E.failures err.old) }
+    requires empty { lines.old ≡ [] }
+    ensures { Answers (IsExplainedOf (S.supply set.old))
+        (S.failures set.old) (S.failures set.new) (O.failures out.old) (O.failures out.new)
+        (O.contents out.old) (O.contents out.new)
+        (Says (E.failures err.old) (E.failures err.new) (E.contents err.old) (E.contents err.new))
+        result }
+{
+    match read_whole(alloc, set) {
+        Ok(bytes) => explain_bytes(alloc, extent, bytes.as_slice(), lines, out, err),
+        Err(fault) => finish(Err(fault), lines, err),
+    }
 }
 
-impl Task for Explaining {
-    ghost use Rattle.drvhost_parts.specs.Answer.{IsExplained};
-
-    ghost right = { IsExplained };
-
-    fn perform<O: Sink>(
-        &self,
-        alloc: Global,
-        bytes: &[u8],
-        set: DriverSet,
-        lines: &mut Lines,
-        out: &mut O,
-    ) -> Result<End, Fault> {
-        if begins_image(bytes) {
-            explain_image(alloc, self.extent, set, lines, out)
-        } else {
-            explain_text(alloc, self.extent, bytes, set, lines, out)
+/// Explains what the bytes of a file say: the verdict on their set, or the fault of a text.
+fn explain_bytes<O: Sink, E: Sink>(
+    alloc: Global,
+    extent: Extent,
+    bytes: &[u8],
+    lines: &mut Lines,
+    out: &mut O,
+    err: &mut E,
+) -> u8
+    requires out { CanCount (O.failures out.old) }
+    requires err { CanCount (E.failures err.old) }
+    requires empty { lines.old ≡ [] }
+    ensures { (reads : ℕ) → Answers (IsExplainedOf (Bytes bytes.now))
+        reads reads (O.failures out.old) (O.failures out.new) (O.contents out.old)
+        (O.contents out.new)
+        (Says (E.failures err.old) (E.failures err.new) (E.contents err.old) (E.contents err.new))
+        result }
+{
+    match set_of(alloc, bytes) {
+        Ok(set) => {
+            let end = explain_set(alloc, extent, bytes, set, lines, out);
+            finish(end, lines, err)
         }
+        Err(Fault::Text(fault)) => explain_fault(alloc, bytes, fault, lines, err),
+        Err(fault) => finish(Err(fault), lines, err),
+    }
+}
+
+/// Tells the fault of a text on the error writer, with words behind its line; the line alone where
+/// there is no memory for words.
+fn explain_fault<E: Sink>(
+    alloc: Global,
+    text: &[u8],
+    fault: AsmFault,
+    lines: &mut Lines,
+    err: &mut E,
+) -> u8
+    requires { CanCount (E.failures err.old) }
+    ensures status { result ≡ 2 }
+    ensures told { (words : List ℕ) × Says (E.failures err.old) (E.failures err.new)
+        (E.contents err.old) (E.contents err.new) (text_fault_line fault ++ words) }
+{
+    lines.clear();
+    lines.text_fault(fault);
+    match told_words(alloc, text, fault, lines.bytes()) {
+        Ok(told) => say(err, told.as_slice()),
+        Err(AllocError) => say(err, lines.bytes()),
+    }
+    2
+}
+
+/// The line of the fault of a text, with words on it behind.
+fn told_words(
+    alloc: Global,
+    text: &[u8],
+    fault: AsmFault,
+    line: &[u8],
+) -> Result<Vec<u8>, AllocError>
+    ensures { IfOk result (λ told. (words : List ℕ) × (told.items ≡ line.now ++ words)) }
+{
+    let words = fault_words(alloc, text, fault)?;
+    let mut told = Vec::new(alloc);
+    told.extend_from_slice(line)?;
+    told.extend_from_slice(words.as_bytes())?;
+    Ok(told)
+}
+
+/// Explains the verdict on a set, and writes the lines that gather.
+fn explain_set<O: Sink>(
+    alloc: Global,
+    extent: Extent,
+    bytes: &[u8],
+    set: DriverSet,
+    lines: &mut Lines,
+    out: &mut O,
+) -> Result<End, Fault>
+    requires out { CanCount (O.failures out.old) }
+    requires empty { lines.old ≡ [] }
+    ensures goes { Goes (IsExplained set) (O.contents out.old) (O.contents out.new) [] [] result }
+    ensures reads { reads_failed result ≡ 0 }
+    ensures writes { O.failures out.new ≡ O.failures out.old + writes_failed result }
+{
+    let end = explain_named(alloc, extent, bytes, set, lines, out)?;
+    write_lines(lines, out)?;
+    Ok(end)
+}
+
+/// Explains the verdict on a set that an image spells or a text names.
+fn explain_named<O: Sink>(
+    alloc: Global,
+    extent: Extent,
+    bytes: &[u8],
+    set: DriverSet,
+    lines: &mut Lines,
+    out: &mut O,
+) -> Result<End, Fault>
+    requires out { CanCount (O.failures out.old) }
+    requires empty { lines.old ≡ [] }
+    ensures goes { Goes (IsExplained set) (O.contents out.old) (O.contents out.new) [] lines.new
+        result }
+    ensures reads { reads_failed result ≡ 0 }
+    ensures writes { O.failures out.new ≡ O.failures out.old + writes_failed result }
+{
+    if begins_image(bytes) {
+        explain_image(alloc, extent, set, lines, out)
+    } else {
+        explain_text(alloc, extent, bytes, set, lines, out)
     }
 }
 

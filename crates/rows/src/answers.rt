@@ -262,7 +262,8 @@ static CASES: [Case; 31] = [
         words: &["drvhost", "explain", "--all", "open.drv"],
         status: 2,
         out: b"",
-        err: b"text fault 6 Unclosed line 2\n",
+        err: b"text fault 6 Unclosed line 2\n\nin driver d, line 2:\n    1  driver d\n\
+             at fault: the text ends inside the driver\nwhat may stand there: `endd`\n",
         opened: 1,
         failures: 0,
     },

@@ -321,7 +321,15 @@ const FAULTY: Case = Case {
     set: "driver d\nmark r0\n",
     status: 2,
     out: "",
-    err: "text fault 2 UnknownWord line 2\n",
+    err: "text fault 2 UnknownWord line 2
+
+in driver d, line 2:
+    1  driver d
+  > 2  mark r0
+at fault: `mark`, which stands in a routine, and this line is in a driver, outside of its routines
+what may stand there: in a driver, outside of its routines, `dispatch`, `startio`, `dpc`, `queue`, \
+`routine` or `endd`
+",
 };
 
 /// A set that completes its packet twice.

@@ -204,7 +204,8 @@ static CASES: [Case; 19] = [
         job: Job::Explain(Extent::Each),
         status: 2,
         lines: b"",
-        told: b"text fault 6 Unclosed line 2\n",
+        told: b"text fault 6 Unclosed line 2\n\nin driver d, line 2:\n    1  driver d\n\
+              at fault: the text ends inside the driver\nwhat may stand there: `endd`\n",
     },
     Case {
         set: TEXT,

@@ -35,6 +35,8 @@ mod faulty_drivers;
 #[cfg(test)]
 mod faulty_queues;
 #[cfg(test)]
+mod faulty_texts;
+#[cfg(test)]
 mod gallery;
 #[cfg(test)]
 mod holds;
