@@ -1,9 +1,17 @@
 -- What `explain` answers of a file, by the verdict on its set or the fault of its text.
-use Rattle.std.proofs.Common.{◌≡◌, ◌∙◌, ◌+◌, ℕ, List, [], ◌++◌, Option, Result, Ok, Err, arith, refl, sym, ap, subst}
+use Rattle.std.proofs.Common.{◌≡◌, ◌∙◌, ℕ, List, [], ◌++◌, Option, Result, Ok, Err, refl, sym, ap, subst}
 use Rattle.std.proofs.lemmas.List.{append-nil}
 use Rattle.drvhost_parts.specs.Answer.{Answer, IsExplained, IsExplainedSaid, IsOfSaid, faulty}
 use Rattle.drvhost_parts.specs.Device.{Bytes, Holds, Supply}
-use Rattle.drvhost_parts.specs.Ends.{Answers, Ends, IsExplainedOf, IsOfSupply, Rightly, ReadFailed, WriteFailed, OutOfMemory}
+use Rattle.drvhost_parts.specs.Ends.{Ends, IsExplainedOf, IsOfSupply, Rightly, ReadFailed, WriteFailed, OutOfMemory}
+use Rattle.drvhost_parts.specs.declared.fault.End.{End}
+use Rattle.drvhost_parts.specs.declared.fault.Fault.{Fault}
+use Rattle.drvhost_parts.specs.declared.fault.Fault.TheVariants.{Read, Write, Memory, Text, Image, Schedule as OfSchedule, Script as OfScript}
+use Rattle.drvhost_parts.specs.Fault.{Goes, ReadsSet, failed_reads, failed_writes, fault_status, fault_told, reads_failed, status_of, told_of, writes_failed}
+use Rattle.drvhost_parts.proofs.Jobs.{ends_of, goes_rightly, right_on, set_unread}
+use Rattle.drvhost_parts.proofs.Writing.{appends_none, keeps_same}
+use Rattle.asm.specs.declared.fault.AsmFault.{AsmFault}
+use Rattle.report.specs.Fault.{text_fault_line}
 use Rattle.model.specs.Set.{Set}
 
 -- a fault's line alone has no words behind it
@@ -36,3 +44,44 @@ ends_rightly R Q reads writes before after status told on (WriteFailed a r f w s
     WriteFailed a (on a r) f w s t b
 ends_rightly R Q reads writes before after status told on (OutOfMemory f w s t k) =
     OutOfMemory f w s t k
+
+-- how `explain` ends for the bytes of a file, where it goes so for the set that they name
+pub named_ends : (bytes : List ℕ) (set : Set) (b n : Option (List ℕ)) (end : Result End Fault)
+    → ReadsSet (Bytes bytes) (Ok set) → Goes (IsExplained set) b n [] [] end
+    → Ends (IsExplainedOf (Bytes bytes)) (reads_failed end) (writes_failed end) b n
+    (status_of end) (told_of end)
+named_ends bytes set b n end read goes =
+    ends_of (IsExplainedOf (Bytes bytes)) b n end
+    (goes_rightly (IsExplained set) (IsExplainedOf (Bytes bytes)) b n [] [] end
+    (λ answer right. explained_plainly (Bytes bytes) answer
+    (right_on IsExplained (Bytes bytes) set read answer right)) goes)
+
+-- and where a source has no set
+pub unnamed_ends : (held : Supply) (b : Option (List ℕ)) (fault : Fault)
+    → ReadsSet held (Err fault)
+    → Ends (IsExplainedOf held) (failed_reads fault) (failed_writes fault) b b
+    (fault_status fault) (fault_told fault)
+unnamed_ends held b fault unread =
+    ends_of (IsExplainedOf held) b b (Err fault)
+    (goes_rightly (IsOfSupply IsExplained held) (IsExplainedOf held) b b [] [] (Err fault)
+    (explained_plainly held) (set_unread IsExplained held b [] [] fault unread))
+
+-- and with some words behind the fault of a text
+pub text_ends : (bytes words : List ℕ) (b : Option (List ℕ)) (fault : AsmFault)
+    → ReadsSet (Bytes bytes) (Err (Text fault))
+    → Ends (IsExplainedOf (Bytes bytes)) 0 0 b b 2 (text_fault_line fault ++ words)
+text_ends bytes words b fault (other, same, says) =
+    Rightly (faulty (text_fault_line fault ++ words))
+    (other, same, (Err (text_fault_line fault), says, (words, refl))) refl refl refl refl
+    (appends_none b b (keeps_same b))
+
+-- reading a set writes nothing
+pub none_written : (held : Supply) (fault : Fault) → ReadsSet held (Err fault)
+    → failed_writes fault ≡ 0
+none_written held Read h = refl
+none_written held Write h = absurd h
+none_written held Memory h = refl
+none_written held (Text fault) h = refl
+none_written held (Image fault) h = refl
+none_written held (OfSchedule fault) h = refl
+none_written held (OfScript fault) h = refl
