@@ -93,6 +93,10 @@ mend it: complete a packet once, and before it is handed on
 EXPLAINED_EACH = EXPLAINED + '''
 refused V2 Unreachable driver 0 routine 2 at 6
 
+# what `explain` tells of a text that ends too early
+UNCLOSED = ('text fault 6 Unclosed line 2\n\nin driver d, line 2:\n    1  driver d\n'
+            'at fault: the text ends inside the driver\nwhat may stand there: `endd`\n')
+
 in driver d, routine gone (cancel), position 6, line 39:
     37  complete r0 CANCELLED
     38  ret void
@@ -121,7 +125,7 @@ CASES = [
     ('explain --all both', 1, EXPLAINED_EACH, ''),
     ('explain --rule V20', 0, RULE, ''),
     ('explain --rule V21', 2, '', None),  # some text on how the program is used
-    ('explain open', 2, '', 'text fault 6 Unclosed line 2\n'),
+    ('explain open', 2, '', UNCLOSED),
     ('list image', 0, LISTED, ''),
     ('list open', 2, '', 'text fault 6 Unclosed line 2\n'),
     ('version', 0, 'drvhost 0.1.0\n', ''),

@@ -84,6 +84,10 @@ STOPPED = b'0 started 0\n1 stepped\n2 topped 0 0x00000000 0\n3 bug 0x44 packet 0
 SERVED = b'0 topped 0 0x00000000 0\n1 refused\nhistory 5 agrees\n'
 SOME = object()  # some text, whatever it is
 
+# what `explain` tells of a text that ends too early
+UNCLOSED = (b'text fault 6 Unclosed line 2\n\nin driver d, line 2:\n    1  driver d\n'
+            b'at fault: the text ends inside the driver\nwhat may stand there: `endd`\n')
+
 # words, and the exit status, the standard output and the error output
 CASES = [
     ('check good.drv', 0, ACCEPTED, b''),
@@ -94,14 +98,14 @@ CASES = [
     ('check .', 2, b'', b'read failed\n'),
     ('explain good.drv', 0, NAMED, b''),
     ('explain twice.drv', 1, EXPLAINED, b''),
-    ('explain open.drv', 2, b'', b'text fault 6 Unclosed line 2\n'),
+    ('explain open.drv', 2, b'', UNCLOSED),
     ('explain short.image', 2, b'', b'image fault 2 Truncated\n'),
     ('explain nothing.drv', 2, b'', b'read failed\n'),
     ('explain --all good.drv', 0, NAMED, b''),
     ('explain twice.drv --all', 1, EXPLAINED, b''),
     ('explain both.drv', 1, EXPLAINED, b''),
     ('explain --all both.drv', 1, EXPLAINED_EACH, b''),
-    ('explain --all open.drv', 2, b'', b'text fault 6 Unclosed line 2\n'),
+    ('explain --all open.drv', 2, b'', UNCLOSED),
     ('explain --all nothing.drv', 2, b'', b'read failed\n'),
     ('explain --rule V2', 0, RULE, b''),
     ('explain --rule=V2', 0, RULE, b''),

@@ -1,13 +1,13 @@
 -- What `explain` answers of a file, by the verdict on its set or the fault of its text.
-use Rattle.std.proofs.Common.{◌≡◌, ◌∙◌, ℕ, List, [], ◌++◌, Option, Result, Ok, Err, refl, sym, ap, subst}
+use Rattle.std.proofs.Common.{◌≡◌, ◌∙◌, ℕ, List, [], ◌++◌, inl, inr, Option, Result, Ok, Err, arith, codes, refl, sym, ap, subst}
 use Rattle.std.proofs.lemmas.List.{append-nil}
 use Rattle.drvhost_parts.specs.Answer.{Answer, IsExplained, IsExplainedSaid, IsOfSaid, faulty}
 use Rattle.drvhost_parts.specs.Device.{Bytes, Holds, Supply}
-use Rattle.drvhost_parts.specs.Ends.{Ends, IsExplainedOf, IsOfSupply, Rightly, ReadFailed, WriteFailed, OutOfMemory}
+use Rattle.drvhost_parts.specs.Ends.{Answers, Ends, IsExplainedOf, IsOfSupply, Rightly, ReadFailed, WriteFailed, OutOfMemory}
 use Rattle.drvhost_parts.specs.declared.fault.End.{End}
 use Rattle.drvhost_parts.specs.declared.fault.Fault.{Fault}
 use Rattle.drvhost_parts.specs.declared.fault.Fault.TheVariants.{Read, Write, Memory, Text, Image, Schedule as OfSchedule, Script as OfScript}
-use Rattle.drvhost_parts.specs.Fault.{Goes, ReadsSet, failed_reads, failed_writes, fault_status, fault_told, reads_failed, status_of, told_of, writes_failed}
+use Rattle.drvhost_parts.specs.Fault.{Goes, ReadsSet, TellsFault, failed_reads, failed_writes, fault_status, fault_told, reads_failed, status_of, told_of, writes_failed}
 use Rattle.drvhost_parts.proofs.Jobs.{ends_of, goes_rightly, right_on, set_unread}
 use Rattle.drvhost_parts.proofs.Writing.{appends_none, keeps_same}
 use Rattle.asm.specs.declared.fault.AsmFault.{AsmFault}
@@ -85,3 +85,27 @@ none_written held (Text fault) h = refl
 none_written held (Image fault) h = refl
 none_written held (OfSchedule fault) h = refl
 none_written held (OfScript fault) h = refl
+
+-- a fault of a text was told, or memory ran out
+pub fault_answered : (bytes : List ℕ) (b : Option (List ℕ)) (fault : AsmFault) (reads writes : ℕ)
+    (Tells : List ℕ → Type 0) (status : ℕ)
+    → ReadsSet (Bytes bytes) (Err (Text fault)) → TellsFault fault Tells status
+    → Answers (IsExplainedOf (Bytes bytes)) reads reads writes writes b b Tells status
+fault_answered bytes b fault reads writes Tells status read (inl (words, told, two)) = record {
+  reads = 0;
+  writes = 0;
+  told = text_fault_line fault ++ words;
+  reads_are = omega arith;
+  writes_are = omega arith;
+  tells = told;
+  ends = rw two (text_ends bytes words b fault read);
+}
+fault_answered bytes b fault reads writes Tells status read (inr (told, three)) = record {
+  reads = 0;
+  writes = 0;
+  told = codes "out of memory\n";
+  reads_are = omega arith;
+  writes_are = omega arith;
+  tells = told;
+  ends = rw three (OutOfMemory refl refl refl refl (keeps_same b));
+}

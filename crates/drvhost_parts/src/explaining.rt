@@ -5,8 +5,7 @@ ghost use Rattle.model.specs.Typable.{IsFirstFault, at_start};
 ghost use Rattle.drvhost_parts.specs.Answer.{IsExplained};
 ghost use Rattle.drvhost_parts.specs.Device.{Bytes, CanCount, Says};
 ghost use Rattle.drvhost_parts.specs.Ends.{Answers, IsExplainedOf};
-ghost use Rattle.drvhost_parts.specs.Fault.{Goes, reads_failed, writes_failed};
-ghost use Rattle.report.specs.Fault.{text_fault_line};
+ghost use Rattle.drvhost_parts.specs.Fault.{Goes, TellsFault, reads_failed, writes_failed};
 
 use crate::check::{accept, refuse};
 use crate::device::{Sink, Source};
@@ -112,8 +111,7 @@ fn explain_bytes<O: Sink, E: Sink>(
     }
 }
 
-/// Tells the fault of a text on the error writer, with words behind its line; the line alone where
-/// there is no memory for words.
+/// Tells the fault of a text on the error writer, with words behind its line.
 fn explain_fault<E: Sink>(
     alloc: Global,
     text: &[u8],
@@ -122,17 +120,18 @@ fn explain_fault<E: Sink>(
     err: &mut E,
 ) -> u8
     requires { CanCount (E.failures err.old) }
-    ensures status { result ≡ 2 }
-    ensures told { (words : List ℕ) × Says (E.failures err.old) (E.failures err.new)
-        (E.contents err.old) (E.contents err.new) (text_fault_line fault ++ words) }
+    ensures { TellsFault fault (Says (E.failures err.old) (E.failures err.new)
+        (E.contents err.old) (E.contents err.new)) result }
 {
     lines.clear();
     lines.text_fault(fault);
     match told_words(alloc, text, fault, lines.bytes()) {
-        Ok(told) => say(err, told.as_slice()),
-        Err(AllocError) => say(err, lines.bytes()),
+        Ok(told) => {
+            say(err, told.as_slice());
+            2
+        }
+        Err(AllocError) => no_memory(err),
     }
-    2
 }
 
 /// The line of the fault of a text, with words on it behind.

@@ -1,10 +1,9 @@
-use Rattle.std.proofs.Common.{◌++◌, Err, arith, subst}
+use Rattle.std.proofs.Common.{ℕ, List, Err, arith, subst}
 use Rattle.asm.specs.declared.fault.AsmFault.{AsmFault}
 use Rattle.drvhost_parts.specs.declared.fault.Fault.{Fault}
-use Rattle.report.specs.Fault.{text_fault_line}
 use Rattle.drvhost_parts.specs.Device.{Bytes, Says}
-use Rattle.drvhost_parts.specs.Fault.{ReadsSet, failed_reads, failed_writes, fault_told, reads_failed, told_of, writes_failed}
-use Rattle.drvhost_parts.proofs.Explained.{named_ends, none_written, text_ends, unnamed_ends}
+use Rattle.drvhost_parts.specs.Fault.{ReadsSet, TellsFault, failed_reads, failed_writes, fault_told, reads_failed, told_of, writes_failed}
+use Rattle.drvhost_parts.proofs.Explained.{fault_answered, named_ends, none_written, unnamed_ends}
 use Rattle.drvhost_parts.proofs.explaining.explain_bytes.Goals as goal
 
 pub returns-in-Ok : goal.returns-in-Ok
@@ -25,22 +24,14 @@ returns-in-Ok g c = λ reads.
 
 pub returns-in-Err-Text : goal.returns-in-Err-Text
 returns-in-Err-Text g c = λ reads.
-    let words = c.explain_fault.ensures.told.0 in
-    let Told : AsmFault → Type 0 = λ fault. Says (g.E.Sink.failures c.args.err.now)
+    let Tells : List ℕ → Type 0 = Says (g.E.Sink.failures c.args.err.now)
     (g.E.Sink.failures c.explain_fault.new.err) (g.E.Sink.contents c.args.err.now)
-    (g.E.Sink.contents c.explain_fault.new.err) (text_fault_line fault ++ words) in
+    (g.E.Sink.contents c.explain_fault.new.err) in
+    let Told : AsmFault → Type 0 = λ fault. TellsFault fault Tells c.explain_fault.result in
     let Read : Fault → Type 0 = λ fault. ReadsSet (Bytes c.args.bytes.now) (Err fault) in
-    record {
-      reads = 0;
-      writes = 0;
-      told = text_fault_line c.in-Err-Text.fault ++ words;
-      reads_are = omega arith;
-      writes_are = omega arith;
-      tells = subst Told c.in-Err-Text.fault-is c.explain_fault.ensures.told.1;
-      ends = rw c.explain_fault.ensures.status
-          (text_ends c.args.bytes.now words _ c.in-Err-Text.fault
-          (subst Read c.in-Err-Text.field-0-is c.in-Err-Text.ensures.set));
-    }
+    fault_answered c.args.bytes.now _ c.in-Err-Text.fault reads _ Tells c.explain_fault.result
+    (subst Read c.in-Err-Text.field-0-is c.in-Err-Text.ensures.set)
+    (subst Told c.in-Err-Text.fault-is c.explain_fault.ensures)
 
 pub returns-in-Err : goal.returns-in-Err
 returns-in-Err g c = λ reads.
