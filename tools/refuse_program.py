@@ -93,10 +93,6 @@ mend it: complete a packet once, and before it is handed on
 EXPLAINED_EACH = EXPLAINED + '''
 refused V2 Unreachable driver 0 routine 2 at 6
 
-# what `explain` tells of a text that ends too early
-UNCLOSED = ('text fault 6 Unclosed line 2\n\nin driver d, line 2:\n    1  driver d\n'
-            'at fault: the text ends inside the driver\nwhat may stand there: `endd`\n')
-
 in driver d, routine gone (cancel), position 6, line 39:
     37  complete r0 CANCELLED
     38  ret void
@@ -112,6 +108,11 @@ The verifier found no memory. The program tells it as `out of memory` on standar
 error, with status 3, and says nothing of the set. No text mends it.
 see: nothing of the Kit: it is no fault of the set
 '''
+
+# what `explain` tells of a text that ends too early
+UNCLOSED = ('text fault 6 Unclosed line 2\n\nin driver d, line 2:\n    1  driver d\n'
+            'at fault: the text ends inside the driver\nwhat may stand there: `endd`\n')
+
 # words, and the whole answer: exit status, standard output, error output
 CASES = [
     ('check set', 0, ACCEPTED, ''),
