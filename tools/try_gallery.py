@@ -1,9 +1,9 @@
 #!/usr/bin/env python3
 """try_gallery.py [PROGRAM]: runs the program (crates/drvhost/out/drvhost) on each folder of gallery, and tells where it says
-anything else than what is stored there. driver.drv is a wrong driver: check.txt has what `check` says of it, and trace.txt
-what `trace --unchecked` shows with events.sched. mended.drv, where there is one, is the mended driver, which has to be
-accepted: mended.txt has its trace. Each of these texts ends with the exit status. The last line counts, and lists the rules
-and bug checks shown."""
+anything else than what is stored there. driver.drv is a wrong driver: check.txt has what `check` says of it, explain.txt
+what `explain` does, and trace.txt what `trace --unchecked` shows with events.sched. mended.drv, where there is one, is the
+mended driver, which has to be accepted: mended.txt has its trace. Each of these texts ends with the exit status. The last
+line counts, and lists the rules and bug checks shown."""
 import os, re, subprocess, sys
 
 TOP = os.path.dirname(os.path.dirname(os.path.abspath(__file__)))
@@ -19,6 +19,7 @@ def cases(folder):
     at = lambda name: os.path.join(folder, name)
     found = {
         'check.txt': ['check', at('driver.drv')],
+        'explain.txt': ['explain', at('driver.drv')],
         'trace.txt': ['trace', at('driver.drv'), at('events.sched'), '--unchecked'],
     }
     if os.path.exists(at('mended.drv')):
