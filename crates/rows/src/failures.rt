@@ -336,7 +336,7 @@ fn each_read_of_a_set_fails_in_turn(rt: HostRuntime) {
 fn each_read_of_orders_fails_in_turn(rt: HostRuntime) {
     for case in CASES.iter() {
         let calls = match case.job {
-            Job::Trace(orders, _) | Job::Host(orders) => orders.len() + 1,
+            Job::Trace(orders, _) | Job::Host(orders) => orders.len().saturating_add(1),
             Job::Check | Job::Explain(_) | Job::List => 0,
         };
         for calls in 0..calls {

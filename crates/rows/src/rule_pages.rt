@@ -104,6 +104,14 @@ fn each_rule_is_explained(rt: HostRuntime) {
     }
 }
 
+/// Whether a line goes on with a rule's word, and a space behind it.
+fn goes_on_so(line: &[u8], rule: &[u8]) -> bool {
+    match line.strip_prefix(rule) {
+        Some(rest) => rest.starts_with(b" "),
+        None => false,
+    }
+}
+
 /// Whether the set of a text is refused by the rule of this name.
 fn is_refused_by(alloc: Global, text: &str, name: &str) -> bool {
     let mut source = Reader::new(Some(text.as_bytes()));
@@ -113,7 +121,7 @@ fn is_refused_by(alloc: Global, text: &str, name: &str) -> bool {
     let told = out.into_inner();
     let rule = name.trim_end().as_bytes();
     match told.strip_prefix(b"refused ") {
-        Some(rest) => status == 1 && rest.strip_prefix(rule).is_some_and(|rest| rest[0] == b' '),
+        Some(rest) => status == 1 && goes_on_so(rest, rule),
         None => false,
     }
 }
@@ -129,7 +137,7 @@ fn is_accepted(alloc: Global, text: &str) -> bool {
 /// Every rule but that on memory has an example.
 #[test]
 fn examples_are_refused_by_their_rules(rt: HostRuntime) {
-    let mut examples = 0;
+    let mut examples: usize = 0;
     for (rule, name) in RULES.iter() {
         if let Some(
             Example {
@@ -141,7 +149,7 @@ fn examples_are_refused_by_their_rules(rt: HostRuntime) {
         {
             assert!(rt; is_refused_by(rt.alloc(), refused, name), "{name}");
             assert!(rt; is_accepted(rt.alloc(), mended), "{name}");
-            examples += 1;
+            examples = examples.saturating_add(1);
         }
     }
     assert_eq!(rt; examples, RULES.len() - 1);
