@@ -6,7 +6,7 @@ import os, re, sys
 
 TOP = os.path.dirname(os.path.dirname(os.path.abspath(__file__)))
 PAGES = 'crates/explain/src/pages.rt'
-NAMES = 'crates/report/src/words.rt'
+NAMES = 'crates/model/src/words.rt'
 DOCUMENT = 'docs/RULES.md'
 PAGE = re.compile(r'^const (\w+): Page = Page \{\n(.*?)^\};', re.M | re.S)
 TEXT = re.compile(r'\b(says|source|refused|mend|mended): "((?:[^"\\]|\\.)*)"', re.S)

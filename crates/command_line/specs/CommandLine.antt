@@ -4,7 +4,7 @@ use Rattle.clap.specs.Words.{App, Row, Rule, Text, first_of, new_app, new_rule, 
 use Rattle.clap.specs.declared.builder.ArgAction.TheVariants.{Set, SetTrue}
 use Rattle.clap.specs.declared.builder.value_parser.ValueParser.TheVariants.{Signed}
 use Rattle.interleave.specs.Line.{number_within}
-use Rattle.report.specs.Verdict.{rule_word}
+use Rattle.model.specs.Words.{rule_word}
 use Rattle.command_line.specs.declared.job.Job.{Job}
 use Rattle.command_line.specs.declared.job.Job.TheVariants.{Check, Explain, ExplainRule, List as ListJob, Version, Trace, Host}
 use Rattle.command_line.specs.declared.job.JobFault.{JobFault}

@@ -23,12 +23,13 @@ use Rattle.model.specs.Run.{Run, begun, step}
 use Rattle.model.specs.Set.{Set}
 use Rattle.model.specs.Sound.{IsSound}
 use Rattle.model.specs.Typable.{IsTypable, IsFirstFault}
+use Rattle.model.specs.Words.{rule_text}
 use Rattle.hosting.specs.Served.{HasServed}
 use Rattle.hosting.specs.Told.{all_told}
 use Rattle.report.specs.Fault.{image_fault_line, schedule_fault_line, script_fault_line, text_fault_line}
 use Rattle.report.specs.Host.{agrees_line, differs_line, left_line}
 use Rattle.report.specs.Reply.{reply_line}
-use Rattle.report.specs.Verdict.{accepted_line, certificate_line, refusal_line, rule_text}
+use Rattle.report.specs.Verdict.{accepted_line, certificate_line, refusal_line}
 use Rattle.drvhost_parts.specs.declared.fault.End.{End}
 use Rattle.drvhost_parts.specs.declared.fault.End.TheVariants.{Complete, Stopped}
 use Rattle.drvhost_parts.specs.declared.verification.Verification.{Verification}

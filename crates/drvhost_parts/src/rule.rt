@@ -1,7 +1,7 @@
 //! A rule in words.
 
 ghost use Rattle.std.specs.Prelude.{◌≡◌, ◌++◌, ℕ, IfOk, List, string_bytes};
-ghost use Rattle.report.specs.Verdict.{rule_text};
+ghost use Rattle.model.specs.Words.{rule_text};
 ghost use Rattle.drvhost_parts.specs.Answer.{IsRuleExplained};
 ghost use Rattle.drvhost_parts.specs.Device.{CanCount, Says};
 ghost use Rattle.drvhost_parts.specs.Ends.{Answers};
@@ -12,7 +12,6 @@ use crate::transfer::write_whole;
 use explain::rule_words;
 use model::abs::Rule;
 use report::fault::WRITE_FAILED;
-use report::rule::rule_text;
 use std::alloc::{AllocError, Global};
 
 /// Writes a rule by its number and name, and then what it says, with an example. The answer is the
@@ -45,7 +44,7 @@ fn page_of(alloc: Global, rule: Rule) -> Result<String, AllocError>
     ensures { IfOk result
         (λ page. (words : List ℕ) × (string_bytes page ≡ rule_text rule ++ words)) }
 {
-    let mut page = String::from_str(alloc, rule_text(rule))?;
+    let mut page = String::from_str(alloc, rule.as_str())?;
     page.push_str(rule_words(alloc, rule)?.as_str())?;
     Ok(page)
 }

@@ -2,7 +2,6 @@
 //! which have names.
 #![tactic(auto)]
 
-mod told;
 mod trouble;
 
 use asm::assemble;
@@ -13,7 +12,6 @@ use model::history::{Command, Outcome};
 use model::status::Major;
 use model::view::PacketView;
 use std::alloc::Global;
-use told::{Told, ToldOutcome};
 use trouble::Trouble;
 use verifier::{Accepted, verify};
 
@@ -34,7 +32,7 @@ fn main(rt: HostRuntime) -> Result<(), Trouble> {
 /// The set of a driver text, where it is accepted.
 fn accepted(alloc: Global, text: &[u8]) -> Result<Accepted, Trouble> {
     let set = assemble(alloc, text)?;
-    verify(alloc, set).map_err(|(_set, refusal)| Trouble::of_refusal(&refusal))
+    verify(alloc, set).map_err(|(_set, refusal)| Trouble::Refused(refusal))
 }
 
 /// A read, event by event: it is issued on thread 0, which then steps.
@@ -46,11 +44,11 @@ fn step_a_world<R: Print>(rt: &R, alloc: Global, accepted: Accepted) -> Result<(
         major: Major::Read,
         argument: 7,
     };
-    println!(rt; "issue: {}", Told(world.apply(&issue)))?;
+    println!(rt; "issue: {}", world.apply(&issue))?;
     look(rt, &world)?;
     for _ in 0..4 {
         let reply = world.apply(&Event::Step { thread: 0 });
-        println!(rt; "step: {}", Told(reply))?;
+        println!(rt; "step: {reply}")?;
     }
     look(rt, &world)
 }
@@ -86,7 +84,7 @@ fn perform_a_command<R: Print>(rt: &R, alloc: Global, accepted: Accepted) -> Res
     let entries = core.give_back(seat);
     ended?;
     match outcome {
-        Some(outcome) => println!(rt; "collected: {}", ToldOutcome(outcome))?,
+        Some(outcome) => println!(rt; "collected: {outcome}")?,
         None => println!(rt; "owed still")?,
     }
     println!(rt; "entries {entries}")?;
@@ -101,7 +99,7 @@ fn perform<R: Print>(
     taken: Taken,
 ) -> Result<(), Trouble> {
     match core.perform(seat, taken) {
-        Ok(reply) => println!(rt; "perform: {}", Told(reply))?,
+        Ok(reply) => println!(rt; "perform: {reply}")?,
         Err((LogFull, back)) => {
             let _command = back.give_up();
             return Err(Trouble::HistoryFull);
@@ -114,7 +112,7 @@ fn perform<R: Print>(
         let step = Event::Step {
             thread: seat.thread(),
         };
-        println!(rt; "step: {}", Told(core.apply(seat, step)?))?;
+        println!(rt; "step: {}", core.apply(seat, step)?)?;
     }
     Ok(())
 }

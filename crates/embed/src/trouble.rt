@@ -11,13 +11,8 @@ use verifier::Refusal;
 pub enum Trouble {
     #[error(transparent)]
     Text(#[from] AsmFault),
-    #[error("rule {rule} is broken in routine {routine} of driver {driver}, at {at}")]
-    Refused {
-        driver: u8,
-        routine: u8,
-        at: u16,
-        rule: u8,
-    },
+    #[error("refused {0}")]
+    Refused(Refusal),
     #[error("out of memory")]
     Memory,
     #[error("the seat of the thread is given out")]
@@ -26,18 +21,6 @@ pub enum Trouble {
     HistoryFull,
     #[error(transparent)]
     Output(#[from] io::Error),
-}
-
-impl Trouble {
-    /// The refusal of a set.
-    pub fn of_refusal(refusal: &Refusal) -> Trouble {
-        Trouble::Refused {
-            driver: refusal.driver,
-            routine: refusal.routine,
-            at: refusal.at,
-            rule: refusal.rule as u8,
-        }
-    }
 }
 
 impl From<LogFull> for Trouble {

@@ -1,4 +1,5 @@
 pub mod Status
+pub mod Words
 pub mod Set
 pub mod Sound
 pub mod Loops

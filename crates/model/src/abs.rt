@@ -83,7 +83,7 @@ pub struct Outs {
 }
 
 /// The rule that a driver set breaks, by its number and name.
-#[derive(Clone, Copy, PartialEq, Eq)]
+#[derive(Clone, Copy, Debug, PartialEq, Eq)]
 pub enum Rule {
     /// V1: the set has no device, or a routine is no routine.
     Malformed = 1,
@@ -142,7 +142,7 @@ impl Rule {
 
 /// Why a set is refused: the least driver, routine and position with a fault, and the least rule
 /// that is broken there.
-#[derive(Clone, Copy)]
+#[derive(Clone, Copy, Debug)]
 pub struct Refusal {
     pub driver: u8,
     pub routine: u8,

@@ -1,7 +1,6 @@
 pub mod ReadyLine
 pub mod Line
 pub mod Lines
-pub mod Number
 pub mod Reply
 pub mod Word
 pub mod Verdict

@@ -10,7 +10,7 @@ use Rattle.model.specs.declared.event.Reply.TheVariants.{Started, Stepped, Finis
 use Rattle.model.specs.declared.event.Subject.{Subject}
 use Rattle.model.specs.declared.event.Subject.TheVariants.{Packet, Lock as LockSubject, Cell}
 use Rattle.report.specs.Line.{line_of}
-use Rattle.report.specs.Number.{status_text, bug_check_text}
+use Rattle.model.specs.Words.{status_text, bug_check_text}
 
 -- a spin lock or a cell of a device: the device and the number
 abbrev pub of_device_text : OfDevice → List ℕ

@@ -14,4 +14,3 @@ pub mod rule;
 pub mod verdict;
 pub mod word;
 mod word_lines;
-mod words;

@@ -1,15 +1,14 @@
 //! The lines of a trace.
 
 ghost use Rattle.std.specs.Prelude.{◌≡◌, ◌+◌, ◌≤◌, ◌++◌, ◌∷◌, [], codes, decimal, length};
+ghost use Rattle.model.specs.Words.{bug_check_text};
 ghost use Rattle.report.specs.Lines.{HasRoom};
 ghost use Rattle.report.specs.Line.{line_of};
-ghost use Rattle.report.specs.Number.{bug_check_text};
 ghost use Rattle.report.specs.Reply.{of_device_text, reply_line, subject_words};
 
 use crate::event_number::EventNumber;
 use crate::lines::{Lines, ROOM};
 use crate::word::Word;
-use crate::words::{bug_check_text, status_text};
 use model::event::{Bug, Lock, OfDevice, Place, Reply, Subject};
 use model::status::Status;
 
@@ -62,7 +61,7 @@ impl Lines {
         self.text(b" topped ");
         self.number(packet);
         self.text(b" ");
-        self.text(status_text(status).as_bytes());
+        self.text(status.as_str().as_bytes());
         self.text(b" ");
         self.number(info);
         self.text(b"\n");
@@ -88,7 +87,7 @@ impl Lines {
     {
         self.event_number(number);
         self.text(b" bug ");
-        self.text(bug_check_text(bug.check).as_bytes());
+        self.text(bug.check.as_str().as_bytes());
         self.text(b" ");
         self.subject(bug.subject);
     }

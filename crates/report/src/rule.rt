@@ -1,9 +1,8 @@
 //! Rules by their words.
 
 ghost use Rattle.std.specs.Prelude.{◌≡◌, IfNone, IfSome};
-ghost use Rattle.report.specs.Verdict.{rule_word};
+ghost use Rattle.model.specs.Words.{rule_word};
 
-pub use crate::words::rule_text;
 use model::abs::Rule;
 
 /// The rule of a word such as `V12`, if there is one.

@@ -5,7 +5,6 @@ ghost use Rattle.report.specs.Lines.{HasRoom};
 ghost use Rattle.report.specs.Verdict.{accepted_line, certificate_line, refusal_line};
 
 use crate::lines::Lines;
-use crate::words::{rule_text, sort_text};
 use model::abs::Refusal;
 use model::set::Sort;
 
@@ -29,7 +28,7 @@ impl Lines {
         self.text(b" routine ");
         self.number(routine as u64);
         self.text(b" ");
-        self.text(sort_text(sort).as_bytes());
+        self.text(sort.as_str().as_bytes());
         self.text(b" certificate ");
         self.number(certificate as u64);
         self.text(b"\n");
@@ -47,7 +46,7 @@ impl Lines {
             rule,
         } = *refusal;
         self.text(b"refused ");
-        self.text(rule_text(rule).as_bytes());
+        self.text(rule.as_str().as_bytes());
         self.text(b" driver ");
         self.number(driver as u64);
         self.text(b" routine ");

@@ -1,6 +1,6 @@
 use Rattle.std.proofs.Common.{◌≡◌, ◌∙◌, ℕ, List, [], ◌++◌, ap, arith, codes, inl, refl}
 use Rattle.model.specs.declared.abs.Rule.{Rule}
-use Rattle.report.specs.Verdict.{rule_text}
+use Rattle.model.specs.Words.{rule_text}
 use Rattle.drvhost_parts.specs.Answer.{IsRuleExplained, ended}
 use Rattle.drvhost_parts.specs.declared.fault.End.TheVariants.{Complete}
 use Rattle.drvhost_parts.specs.declared.fault.Fault.TheVariants.{Memory}

@@ -14,4 +14,4 @@ returns c =
       c.number.ensures.added,
       c.text.ensures.added,
     )
-    (simp (append_assoc, c.sort_text.ensures, c.as_bytes.ensures.value) refl)
+    (simp (append_assoc, c.as_str.ensures, c.as_bytes.ensures.value) refl)

@@ -13,4 +13,4 @@ returns c =
       c.text.ensures.added,
       c.event_number.ensures.added,
     )
-    (simp (append_assoc, c.status_text.ensures, c.as_bytes.ensures.value) refl)
+    (simp (append_assoc, c.as_str.ensures, c.as_bytes.ensures.value) refl)
