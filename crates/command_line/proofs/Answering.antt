@@ -3,7 +3,7 @@ use Rattle.std.proofs.Common.{◌≡◌, ◌≢◌, ◌∙◌, ◌⊎◌, ap, �
 use Rattle.std.proofs.KnownBytes.{Appends-nil, Keeps-refl}
 use Rattle.clap.specs.Words.{Text, subcommand_of, takes}
 use Rattle.drvhost_parts.specs.Answer.{Answer}
-use Rattle.drvhost_parts.specs.Device.{Bytes, Closed, Holds, IsSuppliedAs, Supply, Unknown}
+use Rattle.drvhost_parts.specs.Device.{Bytes, Closed, Holds, IsSuppliedAs, MayBeClosed, Supply, Unknown}
 use Rattle.drvhost_parts.specs.Ends.{Answers, Ends, HoldsRun, IsCheckOf, IsExplainedOf, IsHostOf, IsListOf, IsTraceOf, OutOfMemory, ReadFailed, Rightly, WriteFailed}
 use Rattle.drvhost_parts.specs.declared.verification.Verification.{Verification}
 use Rattle.command_line.specs.declared.job.Job.{Job}
@@ -92,6 +92,13 @@ pub run_known : {A : Type 0} (v : Verification) (known supply : Supply)
 run_known v known supply h (inl a) never = absurd (never a)
 run_known v known supply h (inr (bytes, holds, right)) never =
     (bytes, holds_known known supply bytes h holds, right)
+
+-- a file that is closed may be so, for what is known of it
+pub closed_known : (known supply : Supply) → IsSuppliedAs known supply → supply ≡ Closed
+    → MayBeClosed known
+closed_known Unknown supply h closed = tt
+closed_known Closed supply h closed = tt
+closed_known (Bytes held) supply h closed = cc
 
 -- a file that wasn't opened yet has what its name is known to have
 pub unopened : {A N M : Type 0} (f : A → Supply) (k : N → M → Supply) (a c : N) (b d : M)

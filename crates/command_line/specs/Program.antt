@@ -4,8 +4,8 @@ use Rattle.std.specs.Global.{Global, Vec}
 use Rattle.std.specs.declared.io.ErrorKind.{ErrorKind}
 use Rattle.std.specs.declared.io.ErrorKind.TheVariants.{OutOfMemory}
 use Rattle.clap.specs.Words.{Text, fault_of, subcommand_of, takes}
-use Rattle.drvhost_parts.specs.Answer.{Answer, IsRuleExplained, IsVersion}
-use Rattle.drvhost_parts.specs.Device.{Supply}
+use Rattle.drvhost_parts.specs.Answer.{Answer, IsRuleExplained, IsUnopened, IsVersion}
+use Rattle.drvhost_parts.specs.Device.{MayBeClosed, Supply}
 use Rattle.drvhost_parts.specs.declared.verification.Verification.{Verification}
 use Rattle.drvhost_parts.specs.declared.verification.Verification.TheVariants.{Required}
 use Rattle.drvhost_parts.specs.Ends.{HoldsRun, IsCheckOf, IsExplainedOf, IsHostOf, IsListOf, IsTraceOf}
@@ -25,12 +25,17 @@ abbrev pub verification_of : Way → Verification
 verification_of (BySchedule verification) = verification
 verification_of (ByWorkers workers) = Required
 
+-- what is right for what the file of a name has, or where it can't be opened: its name is told
+abbrev pub IsOfNamed : (Supply → Answer → Type 0) → (List ℕ → Supply) → List ℕ → Answer → Type 0
+IsOfNamed Right supply name answer =
+    Right (supply name) answer ⊎ (MayBeClosed (supply name) × IsUnopened name answer)
+
 -- what is right for a job, where the files of these names have this to give
 abbrev pub IsJobOf : (List ℕ → Supply) → Job → Answer → Type 0
 IsJobOf supply (Check set) answer = IsCheckOf (supply set.now) answer
-IsJobOf supply (Explain set extent) answer = IsExplainedOf (supply set.now) answer
+IsJobOf supply (Explain set extent) answer = IsOfNamed IsExplainedOf supply set.now answer
 IsJobOf supply (ExplainRule rule) answer = IsRuleExplained rule answer
-IsJobOf supply (ListJob set) answer = IsListOf (supply set.now) answer
+IsJobOf supply (ListJob set) answer = IsOfNamed IsListOf supply set.now answer
 IsJobOf supply Version answer = IsVersion answer
 IsJobOf supply (Trace set schedule verification) answer =
     IsTraceOf verification (supply set.now) (supply schedule.now) answer

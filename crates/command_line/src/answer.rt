@@ -1,7 +1,7 @@
 //! What the program answers.
 
 ghost use Rattle.std.specs.Prelude.{◌≡◌, ◌+◌, ◌<◌, ◌^◌, ◌⊎◌, ℕ, List, Option, drop, map, string_bytes};
-ghost use Rattle.command_line.specs.Program.{IsAnswerTo, IsAnswerToLost, IsJobOf, IsProgram, IsRunBy, Opens, OpensFor, OpensToTrace, ProgramOpens, verification_of};
+ghost use Rattle.command_line.specs.Program.{IsAnswerTo, IsAnswerToLost, IsJobOf, IsOfNamed, IsProgram, IsRunBy, Opens, OpensFor, OpensToTrace, ProgramOpens, verification_of};
 ghost use Rattle.drvhost_parts.specs.Device.{CanCount, Says};
 ghost use Rattle.drvhost_parts.specs.Ends.{Answers, HoldsRun, IsCheckOf, IsExplainedOf, IsListOf};
 
@@ -14,6 +14,7 @@ use drvhost_parts::host::host;
 use drvhost_parts::list::list;
 use drvhost_parts::rule::explain_rule;
 use drvhost_parts::trace::trace;
+use drvhost_parts::unopened::tell_unopened;
 use drvhost_parts::verification::Verification;
 use drvhost_parts::version::version;
 use std::alloc::Global;
@@ -182,7 +183,7 @@ fn check_file<F: Files, O: Sink, E: Sink>(
     status
 }
 
-/// Judges the set of a file, and explains the verdict.
+/// Judges the set of a file, and explains the verdict. A file that can't be opened is named.
 fn explain_file<F: Files, O: Sink, E: Sink>(
     alloc: Global,
     extent: Extent,
@@ -195,7 +196,7 @@ fn explain_file<F: Files, O: Sink, E: Sink>(
     requires files { CanCount (F.failures files.old) }
     requires out { CanCount (O.failures out.old) }
     requires err { CanCount (E.failures err.old) }
-    ensures answers { Answers (IsExplainedOf (F.supply files.old set.now))
+    ensures answers { Answers (IsOfNamed IsExplainedOf (F.supply files.old) set.now)
         (F.failures files.old) (F.failures files.new) (O.failures out.old) (O.failures out.new)
         (O.contents out.old) (O.contents out.new)
         (Says (E.failures err.old) (E.failures err.new) (E.contents err.old) (E.contents err.new))
@@ -203,12 +204,16 @@ fn explain_file<F: Files, O: Sink, E: Sink>(
     ensures opened { F.opened files.new ≡ F.opened files.old + 1 }
 {
     let mut file = files.open(set);
+    if files.is_closed(&file) {
+        files.close(file);
+        return tell_unopened(alloc, set, err);
+    }
     let status = explain(alloc, extent, &mut file, out, err);
     files.close(file);
     status
 }
 
-/// Writes the listing of the set of a file.
+/// Writes the listing of the set of a file. One that can't be opened is named.
 fn list_file<F: Files, O: Sink, E: Sink>(
     alloc: Global,
     set: &str,
@@ -220,7 +225,7 @@ fn list_file<F: Files, O: Sink, E: Sink>(
     requires files { CanCount (F.failures files.old) }
     requires out { CanCount (O.failures out.old) }
     requires err { CanCount (E.failures err.old) }
-    ensures answers { Answers (IsListOf (F.supply files.old set.now))
+    ensures answers { Answers (IsOfNamed IsListOf (F.supply files.old) set.now)
         (F.failures files.old) (F.failures files.new) (O.failures out.old) (O.failures out.new)
         (O.contents out.old) (O.contents out.new)
         (Says (E.failures err.old) (E.failures err.new) (E.contents err.old) (E.contents err.new))
@@ -228,6 +233,10 @@ fn list_file<F: Files, O: Sink, E: Sink>(
     ensures opened { F.opened files.new ≡ F.opened files.old + 1 }
 {
     let mut file = files.open(set);
+    if files.is_closed(&file) {
+        files.close(file);
+        return tell_unopened(alloc, set, err);
+    }
     let status = list(alloc, &mut file, out, err);
     files.close(file);
     status

@@ -1,7 +1,7 @@
 //! Files by their names.
 
-ghost use Rattle.std.specs.Prelude.{◌≡◌, ◌+◌, ◌<◌, ◌^◌, ℕ, List, None, Option};
-ghost use Rattle.drvhost_parts.specs.Device.{IsSuppliedAs, Supply, Unknown};
+ghost use Rattle.std.specs.Prelude.{◌≡◌, ◌+◌, ◌<◌, ◌^◌, ◌↔◌, ℕ, IsTrue, List, None, Option};
+ghost use Rattle.drvhost_parts.specs.Device.{Closed, IsSuppliedAs, Supply, Unknown};
 ghost use Rattle.command_line.specs.Files.{failures_of, supply_of};
 
 use drvhost_parts::device::{Failed, Reader, Source};
@@ -26,6 +26,10 @@ pub trait Files {
     fn open(&self, name: &str) -> Self::File
         ensures supply { IsSuppliedAs (supply self.now name.now) (Self.File.supply result) }
         ensures unread { Self.File.failures result ≡ 0 };
+
+    /// Whether a file is closed, since it can't be opened.
+    fn is_closed(&self, file: &Self::File) -> bool
+        ensures { IsTrue result ↔ (Self.File.supply file.now ≡ Closed) };
 
     /// Takes a file back.
     fn close(&mut self, file: Self::File)
@@ -68,6 +72,10 @@ impl<R: fs::Files> Files for Disk<'_, R> {
 
     fn open(&self, name: &str) -> Reader<R::File> {
         Reader::new(File::open(self.system, name).ok())
+    }
+
+    fn is_closed(&self, file: &Reader<R::File>) -> bool {
+        file.is_closed()
     }
 
     fn close(&mut self, file: Reader<R::File>) {

@@ -26,7 +26,7 @@ use Rattle.model.specs.Typable.{IsTypable, IsFirstFault}
 use Rattle.model.specs.Words.{rule_text}
 use Rattle.hosting.specs.Served.{HasServed}
 use Rattle.hosting.specs.Told.{all_told}
-use Rattle.report.specs.Fault.{image_fault_line, schedule_fault_line, script_fault_line, text_fault_line}
+use Rattle.report.specs.Fault.{image_fault_line, schedule_fault_line, script_fault_line, text_fault_line, unopened_line}
 use Rattle.report.specs.Host.{agrees_line, differs_line, left_line}
 use Rattle.report.specs.Reply.{reply_line}
 use Rattle.report.specs.Verdict.{accepted_line, certificate_line, refusal_line}
@@ -53,6 +53,10 @@ ended end text = record { status = end_status end; output = text; told = [] }
 -- an input is faulty, and this line tells it
 abbrev pub faulty : List ℕ → Answer
 faulty line = record { status = 2; output = []; told = line }
+
+-- a file that can't be opened is told by its name
+abbrev pub IsUnopened : List ℕ → Answer → Type 0
+IsUnopened name answer = answer ≡ faulty (unopened_line name)
 
 -- a line for each routine of a driver, the first of which has this number
 abbrev pub routine_lines : Set → ℕ → ℕ → List Routine → List ℕ

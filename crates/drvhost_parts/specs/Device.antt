@@ -23,6 +23,12 @@ Holds Unknown bytes = ⊤
 Holds Closed bytes = ⊥
 Holds (Bytes held) bytes = bytes ≡ held
 
+-- a source may be closed, for what is known of it
+abbrev pub MayBeClosed : Supply → Type 0
+MayBeClosed Unknown = ⊤
+MayBeClosed Closed = ⊤
+MayBeClosed (Bytes held) = ⊥
+
 -- the bytes, where they are known
 abbrev pub known_bytes : Supply → Option (List ℕ)
 known_bytes Unknown = None

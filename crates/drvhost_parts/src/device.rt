@@ -1,8 +1,8 @@
 //! What the program reads from and writes to.
 
-ghost use Rattle.std.specs.Prelude.{◌≡◌, ◌≤◌, ◌<◌, ℕ, IfOk, List, Option, length};
+ghost use Rattle.std.specs.Prelude.{◌≡◌, ◌≤◌, ◌<◌, ◌↔◌, ℕ, IfOk, IsTrue, List, Option, length};
 ghost use Rattle.std.specs.Io.KnownBytes.{WriteAppends};
-ghost use Rattle.drvhost_parts.specs.Device.{CanCount, Counts, Reads, Supply, supply_of};
+ghost use Rattle.drvhost_parts.specs.Device.{CanCount, Closed, Counts, Reads, Supply, supply_of};
 
 use std::io::{Read, Write};
 
@@ -69,6 +69,13 @@ impl<R: Read> Reader<R> {
             reader,
             failures: 0,
         }
+    }
+
+    /// Whether there is no reader, so that each read fails.
+    pub fn is_closed(&self) -> bool
+        ensures { IsTrue result ↔ (⟦<Reader<R> as Source>⟧.supply self.now ≡ Closed) }
+    {
+        self.reader.is_none()
     }
 }
 

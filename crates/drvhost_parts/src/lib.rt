@@ -17,5 +17,6 @@ mod running;
 mod task;
 pub mod trace;
 mod transfer;
+pub mod unopened;
 pub mod verification;
 pub mod version;

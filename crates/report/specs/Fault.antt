@@ -84,3 +84,7 @@ schedule_fault_line fault = codes "schedule" ++ kind_and_line fault
 -- the line of a fault of a script
 abbrev pub script_fault_line : ScheduleFault → List ℕ
 script_fault_line fault = codes "script" ++ kind_and_line fault
+
+-- the line of an input that can't be opened, by its name
+abbrev pub unopened_line : List ℕ → List ℕ
+unopened_line name = codes "cannot read " ++ (name ++ 10 ∷ [])

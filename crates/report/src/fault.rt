@@ -10,7 +10,9 @@ use asm::{AsmFault, AsmKind};
 use image::ImageFault;
 use interleave::schedule::{ScheduleFault, ScheduleKind};
 
-/// A read failed, or an input can't be opened.
+/// An input can't be opened; its name follows.
+pub const CANNOT_READ: &str = "cannot read ";
+/// A read failed.
 pub const READ_FAILED: &str = "read failed\n";
 /// A write failed.
 pub const WRITE_FAILED: &str = "write failed\n";

@@ -1,11 +1,26 @@
-use Rattle.std.proofs.Common.{arith}
+use Rattle.std.proofs.Common.{arith, inl, inr}
+use Rattle.drvhost_parts.specs.Answer.{IsUnopened}
 use Rattle.drvhost_parts.specs.Ends.{IsListOf}
-use Rattle.command_line.proofs.Answering.{answers_rightly, list_known}
+use Rattle.command_line.specs.Program.{IsOfNamed}
+use Rattle.command_line.proofs.Answering.{answers_rightly, closed_known, list_known}
 use Rattle.command_line.proofs.answer.list_file.Goals as goal
+
+pub returns-then-is_closed-clause-answers : goal.returns-then-is_closed-clause-answers
+returns-then-is_closed-clause-answers g c =
+    let known = g.F.Files.supply c.args.files.now in
+    let name = c.args.set.now in
+    let closed = c.is_closed.ensures.0 c.if-is_closed.true in
+    answers_rightly (IsUnopened name) (IsOfNamed IsListOf known name) _ _ _ _ _ _ _ _ _ _
+    (c.tell_unopened.ensures (g.F.Files.failures c.args.files.now) _ _)
+    (λ answer right. inr (closed_known (known name) _ c.open-file.ensures.supply closed, right))
+    (omega (arith, c.close.ensures.failures, c.open-file.ensures.unread))
 
 pub returns-clause-answers : goal.returns-clause-answers
 returns-clause-answers g c =
     let supply = g.F.File.Source.supply c.open-file.result in
-    let known = g.F.Files.supply c.args.files.now c.args.set.now in
-    answers_rightly (IsListOf supply) (IsListOf known) _ _ _ _ _ _ _ _ _ _
-    c.list-status.ensures (list_known known supply c.open-file.ensures.supply) (omega arith)
+    let known = g.F.Files.supply c.args.files.now in
+    let name = c.args.set.now in
+    answers_rightly (IsListOf supply) (IsOfNamed IsListOf known name) _ _ _ _ _ _ _ _ _ _
+    c.list-status.ensures
+    (λ answer right. inl (list_known (known name) supply c.open-file.ensures.supply answer right))
+    (omega (arith, c.close-2.ensures.failures, c.open-file.ensures.unread))
