@@ -24,7 +24,8 @@ impl Lesson {
 pub(crate) fn lesson_of(rule: Rule, instr: &Instr, sort: Sort, state: Option<&Abs>) -> Lesson {
     match rule {
         Rule::Malformed => malformed(instr),
-        Rule::Unreachable | Rule::StatesDiffer | Rule::TooLong | Rule::Memory => of_paths(rule),
+        Rule::StatesDiffer => of_meetings(instr),
+        Rule::Unreachable | Rule::TooLong | Rule::Memory => of_paths(rule),
         Rule::WrongKind => of_kinds(instr, state),
         Rule::DoubleCompletion | Rule::Dropped => of_registers(rule, instr),
         Rule::MarkIrpPending => of_marks(instr, state),
@@ -73,11 +74,6 @@ fn of_paths(rule: Rule) -> Lesson {
             "this bytecode's form",
             "take it out, or jump to it",
         ),
-        Rule::StatesDiffer => Lesson::of(
-            "what is known where the paths meet isn't the same on both",
-            "the Driver Kit on completion: a packet is completed on each path or on none",
-            "let both paths do the same with packets and locks, and `clear` registers that differ",
-        ),
         Rule::TooLong => Lesson::of(
             "an activation may execute more than 1,000,000 instructions",
             "this project's limit",
@@ -87,6 +83,22 @@ fn of_paths(rule: Rule) -> Lesson {
             "memory ran out before there was a verdict",
             "this project's limit",
             "try again with more memory",
+        ),
+    }
+}
+
+/// The rule on places where paths meet.
+fn of_meetings(instr: &Instr) -> Lesson {
+    match instr {
+        Instr::End => Lesson::of(
+            "what is known at the end of the loop isn't what was known where it began",
+            "this bytecode's form: each turn of a loop begins like the first",
+            "finish in a turn with the packets and locks that it takes, and `clear` what it sets",
+        ),
+        _ => Lesson::of(
+            "what is known where the paths meet isn't the same on both",
+            "the Driver Kit on completion: a packet is completed on each path or on none",
+            "let both paths do the same with packets and locks, and `clear` registers that differ",
         ),
     }
 }
@@ -143,7 +155,7 @@ fn of_marks(instr: &Instr, state: Option<&Abs>) -> Lesson {
             source,
             "complete it with its final status",
         ),
-        Instr::Ret(_) => of_returned_status(state),
+        Instr::Ret(returned) => of_returned_status(*returned, state),
         _ => Lesson::of(
             "the packet wasn't marked before it is kept or started",
             source,
@@ -153,21 +165,31 @@ fn of_marks(instr: &Instr, state: Option<&Abs>) -> Lesson {
 }
 
 /// The rule on the status that is returned.
-fn of_returned_status(state: Option<&Abs>) -> Lesson {
+fn of_returned_status(returned: Return, state: Option<&Abs>) -> Lesson {
     let source = "Static Driver Verifier, MarkIrpPending; \"Returning STATUS_PENDING\"";
-    match state.map(|state| state.duty) {
-        Some(Duty::Pending) => Lesson::of(
+    match (returned, state.map(|state| state.duty)) {
+        (_, Some(Duty::Pending)) => Lesson::of(
             "the packet was marked, so another status than STATUS_PENDING is wrong",
             source,
             "`ret PENDING`",
         ),
-        Some(Duty::GivenDown) => Lesson::of(
+        (_, Some(Duty::GivenDown)) => Lesson::of(
             "the packet was sent down unmarked, so the lower driver's status is returned",
             source,
             "`ret lower` with the register that `pass` or `call` left",
         ),
+        (Return::Lower(_), _) => Lesson::of(
+            "a lower driver's status is returned for a packet that wasn't sent down",
+            source,
+            "return the status that the packet is completed with",
+        ),
+        (_, Some(Duty::Fresh)) => Lesson::of(
+            "STATUS_PENDING is returned for a packet that wasn't marked",
+            source,
+            "`mark` the packet and put it into a queue first, or complete it and return its status",
+        ),
         _ => Lesson::of(
-            "STATUS_PENDING or a lower driver's status is returned for a packet that it isn't of",
+            "STATUS_PENDING is returned for a packet that was completed and not marked",
             source,
             "`mark` the packet before it is completed, or return the status of its completion",
         ),

@@ -163,9 +163,9 @@ what is known where it arrives:
   owed: the packet that was handed in, with which nothing was done
 what differs:
   r1: blank on the first path, and on the second a number
-why: what is known where the paths meet isn't the same on both
-see: the Driver Kit on completion: a packet is completed on each path or on none
-mend it: let both paths do the same with packets and locks, and `clear` registers that differ
+why: what is known at the end of the loop isn't what was known where it began
+see: this bytecode's form: each turn of a loop begins like the first
+mend it: finish in a turn with the packets and locks that it takes, and `clear` what it sets
 ",
     err: "",
 };
@@ -233,9 +233,9 @@ what is known where it arrives:
   r0: the packet as it was handed in
   r1: a number
   owed: the packet that was handed in, with which nothing was done
-why: STATUS_PENDING or a lower driver's status is returned for a packet that it isn't of
+why: STATUS_PENDING is returned for a packet that wasn't marked
 see: Static Driver Verifier, MarkIrpPending; \"Returning STATUS_PENDING\"
-mend it: `mark` the packet before it is completed, or return the status of its completion
+mend it: `mark` the packet and put it into a queue first, or complete it and return its status
 ",
     err: "",
 };
