@@ -4,6 +4,7 @@
 //! code, which takes what memory it needs and writes nothing itself.
 #![tactic(auto)]
 
+mod devices;
 mod history;
 mod kinds;
 mod names;

@@ -46,7 +46,7 @@ impl Scene<'_> {
         add_name(prose, self.names.driver.as_ref(), "driver", driver)?;
         prose.push_str(", ")?;
         self.names.add_routine(prose, routine)?;
-        write!(prose, " ({})", sort_word(self.sort))?;
+        write!(prose, " ({})", self.sort.as_str())?;
         match self.line_at(at) {
             Some(line) => {
                 write!(prose, ", position {at}, line {line}:\n")?;
@@ -54,17 +54,5 @@ impl Scene<'_> {
             }
             None => write!(prose, ", position {at}\n"),
         }
-    }
-}
-
-/// The word of a sort.
-pub(crate) fn sort_word(sort: Sort) -> &'static str {
-    match sort {
-        Sort::Dispatch => "dispatch",
-        Sort::StartIo => "startio",
-        Sort::Dpc => "dpc",
-        Sort::Propagate => "propagate",
-        Sort::Hold => "hold",
-        Sort::Cancel => "cancel",
     }
 }

@@ -3,10 +3,11 @@
 ghost use Rattle.std.specs.Prelude.{◌≡◌, ◌⊎◌};
 ghost use Rattle.model.specs.Typable.{IsFirstFault, IsFirstFaultOf, at_start};
 
+use crate::devices::add_devices;
 use crate::history::{add_blanking, add_loops};
 use crate::names::Names;
 use crate::path::add_path;
-use crate::place::{Scene, sort_word};
+use crate::place::Scene;
 use crate::rules::{Lesson, lesson_of, not_entered, of_set};
 use crate::state::{add_differences, add_state};
 use absstate::Abs;
@@ -40,7 +41,7 @@ pub fn explanation(
     };
     if let Some(routine) = routine_of(set, refusal) {
         let scene = scene_of(alloc, text, refusal, routine)?;
-        add_evidence(alloc, &mut prose, &scene, routine, &evidence)?;
+        add_evidence(alloc, &mut prose, &scene, set, routine, &evidence)?;
     }
     Ok(prose)
 }
@@ -105,7 +106,7 @@ fn add_faults(
                     at: fault.at,
                     rule: fault.rule,
                 };
-                let words = fault_words(alloc, text, subject, routine, &refusal)?;
+                let words = fault_words(alloc, text, set, subject, routine, &refusal)?;
                 all.push(Told { refusal, words })?;
             }
         }
@@ -118,6 +119,7 @@ fn add_faults(
 fn fault_words(
     alloc: Global,
     text: &[u8],
+    set: &DriverSet,
     subject: Subject<'_>,
     routine: &Routine,
     refusal: &Refusal,
@@ -127,7 +129,7 @@ fn fault_words(
     let mut prose = String::new(alloc);
     let evidence = evidence_at(alloc, subject, refusal.at, refusal.rule)?;
     let scene = scene_of(alloc, text, refusal, routine)?;
-    add_evidence(alloc, &mut prose, &scene, routine, &evidence)?;
+    add_evidence(alloc, &mut prose, &scene, set, routine, &evidence)?;
     Ok(prose)
 }
 
@@ -161,6 +163,7 @@ fn add_evidence(
     alloc: Global,
     prose: &mut String,
     scene: &Scene<'_>,
+    set: &DriverSet,
     routine: &Routine,
     evidence: &Evidence,
 ) -> Result<(), AllocError> {
@@ -170,9 +173,7 @@ fn add_evidence(
         Evidence::NotEntered => add_lesson(prose, not_entered()),
         Evidence::Broken(path) => {
             add_arrival(prose, scene, "a path there:\n", path)?;
-            if matches!(scene.refusal.rule, Rule::WrongKind | Rule::DoubleCompletion) {
-                add_blanking(prose, scene, routine.code.as_slice(), path)?;
-            }
+            add_details(prose, scene, set, routine, path)?;
             add_why(prose, scene, routine, Some(&path.last.state))
         }
         Evidence::TooLong(path, count) => {
@@ -196,6 +197,25 @@ fn add_evidence(
             add_differences(prose, &scene.names, &start.last.state, &end.last.state)?;
             add_why(prose, scene, routine, None)
         }
+    }
+}
+
+/// Adds where a blank register went blank, or which devices a rule on devices is about.
+fn add_details(
+    prose: &mut String,
+    scene: &Scene<'_>,
+    set: &DriverSet,
+    routine: &Routine,
+    path: &Path,
+) -> Result<(), AllocError> {
+    let code = routine.code.as_slice();
+    match scene.refusal.rule {
+        Rule::WrongKind | Rule::DoubleCompletion => add_blanking(prose, scene, code, path),
+        Rule::StackTooSmall | Rule::NoLower => match code.get(path.last.at as usize) {
+            Some(instr) => add_devices(prose, scene, set, instr),
+            None => Ok(()),
+        },
+        _ => Ok(()),
     }
 }
 
@@ -265,7 +285,7 @@ fn add_roll(
         crate::names::add_name(prose, names.driver.as_ref(), "driver", number)?;
         prose.push_str(", ")?;
         names.add_routine(prose, place)?;
-        write!(prose, " ({})\n", sort_word(routine.sort))?;
+        write!(prose, " ({})\n", routine.sort.as_str())?;
         place = place.saturating_add(1);
     }
     Ok(())
