@@ -69,6 +69,8 @@ mod schedules;
 #[cfg(test)]
 mod scripts;
 #[cfg(test)]
+mod shown;
+#[cfg(test)]
 mod stacks;
 #[cfg(test)]
 mod texts;
