@@ -76,6 +76,13 @@ names_stay (Arm r old) routine queue none = cc
 names_stay (Call r old) routine queue none = cc
 names_stay _ routine queue none = refl
 
+-- what names nothing is linked as it is
+pub bare_resolved : (labels : List (List ℕ)) (positions : List ℕ) (s : Step) → s.label ≡ None
+    → s.call ≡ None → s.queue ≡ None → is_bare s.instr ≡ true
+    → bare_link s.instr ≡ resolved labels positions s
+bare_resolved labels positions s label call queue bare =
+    rw (label, call, queue, label_stays s.instr 0 bare) refl
+
 -- a routine that is closed begins with what named nothing
 bare_linked : (labels : List (List ℕ)) (positions : List ℕ) (is : List Instr)
     (rest : List Step) → AreBare is

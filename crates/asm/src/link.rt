@@ -1,6 +1,6 @@
 //! The labels of a routine put in place of their names, once all of them are known.
 
-ghost use Rattle.std.specs.Prelude.{◌≡◌, ◌++◌, IfOk, map, Some};
+ghost use Rattle.std.specs.Prelude.{◌≡◌, ◌++◌, [], ◌∷◌, IfOk, OnOk, map, Some};
 ghost use Rattle.asm.specs.Outline.{earliest, missed, missed_from, resolved, target_position, with_label};
 
 use crate::code::{Closed, ClosedCode, is_bare};
@@ -29,16 +29,38 @@ pub fn linked(
     let mut code = before;
     let mut missed = found;
     for step in steps {
-        let instr = labelled(labels, positions, step, &mut missed);
-        code.push(instr, step.call, step.queue)?;
+        link(&mut code, labels, positions, step, &mut missed)?;
     }
     Ok(Closed { code, missed })
 }
 
-/// The instruction of a step with the position of its label; a line that uses one which isn't there
-/// is noted. Most have none, and are copied whole.
+/// Adds an instruction with the position of its label; a line that uses one which isn't there is
+/// noted. Most name nothing, and are copied whole.
 #[inline(always)]
-#[tactic(auto, using(crate::proofs::Bare::label_stays, crate::proofs::Orderly::Names::earliest_none))]
+#[tactic(auto, using(crate::proofs::Bare::bare_resolved, crate::proofs::Orderly::Names::earliest_none))]
+fn link(
+    code: &mut ClosedCode,
+    labels: &IndexSet<Piece<'_>>,
+    positions: &[u16],
+    step: &Step<'_>,
+    found: &mut Option<u64>,
+) -> Result<(), AllocError>
+    ensures code { OnOk result
+        (code.new ≡ code.old ++ resolved labels.now.keys positions.now step.now ∷ []) }
+    ensures missed { OnOk result
+        (found.new ≡ earliest found.old (missed labels.now.keys step.now.label)) }
+{
+    let named = step.label.is_some() || step.call.is_some() || step.queue.is_some();
+    if !named && is_bare(&step.instr) {
+        return code.push(step.instr, None, None);
+    }
+    let instr = labelled(labels, positions, step, found);
+    code.push(instr, step.call, step.queue)
+}
+
+/// The instruction of a step with the position of its label; a line that uses one which isn't there
+/// is noted.
+#[tactic(auto, using(crate::proofs::Orderly::Names::earliest_none))]
 fn labelled(
     labels: &IndexSet<Piece<'_>>,
     positions: &[u16],
@@ -51,7 +73,6 @@ fn labelled(
 {
     match &step.label {
         Some(used) => jump(step.instr, labels, positions, used, found),
-        None if is_bare(&step.instr) => step.instr,
         None => with_label(step.instr, 0),
     }
 }

@@ -1,4 +1,4 @@
-use Rattle.std.proofs.Common.{◌≡◌, ◌∙◌, List, ap, map}
+use Rattle.std.proofs.Common.{◌∙◌, List, ap, map}
 use Rattle.asm.specs.declared.draft.Step.{Step}
 use Rattle.asm.specs.Outline.{resolved}
 use Rattle.asm.proofs.Bare.{linked_behind}
