@@ -1,11 +1,14 @@
 -- The registers that a release goes over, one by one.
-use Rattle.std.proofs.Common.{◌≡◌, ◌∙◌, ◌+◌, ◌<◌, ◌≤◌, ◌++◌, ℕ, suc, List, [], ◌∷◌, length, take, set, get_or, sym, ap, arith}
+use Rattle.std.proofs.Common.{◌≡◌, ◌∙◌, ◌+◌, ◌<◌, ◌≤◌, ◌++◌, ℕ, suc, List, [], ◌∷◌, length, take, set, get_or, false, refl, sym, ap, arith}
 use Rattle.std.specs.Prelude.{drop}
 use Rattle.std.proofs.Math.Seq.{drop-cons}
 use Rattle.std.proofs.lemmas.List.{take_more_set, drop-set-lt, append_assoc, append-nil, take_all, drop_all}
+use Rattle.std.specs.List.{list_any}
 use Rattle.model.specs.declared.abs.Kind.{Kind}
+use Rattle.model.specs.declared.abs.Kind.TheVariants.{Armed}
 use Rattle.model.specs.Kinds.{let_go, all_let_go}
 use Rattle.model.specs.Set.{Set}
+use Rattle.absstate.specs.Releasing.{has_routine_set}
 
 -- one register more is let go
 pub let_go_next : (s : Set) (driver lock : ℕ) (kinds first : List Kind) (i : ℕ) (d new : Kind)
@@ -38,3 +41,11 @@ let_go_over s driver lock kinds first i over before =
     ∙ ap (λ (xs : List Kind). kinds ++ all_let_go s driver lock xs) (drop_all i kinds over)
     ∙ append-nil kinds)
     ∙ before
+
+-- where no packet's cancel routine is set, nothing is let go
+pub none_let_go : (s : Set) (driver lock : ℕ) (kinds : List Kind)
+    → list_any has_routine_set kinds ≡ false → kinds ≡ all_let_go s driver lock kinds
+none_let_go s driver lock [] none = refl
+none_let_go s driver lock (Armed name ∷ kinds) none = cc
+none_let_go s driver lock (kind ∷ kinds) none =
+    ap (λ (rest : List Kind). kind ∷ rest) (none_let_go s driver lock kinds none)

@@ -1,10 +1,13 @@
 -- Two numbers tell a kind.
-use Rattle.std.proofs.Common.{◌≡◌, ℕ, refl, sym, ◌∙◌, ap}
+use Rattle.std.proofs.Common.{◌≡◌, ℕ, suc, ◌<◌, ◌≤◌, Bool, true, false, ◌&&◌, ◌||◌, List, [], ◌∷◌, length, drop, get_or, eq-eqb, eqb-true, refl, sym, subst, ◌∙◌, ap}
+use Rattle.std.proofs.Math.Seq.{drop-cons}
+use Rattle.std.proofs.lemmas.List.{drop_all}
+use Rattle.std.specs.List.{list_any}
 use Rattle.std.specs.Prelude.{nat_eq, if◌then◌else◌}
 use Rattle.model.specs.declared.abs.Kind.{Kind}
 use Rattle.model.specs.declared.abs.Kind.TheVariants.{Blank, Num, Lower, New, Own, Listed, Armed, Taken, Cancelling, View}
 use Rattle.model.specs.declared.set.QueueName.TheVariants.{Declared}
-use Rattle.absstate.specs.Same.{queue_number, shape}
+use Rattle.absstate.specs.Same.{has_list, queue_number, same_queues, same_shapes, shape}
 
 -- the kind of these numbers
 abbrev kind_of_numbers : ℕ → ℕ → Kind
@@ -37,5 +40,105 @@ same_kind a b shapes queues =
     ∙ (ap (λ (s : ℕ). kind_of_numbers s (queue_number a)) shapes
     ∙ (ap (λ (q : ℕ). kind_of_numbers (shape b) q) queues ∙ told b))
 
-pub other_kind : (a b : Kind) → a ≡ b → (shape a ≡ shape b) × (queue_number a ≡ queue_number b)
-other_kind a b same = record { 0 = ap shape same; 1 = ap queue_number same }
+-- two lists of kinds by these numbers
+truth : (a b : Bool) → (a && b) ≡ true → (a ≡ true) × (b ≡ true)
+truth true true both = record { 0 = refl; 1 = refl }
+truth true false both = cc
+truth false b both = cc
+
+pub kinds_same : (xs ys : List Kind) → same_shapes xs ys ≡ true → same_queues xs ys ≡ true
+    → xs ≡ ys
+kinds_same [] [] shapes queues = refl
+kinds_same [] (b ∷ ys) shapes queues = cc
+kinds_same (a ∷ xs) [] shapes queues = cc
+kinds_same (a ∷ xs) (b ∷ ys) shapes queues =
+    let first = truth (nat_eq (shape a) (shape b)) (same_shapes xs ys) shapes in
+    let number = truth (nat_eq (queue_number a) (queue_number b)) (same_queues xs ys) queues in
+    let one : a ≡ b = same_kind a b (eqb-true (shape a) (shape b) first.0)
+    (eqb-true (queue_number a) (queue_number b) number.0) in
+    rw (one, kinds_same xs ys first.1 number.1) refl
+
+shapes_alike : (xs : List Kind) → same_shapes xs xs ≡ true
+shapes_alike [] = refl
+shapes_alike (a ∷ xs) = rw (eq-eqb (shape a) (shape a) refl, shapes_alike xs) refl
+
+queues_alike : (xs : List Kind) → same_queues xs xs ≡ true
+queues_alike [] = refl
+queues_alike (a ∷ xs) = rw (eq-eqb (queue_number a) (queue_number a) refl, queues_alike xs) refl
+
+pub kinds_alike : (xs ys : List Kind) → xs ≡ ys
+    → (same_shapes xs ys ≡ true) × (same_queues xs ys ≡ true)
+kinds_alike xs ys same =
+    subst (λ (zs : List Kind). (same_shapes xs zs ≡ true) × (same_queues xs zs ≡ true)) same
+    (record { 0 = shapes_alike xs; 1 = queues_alike xs })
+
+-- a kind names a list if its shape says so
+abbrev lists : ℕ → Bool
+lists shape = nat_eq shape 5 || (nat_eq shape 6 || (nat_eq shape 7 || nat_eq shape 8))
+
+has_list_told : (kind : Kind) → has_list kind ≡ lists (shape kind)
+has_list_told Blank = refl
+has_list_told Num = refl
+has_list_told Lower = refl
+has_list_told New = refl
+has_list_told Own = refl
+has_list_told (Listed name) = refl
+has_list_told (Armed name) = refl
+has_list_told (Taken name) = refl
+has_list_told (Cancelling name) = refl
+has_list_told View = refl
+
+unlisted : (kind : Kind) → has_list kind ≡ false → queue_number kind ≡ 0
+unlisted (Listed name) none = cc
+unlisted (Armed name) none = cc
+unlisted (Taken name) none = cc
+unlisted (Cancelling name) none = cc
+unlisted _ none = refl
+
+neither : (a b : Bool) → (a || b) ≡ false → (a ≡ false) × (b ≡ false)
+neither true b none = cc
+neither false b none = record { 0 = refl; 1 = none }
+
+-- kinds that say the same name no queue where the first ones name none
+pub no_queues : (xs ys : List Kind) → same_shapes xs ys ≡ true → list_any has_list xs ≡ false
+    → same_queues xs ys ≡ true
+no_queues [] [] shapes none = refl
+no_queues [] (b ∷ ys) shapes none = cc
+no_queues (a ∷ xs) [] shapes none = cc
+no_queues (a ∷ xs) (b ∷ ys) shapes none =
+    let first = truth (nat_eq (shape a) (shape b)) (same_shapes xs ys) shapes in
+    let free = neither (has_list a) (list_any has_list xs) none in
+    let other : has_list b ≡ false =
+    has_list_told b ∙ ap lists (sym (eqb-true (shape a) (shape b) first.0))
+    ∙ sym (has_list_told a) ∙ free.0 in
+    rw (
+      eq-eqb (queue_number a) (queue_number b) (unlisted a free.0 ∙ sym (unlisted b other)),
+      no_queues xs ys first.1 free.1,
+    ) refl
+
+-- when none was compared, all are the same
+pub shapes_over : (xs ys : List Kind) (n : ℕ) → length xs ≤ n → length ys ≤ n
+    → true ≡ same_shapes (drop n xs) (drop n ys)
+shapes_over xs ys n here there = rw (drop_all n xs here, drop_all n ys there) refl
+
+pub queues_over : (xs ys : List Kind) (n : ℕ) → length xs ≤ n → length ys ≤ n
+    → true ≡ same_queues (drop n xs) (drop n ys)
+queues_over xs ys n here there = rw (drop_all n xs here, drop_all n ys there) refl
+
+-- one more of them is compared, from the last one on
+pub shapes_next : (xs ys : List Kind) (i : ℕ) (d e : Kind) → i < length xs → i < length ys
+    → same_shapes (drop i xs) (drop i ys)
+    ≡ (nat_eq (shape (get_or xs i d)) (shape (get_or ys i e))
+    && same_shapes (drop (suc i) xs) (drop (suc i) ys))
+shapes_next xs ys i d e here there = rw (drop-cons xs i d here, drop-cons ys i e there) refl
+
+pub queues_next : (xs ys : List Kind) (i : ℕ) (d e : Kind) → i < length xs → i < length ys
+    → same_queues (drop i xs) (drop i ys)
+    ≡ (nat_eq (queue_number (get_or xs i d)) (queue_number (get_or ys i e))
+    && same_queues (drop (suc i) xs) (drop (suc i) ys))
+queues_next xs ys i d e here there = rw (drop-cons xs i d here, drop-cons ys i e there) refl
+
+pub lists_next : (xs : List Kind) (i : ℕ) (d : Kind) → i < length xs
+    → list_any has_list (drop i xs)
+    ≡ (has_list (get_or xs i d) || list_any has_list (drop (suc i) xs))
+lists_next xs i d here = rw (drop-cons xs i d here) refl

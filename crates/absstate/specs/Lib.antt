@@ -1,1 +1,2 @@
 pub mod Same
+pub mod Releasing

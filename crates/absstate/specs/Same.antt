@@ -1,5 +1,5 @@
 -- A kind by two numbers, as it is compared.
-use Rattle.std.specs.Prelude.{ℕ}
+use Rattle.std.specs.Prelude.{ℕ, Bool, true, false, nat_eq, ◌&&◌, List, [], ◌∷◌}
 use Rattle.model.specs.declared.abs.Kind.{Kind}
 use Rattle.model.specs.declared.abs.Kind.TheVariants.{Blank, Num, Lower, New, Own, Listed, Armed, Taken, Cancelling, View}
 use Rattle.model.specs.declared.set.QueueName.TheVariants.{Declared}
@@ -29,3 +29,25 @@ queue_number Lower = 0
 queue_number New = 0
 queue_number Own = 0
 queue_number View = 0
+
+-- it names a list
+abbrev pub has_list : Kind → Bool
+has_list (Listed name) = true
+has_list (Armed name) = true
+has_list (Taken name) = true
+has_list (Cancelling name) = true
+has_list _ = false
+
+-- kinds say the same one by one, their lists apart
+abbrev pub same_shapes : List Kind → List Kind → Bool
+same_shapes [] [] = true
+same_shapes [] (b ∷ ys) = false
+same_shapes (a ∷ xs) [] = false
+same_shapes (a ∷ xs) (b ∷ ys) = nat_eq (shape a) (shape b) && same_shapes xs ys
+
+-- they name queues of the same numbers
+abbrev pub same_queues : List Kind → List Kind → Bool
+same_queues [] [] = true
+same_queues [] (b ∷ ys) = false
+same_queues (a ∷ xs) [] = false
+same_queues (a ∷ xs) (b ∷ ys) = nat_eq (queue_number a) (queue_number b) && same_queues xs ys

@@ -14,6 +14,7 @@ ghost use Rattle.model.specs.Kinds.{kind_inserted, kind_removed, kind_disarmed};
 ghost use Rattle.model.specs.LocalRule.{released};
 ghost use Rattle.model.specs.Kinds.{let_go, all_let_go};
 ghost use Rattle.model.specs.Set.{cancel_routine_of, guard_named};
+ghost use Rattle.absstate.specs.Releasing.{has_routine_set};
 
 use crate::fault::{broken_if, free_fault, least, unless};
 use crate::queues::guard_fault;
@@ -264,8 +265,32 @@ pub fn disarm(state: &mut Abs, register: Register)
 pub fn release(state: &mut Abs, set: &DriverSet, driver: u8, lock: SpinLock)
     ensures { state.new ≡ released state.old set.now driver lock }
 {
-    all_let_go(&mut state.kinds, set, driver, lock);
+    armed_let_go(&mut state.kinds, set, driver, lock);
     set_lock(state, lock, false);
+}
+
+/// Lets the registers go, of which most often none has a packet whose cancel routine is set.
+#[tactic(auto, using(crate::proofs::Releasing::none_let_go))]
+fn armed_let_go(kinds: &mut [Kind], set: &DriverSet, driver: u8, lock: SpinLock)
+    ensures { kinds.new ≡ all_let_go set.now driver lock kinds.old }
+{
+    if !is_any_armed(kinds) {
+        return;
+    }
+    all_let_go(kinds, set, driver, lock);
+}
+
+fn is_any_armed(kinds: &[Kind]) -> bool
+    ensures { result ≡ list_any has_routine_set kinds.now }
+{
+    kinds.iter().any(|kind| has_routine_set(*kind))
+}
+
+/// Whether the cancel routine of a packet is set, whatever its list.
+fn has_routine_set(kind: Kind) -> bool
+    ensures { result ≡ has_routine_set kind }
+{
+    matches!(kind, Kind::Armed(_))
 }
 
 fn all_let_go(kinds: &mut [Kind], set: &DriverSet, driver: u8, lock: SpinLock)

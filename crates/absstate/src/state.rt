@@ -7,7 +7,8 @@ ghost use Rattle.model.specs.LocalRule.{is_held, with_lock, moved};
 ghost use Rattle.model.specs.Kinds.{left_behind};
 ghost use Rattle.model.specs.LocalRule.{marked, given_down};
 ghost use Rattle.model.specs.Kinds.{duty_completed};
-ghost use Rattle.absstate.specs.Same.{queue_number, shape};
+ghost use Rattle.std.specs.List.{list_any};
+ghost use Rattle.absstate.specs.Same.{has_list, queue_number, same_queues, same_shapes, shape};
 
 use model::abs::{Abs, Duty, Kind, Settled};
 use model::instr::{Register, SpinLock};
@@ -74,25 +75,67 @@ pub fn are_same(a: &Abs, b: &Abs) -> bool
         && a.token == b.token
 }
 
-/// Whether registers have the same kinds, looked at one after another up to the first that differ.
+/// Whether registers have the same kinds, by two numbers of each. What they say is compared first,
+/// without a branch for each; most often none of them names a list, and that is all.
+#[tactic(auto, using(crate::proofs::Same::kinds_same, crate::proofs::Same::kinds_alike, crate::proofs::Same::no_queues))]
 fn same_kinds(a: &[Kind; REGISTERS], b: &[Kind; REGISTERS]) -> bool
     ensures { IsTrue result ↔ (a.now ≡ b.now) }
 {
-    for i in 0..REGISTERS {
-        if !is_same_kind(a[i], b[i]) {
-            return false;
-        }
-    }
-    true
+    same_shapes(a, b) && (!is_any_named(a) || same_queues(a, b))
 }
 
-/// Whether two kinds are one: two comparisons of numbers, where `==` has a case for each variant.
+/// Whether registers say the same, their lists apart.
 #[inline(always)]
-#[tactic(auto, using(crate::proofs::Same::same_kind, crate::proofs::Same::other_kind))]
-fn is_same_kind(a: Kind, b: Kind) -> bool
-    ensures { IsTrue result ↔ (a ≡ b) }
+#[tactic(auto, using(crate::proofs::Same::shapes_next))]
+fn same_shapes(a: &[Kind; REGISTERS], b: &[Kind; REGISTERS]) -> bool
+    ensures { result ≡ same_shapes a.now b.now }
 {
-    shape(a) == shape(b) && queue_number(a) == queue_number(b)
+    let mut same = true;
+    let mut i = REGISTERS;
+    while i > 0 {
+        i -= 1;
+        same = (shape(a[i]) == shape(b[i])) & same;
+    }
+    same
+}
+
+/// Whether registers name queues of the same numbers.
+#[tactic(auto, using(crate::proofs::Same::queues_next))]
+fn same_queues(a: &[Kind; REGISTERS], b: &[Kind; REGISTERS]) -> bool
+    ensures { result ≡ same_queues a.now b.now }
+{
+    let mut same = true;
+    let mut i = REGISTERS;
+    while i > 0 {
+        i -= 1;
+        same = (queue_number(a[i]) == queue_number(b[i])) & same;
+    }
+    same
+}
+
+/// Whether a register names a list.
+#[inline(always)]
+#[tactic(auto, using(crate::proofs::Same::lists_next))]
+fn is_any_named(kinds: &[Kind; REGISTERS]) -> bool
+    ensures { result ≡ list_any has_list kinds.now }
+{
+    let mut named = false;
+    let mut i = REGISTERS;
+    while i > 0 {
+        i -= 1;
+        named = has_list(kinds[i]) | named;
+    }
+    named
+}
+
+#[inline(always)]
+fn has_list(kind: Kind) -> bool
+    ensures { result ≡ has_list kind }
+{
+    matches!(
+        kind,
+        Kind::Listed(_) | Kind::Armed(_) | Kind::Taken(_) | Kind::Cancelling(_)
+    )
 }
 
 /// A number for what a kind says, its list apart.

@@ -6,7 +6,7 @@ use Rattle.model.specs.declared.instr.Instr.{Instr}
 use Rattle.model.specs.declared.instr.Instr.TheVariants.{JumpIfZero, JumpIfLess, Jump, Insert, Remove, Unlink, Arm, Disarm, IfCancel, Take, Call, IfPending}
 use Rattle.asm.specs.declared.draft.Linked.{Linked}
 use Rattle.asm.specs.declared.draft.Step.{Step}
-use Rattle.asm.specs.Bare.{bare_link, bare_step, is_bare, AreBare}
+use Rattle.asm.specs.Bare.{bare_link, bare_step, is_bare, is_nameless, AreBare, AreNameless}
 use Rattle.asm.specs.Outline.{Outline, called, earliest, missed_from, resolved, with_label, with_queue, with_routine}
 
 pub one_more_bare : (is : List Instr) (i : Instr) → AreBare is → is_bare i ≡ true
@@ -37,32 +37,78 @@ label_stays (Take r old) label bare = cc
 label_stays (IfPending r old) label bare = cc
 label_stays _ label bare = refl
 
--- nor another routine or queue
-pub names_stay : (i : Instr) (routine : Option ℕ) (queue : ℕ) → is_bare i ≡ true
-    → with_queue (with_routine i routine) queue ≡ i
-names_stay (Insert r old) routine queue bare = cc
-names_stay (Remove r old label) routine queue bare = cc
-names_stay (Unlink r old) routine queue bare = cc
-names_stay (Arm r old) routine queue bare = cc
-names_stay (Call r old) routine queue bare = cc
-names_stay _ routine queue bare = refl
+-- what names nothing names no queue and no routine
+nameless : (i : Instr) → is_bare i ≡ true → is_nameless i ≡ true
+nameless (Insert r queue) bare = cc
+nameless (Remove r queue label) bare = cc
+nameless (Unlink r queue) bare = cc
+nameless (Arm r queue) bare = cc
+nameless (Call r routine) bare = cc
+nameless _ bare = refl
 
-pub bare_linked : (labels : List (List ℕ)) (positions : List ℕ) (is : List Instr)
+pub all_nameless : (is : List Instr) → AreBare is → AreNameless is
+all_nameless [] all = all
+all_nameless (i ∷ is) all = (nameless i all.0, all_nameless is all.1)
+
+pub one_more_nameless : (is : List Instr) (i : Instr) → AreNameless is → is_nameless i ≡ true
+    → AreNameless (is ++ i ∷ [])
+one_more_nameless [] i all none = (none, all)
+one_more_nameless (j ∷ is) i all none = (all.0, one_more_nameless is i all.1 none)
+
+-- one that names no queue and no routine comes behind others that don't
+pub nameless_pushed : (is : List Instr) (rest : List Linked) (i : Instr) → rest ≡ []
+    → map bare_link (is ++ i ∷ []) ++ rest ≡ (map bare_link is ++ rest) ++ bare_link i ∷ []
+nameless_pushed is rest i none =
+    rw (
+      none,
+      map_push bare_link is i,
+      append-nil (map bare_link is ++ bare_link i ∷ []),
+      append-nil (map bare_link is),
+    ) refl
+
+-- no other routine or queue stands in it
+pub names_stay : (i : Instr) (routine : Option ℕ) (queue : ℕ) → is_nameless i ≡ true
+    → with_queue (with_routine i routine) queue ≡ i
+names_stay (Insert r old) routine queue none = cc
+names_stay (Remove r old label) routine queue none = cc
+names_stay (Unlink r old) routine queue none = cc
+names_stay (Arm r old) routine queue none = cc
+names_stay (Call r old) routine queue none = cc
+names_stay _ routine queue none = refl
+
+-- what names nothing is linked as it is
+pub bare_resolved : (labels : List (List ℕ)) (positions : List ℕ) (s : Step) → s.label ≡ None
+    → s.call ≡ None → s.queue ≡ None → is_bare s.instr ≡ true
+    → bare_link s.instr ≡ resolved labels positions s
+bare_resolved labels positions s label call queue bare =
+    rw (label, call, queue, label_stays s.instr 0 bare) refl
+
+-- a routine that is closed begins with what named nothing
+bare_linked : (labels : List (List ℕ)) (positions : List ℕ) (is : List Instr)
     (rest : List Step) → AreBare is
-    → map (resolved labels positions) (map bare_step is ++ rest)
-    ≡ map bare_link is ++ map (resolved labels positions) rest
+    → map bare_link is ++ map (resolved labels positions) rest
+    ≡ map (resolved labels positions) (map bare_step is ++ rest)
 bare_linked labels positions [] rest all = refl
 bare_linked labels positions (i ∷ is) rest all =
     let first : resolved labels positions (bare_step i) ≡ bare_link i =
     ap bare_link (label_stays i 0 all.0) in
     rw (first, bare_linked labels positions is rest all.1) refl
 
-pub bare_called : (o : Outline) (is : List Instr) (rest : List Linked) → AreBare is
+-- the code that it begins with, and what is linked behind that, are all its steps linked
+pub linked_behind : (labels : List (List ℕ)) (positions : List ℕ) (is done : List Instr)
+    (none : List Linked) (rest steps : List Step) → AreBare is → done ≡ is → none ≡ []
+    → steps ≡ rest
+    → (map bare_link done ++ none) ++ map (resolved labels positions) steps
+    ≡ map (resolved labels positions) (map bare_step is ++ rest)
+linked_behind labels positions is done none rest steps all same empty behind =
+    rw (same, empty, behind, append-nil (map bare_link is)) (bare_linked labels positions is rest all)
+
+pub nameless_called : (o : Outline) (is : List Instr) (rest : List Linked) → AreNameless is
     → map (called o) (map bare_link is ++ rest) ≡ is ++ map (called o) rest
-bare_called o [] rest all = refl
-bare_called o (i ∷ is) rest all =
+nameless_called o [] rest all = refl
+nameless_called o (i ∷ is) rest all =
     let first : called o (bare_link i) ≡ i = names_stay i None 0 all.0 in
-    rw (first, bare_called o is rest all.1) refl
+    rw (first, nameless_called o is rest all.1) refl
 
 earliest_none : (found : Option ℕ) → earliest found None ≡ found
 earliest_none None = refl

@@ -1,5 +1,6 @@
 -- Instructions of a routine that name nothing: no label, no queue and no routine. They are the same
--- before labels are known, then, and in the set.
+-- before labels are known, then, and in the set. Those that name no queue and no routine are the same
+-- from where labels are known on.
 use Rattle.std.specs.Prelude.{◌≡◌, ⊤, Bool, true, false, List, [], ◌∷◌, None}
 use Rattle.model.specs.declared.instr.Instr.{Instr}
 use Rattle.model.specs.declared.instr.Instr.TheVariants.{JumpIfZero, JumpIfLess, Jump, Insert, Remove, Unlink, Arm, Disarm, IfCancel, Take, Call, IfPending}
@@ -21,6 +22,19 @@ is_bare (Take r label) = false
 is_bare (Call r routine) = false
 is_bare (IfPending r label) = false
 is_bare _ = true
+
+-- the instruction names no queue and no routine
+abbrev pub is_nameless : Instr → Bool
+is_nameless (Insert r queue) = false
+is_nameless (Remove r queue label) = false
+is_nameless (Unlink r queue) = false
+is_nameless (Arm r queue) = false
+is_nameless (Call r routine) = false
+is_nameless _ = true
+
+abbrev pub AreNameless : List Instr → Type 0
+AreNameless [] = ⊤
+AreNameless (i ∷ is) = (is_nameless i ≡ true) × AreNameless is
 
 abbrev pub AreBare : List Instr → Type 0
 AreBare [] = ⊤

@@ -1,12 +1,13 @@
 //! The instructions of a routine while its driver is read. Those before the first one that uses a
-//! name are kept as they will be in the set, and none of them is moved again.
+//! name are kept as they will be in the set, and none of them is moved again. Where the routine is
+//! closed, those behind them come to them up to the first one that names a queue or a routine.
 
 ghost use Rattle.std.specs.Prelude.{◌≡◌, ◌++◌, [], ◌∷◌, length, map, IfOk, OnOk};
-ghost use Rattle.asm.specs.Bare.{bare_step, is_bare};
+ghost use Rattle.asm.specs.Bare.{bare_step, is_bare, is_nameless};
 ghost use Rattle.asm.specs.Outline.{missed_from, resolved};
 
 use crate::draft::{Linked, Step};
-use crate::link::{LinkedCode, linked};
+use crate::link::linked;
 use indexmap::IndexSet;
 use model::instr::Instr;
 use std::alloc::{AllocError, Global};
@@ -38,22 +39,44 @@ impl<'a> Model for OpenCode<'a> {
 /// The instructions of a closed routine. Contracts see all of them as linked.
 #[derive(Drop)]
 pub struct ClosedCode {
-    /// Those before the first that uses a name.
-    pub(crate) bare: Vec<Instr>,
+    /// Those before the first that names a queue or a routine.
+    pub(crate) done: Vec<Instr>,
     /// That one, and those behind it.
     pub(crate) rest: Vec<Linked>,
 }
 
 impl Model for ClosedCode {
     ghost use Rattle.std.specs.Prelude.{◌++◌, List, map};
-    ghost use Rattle.asm.specs.Bare.{bare_link, AreBare};
+    ghost use Rattle.asm.specs.Bare.{bare_link, AreNameless};
     ghost use Rattle.asm.specs.declared.draft.Linked.{Linked};
 
     ghost Value = { List Linked };
 
-    ghost view = { λ code. map bare_link code.bare.items ++ code.rest.items };
+    ghost view = { λ code. map bare_link code.done.items ++ code.rest.items };
 
-    ghost invariant = { λ code. AreBare code.bare.items };
+    ghost invariant = { λ code. AreNameless code.done.items };
+}
+
+impl ClosedCode {
+    /// Adds an instruction whose label is known, with the places of the names that it uses.
+    #[inline(always)]
+    #[tactic(auto, using(crate::proofs::Bare::one_more_nameless, crate::proofs::Bare::nameless_pushed))]
+    pub fn push(
+        &mut self,
+        instr: Instr,
+        call: Option<usize>,
+        queue: Option<usize>,
+    ) -> Result<(), AllocError>
+        ensures { OnOk result (self.new
+            ≡ self.old ++ (record { instr = instr; call = call; queue = queue }) ∷ []) }
+    {
+        if self.rest.is_empty() && call.is_none() && queue.is_none() && is_nameless(&instr) {
+            self.done.push(instr)?;
+            return Ok(());
+        }
+        self.rest.push(Linked { instr, call, queue })?;
+        Ok(())
+    }
 }
 
 impl<'a> OpenCode<'a> {
@@ -102,7 +125,7 @@ impl<'a> OpenCode<'a> {
 
     /// Takes all of them, each with the position of the label that it jumps to, and the earliest
     /// line that uses a label which isn't there, or the one found already if that is earlier.
-    #[tactic(auto, using(crate::proofs::Bare::bare_linked, crate::proofs::Bare::bare_missed))]
+    #[tactic(auto, using(crate::proofs::Bare::all_nameless, crate::proofs::Bare::bare_missed))]
     pub fn take_linked(
         &mut self,
         alloc: Global,
@@ -116,15 +139,15 @@ impl<'a> OpenCode<'a> {
             (λ closed. closed.missed ≡ missed_from labels.now.keys found self.old) }
         ensures taken { OnOk result (self.new ≡ []) }
     {
-        let LinkedCode { code: rest, missed } = linked(
-            alloc, labels, positions, found, &self.rest,
-        )?;
+        let mut done = mem::replace(&mut self.bare, Vec::new(alloc));
+        done.reserve(self.rest.len())?;
+        let code = ClosedCode {
+            done,
+            rest: Vec::new(alloc),
+        };
+        let closed = linked(labels, positions, found, code, &self.rest)?;
         self.rest.clear();
-        let bare = mem::replace(&mut self.bare, Vec::new(alloc));
-        Ok(Closed {
-            code: ClosedCode { bare, rest },
-            missed,
-        })
+        Ok(closed)
     }
 }
 
@@ -155,4 +178,14 @@ pub fn is_bare(instr: &Instr) -> bool
         | Instr::IfPending(..) => false,
         _ => true,
     }
+}
+
+/// Whether an instruction names no queue and no routine.
+pub fn is_nameless(instr: &Instr) -> bool
+    ensures { result ≡ is_nameless instr.now }
+{
+    !matches!(
+        *instr,
+        Instr::Insert(..) | Instr::Remove(..) | Instr::Unlink(..) | Instr::Arm(..) | Instr::Call(..)
+    )
 }

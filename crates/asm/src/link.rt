@@ -1,67 +1,66 @@
 //! The labels of a routine put in place of their names, once all of them are known.
 
-ghost use Rattle.std.specs.Prelude.{◌≡◌, IfOk, map, Some};
+ghost use Rattle.std.specs.Prelude.{◌≡◌, ◌++◌, [], ◌∷◌, IfOk, OnOk, map, Some};
 ghost use Rattle.asm.specs.Outline.{earliest, missed, missed_from, resolved, target_position, with_label};
 
-use crate::code::is_bare;
-use crate::draft::{Linked, Step, Use};
+use crate::code::{Closed, ClosedCode, is_bare};
+use crate::draft::{Step, Use};
 use crate::names::earliest;
 use indexmap::IndexSet;
 use model::instr::Instr;
-use std::alloc::{AllocError, Global};
+use std::alloc::AllocError;
 use text::piece::Piece;
 
-/// The instructions of a routine that is closed, and the earliest line that uses a label which isn't
-/// there, if one does.
-#[derive(Drop)]
-pub struct LinkedCode {
-    pub code: Vec<Linked>,
-    pub missed: Option<u64>,
-}
-
-/// The instructions of a routine, each with the position of the label that it jumps to, and the
-/// earliest line that uses a label which isn't there, or the one found already if that is earlier.
+/// These instructions, and behind them others of the routine, each with the position of the label
+/// that it jumps to; and the earliest line of those that uses a label which isn't there, or the one
+/// found already if that is earlier.
 pub fn linked(
-    alloc: Global,
     labels: &IndexSet<Piece<'_>>,
     positions: &[u16],
     found: Option<u64>,
+    before: ClosedCode,
     steps: &[Step<'_>],
-) -> Result<LinkedCode, AllocError>
-    ensures code { IfOk result
-        (λ all. all.code.items ≡ map (resolved labels.now.keys positions.now) steps.now) }
+) -> Result<Closed, AllocError>
+    ensures code { IfOk result (λ closed. closed.code
+        ≡ before ++ map (resolved labels.now.keys positions.now) steps.now) }
     ensures missed { IfOk result
-        (λ all. all.missed ≡ missed_from labels.now.keys found steps.now) }
+        (λ closed. closed.missed ≡ missed_from labels.now.keys found steps.now) }
 {
-    let mut code = Vec::with_capacity(alloc, steps.len())?;
+    let mut code = before;
     let mut missed = found;
     for step in steps {
-        code.push(resolved(labels, positions, step, &mut missed))?;
+        link(&mut code, labels, positions, step, &mut missed)?;
     }
-    Ok(LinkedCode { code, missed })
+    Ok(Closed { code, missed })
 }
 
-/// An instruction with the position of its label; a line that uses one which isn't there is noted.
+/// Adds an instruction with the position of its label; a line that uses one which isn't there is
+/// noted. Most name nothing, and are copied whole.
 #[inline(always)]
-fn resolved(
+#[tactic(auto, using(crate::proofs::Bare::bare_resolved, crate::proofs::Orderly::Names::earliest_none))]
+fn link(
+    code: &mut ClosedCode,
     labels: &IndexSet<Piece<'_>>,
     positions: &[u16],
     step: &Step<'_>,
     found: &mut Option<u64>,
-) -> Linked
-    ensures code { result ≡ resolved labels.now.keys positions.now step.now }
-    ensures missed { found.new ≡ earliest found.old (missed labels.now.keys step.now.label) }
+) -> Result<(), AllocError>
+    ensures code { OnOk result
+        (code.new ≡ code.old ++ resolved labels.now.keys positions.now step.now ∷ []) }
+    ensures missed { OnOk result
+        (found.new ≡ earliest found.old (missed labels.now.keys step.now.label)) }
 {
-    Linked {
-        instr: labelled(labels, positions, step, found),
-        call: step.call,
-        queue: step.queue,
+    let named = step.label.is_some() || step.call.is_some() || step.queue.is_some();
+    if !named && is_bare(&step.instr) {
+        return code.push(step.instr, None, None);
     }
+    let instr = labelled(labels, positions, step, found);
+    code.push(instr, step.call, step.queue)
 }
 
-/// The instruction of a step with the position of its label. Most have none, and are copied whole.
-#[inline(always)]
-#[tactic(auto, using(crate::proofs::Bare::label_stays, crate::proofs::Orderly::Names::earliest_none))]
+/// The instruction of a step with the position of its label; a line that uses one which isn't there
+/// is noted.
+#[tactic(auto, using(crate::proofs::Orderly::Names::earliest_none))]
 fn labelled(
     labels: &IndexSet<Piece<'_>>,
     positions: &[u16],
@@ -74,7 +73,6 @@ fn labelled(
 {
     match &step.label {
         Some(used) => jump(step.instr, labels, positions, used, found),
-        None if is_bare(&step.instr) => step.instr,
         None => with_label(step.instr, 0),
     }
 }

@@ -4,7 +4,7 @@ ghost use Rattle.std.specs.Prelude.{◌≡◌, ◌≤◌, ◌++◌, length, map,
 ghost use Rattle.model.specs.declared.limits.TheConstants.{MAX_QUEUES, MAX_ROUTINES};
 ghost use Rattle.asm.specs.Outline.{called, entry_in, finished, missed_calls, missed_cancels, missed_entry, missed_handler, missed_in_driver, missed_routine, missed_server, missed_use, number_for, finished_driver, routine_called, routine_named, serves, with_routine};
 
-use crate::code::{ClosedCode, is_bare};
+use crate::code::{ClosedCode, is_nameless};
 use crate::draft::{ClosedRoutine, Draft, Linked, Use};
 use crate::names::{earliest, number_of};
 use crate::queues::with_queue;
@@ -247,14 +247,14 @@ impl<'a> Draft<'a> {
     }
 
     /// Instructions that have the numbers of what they name.
-    #[tactic(auto, using(crate::proofs::Bare::bare_called))]
+    #[tactic(auto, using(crate::proofs::Bare::nameless_called))]
     fn code_of(&self, code: ClosedCode) -> Result<Vec<Instr>, AllocError>
         requires routines { length self.now.routine_names ≤ MAX_ROUTINES }
         requires queues { length self.now.queue_names ≤ MAX_QUEUES }
         ensures { IfOk result (λ whole. whole.items ≡ map (called self.now) code) }
     {
-        let ClosedCode { bare, rest } = code;
-        self.with_called(bare, &rest)
+        let ClosedCode { done, rest } = code;
+        self.with_called(done, &rest)
     }
 
     /// These instructions, and behind them others that have the numbers of what they name.
@@ -271,15 +271,15 @@ impl<'a> Draft<'a> {
         Ok(code)
     }
 
-    /// An instruction that has the numbers of what it names. Most name nothing, and are copied
-    /// whole.
+    /// An instruction that has the numbers of what it names. Most name no queue or routine, and are
+    /// copied whole.
     #[tactic(auto, using(crate::proofs::Bare::names_stay))]
     fn called(&self, step: &Linked) -> Instr
         requires routines { length self.now.routine_names ≤ MAX_ROUTINES }
         requires queues { length self.now.queue_names ≤ MAX_QUEUES }
         ensures { result ≡ called self.now step.now }
     {
-        if is_bare(&step.instr) {
+        if is_nameless(&step.instr) {
             return step.instr;
         }
         let instr = with_routine(step.instr, self.routine_called(step.call));

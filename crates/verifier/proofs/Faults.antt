@@ -27,7 +27,7 @@ found_within xs i x found (inr past) = let none : slice_get xs i ≡ None =
     slice_get_past xs i past in cc
 
 -- past its end a routine that has an instruction isn't malformed
-past_false : (empty last goes_on misplaced : Bool) → empty ≡ false → last ≡ false
+pub past_false : (empty last goes_on misplaced : Bool) → empty ≡ false → last ≡ false
     → misplaced ≡ false → (empty || ((last && goes_on) || misplaced)) ≡ false
 past_false true last goes_on misplaced some past fits = cc
 past_false false true goes_on misplaced some past fits = cc

@@ -12,3 +12,4 @@ pub mod Faults
 pub mod Verdicts
 pub mod Pairs
 pub mod Tables
+pub mod Forming

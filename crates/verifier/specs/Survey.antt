@@ -7,6 +7,15 @@ use Rattle.model.specs.Set.{Flow, Onward, Branches, Jumps, Opens, Closes, Leaves
 use Rattle.verifier.specs.declared.loops.Place.{Place}
 use Rattle.verifier.specs.declared.loops.Round.{Round}
 
+-- what leads to the next position alone, and neither opens nor closes a loop
+abbrev pub is_onward : Flow → Bool
+is_onward Onward = true
+is_onward (Branches label) = false
+is_onward (Jumps label) = false
+is_onward (Opens turns) = false
+is_onward Closes = false
+is_onward Leaves = false
+
 -- the first of a list of loops is the innermost
 abbrev pub first_of : List ℕ → Option ℕ
 first_of loops = slice_get loops 0

@@ -1,6 +1,8 @@
 -- What the table of the pass says, and how it grows.
-use Rattle.std.specs.Prelude.{ℕ, ◌≡◌, ◌≢◌, ◌<◌, ◌⊎◌, Bool, List, [], ◌∷◌, length, slice_set, slice_index_or, if◌then◌else◌}
+use Rattle.std.specs.Prelude.{ℕ, ◌≡◌, ◌≢◌, ◌<◌, ◌⊎◌, Bool, true, false, List, [], ◌∷◌, length, slice_set, slice_index_or, if◌then◌else◌}
 use Rattle.model.specs.declared.abs.Abs.{Abs}
+use Rattle.model.specs.declared.instr.Instr.{Instr}
+use Rattle.model.specs.declared.instr.Instr.TheVariants.{Remove, Disarm, Take, IfPending}
 use Rattle.model.specs.Set.{Flow, Onward, Branches, Jumps, Opens, Closes, Leaves}
 use Rattle.verifier.specs.declared.seen.Arrivals.{Arrivals}
 use Rattle.verifier.specs.declared.seen.Arrivals.TheVariants.{Missing, Alone, Differing}
@@ -35,6 +37,14 @@ IsKept (Jumps label) at before jump old new = IsNoted old label jump new
 IsKept (Opens turns) at before jump old new = new ≡ slice_set old at (One before)
 IsKept Closes at before jump old new = new ≡ old
 IsKept Leaves at before jump old new = new ≡ old
+
+-- the state at the label of an instruction may be another one than that before it
+abbrev pub changes_at_label : Instr → Bool
+changes_at_label (Remove r queue label) = true
+changes_at_label (Disarm r label) = true
+changes_at_label (Take r label) = true
+changes_at_label (IfPending r label) = true
+changes_at_label _ = false
 
 -- what arrives at the next position: the next state, if there is one, and what jumps have led there
 abbrev pub IsArrived : Flow → Abs → Seen → Seen → Type 0

@@ -3,15 +3,53 @@
 ghost use Rattle.std.specs.Prelude.{◌≡◌, ◌<◌, ◌↔◌, ◌&&◌, ◌+◌, length, nat_eq, slice_get};
 ghost use Rattle.std.specs.Prelude.{IsTrue};
 ghost use Rattle.model.specs.Paths.{is_malformed, is_misplaced, isnt_return, goes_forward};
-ghost use Rattle.verifier.specs.Survey.{ArePlaced};
+ghost use Rattle.model.specs.Set.{flow_of};
+ghost use Rattle.verifier.specs.Survey.{is_onward, ArePlaced};
 
 use crate::loops::Place;
 use model::instr::Instr;
 use model::limits::MAX_LOOPS;
 
 /// Whether what stands at a position is no part of a routine: the last instruction isn't a return,
-/// or a jump, a `loop` or an `end` can't stand there.
+/// or a jump, a `loop` or an `end` can't stand there. Most instructions can stand anywhere before
+/// the last position.
+#[inline(always)]
+#[tactic(auto, using(crate::proofs::Forming::onward_formed))]
 pub fn is_malformed(code: &[Instr], places: &[Place], at: usize) -> bool
+    requires within { at < length code.now }
+    requires placed { ArePlaced code.now (length code.now) places.now }
+    ensures { result ≡ is_malformed code.now at }
+{
+    let instr = code[at];
+    if at + 1 < code.len() && is_onward(&instr) {
+        return false;
+    }
+    is_malformed_there(code, places, at)
+}
+
+/// Whether an instruction leads to the next position alone, and neither opens nor closes a loop.
+#[inline(always)]
+fn is_onward(instr: &Instr) -> bool
+    ensures { result ≡ is_onward (flow_of instr.now) }
+{
+    match *instr {
+        Instr::JumpIfZero(..)
+        | Instr::JumpIfLess(..)
+        | Instr::Jump(_)
+        | Instr::Loop(_)
+        | Instr::End
+        | Instr::Remove(..)
+        | Instr::Disarm(..)
+        | Instr::IfCancel(..)
+        | Instr::Take(..)
+        | Instr::IfPending(..)
+        | Instr::Ret(_) => false,
+        _ => true,
+    }
+}
+
+/// The same, whatever stands there.
+fn is_malformed_there(code: &[Instr], places: &[Place], at: usize) -> bool
     requires within { at < length code.now }
     requires placed { ArePlaced code.now (length code.now) places.now }
     ensures { result ≡ is_malformed code.now at }

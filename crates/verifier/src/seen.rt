@@ -31,7 +31,7 @@ pub enum Arrivals {
     Differing,
 }
 
-ghost use Rattle.verifier.specs.Table.{IsJoined, IsNoted, IsKept, IsArrived, seen_of};
+ghost use Rattle.verifier.specs.Table.{IsJoined, IsNoted, IsKept, IsArrived, changes_at_label, seen_of};
 
 /// Notes that a state arrives at a position of the routine, if it is one.
 fn note(table: &mut Table, to: usize, state: &Abs)
@@ -41,7 +41,7 @@ fn note(table: &mut Table, to: usize, state: &Abs)
         return;
     }
     match *table.at(to) {
-        Seen::Nothing => table.put(to, Seen::One(*state)),
+        Seen::Nothing => table.put_one(to, state),
         Seen::One(first) if are_same(&first, state) => {}
         Seen::One(_) | Seen::Several => table.put(to, Seen::Several),
     }
@@ -55,10 +55,33 @@ pub fn keep(table: &mut Table, at: usize, instr: &Instr, state: &Abs)
         table.old table.new }
 {
     if let Some(label) = instr.label() {
-        note(table, label as usize, &state_at_label(state, instr));
+        note_at_label(table, label as usize, instr, state);
     } else if let Instr::Loop(_) = *instr {
-        table.put(at, Seen::One(*state));
+        table.put_one(at, state);
     }
+}
+
+/// Notes what arrives at the label of an instruction that is reached in a state: most hand on that
+/// state whole, which isn't made anew for it.
+#[tactic(auto, using(crate::proofs::Forming::handed_whole))]
+fn note_at_label(table: &mut Table, to: usize, instr: &Instr, state: &Abs)
+    ensures { IsNoted table.old to (handed_at_label state.now instr.now) table.new }
+{
+    if changes_at_label(instr) {
+        note(table, to, &state_at_label(state, instr));
+    } else {
+        note(table, to, state);
+    }
+}
+
+/// Whether the state at the label of an instruction may be another one than that before it.
+fn changes_at_label(instr: &Instr) -> bool
+    ensures { result ≡ changes_at_label instr.now }
+{
+    matches!(
+        *instr,
+        Instr::Remove(..) | Instr::Disarm(..) | Instr::Take(..) | Instr::IfPending(..)
+    )
 }
 
 /// Takes the state before an instruction of a driver of a set to the next position, where jumps

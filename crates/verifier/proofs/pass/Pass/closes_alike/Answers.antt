@@ -1,11 +1,9 @@
-use Rattle.std.proofs.Common.{◌≡◌, ◌∙◌, ◌+◌, ◌<◌, false, List, None, Some, length, slice_index_or, arith, refl, true, sym, subst, ap}
+use Rattle.std.proofs.Common.{◌≡◌, ◌∙◌, ◌+◌, ◌<◌, false, None, Some, length, arith, refl, true, sym, subst, ap}
 use Rattle.std.specs.Prelude.{slice_get}
 use Rattle.model.specs.declared.instr.Instr.TheVariants.{End}
 use Rattle.model.specs.Paths.{is_malformed}
 use Rattle.model.specs.Typable.{ClosesAlike, ClosesUnlike}
 use Rattle.verifier.specs.declared.loops.Place.{Place}
-use Rattle.verifier.specs.declared.seen.Seen.{Seen}
-use Rattle.verifier.specs.declared.seen.Seen.TheVariants.{Nothing, One}
 use Rattle.verifier.specs.Pass.{Progress}
 use Rattle.verifier.specs.Table.{seen_of}
 use Rattle.verifier.proofs.Nesting.{first_open}

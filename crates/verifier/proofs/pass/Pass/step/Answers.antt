@@ -1,18 +1,15 @@
-use Rattle.std.proofs.Common.{◌≡◌, ◌∙◌, ◌+◌, ◌*◌, ◌<◌, ◌≤◌, ℕ, suc, List, ◌++◌, length, take, slice_index_or, slice_set, arith, refl, sym, subst, ap}
-use Rattle.std.specs.Prelude.{drop}
+use Rattle.std.proofs.Common.{◌≡◌, ◌∙◌, ◌+◌, ◌*◌, ◌<◌, ◌≤◌, ℕ, suc, length, slice_index_or, arith, refl, sym, subst, ap}
 use Rattle.model.specs.declared.abs.Rule.TheVariants.{TooLong}
 use Rattle.model.specs.declared.limits.TheConstants.{MAX_CERTIFICATE, MAX_TURNS}
 use Rattle.model.specs.Certificate.{certificate_to}
-use Rattle.model.specs.LocalRule.{handed, handed_at_label}
+use Rattle.model.specs.LocalRule.{handed}
 use Rattle.model.specs.Set.{flow_of}
 use Rattle.model.specs.Typable.{IsFaultAt, IsFirstFaultOf}
 use Rattle.verifier.specs.declared.seen.Seen.{Seen}
-use Rattle.verifier.specs.declared.seen.Seen.TheVariants.{Nothing}
-use Rattle.verifier.specs.Pass.{Progress, IsRight}
-use Rattle.verifier.specs.Table.{IsKept, IsArrived, seen_of}
+use Rattle.verifier.specs.Pass.{Progress}
+use Rattle.verifier.specs.Table.{IsArrived, seen_of}
 use Rattle.verifier.proofs.Closing.{here_read}
-use Rattle.verifier.proofs.Fields.{member_of, within_fields, passed_fields, read_as, lent_back}
-use Rattle.verifier.proofs.Handing.{kept_long}
+use Rattle.verifier.proofs.Fields.{member_of, within_fields, passed_fields, read_as}
 use Rattle.verifier.proofs.Judging.{long_there}
 use Rattle.verifier.proofs.Steps.{right_more, sum_next}
 use Rattle.verifier.proofs.pass.Pass.step.Goals as goal
