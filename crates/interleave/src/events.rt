@@ -22,9 +22,11 @@ pub struct Events {
 /// The byte that stands for the next of the others, and for no step.
 const MARK: u8 = 255;
 
-/// The most steps of a line that are kept as bytes; more of them are one of the others, which takes
-/// as many bytes.
+/// The most steps of a line that are kept as bytes; more of them are one of the others.
 const FEW: usize = 32;
+
+/// The most equal bytes in a row that are taken one by one; more of them are taken as a run.
+const SHORT: usize = 8;
 
 impl Model for Events {
     ghost use Rattle.std.specs.Prelude.{◌≡◌, List, length};
@@ -178,8 +180,8 @@ impl<'a> Model for Upcoming<'a> {
 }
 
 impl Upcoming<'_> {
-    /// Takes the next event, if it is one that happens once: a step that is kept as a byte, where
-    /// another byte stands behind it, or one of the others.
+    /// Takes the next event, if it is one that happens once: a step that is kept as a byte, where no
+    /// long run of equal bytes begins, or one of the others.
     #[inline]
     pub fn next_single(&mut self) -> Option<Event>
         ensures { MatchOption result (self.new ≡ self.old)
@@ -196,7 +198,7 @@ impl Upcoming<'_> {
             self.others = others;
             return Some(next.event);
         }
-        if bytes.first() == Some(byte) {
+        if bytes.first() == Some(byte) && bytes.get(SHORT - 1) == Some(byte) {
             return None;
         }
         self.bytes = bytes;
