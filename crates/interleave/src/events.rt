@@ -3,7 +3,9 @@
 ghost use Rattle.std.specs.Prelude.{◌≡◌, nat_eq, false, ◌+◌, ◌^◌, ◌<◌, ◌≤◌, ◌++◌, ◌∷◌, [], length, replicate, is_ok, IfSome, MatchOption, OnOk, if◌then◌else◌};
 ghost use Rattle.model.specs.declared.event.Event.TheVariants.{Step};
 ghost use Rattle.interleave.specs.Events.{listed, marks};
+ghost use Rattle.interleave.specs.Kept.{IsKept};
 
+use crate::kept::{Kept, is_kept};
 use crate::read::Repeated;
 use model::event::Event;
 use std::alloc::{AllocError, Global};
@@ -15,7 +17,7 @@ use std::marker::Model;
 #[derive(Drop)]
 pub struct Events {
     bytes: Vec<u8>,
-    others: Vec<Repeated>,
+    others: Vec<Kept>,
     count: usize,
 }
 
@@ -69,6 +71,22 @@ impl Events {
         requires { length self.old + repeated.count < 2 ^ 64 }
         ensures { OnOk result (self.new ≡ self.old ++ replicate repeated.count repeated.event) }
     {
+        if is_kept(&repeated) {
+            return self.push_kept(repeated);
+        }
+        let event = repeated.event;
+        for _ in 0..repeated.count {
+            self.push_kept(Repeated { event, count: 1 })?;
+        }
+        Ok(())
+    }
+
+    /// Adds steps, or another event that happens once.
+    fn push_kept(&mut self, repeated: Repeated) -> Result<(), AllocError>
+        requires kept { IsKept repeated }
+        requires fits { length self.old + repeated.count < 2 ^ 64 }
+        ensures { OnOk result (self.new ≡ self.old ++ replicate repeated.count repeated.event) }
+    {
         add(&mut self.bytes, &mut self.others, repeated)?;
         self.count += repeated.count;
         Ok(())
@@ -102,12 +120,9 @@ impl Events {
 }
 
 /// Adds an event as many times as it happens; where memory runs out, nothing.
-fn add(
-    bytes: &mut Vec<u8>,
-    others: &mut Vec<Repeated>,
-    repeated: Repeated,
-) -> Result<(), AllocError>
-    requires { marks bytes.old.items ≡ length others.old.items }
+fn add(bytes: &mut Vec<u8>, others: &mut Vec<Kept>, repeated: Repeated) -> Result<(), AllocError>
+    requires kept { IsKept repeated }
+    requires marked { marks bytes.old.items ≡ length others.old.items }
     ensures marked { marks bytes.new.items ≡ length others.new.items }
     ensures listed { listed bytes.new.items others.new.items
         ≡ listed bytes.old.items others.old.items
@@ -146,15 +161,16 @@ fn push_copies(bytes: &mut Vec<u8>, byte: u8, count: usize) -> Result<(), AllocE
 /// Adds one of the others, and its mark.
 fn push_other(
     bytes: &mut Vec<u8>,
-    others: &mut Vec<Repeated>,
+    others: &mut Vec<Kept>,
     repeated: Repeated,
 ) -> Result<(), AllocError>
+    requires { IsKept repeated }
     ensures bytes { bytes.new.items ≡ (if is_ok result then bytes.old.items ++ 255 ∷ []
         else bytes.old.items) }
     ensures others { others.new.items ≡ (if is_ok result then others.old.items ++ repeated ∷ []
         else others.old.items) }
 {
-    others.push(repeated)?;
+    others.push(Kept::of(repeated))?;
     if let Err(refused) = bytes.push(MARK) {
         let _back = others.pop();
         return Err(refused.into());
@@ -166,7 +182,7 @@ fn push_other(
 #[derive(Drop)]
 pub struct Upcoming<'a> {
     bytes: &'a [u8],
-    others: &'a [Repeated],
+    others: &'a [Kept],
 }
 
 impl<'a> Model for Upcoming<'a> {
@@ -191,12 +207,12 @@ impl Upcoming<'_> {
         let thread = *byte;
         if thread == MARK {
             let (next, others) = self.others.split_first()?;
-            if next.count != 1 {
+            if next.count() != 1 {
                 return None;
             }
             self.bytes = bytes;
             self.others = others;
-            return Some(next.event);
+            return Some(next.event());
         }
         if bytes.first() == Some(byte) && bytes.get(SHORT - 1) == Some(byte) {
             return None;
@@ -225,8 +241,12 @@ impl Upcoming<'_> {
             self.bytes = bytes;
             if let Some((next, others)) = self.others.split_first() {
                 self.others = others;
-                if next.count > 0 {
-                    return Some(*next);
+                let count = next.count();
+                if count > 0 {
+                    return Some(Repeated {
+                        event: next.event(),
+                        count,
+                    });
                 }
             }
         }
