@@ -3,7 +3,6 @@
 ghost use Rattle.std.specs.Prelude.{◌≡◌, nat_eq, false, ◌+◌, ◌^◌, ◌<◌, ◌≤◌, ◌++◌, ◌∷◌, [], length, replicate, is_ok, IfSome, MatchOption, OnOk, if◌then◌else◌};
 ghost use Rattle.model.specs.declared.event.Event.TheVariants.{Step};
 ghost use Rattle.interleave.specs.Events.{listed, marks};
-ghost use Rattle.interleave.specs.Kept.{IsKept};
 
 use crate::kept::{Kept, is_kept};
 use crate::read::Repeated;
@@ -72,23 +71,27 @@ impl Events {
         ensures { OnOk result (self.new ≡ self.old ++ replicate repeated.count repeated.event) }
     {
         if is_kept(&repeated) {
-            return self.push_kept(repeated);
+            return self.push_kept(Kept::of(repeated));
         }
         let event = repeated.event;
         for _ in 0..repeated.count {
-            self.push_kept(Repeated { event, count: 1 })?;
+            self.push_kept(Kept::of(Repeated { event, count: 1 }))?;
         }
         Ok(())
     }
 
-    /// Adds steps, or another event that happens once.
-    fn push_kept(&mut self, repeated: Repeated) -> Result<(), AllocError>
-        requires kept { IsKept repeated }
-        requires fits { length self.old + repeated.count < 2 ^ 64 }
-        ensures { OnOk result (self.new ≡ self.old ++ replicate repeated.count repeated.event) }
+    /// Adds an event as many times as it happens.
+    ///
+    /// # Errors
+    ///
+    /// When memory runs out.
+    pub(crate) fn push_kept(&mut self, kept: Kept) -> Result<(), AllocError>
+        requires { length self.old + kept.count < 2 ^ 64 }
+        ensures { OnOk result (self.new ≡ self.old ++ replicate kept.count kept.event) }
     {
-        add(&mut self.bytes, &mut self.others, repeated)?;
-        self.count += repeated.count;
+        let count = kept.count();
+        add(&mut self.bytes, &mut self.others, kept)?;
+        self.count += count;
         Ok(())
     }
 
@@ -120,27 +123,26 @@ impl Events {
 }
 
 /// Adds an event as many times as it happens; where memory runs out, nothing.
-fn add(bytes: &mut Vec<u8>, others: &mut Vec<Kept>, repeated: Repeated) -> Result<(), AllocError>
-    requires kept { IsKept repeated }
-    requires marked { marks bytes.old.items ≡ length others.old.items }
+fn add(bytes: &mut Vec<u8>, others: &mut Vec<Kept>, kept: Kept) -> Result<(), AllocError>
+    requires { marks bytes.old.items ≡ length others.old.items }
     ensures marked { marks bytes.new.items ≡ length others.new.items }
     ensures listed { listed bytes.new.items others.new.items
         ≡ listed bytes.old.items others.old.items
-        ++ replicate (if is_ok result then repeated.count else 0) repeated.event }
+        ++ replicate (if is_ok result then kept.count else 0) kept.event }
 {
-    match stepped(&repeated) {
-        Some(thread) => push_copies(bytes, thread, repeated.count),
-        None => push_other(bytes, others, repeated),
+    match stepped(&kept) {
+        Some(thread) => push_copies(bytes, thread, kept.count()),
+        None => push_other(bytes, others, kept),
     }
 }
 
 /// The thread of steps that are kept as bytes.
-fn stepped(repeated: &Repeated) -> Option<u8>
+fn stepped(kept: &Kept) -> Option<u8>
     ensures { IfSome result (λ thread. (nat_eq thread 255 ≡ false)
-        × (repeated.now.event ≡ Step thread) × (repeated.now.count ≤ 32)) }
+        × (kept.now.event ≡ Step thread) × (kept.now.count ≤ 32)) }
 {
-    match repeated.event {
-        Event::Step { thread } if thread < MARK && repeated.count <= FEW => Some(thread),
+    match kept.event() {
+        Event::Step { thread } if thread < MARK && kept.count() <= FEW => Some(thread),
         _ => None,
     }
 }
@@ -159,18 +161,13 @@ fn push_copies(bytes: &mut Vec<u8>, byte: u8, count: usize) -> Result<(), AllocE
 }
 
 /// Adds one of the others, and its mark.
-fn push_other(
-    bytes: &mut Vec<u8>,
-    others: &mut Vec<Kept>,
-    repeated: Repeated,
-) -> Result<(), AllocError>
-    requires { IsKept repeated }
+fn push_other(bytes: &mut Vec<u8>, others: &mut Vec<Kept>, kept: Kept) -> Result<(), AllocError>
     ensures bytes { bytes.new.items ≡ (if is_ok result then bytes.old.items ++ 255 ∷ []
         else bytes.old.items) }
-    ensures others { others.new.items ≡ (if is_ok result then others.old.items ++ repeated ∷ []
+    ensures others { others.new.items ≡ (if is_ok result then others.old.items ++ kept ∷ []
         else others.old.items) }
 {
-    others.push(Kept::of(repeated))?;
+    others.push(kept)?;
     if let Err(refused) = bytes.push(MARK) {
         let _back = others.pop();
         return Err(refused.into());
