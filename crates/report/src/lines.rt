@@ -7,7 +7,7 @@ ghost use Rattle.report.specs.Word.{word_line, word_lines};
 use crate::event_number::EventNumber;
 use crate::ready_line::{LONGEST_NUMBER, LONGEST_WORD_LINE};
 use crate::word::Word;
-use crate::word_lines::{LONGEST_TEN, write_line, write_some, write_ten};
+use crate::word_lines::{LONGEST_TEN, write_line, write_some, write_ten, write_word};
 use itoa::Buffer;
 use std::alloc::{AllocError, Global};
 use std::marker::Model;
@@ -98,8 +98,9 @@ impl Lines {
         ensures line { self.new ≡ self.old ++ word_line word number.old }
         ensures number { number.new ≡ number.old }
     {
-        let line = number.line_with(word);
-        let digits = write_line(&mut self.buffer, self.used, &line, number.last_digit());
+        let line = number.line();
+        let last_digit = number.last_digit();
+        let digits = write_word(&mut self.buffer, self.used, &line, last_digit, word);
         self.used += digits + word.length();
     }
 
@@ -176,8 +177,10 @@ impl Lines {
         ensures lines { self.new ≡ self.old ++ word_lines word number.old 10 }
         ensures number { number.new ≡ number.old + 10 }
     {
-        self.used = write_ten(&mut self.buffer, self.used, number, word);
+        // The line is changed before it is needed again: one that was just changed is slow to load.
+        let line = number.line_with(word);
         number.advance_by_ten();
+        self.used = write_ten(&mut self.buffer, self.used, &line, word);
     }
 
     /// Adds the number of an event.

@@ -4,7 +4,7 @@ ghost use Rattle.std.specs.Prelude.{◌≡◌, ◌+◌, ◌*◌, ◌/◌, ◌%�
 ghost use Rattle.report.specs.Word.{word_line, word_lines, word_text};
 
 use crate::event_number::EventNumber;
-use crate::ready_line::{LONGEST_NUMBER, LONGEST_WORD_LINE, ReadyLine};
+use crate::ready_line::{LONGEST_NUMBER, LONGEST_WORD_LINE, ReadyLine, put_word};
 use crate::word::Word;
 
 /// Bytes of ten such lines, at most.
@@ -28,7 +28,50 @@ fn write_block(block: &mut [u8], line: &ReadyLine, last_digit: u8) -> usize
     line.write(last_digit, block)
 }
 
-/// Writes such a line into a buffer, at a place. Bytes behind the line may change.
+/// The same with another word.
+#[inline]
+fn write_word_block(block: &mut [u8], line: &ReadyLine, last_digit: u8, word: Word) -> usize
+    requires digit { last_digit < 10 }
+    requires long { length block.old ≡ LONGEST_WORD_LINE }
+    ensures len { length block.new ≡ LONGEST_WORD_LINE }
+    ensures line { take (result + length (word_text word)) block.new
+        ≡ word_line word (line.now.number / 10 * 10 + last_digit) }
+    ensures short { result ≤ LONGEST_NUMBER }
+{
+    let Some(block) = block.as_mut_array() else {
+        unreachable!()
+    };
+    let digits = line.write(last_digit, block);
+    put_word(block, digits, word);
+    digits
+}
+
+/// Writes the line of a number and of any word into a buffer, at a place. Bytes behind the line may
+/// change. The word goes into the buffer alone: a line that was just changed is slow to load.
+#[inline]
+pub(crate) fn write_word(
+    buffer: &mut [u8],
+    at: usize,
+    line: &ReadyLine,
+    last_digit: u8,
+    word: Word,
+) -> usize
+    requires digit { last_digit < 10 }
+    requires room { at + LONGEST_WORD_LINE ≤ length buffer.old }
+    ensures len { length buffer.new ≡ length buffer.old }
+    ensures line { take (at + (result + length (word_text word))) buffer.new
+        ≡ take at buffer.old ++ word_line word (line.now.number / 10 * 10 + last_digit) }
+    ensures short { result ≤ LONGEST_NUMBER }
+{
+    write_word_block(
+        &mut buffer[at..at + LONGEST_WORD_LINE],
+        line,
+        last_digit,
+        word,
+    )
+}
+
+/// Writes such a line with its own word. Bytes behind the line may change.
 #[inline]
 pub(crate) fn write_line(buffer: &mut [u8], at: usize, line: &ReadyLine, last_digit: u8) -> usize
     requires digit { last_digit < 10 }
@@ -44,28 +87,22 @@ pub(crate) fn write_line(buffer: &mut [u8], at: usize, line: &ReadyLine, last_di
     write_block(&mut buffer[at..at + LONGEST_WORD_LINE], line, last_digit)
 }
 
-/// Writes the lines of ten events that all replied this word into a buffer, from a place on: of a
-/// number that ends in 0, and of the nine after it. Answers where they end. Bytes behind them may
-/// change.
-pub(crate) fn write_ten(
-    buffer: &mut [u8],
-    start: usize,
-    number: &mut EventNumber,
-    word: Word,
-) -> usize
-    requires ten { number.old % 10 ≡ 0 }
+/// Writes the lines of ten events that all replied this word into a buffer, from a place on: of the
+/// number of a line that ends in 0, and of the nine after it. Answers where they end. Bytes behind
+/// them may change.
+pub(crate) fn write_ten(buffer: &mut [u8], start: usize, line: &ReadyLine, word: Word) -> usize
+    requires ten { line.now.number % 10 ≡ 0 }
+    requires word { line.now.word ≡ word }
     requires room { start + LONGEST_TEN ≤ length buffer.old }
     ensures len { length buffer.new ≡ length buffer.old }
     ensures lines { take result buffer.new
-        ≡ take start buffer.old ++ word_lines word number.old 10 }
+        ≡ take start buffer.old ++ word_lines word line.now.number 10 }
     ensures end { result ≤ start + LONGEST_TEN }
-    ensures number { number.new ≡ number.old }
 {
-    let line = number.line_with(word);
     let length = word.length();
     let mut at = start;
     for last_digit in 0..10 {
-        at += write_line(buffer, at, &line, last_digit) + length;
+        at += write_line(buffer, at, line, last_digit) + length;
     }
     at
 }
