@@ -7,7 +7,7 @@ ghost use Rattle.report.specs.Word.{word_line, word_lines};
 use crate::event_number::EventNumber;
 use crate::ready_line::{LONGEST_NUMBER, LONGEST_WORD_LINE};
 use crate::word::Word;
-use crate::word_lines::{LONGEST_TEN, write_line, write_some, write_ten, write_word};
+use crate::word_lines::{LONGEST_TEN, write_line, write_some, write_ten};
 use itoa::Buffer;
 use std::alloc::{AllocError, Global};
 use std::marker::Model;
@@ -98,9 +98,8 @@ impl Lines {
         ensures line { self.new ≡ self.old ++ word_line word number.old }
         ensures number { number.new ≡ number.old }
     {
-        let line = number.line();
-        let last_digit = number.last_digit();
-        let digits = write_word(&mut self.buffer, self.used, &line, last_digit, word);
+        let line = number.line_with(word);
+        let digits = write_line(&mut self.buffer, self.used, &line, number.last_digit());
         self.used += digits + word.length();
     }
 

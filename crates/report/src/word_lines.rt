@@ -4,7 +4,7 @@ ghost use Rattle.std.specs.Prelude.{◌≡◌, ◌+◌, ◌*◌, ◌/◌, ◌%�
 ghost use Rattle.report.specs.Word.{word_line, word_lines, word_text};
 
 use crate::event_number::EventNumber;
-use crate::ready_line::{LONGEST_NUMBER, LONGEST_WORD_LINE, ReadyLine, put_word};
+use crate::ready_line::{LONGEST_NUMBER, LONGEST_WORD_LINE, ReadyLine};
 use crate::word::Word;
 
 /// Bytes of ten such lines, at most.
@@ -28,50 +28,7 @@ fn write_block(block: &mut [u8], line: &ReadyLine, last_digit: u8) -> usize
     line.write(last_digit, block)
 }
 
-/// The same with another word.
-#[inline]
-fn write_word_block(block: &mut [u8], line: &ReadyLine, last_digit: u8, word: Word) -> usize
-    requires digit { last_digit < 10 }
-    requires long { length block.old ≡ LONGEST_WORD_LINE }
-    ensures len { length block.new ≡ LONGEST_WORD_LINE }
-    ensures line { take (result + length (word_text word)) block.new
-        ≡ word_line word (line.now.number / 10 * 10 + last_digit) }
-    ensures short { result ≤ LONGEST_NUMBER }
-{
-    let Some(block) = block.as_mut_array() else {
-        unreachable!()
-    };
-    let digits = line.write(last_digit, block);
-    put_word(block, digits, word);
-    digits
-}
-
-/// Writes the line of a number and of any word into a buffer, at a place. Bytes behind the line may
-/// change. The word goes into the buffer alone: a line that was just changed is slow to load.
-#[inline]
-pub(crate) fn write_word(
-    buffer: &mut [u8],
-    at: usize,
-    line: &ReadyLine,
-    last_digit: u8,
-    word: Word,
-) -> usize
-    requires digit { last_digit < 10 }
-    requires room { at + LONGEST_WORD_LINE ≤ length buffer.old }
-    ensures len { length buffer.new ≡ length buffer.old }
-    ensures line { take (at + (result + length (word_text word))) buffer.new
-        ≡ take at buffer.old ++ word_line word (line.now.number / 10 * 10 + last_digit) }
-    ensures short { result ≤ LONGEST_NUMBER }
-{
-    write_word_block(
-        &mut buffer[at..at + LONGEST_WORD_LINE],
-        line,
-        last_digit,
-        word,
-    )
-}
-
-/// Writes such a line with its own word. Bytes behind the line may change.
+/// Writes such a line into a buffer, at a place. Bytes behind the line may change.
 #[inline]
 pub(crate) fn write_line(buffer: &mut [u8], at: usize, line: &ReadyLine, last_digit: u8) -> usize
     requires digit { last_digit < 10 }
