@@ -1,16 +1,13 @@
 -- Lines that are taken off the bytes of a text.
-use Rattle.std.proofs.Common.{◌≡◌, ◌∙◌, ℕ, zero, suc, ◌+◌, ◌*◌, ◌<◌, ◌≤◌, List, [], ◌∷◌, ◌++◌, length, get_or, drop, codes, Some, refl, sym, ap, inl, inr, arith, append_assoc, length-append}
-use Rattle.std.proofs.lemmas.Bool.{le-leb, ne_eqb}
+use Rattle.std.proofs.Common.{◌≡◌, ◌∙◌, ℕ, zero, suc, ◌+◌, ◌*◌, ◌<◌, ◌≤◌, List, [], ◌∷◌, ◌++◌, length, get_or, drop, codes, Some, refl, sym, ap, inl, inr, arith, length-append}
 use Rattle.std.proofs.lemmas.Bool.Decides.{eqb_tells}
-use Rattle.std.proofs.lemmas.List.{append-nil}
 use Rattle.std.specs.Str.Parse.{digits_value}
-use Rattle.model.specs.declared.event.Event.{Event}
 use Rattle.model.specs.declared.event.Event.TheVariants.{Step}
 use Rattle.text.specs.Cut.{lines_from, lines_of}
 use Rattle.interleave.specs.Line.{step_line}
-use Rattle.interleave.specs.Listing.{listing}
 use Rattle.interleave.specs.Usual.{BeginsWith, Digits, Once, TakesStep}
-use Rattle.interleave.proofs.Usual.{number_more, plain_word, read_line, steps_read, takes_number}
+use Rattle.interleave.specs.declared.read.Repeated.{Repeated}
+use Rattle.interleave.proofs.Usual.{line_taken, number_more, plain_word, steps_read, takes_number}
 
 -- the first line of a text, and the lines after it
 abbrev Cuts : List ℕ → List ℕ → List ℕ → List (List ℕ) → Type 0
@@ -62,40 +59,27 @@ pub next_line : (text line : List ℕ) (later : List (List ℕ)) → lines_of te
 next_line text line later cuts =
     cuts ∙ ap (λ lines. line ∷ lines) (behind_line [] text line later (length line + 1) cuts (omega arith))
 
--- digits up to an LF
-digits_line : (held digits later : List ℕ) → Digits digits
-    → lines_from held (digits ++ 10 ∷ later) ≡ (held ++ digits) ∷ lines_of later
-digits_line held [] later are = rw (append-nil held) refl
-digits_line held (d ∷ digits) later (low, high, are) =
-    rw (
-      ne_eqb d 10 (λ e. omega (arith, e, low)),
-      digits_line (held ++ d ∷ []) digits later are,
-      append_assoc held (d ∷ []) digits,
-    ) refl
-
 -- the line of one step
 step_taken : (text digits later : List ℕ) (thread : ℕ)
     → text ≡ codes "step " ++ (digits ++ 10 ∷ later) → 0 < length digits → Digits digits
     → thread ≡ digits_value 10 digits → thread < 100
     → TakesStep (lines_of text) thread (lines_of later)
 step_taken text digits later thread is some are writes small =
-    let begins : BeginsWith digits thread [] = record {
+    let operand = digits ++ 10 ∷ later in
+    let begins : BeginsWith operand thread (10 ∷ later) = record {
       digits = digits;
       some = some;
       all = are;
       writes = writes;
-      parts = sym (append-nil digits);
+      parts = refl;
     } in
-    let takes = takes_number (32 ∷ digits) digits [] 32 thread refl refl begins (omega (arith, small)) in
-    record {
-      line = codes "step " ++ digits;
-      parts = rw is (digits_line (codes "step ") digits later are);
-      says = read_line (codes "step") step_line (codes "step " ++ digits) (32 ∷ digits)
-          (Some (record { event = Step thread; count = 1 }))
-          (plain_word (codes "step") refl refl refl) (λ words. refl) refl
-          (steps_read takes (omega (arith, small)) (Once refl refl));
-      small = small;
-    }
+    let takes = takes_number (32 ∷ operand) operand (10 ∷ later) 32 thread refl refl begins
+    (omega (arith, small)) in
+    let once : Repeated = record { event = Step thread; count = 1 } in
+    let usual = line_taken (codes "step") step_line text (32 ∷ operand) later (Some once)
+    (plain_word (codes "step") refl refl refl) (λ words. refl) is
+    (steps_read takes (omega (arith, small)) (Once refl refl)) in
+    record { line = usual.line; parts = usual.parts; says = usual.says; small = small }
 
 pub one_digit : (text after behind later : List ℕ) (first second digit : ℕ)
     → text ≡ codes "step " ++ after → after ≡ first ∷ behind → behind ≡ second ∷ later

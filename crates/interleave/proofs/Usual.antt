@@ -1,5 +1,5 @@
 -- Lines in their usual form are read as the exact reading says.
-use Rattle.std.proofs.Common.{◌≡◌, ℕ, ◌+◌, ◌-◌, ◌*◌, ◌<◌, ◌≤◌, ◌^◌, nat_eq, nat_lt, true, false, Bool, ◌||◌, ◌&&◌, not, List, [], ◌∷◌, ◌++◌, length, get_or, take, is_some, Option, Some, None, Result, Ok, IfSome, MatchOption, Bor, ◌≢◌, refl, sym, ◌∙◌, arith, append_assoc, codes}
+use Rattle.std.proofs.Common.{◌≡◌, ℕ, ◌+◌, ◌-◌, ◌*◌, ◌<◌, ◌≤◌, ◌^◌, nat_eq, nat_lt, true, false, Bool, ◌||◌, ◌&&◌, not, List, [], ◌∷◌, ◌++◌, length, get_or, take, is_some, Option, Some, None, Result, IfSome, MatchOption, Bor, ◌≢◌, refl, sym, ◌∙◌, arith, append_assoc, codes}
 use Rattle.std.proofs.lemmas.Int.Digits.{digits_value_more}
 use Rattle.std.proofs.lemmas.List.{append-nil, take_more}
 use Rattle.std.proofs.lemmas.Bool.{and_parts, ne_eqb, lt-ltb, le-leb}
@@ -11,12 +11,12 @@ use Rattle.model.specs.declared.event.Event.TheVariants.{Issue, Cancel, Interrup
 use Rattle.model.specs.declared.status.Major.{Major}
 use Rattle.model.specs.declared.status.Major.TheVariants.{Read, Write, Control}
 use Rattle.text.specs.Class.{is_name, is_word, is_number, is_prefixed, is_token, label_name}
-use Rattle.text.specs.Cut.{closed, parts_from, code_of, is_blank, is_clean, is_written, tokens_of}
+use Rattle.text.specs.Cut.{closed, parts_from, code_of, is_blank, is_clean, is_written, lines_from, lines_of, tokens_of}
 use Rattle.text.specs.Major.{major_of}
 use Rattle.text.specs.Number.{number_in}
 use Rattle.text.specs.declared.number.Numeral.TheVariants.{Number}
 use Rattle.interleave.specs.Line.{cancel_line, dpc_line, event_line, event_of, interrupt_line, issue_line, number_within, startio_line, step_line}
-use Rattle.interleave.specs.Usual.{Digits, BeginsWith, is_inner, IsPlain, ArePlain, spaced, TakesNumber, TakesMajor, IsCount, Once, Times, Reads}
+use Rattle.interleave.specs.Usual.{Digits, BeginsWith, is_inner, IsPlain, ArePlain, lined, spaced, TakesNumber, TakesMajor, TakesUsual, IsCount, Once, Times, Reads}
 use Rattle.interleave.specs.declared.schedule.ScheduleKind.{ScheduleKind}
 use Rattle.interleave.specs.declared.read.Repeated.{Repeated}
 
@@ -125,16 +125,50 @@ read_plain word words is are =
     clean_on word (spaced words) is.inner (spaced_clean words are) in
     rw (tokens, clean, is.token, spaced_tokens words are) refl
 
+-- a token has no LF
+no_feed : (b : ℕ) → is_written b ≡ true → nat_eq b 10 ≡ false
+no_feed b written = grind (arith, nat_tests)
+
+lines_on : (held word rest : List ℕ) → list_all is_inner word ≡ true
+    → lines_from held (word ++ rest) ≡ lines_from (held ++ word) rest
+lines_on held [] rest is = rw (append-nil held) refl
+lines_on held (b ∷ bs) rest is =
+    let first = first_inner b bs is in
+    rw (
+      no_feed b first.0.written,
+      lines_on (held ++ b ∷ []) bs rest first.1,
+      append_assoc held (b ∷ []) bs,
+    ) refl
+
+-- words up to an LF are in one line
+lined_line : (held later : List ℕ) (words : List (List ℕ)) → ArePlain words
+    → lines_from held (lined words (10 ∷ later)) ≡ (held ++ spaced words) ∷ lines_of later
+lined_line held later [] are = rw (append-nil held) refl
+lined_line held later (word ∷ words) (is, are) =
+    rw (
+      lines_on (held ++ 32 ∷ []) word (lined words (10 ∷ later)) is.inner,
+      lined_line ((held ++ 32 ∷ []) ++ word) later words are,
+      append_assoc (held ++ 32 ∷ []) word (spaced words),
+      append_assoc held (32 ∷ []) (word ++ spaced words),
+    ) refl
+
 -- a word, and operands that the exact reading takes
-pub read_line : (word : List ℕ) (reading : List (List ℕ) → Result (Option Repeated) ScheduleKind)
-    (line operands : List ℕ) (o : Option Repeated) → IsPlain word
+pub line_taken : (word : List ℕ) (reading : List (List ℕ) → Result (Option Repeated) ScheduleKind)
+    (text operands later : List ℕ) (o : Option Repeated) → IsPlain word
     → ((words : List (List ℕ)) → event_of (word ∷ words) ≡ reading words)
-    → line ≡ word ++ operands → IfSome o (λ r. Reads reading operands r)
-    → IfSome o (λ r. event_line line ≡ Ok (Some r))
-read_line word reading line operands None is begins parts reads = tt
-read_line word reading line operands (Some r) is begins parts reads =
-    rw (parts, reads.parts)
-    (read_plain word reads.words is reads.plain ∙ begins reads.words ∙ reads.says)
+    → text ≡ word ++ operands → IfSome o (λ r. Reads reading operands r later)
+    → IfSome o (λ r. TakesUsual (lines_of text) r (lines_of later))
+line_taken word reading text operands later None is begins parts reads = tt
+line_taken word reading text operands later (Some r) is begins parts reads = record {
+  line = word ++ spaced reads.words;
+  parts = rw (
+    parts,
+    reads.parts,
+    lines_on [] word (lined reads.words (10 ∷ later)) is.inner,
+    lined_line word later reads.words reads.plain,
+  ) refl;
+  says = read_plain word reads.words is reads.plain ∙ begins reads.words ∙ reads.says;
+}
 
 -- what stands behind a word, where the bytes begin with it
 pub behind : (bytes word : List ℕ) (r : Option (Bor (List ℕ)))
@@ -154,18 +188,18 @@ number_read : {bytes rest : List ℕ} {n : ℕ} (least most : ℕ) (t : TakesNum
 number_read {bytes} {rest} {n} least most t some few =
     rw (t.writes, le-leb least n some, le-leb n most few) refl
 
-pub interrupt_read : {a e : List ℕ} {d : ℕ} → TakesNumber a d e → e ≡ [] → d ≤ 255
-    → Reads interrupt_line a (record { event = Interrupt d; count = 1 })
-interrupt_read {a} {e} {d} first done few = record {
+pub interrupt_read : {a e later : List ℕ} {d : ℕ} → TakesNumber a d e → e ≡ 10 ∷ later → d ≤ 255
+    → Reads interrupt_line a (record { event = Interrupt d; count = 1 }) later
+interrupt_read {a} {e} {later} {d} first done few = record {
   words = first.word ∷ [];
   parts = rw (first.parts, done) refl;
   plain = (first.plain, tt);
   says = rw (number_read 0 255 first (omega arith) few, first.form) refl;
 }
 
-pub dpc_read : {a b e : List ℕ} {t d : ℕ} → TakesNumber a t b → TakesNumber b d e → e ≡ []
-    → t ≤ 255 → d ≤ 255 → Reads dpc_line a (record { event = Dpc t d; count = 1 })
-dpc_read {a} {b} {e} {t} {d} first second done few less = record {
+pub dpc_read : {a b e later : List ℕ} {t d : ℕ} → TakesNumber a t b → TakesNumber b d e → e ≡ 10 ∷ later
+    → t ≤ 255 → d ≤ 255 → Reads dpc_line a (record { event = Dpc t d; count = 1 }) later
+dpc_read {a} {b} {e} {later} {t} {d} first second done few less = record {
   words = first.word ∷ second.word ∷ [];
   parts = rw (first.parts, second.parts, done) refl;
   plain = (first.plain, (second.plain, tt));
@@ -177,9 +211,9 @@ dpc_read {a} {b} {e} {t} {d} first second done few less = record {
   ) refl;
 }
 
-pub startio_read : {a b e : List ℕ} {t d : ℕ} → TakesNumber a t b → TakesNumber b d e → e ≡ []
-    → t ≤ 255 → d ≤ 255 → Reads startio_line a (record { event = StartIo t d; count = 1 })
-startio_read {a} {b} {e} {t} {d} first second done few less = record {
+pub startio_read : {a b e later : List ℕ} {t d : ℕ} → TakesNumber a t b → TakesNumber b d e → e ≡ 10 ∷ later
+    → t ≤ 255 → d ≤ 255 → Reads startio_line a (record { event = StartIo t d; count = 1 }) later
+startio_read {a} {b} {e} {later} {t} {d} first second done few less = record {
   words = first.word ∷ second.word ∷ [];
   parts = rw (first.parts, second.parts, done) refl;
   plain = (first.plain, (second.plain, tt));
@@ -191,10 +225,10 @@ startio_read {a} {b} {e} {t} {d} first second done few less = record {
   ) refl;
 }
 
-pub cancel_read : {a b c e : List ℕ} {t n l : ℕ} → TakesNumber a t b → TakesNumber b n c
-    → TakesNumber c l e → e ≡ [] → t ≤ 255 → n < 2 ^ 64 → l ≤ 255
-    → Reads cancel_line a (record { event = Cancel t n l; count = 1 })
-cancel_read {a} {b} {c} {e} {t} {n} {l} first second third done few fits less = record {
+pub cancel_read : {a b c e later : List ℕ} {t n l : ℕ} → TakesNumber a t b → TakesNumber b n c
+    → TakesNumber c l e → e ≡ 10 ∷ later → t ≤ 255 → n < 2 ^ 64 → l ≤ 255
+    → Reads cancel_line a (record { event = Cancel t n l; count = 1 }) later
+cancel_read {a} {b} {c} {e} {later} {t} {n} {l} first second third done few fits less = record {
   words = first.word ∷ second.word ∷ third.word ∷ [];
   parts = rw (first.parts, second.parts, third.parts, done) refl;
   plain = (first.plain, (second.plain, (third.plain, tt)));
@@ -208,11 +242,11 @@ cancel_read {a} {b} {c} {e} {t} {n} {l} first second third done few fits less = 
   ) refl;
 }
 
-pub issue_read : {a b c f e : List ℕ} {t d n : ℕ} {m : Major} → TakesNumber a t b
-    → TakesNumber b d c → TakesMajor c m f → TakesNumber f n e → e ≡ [] → t ≤ 255 → d ≤ 255
+pub issue_read : {a b c f e later : List ℕ} {t d n : ℕ} {m : Major} → TakesNumber a t b
+    → TakesNumber b d c → TakesMajor c m f → TakesNumber f n e → e ≡ 10 ∷ later → t ≤ 255 → d ≤ 255
     → n < 2 ^ 64
-    → Reads issue_line a (record { event = Issue t d m n; count = 1 })
-issue_read {a} {b} {c} {f} {e} {t} {d} {n} {m} first second third fourth done few less fits = record {
+    → Reads issue_line a (record { event = Issue t d m n; count = 1 }) later
+issue_read {a} {b} {c} {f} {e} {later} {t} {d} {n} {m} first second third fourth done few less fits = record {
   words = first.word ∷ second.word ∷ third.word ∷ fourth.word ∷ [];
   parts = rw (first.parts, second.parts, third.parts, fourth.parts, done) refl;
   plain = (first.plain, (second.plain, (third.plain, (fourth.plain, tt))));
@@ -227,15 +261,16 @@ issue_read {a} {b} {c} {f} {e} {t} {d} {n} {m} first second third fourth done fe
   ) refl;
 }
 
-pub steps_read : {a b : List ℕ} {t count : ℕ} → TakesNumber a t b → t ≤ 255 → IsCount b count
-    → Reads step_line a (record { event = Step t; count = count })
-steps_read {a} {b} {t} {count} first few (Once none one) = record {
+pub steps_read : {a b later : List ℕ} {t count : ℕ} → TakesNumber a t b → t ≤ 255
+    → IsCount b count later
+    → Reads step_line a (record { event = Step t; count = count }) later
+steps_read {a} {b} {later} {t} {count} first few (Once none one) = record {
   words = first.word ∷ [];
   parts = rw (first.parts, none) refl;
   plain = (first.plain, tt);
   says = rw (number_read 0 255 first (omega arith) few, first.form, one) refl;
 }
-steps_read {a} {b} {t} {count} first few (Times second least most) = record {
+steps_read {a} {b} {later} {t} {count} first few (Times second least most) = record {
   words = first.word ∷ second.word ∷ [];
   parts = rw (first.parts, second.parts) refl;
   plain = (first.plain, (second.plain, tt));
@@ -248,9 +283,9 @@ steps_read {a} {b} {t} {count} first few (Times second least most) = record {
 }
 
 -- how often, where it stands at the end
-pub counts : {bytes rest : List ℕ} {count : ℕ} → TakesNumber bytes count rest → rest ≡ []
-    → 1 ≤ count → count ≤ 1000000 → IsCount bytes count
-counts {bytes} {rest} {count} takes done least most = Times (rw done at takes) least most
+pub counts : {bytes rest later : List ℕ} {count : ℕ} → TakesNumber bytes count rest
+    → rest ≡ 10 ∷ later → 1 ≤ count → count ≤ 1000000 → IsCount bytes count later
+counts {bytes} {rest} {later} {count} takes done least most = Times (rw done at takes) least most
 
 -- what the reading asks of a digit
 plain_digit : (b : ℕ) → 48 ≤ b → b ≤ 57 → (is_inner b ≡ true) × (is_digit b 10 ≡ true)

@@ -1,4 +1,5 @@
 pub mod Events
+pub mod Kept
 pub mod Line
 pub mod Listing
 pub mod Meaning

@@ -4,6 +4,7 @@ ghost use Rattle.std.specs.Prelude.{◌≡◌, nat_eq, false, ◌+◌, ◌^◌, 
 ghost use Rattle.model.specs.declared.event.Event.TheVariants.{Step};
 ghost use Rattle.interleave.specs.Events.{listed, marks};
 
+use crate::kept::{Kept, is_kept};
 use crate::read::Repeated;
 use model::event::Event;
 use std::alloc::{AllocError, Global};
@@ -15,16 +16,18 @@ use std::marker::Model;
 #[derive(Drop)]
 pub struct Events {
     bytes: Vec<u8>,
-    others: Vec<Repeated>,
+    others: Vec<Kept>,
     count: usize,
 }
 
 /// The byte that stands for the next of the others, and for no step.
 const MARK: u8 = 255;
 
-/// The most steps of a line that are kept as bytes; more of them are one of the others, which takes
-/// as many bytes.
+/// The most steps of a line that are kept as bytes; more of them are one of the others.
 const FEW: usize = 32;
+
+/// The most equal bytes in a row that are taken one by one; more of them are taken as a run.
+const SHORT: usize = 8;
 
 impl Model for Events {
     ghost use Rattle.std.specs.Prelude.{◌≡◌, List, length};
@@ -67,8 +70,28 @@ impl Events {
         requires { length self.old + repeated.count < 2 ^ 64 }
         ensures { OnOk result (self.new ≡ self.old ++ replicate repeated.count repeated.event) }
     {
-        add(&mut self.bytes, &mut self.others, repeated)?;
-        self.count += repeated.count;
+        if is_kept(&repeated) {
+            return self.push_kept(Kept::of(repeated));
+        }
+        let event = repeated.event;
+        for _ in 0..repeated.count {
+            self.push_kept(Kept::of(Repeated { event, count: 1 }))?;
+        }
+        Ok(())
+    }
+
+    /// Adds an event as many times as it happens.
+    ///
+    /// # Errors
+    ///
+    /// When memory runs out.
+    pub(crate) fn push_kept(&mut self, kept: Kept) -> Result<(), AllocError>
+        requires { length self.old + kept.count < 2 ^ 64 }
+        ensures { OnOk result (self.new ≡ self.old ++ replicate kept.count kept.event) }
+    {
+        let count = kept.count();
+        add(&mut self.bytes, &mut self.others, kept)?;
+        self.count += count;
         Ok(())
     }
 
@@ -100,30 +123,26 @@ impl Events {
 }
 
 /// Adds an event as many times as it happens; where memory runs out, nothing.
-fn add(
-    bytes: &mut Vec<u8>,
-    others: &mut Vec<Repeated>,
-    repeated: Repeated,
-) -> Result<(), AllocError>
+fn add(bytes: &mut Vec<u8>, others: &mut Vec<Kept>, kept: Kept) -> Result<(), AllocError>
     requires { marks bytes.old.items ≡ length others.old.items }
     ensures marked { marks bytes.new.items ≡ length others.new.items }
     ensures listed { listed bytes.new.items others.new.items
         ≡ listed bytes.old.items others.old.items
-        ++ replicate (if is_ok result then repeated.count else 0) repeated.event }
+        ++ replicate (if is_ok result then kept.count else 0) kept.event }
 {
-    match stepped(&repeated) {
-        Some(thread) => push_copies(bytes, thread, repeated.count),
-        None => push_other(bytes, others, repeated),
+    match stepped(&kept) {
+        Some(thread) => push_copies(bytes, thread, kept.count()),
+        None => push_other(bytes, others, kept),
     }
 }
 
 /// The thread of steps that are kept as bytes.
-fn stepped(repeated: &Repeated) -> Option<u8>
+fn stepped(kept: &Kept) -> Option<u8>
     ensures { IfSome result (λ thread. (nat_eq thread 255 ≡ false)
-        × (repeated.now.event ≡ Step thread) × (repeated.now.count ≤ 32)) }
+        × (kept.now.event ≡ Step thread) × (kept.now.count ≤ 32)) }
 {
-    match repeated.event {
-        Event::Step { thread } if thread < MARK && repeated.count <= FEW => Some(thread),
+    match kept.event() {
+        Event::Step { thread } if thread < MARK && kept.count() <= FEW => Some(thread),
         _ => None,
     }
 }
@@ -142,17 +161,13 @@ fn push_copies(bytes: &mut Vec<u8>, byte: u8, count: usize) -> Result<(), AllocE
 }
 
 /// Adds one of the others, and its mark.
-fn push_other(
-    bytes: &mut Vec<u8>,
-    others: &mut Vec<Repeated>,
-    repeated: Repeated,
-) -> Result<(), AllocError>
+fn push_other(bytes: &mut Vec<u8>, others: &mut Vec<Kept>, kept: Kept) -> Result<(), AllocError>
     ensures bytes { bytes.new.items ≡ (if is_ok result then bytes.old.items ++ 255 ∷ []
         else bytes.old.items) }
-    ensures others { others.new.items ≡ (if is_ok result then others.old.items ++ repeated ∷ []
+    ensures others { others.new.items ≡ (if is_ok result then others.old.items ++ kept ∷ []
         else others.old.items) }
 {
-    others.push(repeated)?;
+    others.push(kept)?;
     if let Err(refused) = bytes.push(MARK) {
         let _back = others.pop();
         return Err(refused.into());
@@ -164,7 +179,7 @@ fn push_other(
 #[derive(Drop)]
 pub struct Upcoming<'a> {
     bytes: &'a [u8],
-    others: &'a [Repeated],
+    others: &'a [Kept],
 }
 
 impl<'a> Model for Upcoming<'a> {
@@ -178,8 +193,8 @@ impl<'a> Model for Upcoming<'a> {
 }
 
 impl Upcoming<'_> {
-    /// Takes the next event, if it is one that happens once: a step that is kept as a byte, where
-    /// another byte stands behind it, or one of the others.
+    /// Takes the next event, if it is one that happens once: a step that is kept as a byte, where no
+    /// long run of equal bytes begins, or one of the others.
     #[inline]
     pub fn next_single(&mut self) -> Option<Event>
         ensures { MatchOption result (self.new ≡ self.old)
@@ -189,14 +204,14 @@ impl Upcoming<'_> {
         let thread = *byte;
         if thread == MARK {
             let (next, others) = self.others.split_first()?;
-            if next.count != 1 {
+            if next.count() != 1 {
                 return None;
             }
             self.bytes = bytes;
             self.others = others;
-            return Some(next.event);
+            return Some(next.event());
         }
-        if bytes.first() == Some(byte) {
+        if bytes.first() == Some(byte) && bytes.get(SHORT - 1) == Some(byte) {
             return None;
         }
         self.bytes = bytes;
@@ -223,8 +238,12 @@ impl Upcoming<'_> {
             self.bytes = bytes;
             if let Some((next, others)) = self.others.split_first() {
                 self.others = others;
-                if next.count > 0 {
-                    return Some(*next);
+                let count = next.count();
+                if count > 0 {
+                    return Some(Repeated {
+                        event: next.event(),
+                        count,
+                    });
                 }
             }
         }

@@ -1,10 +1,11 @@
 //! The lines of a schedule that are not read yet.
 
 ghost use Rattle.std.specs.Prelude.{◌≡◌, ◌+◌, ◌≤◌, ◌∷◌, [], MatchOption, drop, length};
-ghost use Rattle.interleave.specs.Usual.{TakesStep};
+ghost use Rattle.interleave.specs.Usual.{TakesStep, TakesUsual};
 ghost use Rattle.text.specs.Cut.{lines_of};
 
-use crate::quick::{after_word, digit};
+use crate::kept::Kept;
+use crate::quick::{Operands, after_word, digit, usual_line};
 use std::marker::Model;
 use text::cut::Lines;
 
@@ -42,6 +43,22 @@ impl<'a> Left<'a> {
         let line = Lines::of(text).next()?;
         self.rest = behind(text, line);
         Some(line)
+    }
+
+    /// Takes the next line, if it has the usual form and an LF, and stands for at most so many
+    /// events. It isn't cut off first either.
+    #[inline]
+    pub(crate) fn next_usual(&mut self, most: usize) -> Option<Kept>
+        ensures { MatchOption result (self.new ≡ self.old)
+            (λ events. (events.count ≤ most) × TakesUsual self.old events self.new) }
+    {
+        let mut operands = Operands { rest: self.rest };
+        let kept = usual_line(&mut operands)?;
+        if kept.count() > most {
+            return None;
+        }
+        self.rest = operands.rest;
+        Some(kept)
     }
 
     /// Takes the next line, if it is that of one step of a thread with a number of one or two

@@ -2,6 +2,7 @@
 #![tactic(auto)]
 
 pub mod events;
+mod kept;
 mod left;
 pub mod parse;
 pub mod quick;

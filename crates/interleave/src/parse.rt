@@ -7,8 +7,7 @@ ghost use Rattle.text.specs.Cut.{lines_of};
 
 use crate::events::Events;
 use crate::left::Left;
-use crate::quick::quick_line;
-use crate::read::opening_line;
+use crate::read::{event_line, opening_line};
 use crate::schedule::{MAX_EVENTS, Schedule, ScheduleFault, ScheduleKind};
 use std::alloc::{AllocError, Global};
 
@@ -99,19 +98,19 @@ fn list(
         (λ fault. listing [] first left.entry ≡ Err fault)) }
 {
     let mut events = Events::new(alloc);
-    let mut line = first + add_steps(&mut events, &mut left)?;
+    let mut line = first + add_usual(&mut events, &mut left)?;
     while let Some(raw) = left.next() {
         if let Err(kind) = add_line(&mut events, raw)? {
             return Ok(Err(ScheduleFault { line, kind }));
         }
-        line += 1 + add_steps(&mut events, &mut left)?;
+        line += 1 + add_usual(&mut events, &mut left)?;
     }
     Ok(Ok(events))
 }
 
-/// Adds the steps of the lines of one step that come next, while there is room for one more, and
+/// Adds the events of the lines in the usual form that come next, while there is room for them, and
 /// answers how many lines there were.
-fn add_steps(events: &mut Events, left: &mut Left<'_>) -> Result<u64, AllocError>
+fn add_usual(events: &mut Events, left: &mut Left<'_>) -> Result<u64, AllocError>
     requires { length left.old < 2 ^ 64 }
     ensures same { IfOk result (λ made. (first : ℕ)
         → listing events.old first left.old ≡ listing events.new (first + made) left.new) }
@@ -119,10 +118,13 @@ fn add_steps(events: &mut Events, left: &mut Left<'_>) -> Result<u64, AllocError
 {
     let mut made: u64 = 0;
     while events.len() < MAX_EVENTS {
-        let Some(thread) = left.next_step() else {
+        if let Some(thread) = left.next_step() {
+            events.push_step(thread)?;
+        } else if let Some(kept) = left.next_usual(MAX_EVENTS - events.len()) {
+            events.push_kept(kept)?;
+        } else {
             return Ok(made);
-        };
-        events.push_step(thread)?;
+        }
         made += 1;
     }
     Ok(made)
@@ -134,7 +136,7 @@ fn add_line(events: &mut Events, line: &[u8]) -> Result<Result<(), ScheduleKind>
         (λ r. MatchResult r (λ _. events_after events.old line.now ≡ Ok events.new)
         (λ kind. events_after events.old line.now ≡ Err kind)) }
 {
-    match quick_line(line) {
+    match event_line(line) {
         Ok(Some(repeated)) => match events.len().checked_add(repeated.count) {
             Some(length) => {
                 if length > MAX_EVENTS {

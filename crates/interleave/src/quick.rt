@@ -1,76 +1,70 @@
 //! Lines of events in their usual form, read in one pass: most lines of a schedule have it.
 
-ghost use Rattle.std.specs.Prelude.{◌≡◌, ◌+◌, ◌<◌, ◌≤◌, ◌↔◌, ◌++◌, [], IfSome, IsTrue, Ok, Some, bytes_eq, length, take};
+ghost use Rattle.std.specs.Prelude.{◌≡◌, ◌+◌, ◌<◌, ◌≤◌, ◌++◌, ◌∷◌, IfSome, IsTrue, bytes_eq, false, length, take};
 ghost use Rattle.std.specs.Str.Parse.{digits_value};
-ghost use Rattle.interleave.specs.Line.{cancel_line, dpc_line, event_line, interrupt_line, issue_line, startio_line, step_line};
-ghost use Rattle.interleave.specs.Usual.{BeginsWith, Digits, IsCount, Reads, TakesMajor, TakesNumber};
+ghost use Rattle.text.specs.Cut.{lines_of};
+ghost use Rattle.interleave.specs.Line.{cancel_line, dpc_line, interrupt_line, issue_line, startio_line, step_line};
+ghost use Rattle.interleave.specs.Usual.{BeginsWith, Digits, IsCount, Reads, TakesMajor, TakesNumber, TakesUsual};
 
-use crate::read::{MAX_REPEATS, Repeated, event_line};
-use crate::schedule::ScheduleKind;
+use crate::kept::Kept;
+use crate::read::{MAX_REPEATS, Repeated};
 use model::event::Event;
 use model::status::Major;
 use std::marker::Model;
 
-/// What `event_line` answers to a line.
-///
-/// # Errors
-///
-/// The least kind of what is wrong with the line.
-pub fn quick_line(line: &[u8]) -> Result<Option<Repeated>, ScheduleKind>
-    ensures { result ≡ event_line line.now }
+/// The events that the first line of a text stands for, if it has the usual form: a word and its
+/// operands, each after one space, with numbers in decimal digits and in range, and an LF behind
+/// them. It is read by its bytes where it stands, and taken off.
+pub(crate) fn usual_line(operands: &mut Operands<'_>) -> Option<Kept>
+    ensures { IfSome result (λ r. TakesUsual (lines_of operands.old) r (lines_of operands.new)) }
 {
-    match usual_line(line) {
-        Some(repeated) => Ok(Some(repeated)),
-        None => event_line(line),
+    if let Some(rest) = after_word(operands.rest, b"step") {
+        operands.rest = rest;
+        return steps(operands);
     }
-}
-
-/// The events that a line stands for, if it has the usual form: a word and its operands, each after
-/// one space, with numbers in decimal digits and in range, and nothing behind them.
-fn usual_line(line: &[u8]) -> Option<Repeated>
-    ensures { IfSome result (λ r. event_line line.now ≡ Ok (Some r)) }
-{
-    if let Some(rest) = after_word(line, b"step") {
-        return steps(Operands { rest });
+    if let Some(rest) = after_word(operands.rest, b"issue") {
+        operands.rest = rest;
+        return request(operands);
     }
-    if let Some(rest) = after_word(line, b"issue") {
-        return request(Operands { rest });
+    if let Some(rest) = after_word(operands.rest, b"cancel") {
+        operands.rest = rest;
+        return cancel(operands);
     }
-    if let Some(rest) = after_word(line, b"cancel") {
-        return cancel(Operands { rest });
+    if let Some(rest) = after_word(operands.rest, b"interrupt") {
+        operands.rest = rest;
+        return interrupt(operands);
     }
-    if let Some(rest) = after_word(line, b"interrupt") {
-        return interrupt(Operands { rest });
+    if let Some(rest) = after_word(operands.rest, b"dpc") {
+        operands.rest = rest;
+        return dpc(operands);
     }
-    if let Some(rest) = after_word(line, b"dpc") {
-        return dpc(Operands { rest });
-    }
-    if let Some(rest) = after_word(line, b"startio") {
-        return startio(Operands { rest });
+    if let Some(rest) = after_word(operands.rest, b"startio") {
+        operands.rest = rest;
+        return startio(operands);
     }
     None
 }
 
 /// `T`, or `T K`.
-fn steps(mut operands: Operands) -> Option<Repeated>
-    ensures { IfSome result (λ r. Reads step_line operands.entry r) }
+fn steps(operands: &mut Operands<'_>) -> Option<Kept>
+    ensures { IfSome result (λ r. Reads step_line operands.old r operands.new) }
 {
     let thread = operands.byte()?;
     let count = times(operands)?;
     let event = Event::Step { thread };
-    Some(Repeated { event, count })
+    Some(Kept::of(Repeated { event, count }))
 }
 
 /// How often a thread steps, by what stands after its number: nothing, or how often.
 #[tactic(auto, using(crate::proofs::Usual::counts))]
-fn times(mut operands: Operands) -> Option<usize>
-    ensures { IfSome result (λ count. IsCount operands.entry count) }
+fn times(operands: &mut Operands<'_>) -> Option<usize>
+    ensures { IfSome result (λ count. IsCount operands.old count operands.new) }
 {
-    if operands.are_done() {
+    if operands.ends() {
         return Some(1);
     }
     let count = operands.number()?;
-    if !operands.are_done() || count == 0 || count > MAX_REPEATS {
+    if !operands.ends() || count == 0 || count > MAX_REPEATS {
         return None;
     }
     Some(count as usize)
@@ -78,14 +72,14 @@ fn times(mut operands: Operands) -> Option<usize>
 
 /// `T D MAJOR ARG`.
 #[tactic(auto, using(crate::proofs::Usual::issue_read))]
-fn request(mut operands: Operands) -> Option<Repeated>
-    ensures { IfSome result (λ r. Reads issue_line operands.entry r) }
+fn request(operands: &mut Operands<'_>) -> Option<Kept>
+    ensures { IfSome result (λ r. Reads issue_line operands.old r operands.new) }
 {
     let thread = operands.byte()?;
     let device = operands.byte()?;
     let major = operands.major()?;
     let argument = operands.number()?;
-    if !operands.are_done() {
+    if !operands.ends() {
         return None;
     }
     let event = Event::Issue {
@@ -94,18 +88,18 @@ fn request(mut operands: Operands) -> Option<Repeated>
         major,
         argument,
     };
-    Some(Repeated { event, count: 1 })
+    Some(Kept::of(Repeated { event, count: 1 }))
 }
 
 /// `T N LEVEL`.
 #[tactic(auto, using(crate::proofs::Usual::cancel_read))]
-fn cancel(mut operands: Operands) -> Option<Repeated>
-    ensures { IfSome result (λ r. Reads cancel_line operands.entry r) }
+fn cancel(operands: &mut Operands<'_>) -> Option<Kept>
+    ensures { IfSome result (λ r. Reads cancel_line operands.old r operands.new) }
 {
     let thread = operands.byte()?;
     let packet = operands.number()?;
     let level = operands.byte()?;
-    if !operands.are_done() {
+    if !operands.ends() {
         return None;
     }
     let event = Event::Cancel {
@@ -113,55 +107,55 @@ fn cancel(mut operands: Operands) -> Option<Repeated>
         packet,
         level,
     };
-    Some(Repeated { event, count: 1 })
+    Some(Kept::of(Repeated { event, count: 1 }))
 }
 
 /// `D`.
 #[tactic(auto, using(crate::proofs::Usual::interrupt_read))]
-fn interrupt(mut operands: Operands) -> Option<Repeated>
-    ensures { IfSome result (λ r. Reads interrupt_line operands.entry r) }
+fn interrupt(operands: &mut Operands<'_>) -> Option<Kept>
+    ensures { IfSome result (λ r. Reads interrupt_line operands.old r operands.new) }
 {
     let device = operands.byte()?;
-    if !operands.are_done() {
+    if !operands.ends() {
         return None;
     }
     let event = Event::Interrupt { device };
-    Some(Repeated { event, count: 1 })
+    Some(Kept::of(Repeated { event, count: 1 }))
 }
 
 /// `T D` of a DPC.
 #[tactic(auto, using(crate::proofs::Usual::dpc_read))]
-fn dpc(mut operands: Operands) -> Option<Repeated>
-    ensures { IfSome result (λ r. Reads dpc_line operands.entry r) }
+fn dpc(operands: &mut Operands<'_>) -> Option<Kept>
+    ensures { IfSome result (λ r. Reads dpc_line operands.old r operands.new) }
 {
     let thread = operands.byte()?;
     let device = operands.byte()?;
-    if !operands.are_done() {
+    if !operands.ends() {
         return None;
     }
     let event = Event::Dpc { thread, device };
-    Some(Repeated { event, count: 1 })
+    Some(Kept::of(Repeated { event, count: 1 }))
 }
 
 /// `T D` of a start.
 #[tactic(auto, using(crate::proofs::Usual::startio_read))]
-fn startio(mut operands: Operands) -> Option<Repeated>
-    ensures { IfSome result (λ r. Reads startio_line operands.entry r) }
+fn startio(operands: &mut Operands<'_>) -> Option<Kept>
+    ensures { IfSome result (λ r. Reads startio_line operands.old r operands.new) }
 {
     let thread = operands.byte()?;
     let device = operands.byte()?;
-    if !operands.are_done() {
+    if !operands.ends() {
         return None;
     }
     let event = Event::StartIo { thread, device };
-    Some(Repeated { event, count: 1 })
+    Some(Kept::of(Repeated { event, count: 1 }))
 }
 
-/// The bytes of a line behind its word that are not read yet. What an operand is read from begins
-/// with one space, and reading stops where the operand does.
+/// The bytes of a text that are not read yet. What an operand is read from begins with one space,
+/// and reading stops where the operand does.
 #[derive(Drop)]
-struct Operands<'a> {
-    rest: &'a [u8],
+pub(crate) struct Operands<'a> {
+    pub(crate) rest: &'a [u8],
 }
 
 impl<'a> Model for Operands<'a> {
@@ -218,11 +212,18 @@ impl Operands<'_> {
         None
     }
 
-    /// Whether nothing stands behind the operands that were read.
-    fn are_done(&self) -> bool
-        ensures { IsTrue result ↔ (self.now ≡ []) }
+    /// Takes an LF, if one stands behind the operands that were read.
+    fn ends(&mut self) -> bool
+        ensures ends { IsTrue result → self.old ≡ 10 ∷ self.new }
+        ensures same { result ≡ false → self.new ≡ self.old }
     {
-        self.rest.is_empty()
+        if let Some((byte, rest)) = self.rest.split_first() {
+            if *byte == b'\n' {
+                self.rest = rest;
+                return true;
+            }
+        }
+        false
     }
 }
 

@@ -176,8 +176,10 @@ impl Lines {
         ensures lines { self.new ≡ self.old ++ word_lines word number.old 10 }
         ensures number { number.new ≡ number.old + 10 }
     {
-        self.used = write_ten(&mut self.buffer, self.used, number, word);
+        // The line is changed before it is needed again: one that was just changed is slow to load.
+        let line = number.line_with(word);
         number.advance_by_ten();
+        self.used = write_ten(&mut self.buffer, self.used, &line, word);
     }
 
     /// Adds the number of an event.

@@ -44,28 +44,22 @@ pub(crate) fn write_line(buffer: &mut [u8], at: usize, line: &ReadyLine, last_di
     write_block(&mut buffer[at..at + LONGEST_WORD_LINE], line, last_digit)
 }
 
-/// Writes the lines of ten events that all replied this word into a buffer, from a place on: of a
-/// number that ends in 0, and of the nine after it. Answers where they end. Bytes behind them may
-/// change.
-pub(crate) fn write_ten(
-    buffer: &mut [u8],
-    start: usize,
-    number: &mut EventNumber,
-    word: Word,
-) -> usize
-    requires ten { number.old % 10 ≡ 0 }
+/// Writes the lines of ten events that all replied this word into a buffer, from a place on: of the
+/// number of a line that ends in 0, and of the nine after it. Answers where they end. Bytes behind
+/// them may change.
+pub(crate) fn write_ten(buffer: &mut [u8], start: usize, line: &ReadyLine, word: Word) -> usize
+    requires ten { line.now.number % 10 ≡ 0 }
+    requires word { line.now.word ≡ word }
     requires room { start + LONGEST_TEN ≤ length buffer.old }
     ensures len { length buffer.new ≡ length buffer.old }
     ensures lines { take result buffer.new
-        ≡ take start buffer.old ++ word_lines word number.old 10 }
+        ≡ take start buffer.old ++ word_lines word line.now.number 10 }
     ensures end { result ≤ start + LONGEST_TEN }
-    ensures number { number.new ≡ number.old }
 {
-    let line = number.line_with(word);
     let length = word.length();
     let mut at = start;
     for last_digit in 0..10 {
-        at += write_line(buffer, at, &line, last_digit) + length;
+        at += write_line(buffer, at, line, last_digit) + length;
     }
     at
 }

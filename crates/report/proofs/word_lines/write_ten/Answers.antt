@@ -7,7 +7,7 @@ loop-last_digit-preserved c =
     record {
       len = search rules;
       end = omega (arith, word_short c.args.word);
-      lines = ten_next c.args.word c.args.number.now c.loop-last_digit.last_digit _ _ _ c.requires.ten
+      lines = ten_next c.args.word c.args.line.now.number c.loop-last_digit.last_digit _ _ _ c.requires.ten
           c.loop-last_digit.invariant.lines
-          (rw (c.line_with-line.ensures.line, ← c.length-length.ensures) at c.write_line.ensures.line);
+          (rw (c.requires.word, ← c.length-length.ensures) at c.write_line.ensures.line);
     }

@@ -9,5 +9,5 @@ invariant-loop-last_digit l =
       end : l.at ≤ l.fn.start + 32 * l.last_digit;
       lines :
           take l.at l.buffer
-          ≡ take l.fn.start l.fn.buffer ++ word_lines l.fn.word l.fn.number l.last_digit;
+          ≡ take l.fn.start l.fn.buffer ++ word_lines l.fn.word l.fn.line.number l.last_digit;
     }

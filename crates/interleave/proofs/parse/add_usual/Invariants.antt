@@ -1,6 +1,6 @@
 use Rattle.std.proofs.Common.{◌≡◌, ℕ, ◌+◌, length}
 use Rattle.interleave.specs.Listing.{listing}
-use Rattle.interleave.proofs.parse.add_steps.Given as goal
+use Rattle.interleave.proofs.parse.add_usual.Given as goal
 
 -- the rest is listed as the whole is, and so many lines of it were taken
 abbrev pub invariant-loop-left : goal.invariant-loop-left
