@@ -4,6 +4,8 @@ use Rattle.model.specs.declared.abs.Duty.{Duty}
 use Rattle.model.specs.declared.abs.Duty.TheVariants.{Finished}
 use Rattle.model.specs.declared.abs.Kind.{Kind}
 use Rattle.model.specs.declared.abs.Kind.TheVariants.{Blank, Num, Lower, New, Own, Listed, Armed, Taken, Cancelling, View}
+use Rattle.model.specs.declared.set.Guard.{Guard}
+use Rattle.model.specs.declared.set.Guard.TheVariants.{DeviceLock, CancelLock}
 use Rattle.model.specs.declared.set.QueueName.{QueueName}
 use Rattle.model.specs.declared.set.QueueName.TheVariants.{Declared}
 use Rattle.model.specs.Set.{Set, guard_named}
@@ -148,13 +150,20 @@ is_exchanged View = false
 abbrev pub names_list : QueueName → Kind → Bool
 names_list name kind = is_listed name kind || (is_armed name kind || is_cancelling name kind)
 
--- the spin lock guards a list; and a register needs it that holds a packet in the list which no
--- cancel routine can be called for, or one that was taken off it
-abbrev pub is_guard : Option ℕ → ℕ → Bool
-is_guard None lock = false
-is_guard (Some guard) lock = nat_eq guard lock
+-- the same lock
+abbrev pub is_same_lock : Guard → Guard → Bool
+is_same_lock (DeviceLock one) (DeviceLock other) = nat_eq one other
+is_same_lock (DeviceLock one) CancelLock = false
+is_same_lock CancelLock (DeviceLock other) = false
+is_same_lock CancelLock CancelLock = true
 
-abbrev pub needs_guard : Set → ℕ → ℕ → Kind → Bool
+-- the lock guards a list; and a register needs it that holds a packet in the list which no cancel
+-- routine can be called for, or one that was taken off it
+abbrev pub is_guard : Option Guard → Guard → Bool
+is_guard None lock = false
+is_guard (Some guard) lock = is_same_lock guard lock
+
+abbrev pub needs_guard : Set → ℕ → Guard → Kind → Bool
 needs_guard set driver lock Blank = false
 needs_guard set driver lock Num = false
 needs_guard set driver lock Lower = false
@@ -194,13 +203,13 @@ left_behind View = Blank
 
 -- a packet that is put into a queue with a cancel routine stays the routine's own while it holds
 -- the guard; one that is taken off may be cancelled until its cancel routine is exchanged
-abbrev pub kind_inserted : Option ℕ → ℕ → Kind
-kind_inserted None q = Blank
-kind_inserted (Some cancel) q = Listed (Declared q)
+abbrev pub kind_inserted : Option ℕ → QueueName → Kind
+kind_inserted None name = Blank
+kind_inserted (Some cancel) name = Listed name
 
-abbrev pub kind_removed : Option ℕ → ℕ → Kind
-kind_removed None q = Own
-kind_removed (Some cancel) q = Taken (Declared q)
+abbrev pub kind_removed : Option ℕ → QueueName → Kind
+kind_removed None name = Own
+kind_removed (Some cancel) name = Taken name
 
 -- the cancel routine was set, so that IoCancelIrp won't call it any more. Of other kinds nothing is
 -- said, since the instruction breaks a rule
@@ -217,7 +226,7 @@ kind_disarmed (Cancelling name) = Cancelling name
 kind_disarmed View = View
 
 -- once the guard is released, a packet whose cancel routine is set belongs to whoever comes first
-abbrev pub let_go : Set → ℕ → ℕ → Kind → Kind
+abbrev pub let_go : Set → ℕ → Guard → Kind → Kind
 let_go set driver lock Blank = Blank
 let_go set driver lock Num = Num
 let_go set driver lock Lower = Lower
@@ -230,7 +239,7 @@ let_go set driver lock (Taken name) = Taken name
 let_go set driver lock (Cancelling name) = Cancelling name
 let_go set driver lock View = View
 
-abbrev pub all_let_go : Set → ℕ → ℕ → List Kind → List Kind
+abbrev pub all_let_go : Set → ℕ → Guard → List Kind → List Kind
 all_let_go set driver lock [] = []
 all_let_go set driver lock (kind ∷ kinds) =
     let_go set driver lock kind ∷ all_let_go set driver lock kinds

@@ -13,11 +13,13 @@ use Rattle.model.specs.declared.abs.Outs.{Outs}
 use Rattle.model.specs.declared.abs.Settled.{Settled}
 use Rattle.model.specs.declared.abs.Settled.TheVariants.{Open, NeedMark, Settled as SettledMark}
 use Rattle.model.specs.declared.abs.Rule.{Rule}
-use Rattle.model.specs.declared.abs.Rule.TheVariants.{Malformed, Unreachable, StatesDiffer, WrongKind, DoubleCompletion, MarkIrpPending, CancelSpinLock, SpinLock, LockHeld, Level, Guard, CancelState, Dropped, Token, Sort as SortRule, Completion, StackTooSmall, NoLower, TooLong, Memory}
+use Rattle.model.specs.declared.abs.Rule.TheVariants.{Malformed, Unreachable, StatesDiffer, WrongKind, DoubleCompletion, MarkIrpPending, CancelSpinLock, SpinLock, LockHeld, Level, Guard as GuardRule, CancelState, Dropped, Token, Sort as SortRule, Completion, StackTooSmall, NoLower, TooLong, Memory}
 use Rattle.model.specs.declared.instr.Instr.{Instr}
 use Rattle.model.specs.declared.instr.Instr.TheVariants.{Const, Move, Clear, Add, Subtract, JumpIfZero, JumpIfLess, Jump, Loop, End, Load, Store, LoadPaged, StorePaged, Get, Put, Mark, Acquire, Release, AcquireCancel, ReleaseCancel, Insert, Remove, Unlink, Arm, Disarm, IfCancel, Start, Take, Begin, Next, Pass, Call, Complete, IfPending, Ret}
 use Rattle.model.specs.declared.instr.Return.{Return}
 use Rattle.model.specs.declared.instr.Return.TheVariants.{WithStatus, Lower as LowerStatus, Continue, Stop, Void}
+use Rattle.model.specs.declared.set.Guard.{Guard}
+use Rattle.model.specs.declared.set.Guard.TheVariants.{DeviceLock, CancelLock}
 use Rattle.model.specs.declared.set.QueueName.{QueueName}
 use Rattle.model.specs.declared.set.QueueName.TheVariants.{Declared}
 use Rattle.model.specs.declared.set.Sort.{Sort}
@@ -27,7 +29,7 @@ use Rattle.model.specs.declared.status.Status.TheVariants.{Success, Pending as P
 use Rattle.model.specs.Kinds.{is_packet, is_view, is_new, is_kept, is_blank, is_lower, is_listed, is_cancelling, is_exchanged, names_list, needs_guard, kind_inserted, kind_removed, kind_disarmed, all_let_go, left_behind, duty_completed}
 use Rattle.model.specs.Forwarding.{lacks_lower, is_too_small}
 use Rattle.model.specs.declared.limits.TheConstants.{REGISTERS, SPIN_LOCKS}
-use Rattle.model.specs.Set.{Set, Member, Flow, Onward, Branches, Jumps, Opens, Closes, Leaves, flow_of, cancel_routine_of, cancels_for, guard_of, sort_of}
+use Rattle.model.specs.Set.{Set, Member, Flow, Onward, Branches, Jumps, Opens, Closes, Leaves, flow_of, cancel_routine_of, cancels_for, guard_named, sort_of}
 
 -- the state in which a routine is entered, if it may be: a dispatch routine may do anything with
 -- the packet in its first register, a completion routine that lets the completion go on may look at
@@ -78,6 +80,15 @@ with_lock s lock held = record s { locks = slice_set s.locks lock held }
 abbrev pub with_cancel : Abs → Bool → Abs
 with_cancel s held = record s { cancel = held }
 
+-- it holds a lock that may guard lists, a spin lock of the device or the system cancel spin lock
+abbrev pub holds_guard : Abs → Guard → Bool
+holds_guard s (DeviceLock lock) = is_held s lock
+holds_guard s CancelLock = s.cancel
+
+abbrev pub with_held : Abs → Guard → Bool → Abs
+with_held s (DeviceLock lock) held = with_lock s lock held
+with_held s CancelLock held = with_cancel s held
+
 -- it holds a spin lock at all, and a lock at all, the system cancel spin lock among them
 abbrev pub holds_spin_lock : Abs → Bool
 holds_spin_lock s = list_any (λ held. held) s.locks
@@ -97,7 +108,7 @@ rule_number CancelSpinLock = 7
 rule_number SpinLock = 8
 rule_number LockHeld = 9
 rule_number Level = 10
-rule_number Guard = 11
+rule_number GuardRule = 11
 rule_number CancelState = 12
 rule_number Dropped = 13
 rule_number Token = 14
@@ -408,13 +419,13 @@ completion_fault s status sort =
     least_of (broken_if (is_pending status) MarkIrpPending)
     (least_of (broken_if (holds_lock s) LockHeld) (completion_sort_fault sort))
 
--- a queue is touched while its guard is held
-abbrev pub is_guarded : Abs → Option ℕ → Bool
+-- a list is touched while its guard is held
+abbrev pub is_guarded : Abs → Option Guard → Bool
 is_guarded s None = false
-is_guarded s (Some guard) = is_held s guard
+is_guarded s (Some guard) = holds_guard s guard
 
-abbrev pub guard_fault : Abs → Set → ℕ → ℕ → Option Rule
-guard_fault s set driver q = unless (is_guarded s (guard_of set driver q)) Guard
+abbrev pub guard_fault : Abs → Set → ℕ → QueueName → Option Rule
+guard_fault s set driver name = unless (is_guarded s (guard_named set driver name)) GuardRule
 
 -- one of these has to be there, in a state that fits the instruction
 abbrev pub queued_kind : Bool → Kind → Option Rule
@@ -435,10 +446,19 @@ unlink_kind name kind = queued_kind (is_listed name kind || is_cancelling name k
 abbrev pub names_fault : Abs → QueueName → Option Rule
 names_fault s name = broken_if (list_any (names_list name) s.kinds) CancelState
 
-abbrev pub release_fault : Abs → Set → ℕ → ℕ → Option Rule
+-- a lock is acquired while it isn't held, and released while it is, when no register needs it. The
+-- system cancel spin lock has a rule of its own
+abbrev pub rule_of_lock : Guard → Rule
+rule_of_lock (DeviceLock lock) = SpinLock
+rule_of_lock CancelLock = CancelSpinLock
+
+abbrev pub acquire_fault : Abs → Guard → Option Rule
+acquire_fault s lock = broken_if (holds_guard s lock) (rule_of_lock lock)
+
+abbrev pub release_fault : Abs → Set → ℕ → Guard → Option Rule
 release_fault s set driver lock =
-    least_of (broken_if (not (is_held s lock)) SpinLock)
-    (broken_if (list_any (needs_guard set driver lock) s.kinds) Guard)
+    least_of (broken_if (not (holds_guard s lock)) (rule_of_lock lock))
+    (broken_if (list_any (needs_guard set driver lock) s.kinds) GuardRule)
 
 -- a packet is started where the driver has a StartIo routine
 abbrev pub has_startio : Set → ℕ → Bool
@@ -483,20 +503,20 @@ refuses s (Get r q field) sort set driver =
 refuses s (Put q r) sort set driver =
     least_of (demanded any_packet (kind_of s q)) (number_kind (kind_of s r))
 refuses s (Mark r) sort set driver = mark_fault s.settled (kind_of s r)
-refuses s (Acquire lock) sort set driver = broken_if (is_held s lock) SpinLock
-refuses s (Release lock) sort set driver = release_fault s set driver lock
-refuses s AcquireCancel sort set driver = broken_if s.cancel CancelSpinLock
-refuses s ReleaseCancel sort set driver = broken_if (not s.cancel) CancelSpinLock
+refuses s (Acquire lock) sort set driver = acquire_fault s (DeviceLock lock)
+refuses s (Release lock) sort set driver = release_fault s set driver (DeviceLock lock)
+refuses s AcquireCancel sort set driver = acquire_fault s CancelLock
+refuses s ReleaseCancel sort set driver = release_fault s set driver CancelLock
 refuses s (Insert r q) sort set driver =
-    least_of (demanded an_owned_one (kind_of s r)) (guard_fault s set driver q)
+    least_of (demanded an_owned_one (kind_of s r)) (guard_fault s set driver (Declared q))
 refuses s (Remove r q label) sort set driver =
-    least_of (guard_fault s set driver q)
+    least_of (guard_fault s set driver (Declared q))
     (least_of (free_kind (kind_of s r)) (names_fault s (Declared q)))
 refuses s (Unlink r q) sort set driver =
-    least_of (unlink_kind (Declared q) (kind_of s r)) (guard_fault s set driver q)
+    least_of (unlink_kind (Declared q) (kind_of s r)) (guard_fault s set driver (Declared q))
 refuses s (Arm r q) sort set driver =
     least_of (queued_kind (is_listed (Declared q) (kind_of s r)) (kind_of s r))
-    (guard_fault s set driver q)
+    (guard_fault s set driver (Declared q))
 refuses s (Disarm r label) sort set driver =
     queued_kind (is_exchanged (kind_of s r)) (kind_of s r)
 refuses s (IfCancel r label) sort set driver = demanded any_packet (kind_of s r)
@@ -547,9 +567,9 @@ given_down s r View = s
 abbrev pub moved : Abs → ℕ → ℕ → Abs
 moved s r q = with_kind (with_kind s r (kind_of s q)) q (left_behind (kind_of s q))
 
-abbrev pub released : Abs → Set → ℕ → ℕ → Abs
+abbrev pub released : Abs → Set → ℕ → Guard → Abs
 released s set driver lock =
-    record (with_lock s lock false) { kinds = all_let_go set driver lock s.kinds }
+    record (with_held s lock false) { kinds = all_let_go set driver lock s.kinds }
 
 -- the state at the next position after an instruction that breaks no rule
 abbrev pub handed : Set → ℕ → Abs → Instr → Abs
@@ -570,13 +590,14 @@ handed set driver s (StorePaged c r) = s
 handed set driver s (Get r q field) = with_kind s r Num
 handed set driver s (Put q r) = s
 handed set driver s (Mark r) = marked s r (kind_of s r)
-handed set driver s (Acquire lock) = with_lock s lock true
-handed set driver s (Release lock) = released s set driver lock
-handed set driver s AcquireCancel = with_cancel s true
-handed set driver s ReleaseCancel = with_cancel s false
-handed set driver s (Insert r q) = with_kind s r (kind_inserted (cancel_routine_of set driver q) q)
+handed set driver s (Acquire lock) = with_held s (DeviceLock lock) true
+handed set driver s (Release lock) = released s set driver (DeviceLock lock)
+handed set driver s AcquireCancel = with_held s CancelLock true
+handed set driver s ReleaseCancel = released s set driver CancelLock
+handed set driver s (Insert r q) = with_kind s r
+    (kind_inserted (cancel_routine_of set driver q) (Declared q))
 handed set driver s (Remove r q label) = with_kind s r
-    (kind_removed (cancel_routine_of set driver q) q)
+    (kind_removed (cancel_routine_of set driver q) (Declared q))
 handed set driver s (Unlink r q) = with_kind s r Own
 handed set driver s (Arm r q) = with_kind s r (Armed (Declared q))
 handed set driver s (Disarm r label) = with_kind s r (kind_disarmed (kind_of s r))

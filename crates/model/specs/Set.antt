@@ -5,6 +5,8 @@ use Rattle.model.specs.declared.instr.Instr.TheVariants.{Const, Move, Clear, Add
 use Rattle.model.specs.declared.instr.Return.TheVariants.{WithStatus}
 use Rattle.model.specs.declared.set.Driver.{Driver}
 use Rattle.model.specs.declared.set.Device.{Device}
+use Rattle.model.specs.declared.set.Guard.{Guard}
+use Rattle.model.specs.declared.set.Guard.TheVariants.{DeviceLock}
 use Rattle.model.specs.declared.set.Queue.{Queue}
 use Rattle.model.specs.declared.set.QueueName.{QueueName}
 use Rattle.model.specs.declared.set.QueueName.TheVariants.{Declared}
@@ -80,9 +82,9 @@ cancel_routine_of set driver q =
     option_and_then (λ queue. queue.cancel)
     (option_and_then (λ d. slice_get d.queues q) (slice_get set.drivers driver))
 
--- the guard and the cancel routine of a list by its name
-abbrev pub guard_named : Set → ℕ → QueueName → Option ℕ
-guard_named set driver (Declared q) = guard_of set driver q
+-- the lock that guards a list by its name, and the cancel routine of the packets in it
+abbrev pub guard_named : Set → ℕ → QueueName → Option Guard
+guard_named set driver (Declared q) = option_map (λ lock. DeviceLock lock) (guard_of set driver q)
 
 abbrev pub cancel_routine_named : Set → ℕ → QueueName → Option ℕ
 cancel_routine_named set driver (Declared q) = cancel_routine_of set driver q

@@ -41,6 +41,15 @@ pub struct Queue {
     pub cancel: Option<u8>,
 }
 
+/// A lock that guards a list of packets of a device.
+#[derive(Clone, Copy)]
+pub enum Guard {
+    /// The device's spin lock of this number.
+    DeviceLock(SpinLock),
+    /// The system cancel spin lock.
+    CancelLock,
+}
+
 /// The name of a list of packets of a driver that may have a cancel routine.
 #[derive(Clone, Copy, PartialEq, Eq)]
 pub enum QueueName {

@@ -6,7 +6,9 @@ use Rattle.model.specs.declared.abs.Abs.{Abs}
 use Rattle.model.specs.declared.abs.Kind.{Kind}
 use Rattle.model.specs.declared.abs.Kind.TheVariants.{Blank as BlankKind, Num as NumKind, Lower, New, Own, Armed}
 use Rattle.model.specs.declared.instr.Instr.{Instr}
-use Rattle.model.specs.declared.instr.Instr.TheVariants.{Const, Move, Clear, Load, LoadPaged, Get, Mark, Release, Insert, Remove, Unlink, Arm, Disarm, Start, Take, Begin, Pass, Call, Complete}
+use Rattle.model.specs.declared.instr.Instr.TheVariants.{Const, Move, Clear, Load, LoadPaged, Get, Mark, Release, Insert, Remove, Unlink, Arm, Disarm, Start, Take, Begin, Pass, Call, Complete, ReleaseCancel}
+use Rattle.model.specs.declared.set.Guard.{Guard}
+use Rattle.model.specs.declared.set.Guard.TheVariants.{DeviceLock, CancelLock}
 use Rattle.model.specs.declared.set.QueueName.TheVariants.{Declared}
 use Rattle.model.specs.declared.set.Sort.{Sort}
 use Rattle.model.specs.declared.world.Value.{Value}
@@ -96,7 +98,7 @@ same_move kinds us vs r q h =
     (left_was k is))
 
 -- where a guard is released
-module _ (set : Set) (driver lock : ℕ) where
+module _ (set : Set) (driver : ℕ) (lock : Guard) where
   go_was : (k : Kind) → is_blank (let_go set driver lock k) ≡ false → is_blank k ≡ false
   go_was BlankKind is = is
   go_was _ is = refl
@@ -151,9 +153,11 @@ module _ (s : Abs) (sort : Sort) (set : Set) (driver : ℕ) where
   same_handed us vs (Take r label) obeys keeps h = cc
   same_handed us vs (Mark r) obeys keeps h =
       same_marked us vs r (kind_of s r) (operand_some (Mark r) r obeys refl) h
-  same_handed us vs (Release lock) obeys keeps h = same_go set driver lock s.kinds us vs h
+  same_handed us vs (Release lock) obeys keeps h =
+      same_go set driver (DeviceLock lock) s.kinds us vs h
+  same_handed us vs ReleaseCancel obeys keeps h = same_go set driver CancelLock s.kinds us vs h
   same_handed us vs (Insert r q) obeys keeps h =
-      same_turn s.kinds us vs r (kind_inserted (cancel_routine_of set driver q) q) h
+      same_turn s.kinds us vs r (kind_inserted (cancel_routine_of set driver q) (Declared q)) h
       (λ is. operand_some (Insert r q) r obeys refl)
   same_handed us vs (Unlink r q) obeys keeps h =
       same_turn s.kinds us vs r Own h (λ is. operand_some (Unlink r q) r obeys refl)

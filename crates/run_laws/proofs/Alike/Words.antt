@@ -2,6 +2,7 @@
 -- registers in which they differ.
 use Rattle.std.proofs.Common.{◌≡◌, ℕ, Bool, true, false, List, [], ◌∷◌, length, Option, None, Some, refl, is_none}
 use Rattle.std.specs.Prelude.{nat_eq, slice_get, if◌then◌else◌}
+use Rattle.model.specs.declared.set.QueueName.TheVariants.{Declared}
 use Rattle.model.specs.declared.abs.Kind.TheVariants.{Own}
 use Rattle.model.specs.declared.event.Lock.{Lock}
 use Rattle.model.specs.declared.instr.Field.{Field}
@@ -318,7 +319,7 @@ module _ (set : Set) (states : States) (s : Shared) (t : ℕ) (a : Activation) (
         others = refl;
         frames = (
           on_set set states s a us long h (Remove r q label) run refl r
-              (kind_removed (cancel_routine_of set a.driver q) q) (Ref n) (Ref n) refl
+              (kind_removed (cancel_routine_of set a.driver q) (Declared q)) (Ref n) (Ref n) refl
               (λ some. refl),
           tt,
         );

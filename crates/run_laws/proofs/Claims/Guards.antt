@@ -8,9 +8,11 @@ use Rattle.std.proofs.lemmas.Bool.{cases_Bool}
 use Rattle.model.specs.declared.abs.Kind.{Kind}
 use Rattle.model.specs.declared.abs.Kind.TheVariants.{Blank as BlankKind, Listed, Armed, Taken}
 use Rattle.model.specs.declared.event.Lock.{Lock}
-use Rattle.model.specs.declared.event.Lock.TheVariants.{Spin}
+use Rattle.model.specs.declared.event.Lock.TheVariants.{Spin, SystemCancel}
 use Rattle.model.specs.declared.set.Device.{Device}
-use Rattle.model.specs.declared.set.QueueName.TheVariants.{Declared}
+use Rattle.model.specs.declared.set.Guard.{Guard}
+use Rattle.model.specs.declared.set.Guard.TheVariants.{DeviceLock, CancelLock}
+use Rattle.model.specs.declared.set.QueueName.{QueueName}
 use Rattle.model.specs.declared.set.Routine.{Routine as RoutineOf}
 use Rattle.model.specs.declared.status.Status.{Status}
 use Rattle.model.specs.declared.status.Status.TheVariants.{Success}
@@ -20,10 +22,10 @@ use Rattle.model.specs.declared.world.Frame.TheVariants.{Routine, Walk, Cancel a
 use Rattle.model.specs.declared.world.Thread.{Thread}
 use Rattle.model.specs.Effect.{answered_in, operand_of}
 use Rattle.model.specs.Fault.{holds}
-use Rattle.model.specs.Kinds.{is_armed, is_listed}
+use Rattle.model.specs.Kinds.{is_armed, is_listed, is_name}
 use Rattle.model.specs.LocalRule.{is_guarded}
 use Rattle.model.specs.Run.{frames_of, frames_on}
-use Rattle.model.specs.Set.{Set, guard_of, instruction_at, member, routine_of}
+use Rattle.model.specs.Set.{Set, guard_named, instruction_at, member, routine_of}
 use Rattle.model.specs.Trace.{Entry}
 use Rattle.model.specs.World.{Locks, World}
 use Rattle.run_laws.specs.Holder.{stack_sum, thread_sum}
@@ -38,34 +40,48 @@ use Rattle.run_laws.proofs.Runs.Events.{StepsFrame}
 use Rattle.run_laws.proofs.Runs.Threads.{frames_there}
 use Rattle.run_laws.proofs.States.Frames.{IsGood, Ready, Serves, state_of}
 use Rattle.run_laws.proofs.States.Known.{IsKnown}
-use Rattle.run_laws.proofs.States.Listed.{AllFit, Guarded, KindFits, arrives_fits, fits_at, guarded_is, guards_in}
+use Rattle.run_laws.proofs.States.Listed.{AllFit, Guarded, KindFits, arrives_fits, fits_at, guarded_is, guards_in, named_same}
 use Rattle.run_laws.specs.ArrivingStates.{States}
 use Rattle.run_laws.proofs.States.Stacks.{Stacked, Stands}
 use Rattle.run_laws.proofs.States.Standing.{Standing, stands_there}
 use Rattle.run_laws.proofs.Tests.{not_and}
 
 -- kinds that a register has only while the guard of a queue is held
-abbrev pub NeedsGuard : Set → ℕ → (Kind → Bool) → ℕ → Type 0
-NeedsGuard set driver f q =
-    (locks : List Bool) (k : Kind) → f k ≡ true → KindFits set driver locks k
-    → Guarded set driver locks q
+abbrev pub NeedsGuard : Set → ℕ → (Kind → Bool) → QueueName → Type 0
+NeedsGuard set driver f name =
+    (locks : List Bool) (cancel : Bool) (k : Kind) → f k ≡ true
+    → KindFits set driver locks cancel k → Guarded set driver locks cancel name
 
-module _ (set : Set) (driver q : ℕ) where
-  guard_for : (locks : List Bool) (p : ℕ) → nat_eq p q ≡ true → Guarded set driver locks p
-      → Guarded set driver locks q
-  guard_for locks p is held = subst (λ (x : ℕ). Guarded set driver locks x) (eqb-true p q is) held
+module _ (set : Set) (driver : ℕ) (name : QueueName) where
+  guard_for : (locks : List Bool) (cancel : Bool) (other : QueueName)
+      → is_name other name ≡ true → Guarded set driver locks cancel other
+      → Guarded set driver locks cancel name
+  guard_for locks cancel other is held =
+      subst (λ (x : QueueName). Guarded set driver locks cancel x) (named_same other name is) held
 
-  pub listed_needs : NeedsGuard set driver (is_listed (Declared q)) q
-  listed_needs locks (Listed (Declared p)) is h = guard_for locks p is h.1
-  listed_needs locks _ is h = cc
+  pub listed_needs : NeedsGuard set driver (is_listed name) name
+  listed_needs locks cancel (Listed other) is h = guard_for locks cancel other is h.1
+  listed_needs locks cancel _ is h = cc
 
-  pub armed_needs : NeedsGuard set driver (is_armed (Declared q)) q
-  armed_needs locks (Armed (Declared p)) is h = guard_for locks p is h.1
-  armed_needs locks _ is h = cc
+  pub armed_needs : NeedsGuard set driver (is_armed name) name
+  armed_needs locks cancel (Armed other) is h = guard_for locks cancel other is h.1
+  armed_needs locks cancel _ is h = cc
 
-  pub taken_needs : NeedsGuard set driver (is_taken (Declared q)) q
-  taken_needs locks (Taken (Declared p)) is h = guard_for locks p is h.1
-  taken_needs locks _ is h = cc
+  pub taken_needs : NeedsGuard set driver (is_taken name) name
+  taken_needs locks cancel (Taken other) is h = guard_for locks cancel other is h.1
+  taken_needs locks cancel _ is h = cc
+
+-- a guard of a device as a lock
+abbrev lock_of : ℕ → Guard → Lock
+lock_of d (DeviceLock number) = Spin (record { device = d; number = number })
+lock_of d CancelLock = SystemCancel
+
+-- what the state of a routine on the device says of it
+says_guard : (states : States) (b : Activation) (guard : Guard)
+    → guards_in (state_of states b).locks (state_of states b).cancel (Some guard)
+    ≡ frame_says states (Routine b) (lock_of b.device guard)
+says_guard states b (DeviceLock number) = rw (eq-eqb b.device b.device refl) refl
+says_guard states b CancelLock = refl
 
 -- where a routine's frame stands
 record Placed (set : Set) (states : States) (b : Activation) : Type 0 where
@@ -102,18 +118,19 @@ none_at_all f [] h = refl
 none_at_all f (k ∷ kinds) h =
     rw (h zero, none_at_all f kinds (λ r. h (suc r))) refl
 
-module _ (set : Set) (states : States) (good : IsGood set states) (d q guard : ℕ) (f : Kind → Bool)
+module _ (set : Set) (states : States) (good : IsGood set states) (d : ℕ) (name : QueueName)
+    (guard : Guard) (f : Kind → Bool)
     (device : Device) (there : slice_get set.devices d ≡ Some device)
-    (is_guard : guard_of set device.driver q ≡ Some guard)
-    (needs : NeedsGuard set device.driver f q) where
+    (is_guard : guard_named set device.driver name ≡ Some guard)
+    (needs : NeedsGuard set device.driver f name) where
   abbrev lock : Lock
-  lock = Spin (record { device = d; number = guard })
+  lock = lock_of d guard
 
   abbrev count : ℕ → Frame → ℕ
   count n g = frame_names states f (λ e. nat_eq e d) n g
 
   one_none : (b : Activation) (r : ℕ) → Placed set states b → b.driver ≡ device.driver
-      → slice_index_or (state_of states b).locks guard false ≡ false
+      → guards_in (state_of states b).locks (state_of states b).cancel (Some guard) ≡ false
       → f (slice_index_or (state_of states b).kinds r BlankKind) ≡ false
   one_none b r placed driver free =
       elim (cases_Bool (f (slice_index_or (state_of states b).kinds r BlankKind))) [
@@ -127,15 +144,19 @@ module _ (set : Set) (states : States) (good : IsGood set states) (d q guard : �
             (state_of states b)
             (known.follows.arrives b.position placed.within) in
             let fits : KindFits set device.driver (state_of states b).locks
-            (slice_index_or (state_of states b).kinds r BlankKind) =
-            subst (λ (x : ℕ). KindFits set x (state_of states b).locks
+            (state_of states b).cancel (slice_index_or (state_of states b).kinds r BlankKind) =
+            subst (λ (x : ℕ). KindFits set x (state_of states b).locks (state_of states b).cancel
             (slice_index_or (state_of states b).kinds r BlankKind)) driver
-            (fits_at set b.driver (state_of states b).locks (state_of states b).kinds r all) in
-            let held : guards_in (state_of states b).locks (guard_of set device.driver q) ≡ true =
-            needs (state_of states b).locks (slice_index_or (state_of states b).kinds r BlankKind)
-            is fits in
+            (fits_at set b.driver (state_of states b).locks (state_of states b).cancel
+            (state_of states b).kinds r all) in
+            let held : guards_in (state_of states b).locks (state_of states b).cancel
+            (guard_named set device.driver name) ≡ true =
+            needs (state_of states b).locks (state_of states b).cancel
+            (slice_index_or (state_of states b).kinds r BlankKind) is fits in
             let no : true ≡ false =
-            sym held ∙ ap (λ (o : Option ℕ). guards_in (state_of states b).locks o) is_guard
+            sym held
+            ∙ ap (λ (o : Option Guard). guards_in (state_of states b).locks
+            (state_of states b).cancel o) is_guard
             ∙ free in
             cc
       ]
@@ -152,9 +173,10 @@ module _ (set : Set) (states : States) (good : IsGood set states) (d q guard : �
             let one : placed.serves.0 ≡ device = cc in
             let driver : b.driver ≡ device.driver =
             sym placed.serves.2 ∙ ap (λ (x : Device). x.driver) one in
-            let free : slice_index_or (state_of states b).locks guard false ≡ false =
-            not_and (nat_eq b.device d) (slice_index_or (state_of states b).locks guard false) its
-            says in
+            let free : guards_in (state_of states b).locks (state_of states b).cancel
+            (Some guard) ≡ false =
+            says_guard states b guard
+            ∙ ap (λ (x : ℕ). frame_says states (Routine b) (lock_of x guard)) same ∙ says in
             rw its (named_nowhere f (state_of states b).kinds b.registers n
             (none_at_all f (state_of states b).kinds (λ r. one_none b r placed driver free)))
       ]
@@ -238,36 +260,38 @@ held_alone locks past t k l owned held apart =
           absurd (apart same)
     ]
 
-guard_some : (locks : List Bool) (o : Option ℕ) → guards_in locks o ≡ true
-    → (guard : ℕ) × (o ≡ Some guard)
-guard_some locks None h = cc
-guard_some locks (Some guard) h = (guard, refl)
+guard_some : (locks : List Bool) (cancel : Bool) (o : Option Guard)
+    → guards_in locks cancel o ≡ true → (guard : Guard) × (o ≡ Some guard)
+guard_some locks cancel None h = cc
+guard_some locks cancel (Some guard) h = (guard, refl)
 
 module _ (set : Set) (states : States) (w : World) (past : List Entry) (good : IsGood set states)
     (stands : Standing set states w past) (agree : LocksAgree states w past)
     (owned : Owned w.shared.locks past) where
   -- who holds the guard of a queue has all the registers that need it
-  pub excluded : (t : ℕ) (h : StepsFrame set w t) (a : Activation) (q : ℕ) (f : Kind → Bool)
+  pub excluded : (t : ℕ) (h : StepsFrame set w t) (a : Activation) (name : QueueName)
+      (f : Kind → Bool)
       → h.frame ≡ Routine a → Serves set a.device a.driver
-      → is_guarded (state_of states a) (guard_of set a.driver q) ≡ true
-      → NeedsGuard set a.driver f q → (n : ℕ)
+      → is_guarded (state_of states a) (guard_named set a.driver name) ≡ true
+      → NeedsGuard set a.driver f name → (n : ℕ)
       → names_on states f a.device n w.threads ≡ names states f a n
-  excluded t h a q f frame serves guarded needs n =
+  excluded t h a name f frame serves guarded needs n =
       let device : Device = serves.0 in
       let driver : device.driver ≡ a.driver = serves.2 in
-      let has : guards_in (state_of states a).locks (guard_of set a.driver q) ≡ true =
-      sym (guarded_is (state_of states a) (guard_of set a.driver q)) ∙ guarded in
-      let guard : (g : ℕ) × (guard_of set a.driver q ≡ Some g) =
-      guard_some (state_of states a).locks (guard_of set a.driver q) has in
-      let is_guard : guard_of set device.driver q ≡ Some guard.0 =
-      ap (λ (x : ℕ). guard_of set x q) driver ∙ guard.1 in
-      let need : NeedsGuard set device.driver f q =
-      subst (λ (x : ℕ). NeedsGuard set x f q) (sym driver) needs in
-      let l : Lock = Spin (record { device = a.device; number = guard.0 }) in
-      let held : slice_index_or (state_of states a).locks guard.0 false ≡ true =
-      sym (ap (λ (o : Option ℕ). guards_in (state_of states a).locks o) guard.1) ∙ has in
-      let says : frame_says states (Routine a) l ≡ true = rw (eq-eqb a.device a.device refl, held)
-      refl in
+      let locks : List Bool = (state_of states a).locks in
+      let cancel : Bool = (state_of states a).cancel in
+      let has : guards_in locks cancel (guard_named set a.driver name) ≡ true =
+      sym (guarded_is (state_of states a) (guard_named set a.driver name)) ∙ guarded in
+      let guard : (g : Guard) × (guard_named set a.driver name ≡ Some g) =
+      guard_some locks cancel (guard_named set a.driver name) has in
+      let is_guard : guard_named set device.driver name ≡ Some guard.0 =
+      ap (λ (x : ℕ). guard_named set x name) driver ∙ guard.1 in
+      let need : NeedsGuard set device.driver f name =
+      subst (λ (x : ℕ). NeedsGuard set x f name) (sym driver) needs in
+      let l : Lock = lock_of a.device guard.0 in
+      let says : frame_says states (Routine a) l ≡ true =
+      sym (says_guard states a guard.0)
+      ∙ sym (ap (λ (o : Option Guard). guards_in locks cancel o) guard.1) ∙ has in
       let own : holds past t l ≡ true =
       agree t l
       ∙ ap (λ (frames : List Frame). top_says states frames l) (frames_there w t h.thread h.found
@@ -277,7 +301,7 @@ module _ (set : Set) (states : States) (w : World) (past : List Entry) (good : I
       let counts : Frame → ℕ = λ g. frame_names states f (λ e. nat_eq e a.device) n g in
       let sum : thread_sum counts w.threads ≡ stack_sum counts h.thread.frames.items =
       only_one counts w.threads t h.thread h.found
-      (λ k apart. stack_none set states good a.device q guard.0 f device serves.1 is_guard need
+      (λ k apart. stack_none set states good a.device name guard.0 f device serves.1 is_guard need
       w.shared.issued n (frames_on w k) (stands.frames k)
       (sym (agree k l) ∙ held_alone w.shared.locks past t k l owned own apart)) in
       let split : stack_sum counts h.thread.frames.items
@@ -287,5 +311,5 @@ module _ (set : Set) (states : States) (w : World) (past : List Entry) (good : I
       ap counts frame ∙ (rw (eq-eqb a.device a.device refl) refl) in
       omega (
         arith,
-        below_none set states good a.device q guard.0 f device serves.1 is_guard need w.shared.issued n h.below h.frame (stands_there set states w past good stands t h),
+        below_none set states good a.device name guard.0 f device serves.1 is_guard need w.shared.issued n h.below h.frame (stands_there set states w past good stands t h),
       )

@@ -6,8 +6,9 @@ use Rattle.model.specs.declared.abs.Abs.{Abs}
 use Rattle.model.specs.declared.abs.Kind.{Kind}
 use Rattle.model.specs.declared.abs.Kind.TheVariants.{Blank as BlankKind, Num as NumKind, Lower as LowerKind, New, Own, Listed, Armed, Taken, Cancelling}
 use Rattle.model.specs.declared.instr.Instr.{Instr}
-use Rattle.model.specs.declared.instr.Instr.TheVariants.{Add, Subtract, Const, Move, Clear, Load, LoadPaged, Get, Mark, Release, Insert, Remove, Unlink, Arm, Disarm, Start, Take, Begin, Pass, Call, Complete}
+use Rattle.model.specs.declared.instr.Instr.TheVariants.{Add, Subtract, Const, Move, Clear, Load, LoadPaged, Get, Mark, Release, Insert, Remove, Unlink, Arm, Disarm, Start, Take, Begin, Pass, Call, Complete, ReleaseCancel}
 use Rattle.model.specs.declared.limits.TheConstants.{REGISTERS}
+use Rattle.model.specs.declared.set.Guard.{Guard}
 use Rattle.model.specs.declared.set.QueueName.{QueueName}
 use Rattle.model.specs.declared.world.Activation.{Activation}
 use Rattle.model.specs.declared.world.Value.{Value}
@@ -83,6 +84,7 @@ still_so set driver s (Unlink r q) free same quiet = cc
 still_so set driver s (Arm r q) free same quiet = cc
 still_so set driver s (Disarm r label) free same quiet = cc
 still_so set driver s (Release lock) free same quiet = cc
+still_so set driver s ReleaseCancel free same quiet = cc
 still_so set driver s (Start r) free same quiet = cc
 still_so set driver s (Take r label) free same quiet = cc
 still_so set driver s (Begin r) free same quiet = cc
@@ -92,7 +94,7 @@ still_so set driver s (Complete r status) free same quiet = cc
 still_so set driver s _ free same quiet = refl
 
 -- the release of a guard: claims are given up
-module _ (set : Set) (driver lock : ℕ) (f : Kind → Bool) (queues : OfQueues f) where
+module _ (set : Set) (driver : ℕ) (lock : Guard) (f : Kind → Bool) (queues : OfQueues f) where
   gone_le : (b : Bool) (name : QueueName) (v : Value) (n : ℕ)
       → named_as f (if b then BlankKind else Armed name) v n ≤ named_as f (Armed name) v n
   gone_le true name v n =

@@ -6,9 +6,10 @@ use Rattle.std.specs.List.{list_any}
 use Rattle.std.proofs.lemmas.Bool.{cases_lt}
 use Rattle.model.specs.declared.abs.Kind.{Kind}
 use Rattle.model.specs.declared.abs.Kind.TheVariants.{Blank as BlankKind, Own, Listed, Taken, Cancelling}
-use Rattle.model.specs.declared.abs.Rule.TheVariants.{Guard}
+use Rattle.model.specs.declared.abs.Rule.TheVariants.{Guard as GuardRule}
 use Rattle.model.specs.declared.instr.Instr.{Instr}
 use Rattle.model.specs.declared.instr.Instr.TheVariants.{Insert, Remove, Unlink}
+use Rattle.model.specs.declared.set.QueueName.{QueueName}
 use Rattle.model.specs.declared.set.QueueName.TheVariants.{Declared}
 use Rattle.model.specs.declared.world.Activation.{Activation}
 use Rattle.model.specs.declared.world.Frame.TheVariants.{Routine}
@@ -16,7 +17,7 @@ use Rattle.model.specs.declared.world.Value.TheVariants.{Ref}
 use Rattle.model.specs.Kinds.{is_armed, is_cancelling, is_listed, kind_inserted, kind_removed, names_list}
 use Rattle.model.specs.LocalRule.{guard_fault, is_guarded, kind_of, unlink_kind}
 use Rattle.model.specs.Queues.{inserted, unlinked}
-use Rattle.model.specs.Set.{Set, cancel_routine_of, guard_of}
+use Rattle.model.specs.Set.{Set, cancel_routine_of, guard_named}
 use Rattle.model.specs.Sound.{OperandFits}
 use Rattle.model.specs.Trace.{Entry}
 use Rattle.model.specs.World.{World, next, queue_of, register, with_queue, with_register}
@@ -151,10 +152,10 @@ module _ (set : Set) (states : States) (w : World) (past : List Entry) (good : I
         ))
 
     inserted_turns : TurnsNames states a (next a) Own
-        (kind_inserted (cancel_routine_of set a.driver q) q) m
+        (kind_inserted (cancel_routine_of set a.driver q) (Declared q)) m
     inserted_turns =
         next_turns set states w.shared a (Insert r q) run r Own
-        (kind_inserted (cancel_routine_of set a.driver q) q) m refl refl inserted_own
+        (kind_inserted (cancel_routine_of set a.driver q) (Declared q)) m refl refl inserted_own
         (reads_ref w.shared (register a r) m reads)
 
     inserted_entries : (d p n : ℕ) → times_of (queue_of to.shared d p) n
@@ -164,7 +165,7 @@ module _ (set : Set) (states : States) (w : World) (past : List Entry) (good : I
         (λ n. times_pushed entries m n) d p n)
 
     inserts_by : (cancel : Option ℕ) → cancel_routine_of set a.driver q ≡ cancel
-        → TurnsNames states a (next a) Own (kind_inserted cancel q) m → Claimed set states to
+        → TurnsNames states a (next a) Own (kind_inserted cancel (Declared q)) m → Claimed set states to
     inserts_by None none turns =
         let changes : Changes Own BlankKind m =
         kind_turns set states w past good stands c t h leaves a (next a) Own BlankKind m frame
@@ -210,13 +211,14 @@ module _ (set : Set) (states : States) (w : World) (past : List Entry) (good : I
 
   -- who holds the guard of a queue is alone with its packets
   module _ (agree : LocksAgree states w past) (owned : Owned w.shared.locks past) where
-    alone : (i : Instr) (q : ℕ) → Runs set states w.shared a i
-        → guard_fault (state_of states a) set a.driver q ≡ None → (g : Kind → Bool)
-        → NeedsGuard set a.driver g q → (n : ℕ)
+    alone : (i : Instr) (name : QueueName) → Runs set states w.shared a i
+        → guard_fault (state_of states a) set a.driver name ≡ None → (g : Kind → Bool)
+        → NeedsGuard set a.driver g name → (n : ℕ)
         → names_on states g a.device n w.threads ≡ names states g a n
-    alone i q run rule g needs n =
-        excluded set states w past good stands agree owned t h a q g frame run.stays.serves
-        (granted (is_guarded (state_of states a) (guard_of set a.driver q)) Guard rule) needs n
+    alone i name run rule g needs n =
+        excluded set states w past good stands agree owned t h a name g frame run.stays.serves
+        (granted (is_guarded (state_of states a) (guard_named set a.driver name)) GuardRule rule)
+        needs n
 
     -- a packet is taken off a queue
     module _ (r q label m : ℕ) (entries : List ℕ) (run : Runs set states w.shared a
@@ -251,13 +253,13 @@ module _ (set : Set) (states : States) (w : World) (past : List Entry) (good : I
 
       removed_listed : names_on states (is_listed (Declared q)) a.device m w.threads ≡ 0
       removed_listed =
-          alone (Remove r q label) q run (first_none _ _ run.obeys) (is_listed (Declared q))
-          (listed_needs set a.driver q) m ∙ none_listed m
+          alone (Remove r q label) (Declared q) run (first_none _ _ run.obeys) (is_listed (Declared q))
+          (listed_needs set a.driver (Declared q)) m ∙ none_listed m
 
       removed_armed : names_on states (is_armed (Declared q)) a.device m w.threads ≡ 0
       removed_armed =
-          alone (Remove r q label) q run (first_none _ _ run.obeys) (is_armed (Declared q))
-          (armed_needs set a.driver q) m ∙ none_armed m
+          alone (Remove r q label) (Declared q) run (first_none _ _ run.obeys) (is_armed (Declared q))
+          (armed_needs set a.driver (Declared q)) m ∙ none_armed m
 
       -- it stands in the queue, so that it wasn't taken off one
       removed_takes : takes_in states m w.threads ≡ 0
@@ -291,16 +293,16 @@ module _ (set : Set) (states : States) (w : World) (past : List Entry) (good : I
           p n)
 
       removed_turns : TurnsNames states a taker BlankKind
-          (kind_removed (cancel_routine_of set a.driver q) q) m
+          (kind_removed (cancel_routine_of set a.driver q) (Declared q)) m
       removed_turns =
           next_takes set states w.shared a (Remove r q label) run r
-          (kind_removed (cancel_routine_of set a.driver q) q) m refl refl
+          (kind_removed (cancel_routine_of set a.driver q) (Declared q)) m refl refl
           (unbroken _ _ (first_none _ _ (second_none _ _ run.obeys)))
           (all_at OperandFits run.routine.code a.position (Remove r q label) run.known.operands
           run.here)
 
       removes_by : (cancel : Option ℕ) → cancel_routine_of set a.driver q ≡ cancel
-          → TurnsNames states a taker BlankKind (kind_removed cancel q) m → Claimed set states to
+          → TurnsNames states a taker BlankKind (kind_removed cancel (Declared q)) m → Claimed set states to
       removes_by None none turns =
           let changes : Changes BlankKind Own m =
           kind_turns set states w past good stands c t h leaves a taker BlankKind Own m frame frames
@@ -451,17 +453,17 @@ module _ (set : Set) (states : States) (w : World) (past : List Entry) (good : I
           let free : names states (is_armed (Declared q)) a m
           + names states (is_taken (Declared q)) a m
           + names states (is_cancelling (Declared q)) a m ≤ 1 = apart_a q m in
-          let rule : guard_fault (state_of states a) set a.driver q ≡ None =
+          let rule : guard_fault (state_of states a) set a.driver (Declared q) ≡ None =
           second_none (unlink_kind (Declared q) (kind_of (state_of states a) r))
-          (guard_fault (state_of states a) set a.driver q) run.obeys in
+          (guard_fault (state_of states a) set a.driver (Declared q)) run.obeys in
           let armed : names_on states (is_armed (Declared q)) a.device m w.threads
           ≡ names states (is_armed (Declared q)) a m =
-          alone (Unlink r q) q run rule (is_armed (Declared q))
-          (armed_needs set a.driver q) m in
+          alone (Unlink r q) (Declared q) run rule (is_armed (Declared q))
+          (armed_needs set a.driver (Declared q)) m in
           let taken : names_on states (is_taken (Declared q)) a.device m w.threads
           ≡ names states (is_taken (Declared q)) a m =
-          alone (Unlink r q) q run rule (is_taken (Declared q))
-          (taken_needs set a.driver q) m in
+          alone (Unlink r q) (Declared q) run rule (is_taken (Declared q))
+          (taken_needs set a.driver (Declared q)) m in
           let le : times_in entries m ≤ times_queued w.shared.queues m =
           times_le w.shared a.device q entries m there in
           let once : takes_in states m w.threads + times_listed w.shared m

@@ -1,6 +1,7 @@
 -- Every shape of a step keeps claims.
 use Rattle.std.proofs.Common.{◌≡◌, ℕ, ◌+◌, Bool, true, false, List, [], ◌∷◌, Option, None, Some, refl, ap, sym, ◌∙◌, subst, arith, ◌<◌}
 use Rattle.std.specs.Prelude.{◌≤◌, slice_get, is_none}
+use Rattle.model.specs.declared.set.Guard.TheVariants.{DeviceLock, CancelLock}
 use Rattle.model.specs.declared.abs.Kind.TheVariants.{Blank as BlankKind, Own}
 use Rattle.model.specs.declared.instr.Instr.{Instr}
 use Rattle.model.specs.declared.instr.Instr.TheVariants.{Begin, Next, Remove, Start, Take, Arm, Disarm, Release, ReleaseCancel}
@@ -75,16 +76,19 @@ module _ (set : Set) (states : States) (w : World) (past : List Entry) (good : I
       → o.shared.queues ≡ w.shared.queues → o.shared.starts ≡ w.shared.starts
       → Claimed set states to
   frees_by a (Release l) lock o frame outcome run is frames packets queues starts =
-      releases_claims set states w past good stands c t h leaves kept a frame l run
+      releases_claims set states w past good stands c t h leaves kept a frame (DeviceLock l)
+      (Release l) run refl refl
       (ap (λ (x : Outcome). x.frames) outcome ∙ frames)
       (ap (λ (x : Outcome). x.shared.packets) outcome ∙ packets)
       (ap (λ (x : Outcome). x.shared.queues) outcome ∙ queues)
       (ap (λ (x : Outcome). x.shared.starts) outcome ∙ starts)
   frees_by a ReleaseCancel lock o frame outcome run is frames packets queues starts =
-      quiet_by (Routine a) o frame outcome
-      (on_quiet set states w.shared past actor a (next a) o
-      (kinds_names set states w.shared a ReleaseCancel run refl refl) refl frames
-      (λ n d q. rw packets refl) queues starts)
+      releases_claims set states w past good stands c t h leaves kept a frame CancelLock
+      ReleaseCancel run refl refl
+      (ap (λ (x : Outcome). x.frames) outcome ∙ frames)
+      (ap (λ (x : Outcome). x.shared.packets) outcome ∙ packets)
+      (ap (λ (x : Outcome). x.shared.queues) outcome ∙ queues)
+      (ap (λ (x : Outcome). x.shared.starts) outcome ∙ starts)
   frees_by a _ lock o frame outcome run is frames packets queues starts = cc
 
   -- a cancel word is exchanged

@@ -7,14 +7,16 @@ use Rattle.std.proofs.lemmas.Bool.Decides.{eqb_tells}
 use Rattle.model.specs.declared.abs.Kind.{Kind}
 use Rattle.model.specs.declared.abs.Kind.TheVariants.{Blank as BlankKind, Own, Listed, Armed, Taken}
 use Rattle.model.specs.declared.instr.Instr.{Instr}
-use Rattle.model.specs.declared.instr.Instr.TheVariants.{Arm, Disarm, Release}
+use Rattle.model.specs.declared.instr.Instr.TheVariants.{Arm, Disarm, Release, ReleaseCancel}
+use Rattle.model.specs.declared.set.Guard.{Guard}
 use Rattle.model.specs.declared.set.QueueName.TheVariants.{Declared}
 use Rattle.model.specs.declared.world.Activation.{Activation}
 use Rattle.model.specs.declared.world.Frame.TheVariants.{Routine}
 use Rattle.model.specs.Effect.{armer_of}
 use Rattle.model.specs.Kinds.{is_armed, is_cancelling, is_listed, all_let_go, is_exchanged, is_name, kind_disarmed}
-use Rattle.model.specs.LocalRule.{kind_of, queued_kind}
-use Rattle.model.specs.Set.{Set}
+use Rattle.model.specs.LocalRule.{handed, kind_of, queued_kind}
+use Rattle.model.specs.Set.{Set, flow_of}
+use Rattle.run_laws.proofs.States.Moves.{has_next}
 use Rattle.model.specs.Trace.{Entry}
 use Rattle.model.specs.World.{Shared, World, at_label, next, queue_of, register, packet_of, with_armer, with_packet}
 use Rattle.run_laws.specs.Holder.{named_as, named_in, stack_sum, thread_sum, times_listed, times_queued, times_waiting, times_named}
@@ -404,23 +406,31 @@ module _ (set : Set) (states : States) (w : World) (past : List Entry) (good : I
               | inr is ↦ gives_up (Taken (Declared claims.0)) is (λ q. (refl, refl))
             ]
 
-  -- a lock is released
-  pub releases_claims : (lock : ℕ) (run : Runs set states w.shared a (Release lock))
+  -- a lock is released that may be a guard
+  pub releases_claims : (lock : Guard) (i : Instr) (run : Runs set states w.shared a i)
+      → has_next (flow_of i) ≡ true
+      → (handed set a.driver (state_of states a) i).kinds
+      ≡ all_let_go set a.driver lock (state_of states a).kinds
       → h.outcome.frames ≡ Routine (next a) ∷ []
       → h.outcome.shared.packets ≡ w.shared.packets → h.outcome.shared.queues ≡ w.shared.queues
       → h.outcome.shared.starts ≡ w.shared.starts → Claimed set states to
-  releases_claims lock run frames packets queues starts =
+  releases_claims lock i run on goes frames packets queues starts =
+      let named : (g : Kind → Bool) (n : ℕ) → names states g (next a) n
+      ≡ named_in g (all_let_go set a.driver lock (state_of states a).kinds) a.registers n =
+      λ g n. next_names set states w.shared a i run on g n
+      ∙ ap (λ (kinds : List Kind). named_in g kinds a.registers n) goes in
       let less : (g : Kind → Bool) → OfQueues g → (n : ℕ)
       → names states g (next a) n ≤ names states g a n =
       λ g of n.
-      let now : names states g (next a) n
-      ≡ named_in g (all_let_go set a.driver lock (state_of states a).kinds) a.registers n =
-      next_names set states w.shared a (Release lock) run refl g n in
-      omega (arith, gone_names set a.driver lock g of (state_of states a).kinds a.registers n) in
+      omega (
+        arith,
+        named g n,
+        gone_names set a.driver lock g of (state_of states a).kinds a.registers n,
+      ) in
       let same : (g : Kind → Bool) → OfQueues g → ((name : QueueName) → g (Armed name) ≡ false)
       → (n : ℕ) → names states g (next a) n ≡ names states g a n =
       λ g of free n.
-      next_names set states w.shared a (Release lock) run refl g n
+      named g n
       ∙ stay_names set a.driver lock g of free (state_of states a).kinds a.registers n in
       let less_all : (g : Kind → Bool) → OfQueues g → (on : ℕ → Bool) (n : ℕ)
       → thread_sum (frame_names states g on n) to.threads

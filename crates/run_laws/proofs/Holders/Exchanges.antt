@@ -8,7 +8,9 @@ use Rattle.model.specs.declared.abs.Abs.{Abs}
 use Rattle.model.specs.declared.abs.Kind.{Kind}
 use Rattle.model.specs.declared.abs.Kind.TheVariants.{Blank as BlankKind, Listed, Armed, Taken}
 use Rattle.model.specs.declared.instr.Instr.{Instr}
-use Rattle.model.specs.declared.instr.Instr.TheVariants.{Arm, Disarm, Release, Const, Move, Clear, Load, LoadPaged, Get, Mark, Insert, Remove, Unlink, Start, Take, Begin, Pass, Call, Complete}
+use Rattle.model.specs.declared.instr.Instr.TheVariants.{Arm, Disarm, Release, Const, Move, Clear, Load, LoadPaged, Get, Mark, Insert, Remove, Unlink, Start, Take, Begin, Pass, Call, Complete, ReleaseCancel}
+use Rattle.model.specs.declared.set.Guard.{Guard}
+use Rattle.model.specs.declared.set.Guard.TheVariants.{DeviceLock, CancelLock}
 use Rattle.model.specs.declared.set.QueueName.TheVariants.{Declared}
 use Rattle.model.specs.declared.world.Activation.{Activation}
 use Rattle.model.specs.declared.world.Armer.{Armer}
@@ -49,14 +51,14 @@ disarmed_after (Taken name) h = refl
 disarmed_after _ h = cc
 
 -- the release of a lock
-let_go_right : (set : Set) (driver lock : ℕ) (k : Kind)
+let_go_right : (set : Set) (driver : ℕ) (lock : Guard) (k : Kind)
     → is_right (let_go set driver lock k) ≡ is_right k
 let_go_right set driver lock (Armed name) =
     cond_both (is_guard (guard_named set driver name) lock) BlankKind (Armed name)
     (λ (k : Kind). is_right k ≡ false) (λ guards. refl) (λ other. refl)
 let_go_right set driver lock _ = refl
 
-all_go_rights : (set : Set) (driver lock : ℕ) (kinds : List Kind) (values : List Value) (n : ℕ)
+all_go_rights : (set : Set) (driver : ℕ) (lock : Guard) (kinds : List Kind) (values : List Value) (n : ℕ)
     → rights (all_let_go set driver lock kinds) values n ≡ rights kinds values n
 all_go_rights set driver lock [] values n = refl
 all_go_rights set driver lock (k ∷ kinds) [] n = refl
@@ -83,7 +85,9 @@ rights_still set driver s (Unlink r q) values n same quiet = cc
 rights_still set driver s (Arm r q) values n same quiet = cc
 rights_still set driver s (Disarm r label) values n same quiet = cc
 rights_still set driver s (Release lock) values n same quiet =
-    all_go_rights set driver lock s.kinds values n
+    all_go_rights set driver (DeviceLock lock) s.kinds values n
+rights_still set driver s ReleaseCancel values n same quiet =
+    all_go_rights set driver CancelLock s.kinds values n
 rights_still set driver s (Start r) values n same quiet = cc
 rights_still set driver s (Take r label) values n same quiet = cc
 rights_still set driver s (Begin r) values n same quiet = cc

@@ -10,6 +10,7 @@ use Rattle.model.specs.declared.abs.Rule.TheVariants.{Dropped, Token, CancelStat
 use Rattle.model.specs.declared.instr.Instr.{Instr}
 use Rattle.model.specs.declared.instr.Instr.TheVariants.{Begin, Insert, Next, Remove, Start, Take, Unlink}
 use Rattle.model.specs.declared.limits.TheConstants.{REGISTERS}
+use Rattle.model.specs.declared.set.QueueName.{QueueName}
 use Rattle.model.specs.declared.set.QueueName.TheVariants.{Declared}
 use Rattle.model.specs.declared.world.Activation.{Activation}
 use Rattle.model.specs.declared.world.Frame.{Frame}
@@ -17,7 +18,7 @@ use Rattle.model.specs.declared.world.Frame.TheVariants.{Routine, Walk, Cancel a
 use Rattle.model.specs.declared.world.Value.TheVariants.{Ref}
 use Rattle.model.specs.Action.{Action}
 use Rattle.model.specs.Effect.{routine_of_device}
-use Rattle.model.specs.Kinds.{is_packet, is_right, kind_inserted, kind_removed}
+use Rattle.model.specs.Kinds.{is_name, is_packet, is_right, kind_inserted, kind_removed}
 use Rattle.model.specs.LocalRule.{an_owned_one, demanded, free_kind, handed, handed_at_label, kind_of, least_of, unless, unlink_kind}
 use Rattle.model.specs.Queues.{StartState, inserted, next_started, started, with_slot, unlinked}
 use Rattle.model.specs.Set.{Set, flow_of, label_of, cancel_routine_of}
@@ -31,7 +32,7 @@ use Rattle.run_laws.proofs.Holders.Rights.{no_right, not_right, rights_both, rig
 use Rattle.run_laws.proofs.Holders.Started.{started_put, times_given, times_next, times_slot}
 use Rattle.run_laws.proofs.Lists.{all_at}
 use Rattle.run_laws.proofs.States.Frames.{Runs, state_of, Serves}
-use Rattle.run_laws.proofs.States.Listed.{KindFits, HasCancel}
+use Rattle.run_laws.proofs.States.Listed.{KindFits, HasCancel, named_same}
 use Rattle.run_laws.proofs.States.Moves.{arrives, arrives_next, has_next}
 use Rattle.run_laws.proofs.States.Obeyed.{inserts_right}
 use Rattle.run_laws.proofs.States.OnTop.{listed_fits}
@@ -85,25 +86,25 @@ module _ (set : Set) (states : States) (s : Shared) (a : Activation) (i : Instr)
   pub inserts_blank : (q : ℕ) → cancel_routine_of set a.driver q ≡ None
       → (handed set a.driver (state_of states a) (Insert r q)).kinds ≡ kinds_with BlankKind
   inserts_blank q none =
-      ap (λ (cancel : Option ℕ). kinds_with (kind_inserted cancel q)) none
+      ap (λ (cancel : Option ℕ). kinds_with (kind_inserted cancel (Declared q))) none
 
   pub removes_own : (q label : ℕ) → cancel_routine_of set a.driver q ≡ None
       → (handed set a.driver (state_of states a) (Remove r q label)).kinds ≡ kinds_with Own
   removes_own q label none =
-      ap (λ (cancel : Option ℕ). kinds_with (kind_removed cancel q)) none
+      ap (λ (cancel : Option ℕ). kinds_with (kind_removed cancel (Declared q))) none
 
   -- one with a cancel routine leaves it where it is, and gives no right to one that is taken off
   pub inserts_listed : (q cancel : ℕ) → cancel_routine_of set a.driver q ≡ Some cancel
       → (handed set a.driver (state_of states a) (Insert r q)).kinds
       ≡ kinds_with (Listed (Declared q))
   inserts_listed q cancel is =
-      ap (λ (routine : Option ℕ). kinds_with (kind_inserted routine q)) is
+      ap (λ (routine : Option ℕ). kinds_with (kind_inserted routine (Declared q))) is
 
   pub removes_taken : (q label cancel : ℕ) → cancel_routine_of set a.driver q ≡ Some cancel
       → (handed set a.driver (state_of states a) (Remove r q label)).kinds
       ≡ kinds_with (Taken (Declared q))
   removes_taken q label cancel is =
-      ap (λ (routine : Option ℕ). kinds_with (kind_removed routine q)) is
+      ap (λ (routine : Option ℕ). kinds_with (kind_removed routine (Declared q))) is
 
   -- a register's packet becomes of another kind
   pub rights_turned : (k : Kind) → has_next (flow_of i) ≡ true
@@ -219,23 +220,24 @@ unlinked_right q (Listed name) h = refl
 unlinked_right q (Cancelling name) h = refl
 unlinked_right q _ h = cc
 
-same_queue : (p q : ℕ) → unless (nat_eq p q) CancelState ≡ None → p ≡ q
-same_queue p q h = eqb-true p q (granted (nat_eq p q) CancelState h)
+same_queue : (p q : QueueName) → unless (is_name p q) CancelState ≡ None → p ≡ q
+same_queue p q h = named_same p q (granted (is_name p q) CancelState h)
 
-either_queue : (p q : ℕ) → unless (nat_eq p q || false) CancelState ≡ None → p ≡ q
-either_queue p q h = same_queue p q (by (nat_eq p q) h)
+either_queue : (p q : QueueName) → unless (is_name p q || false) CancelState ≡ None → p ≡ q
+either_queue p q h = same_queue p q (by (is_name p q) h)
   where
     by : (b : Bool) → unless (b || false) CancelState ≡ None → unless b CancelState ≡ None
     by true h = refl
     by false h = h
 
-unlinked_cancel : (set : Set) (driver : ℕ) (locks : List Bool) (q : ℕ) (k : Kind)
-    → unlink_kind (Declared q) k ≡ None → KindFits set driver locks k → HasCancel set driver q
-unlinked_cancel set driver locks q (Listed (Declared p)) h fits =
-    subst (λ (x : ℕ). HasCancel set driver x) (either_queue p q h) fits.0
-unlinked_cancel set driver locks q (Cancelling (Declared p)) h fits =
-    subst (λ (x : ℕ). HasCancel set driver x) (same_queue p q h) fits
-unlinked_cancel set driver locks q _ h fits = cc
+unlinked_cancel : (set : Set) (driver : ℕ) (locks : List Bool) (cancel : Bool) (name : QueueName)
+    (k : Kind)
+    → unlink_kind name k ≡ None → KindFits set driver locks cancel k → HasCancel set driver name
+unlinked_cancel set driver locks cancel name (Listed other) h fits =
+    subst (λ (x : QueueName). HasCancel set driver x) (either_queue other name h) fits.0
+unlinked_cancel set driver locks cancel name (Cancelling other) h fits =
+    subst (λ (x : QueueName). HasCancel set driver x) (same_queue other name h) fits
+unlinked_cancel set driver locks cancel name _ h fits = cc
 
 -- so each packet is held as often after the instruction as before it
 module _ (set : Set) (states : States) (s : Shared) (a : Activation) where
@@ -335,8 +337,9 @@ module _ (set : Set) (states : States) (s : Shared) (a : Activation) where
   unlinked_rights r q m entries h there n =
       let rule : unlink_kind (Declared q) (kind_of (state_of states a) r) ≡ None =
       first_none _ _ h.obeys in
-      let has : HasCancel set a.driver q =
-      unlinked_cancel set a.driver (state_of states a).locks q (kind_of (state_of states a) r) rule
+      let has : HasCancel set a.driver (Declared q) =
+      unlinked_cancel set a.driver (state_of states a).locks (state_of states a).cancel
+      (Declared q) (kind_of (state_of states a) r) rule
       (listed_fits set states s a (Unlink r q) h r) in
       let same : frame_rights states (Routine (next a)) n ≡ frame_rights states (Routine a) n =
       rights_stay set states s a (Unlink r q) h r Own refl refl

@@ -13,6 +13,7 @@ use Rattle.model.specs.declared.event.Lock.{Lock}
 use Rattle.model.specs.declared.event.Lock.TheVariants.{SystemCancel, Spin}
 use Rattle.model.specs.declared.instr.Instr.{Instr}
 use Rattle.model.specs.declared.instr.Instr.TheVariants.{Mark, Acquire, Release, AcquireCancel, ReleaseCancel, Pass, Call, IfPending}
+use Rattle.model.specs.declared.set.Guard.TheVariants.{DeviceLock, CancelLock}
 use Rattle.model.specs.declared.set.Sort.{Sort}
 use Rattle.model.specs.declared.world.Activation.{Activation}
 use Rattle.model.specs.declared.world.CancelStep.{CancelStep}
@@ -132,15 +133,21 @@ spin_says s d m b within (Spin l) =
     (is_held (with_lock s m b) l.number)
     (held_set s.locks m l.number b within)
 
--- the release of a guard
-released_says : (s : Abs) (set : Set) (driver d m : ℕ) → m < length s.locks
-    → SaysNow s (released s set driver m) d (Spin (record { device = d; number = m })) false
-released_says s set driver d m within SystemCancel = spin_says s d m false within SystemCancel
-released_says s set driver d m within (Spin l) = spin_says s d m false within (Spin l)
-
 cancel_says : (s : Abs) (d : ℕ) (b : Bool) → SaysNow s (with_cancel s b) d SystemCancel b
 cancel_says s d b SystemCancel = refl
 cancel_says s d b (Spin l) = refl
+
+-- the release of a lock that may be a guard
+released_says : (s : Abs) (set : Set) (driver d m : ℕ) → m < length s.locks
+    → SaysNow s (released s set driver (DeviceLock m)) d
+    (Spin (record { device = d; number = m })) false
+released_says s set driver d m within SystemCancel = spin_says s d m false within SystemCancel
+released_says s set driver d m within (Spin l) = spin_says s d m false within (Spin l)
+
+let_cancel_says : (s : Abs) (set : Set) (driver d : ℕ)
+    → SaysNow s (released s set driver CancelLock) d SystemCancel false
+let_cancel_says s set driver d SystemCancel = refl
+let_cancel_says s set driver d (Spin l) = refl
 
 own_device : (d : ℕ) (b c : Bool) → b ≡ c → (nat_eq d d && b) ≡ c
 own_device d b c h = rw (eq-eqb d d refl) h
@@ -182,7 +189,7 @@ module _ (s : Abs) (a : Activation) (sort : Sort) (set : Set) (eight : length s.
     freed ReleaseCancel lock is small rule =
         let same : SystemCancel ≡ lock = cc in
         rw (← same) (record {
-          before = not_false _ (unbroken _ _ rule);
-          now = cancel_says s a.device false;
+          before = not_false _ (unbroken _ _ (first_none _ _ rule));
+          now = let_cancel_says s set a.driver a.device;
         })
     freed _ lock is small rule = cc

@@ -167,7 +167,7 @@ with_lower _ kinds values r status is kind value = cc
 
 -- what goes into a queue or out of one, or was taken back, is no status
 inserted_lower : (x : Bool) (cancel : Option ℕ) (q : ℕ) (v : Value)
-    → LowerIs x (kind_inserted cancel q) v
+    → LowerIs x (kind_inserted cancel (Declared q)) v
 inserted_lower x None q v = tt
 inserted_lower x (Some routine) q v = tt
 
@@ -356,10 +356,10 @@ module _ (set : Set) (states : States) (s : Shared) (past : List Entry) (actor :
       (lists : List StartState) (actions : List Action) (full : Bool) → Executing set a i
       → Queued s a i b queues lists actions full → GoesOnAs states a b
   queued_as i b queues lists actions full at (inserts r q n entries reads there) =
-      next_turns (Insert r q) r (kind_inserted (cancel_routine_of set a.driver q) q) at refl refl
+      next_turns (Insert r q) r (kind_inserted (cancel_routine_of set a.driver q) (Declared q)) at refl refl
       refl refl (λ x. inserted_lower x (cancel_routine_of set a.driver q) q (register a r))
   queued_as i b queues lists actions full at (removes r q label n entries there) =
-      takes_own (Remove r q label) r n (kind_removed (cancel_routine_of set a.driver q) q) at
+      takes_own (Remove r q label) r n (kind_removed (cancel_routine_of set a.driver q) (Declared q)) at
       (removes r q label n entries there) refl refl refl
   queued_as i b queues lists actions full at (removes_none r q label there) =
       takes_nothing (Remove r q label) r label at refl refl refl

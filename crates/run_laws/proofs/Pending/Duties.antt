@@ -11,7 +11,9 @@ use Rattle.model.specs.declared.abs.Kind.{Kind}
 use Rattle.model.specs.declared.abs.Kind.TheVariants.{Blank, Num, Lower, New, Own, Armed, View}
 use Rattle.model.specs.declared.abs.Settled.TheVariants.{Settled as SettledMark}
 use Rattle.model.specs.declared.instr.Instr.{Instr}
-use Rattle.model.specs.declared.instr.Instr.TheVariants.{Const, Move, Clear, Load, LoadPaged, Get, Mark, Pass, Call, Complete, IfPending, Insert, Release, Remove, Unlink, Arm, Disarm, Start, Take, Begin}
+use Rattle.model.specs.declared.instr.Instr.TheVariants.{Const, Move, Clear, Load, LoadPaged, Get, Mark, Pass, Call, Complete, IfPending, Insert, Release, Remove, Unlink, Arm, Disarm, Start, Take, Begin, ReleaseCancel}
+use Rattle.model.specs.declared.set.Guard.{Guard}
+use Rattle.model.specs.declared.set.Guard.TheVariants.{DeviceLock, CancelLock}
 use Rattle.model.specs.declared.set.QueueName.{QueueName}
 use Rattle.model.specs.declared.set.QueueName.TheVariants.{Declared}
 use Rattle.model.specs.declared.set.Sort.{Sort}
@@ -207,15 +209,15 @@ passes_new New h = refl
 passes_new _ h = cc
 
 -- what goes into a queue, out of one, or is let go with its guard isn't handed over, nor a status
-inserted_plain : (cancel : Option ℕ) (q : ℕ) → (is_new (kind_inserted cancel q) ≡ false)
-    × (is_lower (kind_inserted cancel q) ≡ false)
-inserted_plain None q = (refl, refl)
-inserted_plain (Some routine) q = (refl, refl)
+inserted_plain : (cancel : Option ℕ) (name : QueueName)
+    → (is_new (kind_inserted cancel name) ≡ false) × (is_lower (kind_inserted cancel name) ≡ false)
+inserted_plain None name = (refl, refl)
+inserted_plain (Some routine) name = (refl, refl)
 
-removed_plain : (cancel : Option ℕ) (q : ℕ) → (is_new (kind_removed cancel q) ≡ false)
-    × (is_lower (kind_removed cancel q) ≡ false)
-removed_plain None q = (refl, refl)
-removed_plain (Some routine) q = (refl, refl)
+removed_plain : (cancel : Option ℕ) (name : QueueName)
+    → (is_new (kind_removed cancel name) ≡ false) × (is_lower (kind_removed cancel name) ≡ false)
+removed_plain None name = (refl, refl)
+removed_plain (Some routine) name = (refl, refl)
 
 disarmed_plain : (fits : Bool) (k : Kind) → queued_kind fits k ≡ None
     → (is_new (kind_disarmed k) ≡ false) × (is_lower (kind_disarmed k) ≡ false)
@@ -223,7 +225,7 @@ disarmed_plain fits New rule = cc
 disarmed_plain fits Lower rule = cc
 disarmed_plain fits _ rule = (refl, refl)
 
-module _ (set : Set) (driver lock : ℕ) (f : Kind → Bool) (blank : f Blank ≡ false)
+module _ (set : Set) (driver : ℕ) (lock : Guard) (f : Kind → Bool) (blank : f Blank ≡ false)
     (armed : (name : QueueName) → f (Armed name) ≡ false) where
   let_go_same : (k : Kind) → f (let_go set driver lock k) ≡ f k
   let_go_same (Armed name) =
@@ -235,6 +237,15 @@ module _ (set : Set) (driver lock : ℕ) (f : Kind → Bool) (blank : f Blank �
       → kinds_that f (all_let_go set driver lock kinds) ≡ kinds_that f kinds
   count_let_go [] = refl
   count_let_go (k ∷ kinds) = rw (let_go_same k, count_let_go kinds) refl
+
+released_dutiful : (s : Abs) (set : Set) (driver : ℕ) (lock : Guard) → Dutiful s
+    → Dutied s.duty (all_let_go set driver lock s.kinds)
+released_dutiful s set driver lock h =
+    let lowers : kinds_that is_lower (all_let_go set driver lock s.kinds)
+    ≡ kinds_that is_lower s.kinds =
+    count_let_go set driver lock is_lower refl (λ name. refl) s.kinds in
+    dutied_less s.duty s.kinds (all_let_go set driver lock s.kinds)
+    (count_let_go set driver lock is_new refl (λ name. refl) s.kinds) (omega arith) h
 
 -- every instruction that breaks no rule
 handed_dutiful : (s : Abs) (i : Instr) (set : Set) (driver : ℕ)
@@ -257,12 +268,12 @@ handed_dutiful s (Get r q field) set driver rule fits long h =
     h
 handed_dutiful s (Mark r) set driver rule fits long h = marked_dutiful s r (kind_of s r) rule refl h
 handed_dutiful s (Insert r q) set driver rule fits long h =
-    let plain = inserted_plain (cancel_routine_of set driver q) q in
-    dutied_written s.duty s.kinds r (kind_inserted (cancel_routine_of set driver q) q)
+    let plain = inserted_plain (cancel_routine_of set driver q) (Declared q) in
+    dutied_written s.duty s.kinds r (kind_inserted (cancel_routine_of set driver q) (Declared q))
     (ap is_new (inserts_right (kind_of s r) (first_none _ _ rule))) plain.0 plain.1 h
 handed_dutiful s (Remove r q label) set driver rule fits long h =
-    let plain = removed_plain (cancel_routine_of set driver q) q in
-    dutied_written s.duty s.kinds r (kind_removed (cancel_routine_of set driver q) q)
+    let plain = removed_plain (cancel_routine_of set driver q) (Declared q) in
+    dutied_written s.duty s.kinds r (kind_removed (cancel_routine_of set driver q) (Declared q))
     (not_new _ (unbroken _ _ (first_none _ _ (second_none _ _ rule)))) plain.0 plain.1 h
 handed_dutiful s (Unlink r q) set driver rule fits long h =
     dutied_written s.duty s.kinds r Own (queued_not_new _ (kind_of s r) (first_none _ _ rule)) refl
@@ -275,11 +286,9 @@ handed_dutiful s (Disarm r label) set driver rule fits long h =
     dutied_written s.duty s.kinds r (kind_disarmed (kind_of s r))
     (queued_not_new _ (kind_of s r) rule) plain.0 plain.1 h
 handed_dutiful s (Release lock) set driver rule fits long h =
-    let lowers : kinds_that is_lower (all_let_go set driver lock s.kinds)
-    ≡ kinds_that is_lower s.kinds =
-    count_let_go set driver lock is_lower refl (λ name. refl) s.kinds in
-    dutied_less s.duty s.kinds (all_let_go set driver lock s.kinds)
-    (count_let_go set driver lock is_new refl (λ name. refl) s.kinds) (omega arith) h
+    released_dutiful s set driver (DeviceLock lock) h
+handed_dutiful s ReleaseCancel set driver rule fits long h =
+    released_dutiful s set driver CancelLock h
 handed_dutiful s (Start r) set driver rule fits long h =
     owned_up s r h (inserts_right (kind_of s r) (first_none _ _ rule))
 handed_dutiful s (Take r label) set driver rule fits long h =

@@ -1,9 +1,11 @@
 -- The statuses of lower drivers in a routine's registers: all STATUS_PENDING, or none.
 use Rattle.std.proofs.Common.{◌≡◌, ℕ, zero, suc, Bool, true, false, List, [], ◌∷◌, arith}
 use Rattle.std.proofs.lemmas.Bool.{cond_both}
+use Rattle.model.specs.declared.set.Guard.{Guard}
+use Rattle.model.specs.declared.set.Guard.TheVariants.{DeviceLock, CancelLock}
 use Rattle.model.specs.declared.abs.Abs.{Abs}
 use Rattle.model.specs.declared.instr.Instr.{Instr}
-use Rattle.model.specs.declared.instr.Instr.TheVariants.{Arm, Begin, Call, Clear, Complete, Const, Disarm, Get, Insert, Load, LoadPaged, Mark, Move, Pass, Release, Remove, Start, Take, Unlink}
+use Rattle.model.specs.declared.instr.Instr.TheVariants.{Arm, Begin, Call, Clear, Complete, Const, Disarm, Get, Insert, Load, LoadPaged, Mark, Move, Pass, Release, Remove, Start, Take, Unlink, ReleaseCancel}
 use Rattle.model.specs.Set.{Set, guard_named}
 use Rattle.run_laws.proofs.Steps.Words.{is_giving, keeps_registers, work_of}
 use Rattle.std.specs.Prelude.{⊤, slice_set, slice_index_or}
@@ -99,14 +101,14 @@ lowers_none b (k ∷ kinds) (v ∷ values) h =
     (none_here b k v (omega arith), lowers_none b kinds values (omega arith))
 
 -- a release lets armed registers go
-go_lower : (b : Bool) (set : Set) (driver lock : ℕ) (k : Kind) (v : Value) → LowerIs b k v
+go_lower : (b : Bool) (set : Set) (driver : ℕ) (lock : Guard) (k : Kind) (v : Value) → LowerIs b k v
     → LowerIs b (let_go set driver lock k) v
 go_lower b set driver lock (Armed name) v h =
     cond_both (is_guard (guard_named set driver name) lock) BlankKind (Armed name)
     (λ k. LowerIs b k v) (λ guards. tt) (λ other. tt)
 go_lower b set driver lock _ v h = h
 
-lowers_go : (b : Bool) (set : Set) (driver lock : ℕ) (kinds : List Kind) (values : List Value)
+lowers_go : (b : Bool) (set : Set) (driver : ℕ) (lock : Guard) (kinds : List Kind) (values : List Value)
     → Lowers b kinds values → Lowers b (all_let_go set driver lock kinds) values
 lowers_go b set driver lock [] values h = tt
 lowers_go b set driver lock (k ∷ kinds) [] h = tt
@@ -130,7 +132,9 @@ lowers_kept b set driver s (Unlink r q) values same quiet h = cc
 lowers_kept b set driver s (Arm r q) values same quiet h = cc
 lowers_kept b set driver s (Disarm r label) values same quiet h = cc
 lowers_kept b set driver s (Release lock) values same quiet h =
-    lowers_go b set driver lock s.kinds values h
+    lowers_go b set driver (DeviceLock lock) s.kinds values h
+lowers_kept b set driver s ReleaseCancel values same quiet h =
+    lowers_go b set driver CancelLock s.kinds values h
 lowers_kept b set driver s (Start r) values same quiet h = cc
 lowers_kept b set driver s (Take r label) values same quiet h = cc
 lowers_kept b set driver s (Begin r) values same quiet h = cc

@@ -9,7 +9,9 @@ use Rattle.model.specs.declared.abs.Kind.{Kind}
 use Rattle.model.specs.declared.abs.Kind.TheVariants.{Blank as BlankKind, Num as NumKind, Lower, New, Own, Listed, Armed, Taken, Cancelling, View}
 use Rattle.model.specs.declared.abs.Settled.{Settled}
 use Rattle.model.specs.declared.instr.Instr.{Instr}
-use Rattle.model.specs.declared.instr.Instr.TheVariants.{Const, Move, Clear, Load, LoadPaged, Get, Mark, Release, Insert, Remove, Unlink, Arm, Disarm, Start, Take, Begin, Pass, Call, Complete}
+use Rattle.model.specs.declared.instr.Instr.TheVariants.{Const, Move, Clear, Load, LoadPaged, Get, Mark, Release, Insert, Remove, Unlink, Arm, Disarm, Start, Take, Begin, Pass, Call, Complete, ReleaseCancel}
+use Rattle.model.specs.declared.set.Guard.{Guard}
+use Rattle.model.specs.declared.set.Guard.TheVariants.{DeviceLock, CancelLock}
 use Rattle.model.specs.declared.set.QueueName.{QueueName}
 use Rattle.model.specs.declared.set.QueueName.TheVariants.{Declared}
 use Rattle.model.specs.declared.set.Sort.{Sort}
@@ -218,7 +220,7 @@ module _ (f : Kind → Bool) (claim : IsClaim f) (M : ℕ → Type 0) where
       others (suc count) = ((λ is. empty), others count)
 
   -- once a guard is released
-  go_claim : (set : Set) (driver lock : ℕ) (k : Kind) → f (let_go set driver lock k) ≡ true
+  go_claim : (set : Set) (driver : ℕ) (lock : Guard) (k : Kind) → f (let_go set driver lock k) ≡ true
       → f k ≡ true
   go_claim set driver lock (Armed name) =
       cond_both (is_guard (guard_named set driver name) lock) BlankKind (Armed name)
@@ -226,7 +228,7 @@ module _ (f : Kind → Bool) (claim : IsClaim f) (M : ℕ → Type 0) where
       (λ guards is. never BlankKind claim.blank is) (λ other is. is)
   go_claim set driver lock _ = λ is. is
 
-  go_claims : (set : Set) (driver lock : ℕ) (kinds : List Kind) (values : List Value)
+  go_claims : (set : Set) (driver : ℕ) (lock : Guard) (kinds : List Kind) (values : List Value)
       → Claimed kinds values → Claimed (all_let_go set driver lock kinds) values
   go_claims set driver lock [] values h = tt
   go_claims set driver lock (k ∷ kinds) [] h = tt
@@ -282,7 +284,7 @@ module _ (f : Kind → Bool) (claim : IsClaim f) (M : ℕ → Type 0) where
     handed_claims (Take r label) rule brought gains h = cc
     handed_claims (Mark r) rule brought gains h = marked_claims r (kind_of s r) (gains r refl) h
     handed_claims (Insert r q) rule brought gains h =
-        claim_turn s.kinds values r (kind_inserted (cancel_routine_of set driver q) q)
+        claim_turn s.kinds values r (kind_inserted (cancel_routine_of set driver q) (Declared q))
         (λ is. claim_get s.kinds values r h
         (ap f (inserts_right (kind_of s r) (first_none _ _ rule)) ∙ claim.own)) h
     handed_claims (Unlink r q) rule brought gains h =
@@ -295,7 +297,10 @@ module _ (f : Kind → Bool) (claim : IsClaim f) (M : ℕ → Type 0) where
     handed_claims (Disarm r label) rule brought gains h =
         claim_turn s.kinds values r (kind_disarmed (kind_of s r))
         (disarmed_claim (kind_of s r) (gains r refl) (claim_get s.kinds values r h)) h
-    handed_claims (Release lock) rule brought gains h = go_claims set driver lock s.kinds values h
+    handed_claims (Release lock) rule brought gains h =
+        go_claims set driver (DeviceLock lock) s.kinds values h
+    handed_claims ReleaseCancel rule brought gains h =
+        go_claims set driver CancelLock s.kinds values h
     handed_claims (Start r) rule brought gains h = blank_claims r h
     handed_claims (Begin r) rule brought gains h = blank_claims r h
     handed_claims (Complete r status) rule brought gains h = blank_claims r h

@@ -215,7 +215,7 @@ served_cancels set device driver q serves =
 
 -- a packet that is taken off a queue is the routine's own where that has no cancel routine
 removed_plain : (f : Kind → Bool) → IsClaim f → (cancel : Option ℕ) (q : ℕ)
-    → f (kind_removed cancel q) ≡ true → is_some cancel ≡ false
+    → f (kind_removed cancel (Declared q)) ≡ true → is_some cancel ≡ false
 removed_plain f claim None q is = refl
 removed_plain f claim (Some routine) q is =
     let no : true ≡ false = sym is ∙ claim.taken (Declared q) in cc
@@ -239,7 +239,7 @@ module _ (set : Set) (states : States) (s : Shared) (a : Activation)
     (room : FrameRoom set states s a) (waiting : WaitingRoom set s) where
   removed_place : (f : Kind → Bool) → IsClaim f → (q n : ℕ) (entries : List ℕ)
       → Serves set a.device a.driver → queue_of s a.device q ≡ Some (n ∷ entries)
-      → f (kind_removed (cancel_routine_of set a.driver q) q) ≡ true → HasPlace set s a.device n
+      → f (kind_removed (cancel_routine_of set a.driver q) (Declared q)) ≡ true → HasPlace set s a.device n
   removed_place f claim q n entries serves there is =
       waiting.queues a.device q n (n ∷ entries) there
       (served_cancels set a.device a.driver q serves
@@ -272,7 +272,7 @@ module _ (set : Set) (states : States) (s : Shared) (a : Activation)
         (with_register a r (Ref n)).registers)
         (sym (arrives_next set states s a (Remove r q label) h refl))
         (claim_set f claim M (state_of states a).kinds a.registers r
-        (kind_removed (cancel_routine_of set a.driver q) q) (Ref n)
+        (kind_removed (cancel_routine_of set a.driver q) (Declared q)) (Ref n)
         (λ is. taken_in n
         (placed n (removed_place f claim q n entries h.stays.serves there is))) held)
     queued_claims i h (removes_none r q label there) held =

@@ -489,9 +489,9 @@ module _ (set : Set) (states : States) (s : Shared) (good : IsGood set states) (
 pub cancelled_name : (set : Set) (driver number : ℕ) (name : QueueName) (o : Option QueueName)
     → cancel_routine_named set driver name ≡ Some number → cancels_for set driver number ≡ o
     → is_some o ≡ true → o ≡ Some name
-cancelled_name set driver number (Declared q) None named is there = cc
-cancelled_name set driver number (Declared q) (Some name) named is there =
-    ap Some (named_only set driver number q name named is)
+cancelled_name set driver number list None named is there = cc
+cancelled_name set driver number list (Some name) named is there =
+    ap Some (named_only set driver number list name named is)
 
 -- a device of a driver whose devices all have lower ones has one
 pub any_false : {A : Type 0} (f : A → Bool) (xs : List A) (i : ℕ) (x : A) → list_any f xs ≡ false

@@ -8,7 +8,9 @@ use Rattle.model.specs.declared.abs.Abs.{Abs}
 use Rattle.model.specs.declared.abs.Kind.{Kind}
 use Rattle.model.specs.declared.abs.Kind.TheVariants.{Blank as BlankKind, Num as NumKind, Lower, New, Own, Listed, Armed, Taken}
 use Rattle.model.specs.declared.instr.Instr.{Instr}
-use Rattle.model.specs.declared.instr.Instr.TheVariants.{Const, Move, Clear, Load, LoadPaged, Get, Mark, Release, Insert, Remove, Unlink, Arm, Disarm, Start, Take, Begin, Next, Pass, Call, Complete}
+use Rattle.model.specs.declared.instr.Instr.TheVariants.{Const, Move, Clear, Load, LoadPaged, Get, Mark, Release, Insert, Remove, Unlink, Arm, Disarm, Start, Take, Begin, Next, Pass, Call, Complete, ReleaseCancel}
+use Rattle.model.specs.declared.set.Guard.{Guard}
+use Rattle.model.specs.declared.set.Guard.TheVariants.{DeviceLock, CancelLock}
 use Rattle.model.specs.declared.set.QueueName.TheVariants.{Declared}
 use Rattle.model.specs.declared.world.Activation.{Activation}
 use Rattle.model.specs.declared.world.Value.{Value}
@@ -121,7 +123,7 @@ module _ (f : Kind → Bool) (given : IsHanded f) (P : Value → Type 0) where
   disarmed_was (Taken name) is = absurd (is_not Own given.own is)
   disarmed_was _ is = is
 
-  go_was : (set : Set) (driver lock : ℕ) (k : Kind) → f (let_go set driver lock k) ≡ true
+  go_was : (set : Set) (driver : ℕ) (lock : Guard) (k : Kind) → f (let_go set driver lock k) ≡ true
       → f k ≡ true
   go_was set driver lock (Armed name) =
       cond_both (is_guard (guard_named set driver name) lock) BlankKind (Armed name)
@@ -129,7 +131,7 @@ module _ (f : Kind → Bool) (given : IsHanded f) (P : Value → Type 0) where
       (λ guards is. absurd (is_not BlankKind given.blank is)) (λ other is. is)
   go_was set driver lock _ = λ is. is
 
-  go_hold : (set : Set) (driver lock : ℕ) (kinds : List Kind) (values : List Value)
+  go_hold : (set : Set) (driver : ℕ) (lock : Guard) (kinds : List Kind) (values : List Value)
       → HoldOf f P kinds values → HoldOf f P (all_let_go set driver lock kinds) values
   go_hold set driver lock [] values h = tt
   go_hold set driver lock (k ∷ kinds) [] h = tt
@@ -164,18 +166,21 @@ module _ (f : Kind → Bool) (given : IsHanded f) (P : Value → Type 0) where
       hold_turn s.kinds values r NumKind given.number h
   handed_hold set driver s (Mark r) values plain h = marked_hold s values r (kind_of s r) h
   handed_hold set driver s (Insert r q) values plain h =
-      hold_turn s.kinds values r (kind_inserted (cancel_routine_of set driver q) q)
-      (handed_inserted f given (cancel_routine_of set driver q) q) h
+      hold_turn s.kinds values r (kind_inserted (cancel_routine_of set driver q) (Declared q))
+      (handed_inserted f given (cancel_routine_of set driver q) (Declared q)) h
   handed_hold set driver s (Remove r q label) values plain h =
-      hold_turn s.kinds values r (kind_removed (cancel_routine_of set driver q) q)
-      (handed_removed f given (cancel_routine_of set driver q) q) h
+      hold_turn s.kinds values r (kind_removed (cancel_routine_of set driver q) (Declared q))
+      (handed_removed f given (cancel_routine_of set driver q) (Declared q)) h
   handed_hold set driver s (Unlink r q) values plain h =
       hold_turn s.kinds values r Own given.own h
   handed_hold set driver s (Arm r q) values plain h =
       hold_turn s.kinds values r (Armed (Declared q)) (given.armed (Declared q)) h
   handed_hold set driver s (Disarm r label) values plain h =
       hold_becomes s.kinds values r (kind_disarmed (kind_of s r)) (disarmed_was (kind_of s r)) h
-  handed_hold set driver s (Release lock) values plain h = go_hold set driver lock s.kinds values h
+  handed_hold set driver s (Release lock) values plain h =
+      go_hold set driver (DeviceLock lock) s.kinds values h
+  handed_hold set driver s ReleaseCancel values plain h =
+      go_hold set driver CancelLock s.kinds values h
   handed_hold set driver s (Start r) values plain h =
       hold_turn s.kinds values r BlankKind given.blank h
   handed_hold set driver s (Take r label) values plain h =
@@ -249,9 +254,9 @@ module _ (f : Kind → Bool) (given : IsHanded f) (P : Value → Type 0) where
       subst (λ (state : Abs). HoldOf f P state.kinds (slice_set a.registers r (Ref n)))
       (sym (arrives_next set states s a (Remove r q label) h refl))
       (hold_set (state_of states a).kinds a.registers r
-      (kind_removed (cancel_routine_of set a.driver q) q) (Ref n) held
-      (λ is. absurd (is_not (kind_removed (cancel_routine_of set a.driver q) q)
-      (handed_removed f given (cancel_routine_of set a.driver q) q) is)))
+      (kind_removed (cancel_routine_of set a.driver q) (Declared q)) (Ref n) held
+      (λ is. absurd (is_not (kind_removed (cancel_routine_of set a.driver q) (Declared q))
+      (handed_removed f given (cancel_routine_of set a.driver q) (Declared q)) is)))
   queued_hold set states s a i empty h (removes_none r q label there) held =
       goes_hold set states s a empty (Remove r q label) _ true h (jumping label refl) held
   queued_hold set states s a i empty h (unlinks r q n entries reads there) held =

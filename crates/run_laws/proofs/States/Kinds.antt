@@ -5,11 +5,14 @@ use Rattle.std.proofs.Common.{◌≡◌, ◌⊎◌, ℕ, zero, suc, ◌<◌, ◌
 use Rattle.std.specs.Prelude.{◌||◌, ⊤, slice_set, slice_index_or, nat_lt}
 use Rattle.std.proofs.lemmas.Bool.{cond_both, lt-ltb}
 use Rattle.std.proofs.lemmas.List.{length-set, set-get_or}
+use Rattle.model.specs.declared.set.QueueName.{QueueName}
 use Rattle.model.specs.declared.abs.Abs.{Abs}
 use Rattle.model.specs.declared.abs.Kind.{Kind}
 use Rattle.model.specs.declared.abs.Kind.TheVariants.{Blank as BlankKind, Num as NumKind, Lower, New, Own, Listed, Armed, Taken, Cancelling, View}
 use Rattle.model.specs.declared.instr.Instr.{Instr}
-use Rattle.model.specs.declared.instr.Instr.TheVariants.{Const, Move, Clear, Add, Subtract, JumpIfZero, JumpIfLess, Load, Store, LoadPaged, StorePaged, Get, Put, Mark, Acquire, Release, Pass, Call, Complete, IfPending, Insert, Remove, Unlink, Arm, Disarm, IfCancel, Start, Take, Begin}
+use Rattle.model.specs.declared.instr.Instr.TheVariants.{Const, Move, Clear, Add, Subtract, JumpIfZero, JumpIfLess, Load, Store, LoadPaged, StorePaged, Get, Put, Mark, Acquire, Release, Pass, Call, Complete, IfPending, Insert, Remove, Unlink, Arm, Disarm, IfCancel, Start, Take, Begin, ReleaseCancel}
+use Rattle.model.specs.declared.set.Guard.{Guard}
+use Rattle.model.specs.declared.set.Guard.TheVariants.{DeviceLock, CancelLock}
 use Rattle.model.specs.declared.set.QueueName.TheVariants.{Declared}
 use Rattle.model.specs.declared.set.Sort.{Sort}
 use Rattle.model.specs.declared.status.Status.{Status}
@@ -167,15 +170,15 @@ packet_suits issued NumKind v is h = cc
 packet_suits issued Lower v is h = cc
 packet_suits issued _ v is h = h
 
-inserted_suits : (issued : ℕ) (cancel : Option ℕ) (q : ℕ) (v : Value) → IsPacket issued v
-    → Suits issued (kind_inserted cancel q) v
-inserted_suits issued None q v h = tt
-inserted_suits issued (Some routine) q v h = h
+inserted_suits : (issued : ℕ) (cancel : Option ℕ) (name : QueueName) (v : Value)
+    → IsPacket issued v → Suits issued (kind_inserted cancel name) v
+inserted_suits issued None name v h = tt
+inserted_suits issued (Some routine) name v h = h
 
-pub removed_suits : (issued : ℕ) (cancel : Option ℕ) (q : ℕ) (v : Value) → IsPacket issued v
-    → Suits issued (kind_removed cancel q) v
-removed_suits issued None q v h = h
-removed_suits issued (Some routine) q v h = h
+pub removed_suits : (issued : ℕ) (cancel : Option ℕ) (name : QueueName) (v : Value)
+    → IsPacket issued v → Suits issued (kind_removed cancel name) v
+removed_suits issued None name v h = h
+removed_suits issued (Some routine) name v h = h
 
 disarmed_suits : (issued : ℕ) (k : Kind) (v : Value) → Suits issued k v
     → Suits issued (kind_disarmed k) v
@@ -184,7 +187,7 @@ disarmed_suits issued (Taken name) v h = h
 disarmed_suits issued _ v h = h
 
 -- the kinds after the release of a guard
-module _ (set : Set) (driver lock : ℕ) where
+module _ (set : Set) (driver : ℕ) (lock : Guard) where
   go_suits : (issued : ℕ) (k : Kind) (v : Value) → Suits issued k v
       → Suits issued (let_go set driver lock k) v
   go_suits issued (Armed name) v h =
@@ -323,8 +326,8 @@ module _ (s : Abs) (sort : Sort) (set : Set) (driver : ℕ) where
   same_kinds issued values (Mark r) keeps same on stays h =
       mark_kinds issued values r (kind_of s r) keeps (kinds_get issued s.kinds values r h) h
   same_kinds issued values (Insert r q) keeps same on stays h =
-      kinds_turn issued s.kinds values r (kind_inserted (cancel_routine_of set driver q) q) h
-      (inserted_suits issued (cancel_routine_of set driver q) q (slice_index_or values r Blank)
+      kinds_turn issued s.kinds values r (kind_inserted (cancel_routine_of set driver q) (Declared q)) h
+      (inserted_suits issued (cancel_routine_of set driver q) (Declared q) (slice_index_or values r Blank)
       (packet_there issued values (Insert r q) r keeps refl h))
   same_kinds issued values (Unlink r q) keeps same on stays h =
       kinds_turn issued s.kinds values r Own h
@@ -337,7 +340,9 @@ module _ (s : Abs) (sort : Sort) (set : Set) (driver : ℕ) where
       (disarmed_suits issued (kind_of s r) (slice_index_or values r Blank)
       (kinds_get issued s.kinds values r h))
   same_kinds issued values (Release lock) keeps same on stays h =
-      go_kinds set driver lock issued s.kinds values h
+      go_kinds set driver (DeviceLock lock) issued s.kinds values h
+  same_kinds issued values ReleaseCancel keeps same on stays h =
+      go_kinds set driver CancelLock issued s.kinds values h
   same_kinds issued values (Start r) keeps same on stays h =
       kinds_turn issued s.kinds values r BlankKind h tt
   same_kinds issued values (Begin r) keeps same on stays h =
@@ -394,13 +399,14 @@ handed_long set driver s (LoadPaged r c) = length-set s.kinds r NumKind
 handed_long set driver s (Get r q field) = length-set s.kinds r NumKind
 handed_long set driver s (Mark r) = marked_long s r (kind_of s r)
 handed_long set driver s (Insert r q) =
-    length-set s.kinds r (kind_inserted (cancel_routine_of set driver q) q)
+    length-set s.kinds r (kind_inserted (cancel_routine_of set driver q) (Declared q))
 handed_long set driver s (Remove r q label) =
-    length-set s.kinds r (kind_removed (cancel_routine_of set driver q) q)
+    length-set s.kinds r (kind_removed (cancel_routine_of set driver q) (Declared q))
 handed_long set driver s (Unlink r q) = length-set s.kinds r Own
 handed_long set driver s (Arm r q) = length-set s.kinds r (Armed (Declared q))
 handed_long set driver s (Disarm r label) = length-set s.kinds r (kind_disarmed (kind_of s r))
-handed_long set driver s (Release lock) = go_long set driver lock s.kinds
+handed_long set driver s (Release lock) = go_long set driver (DeviceLock lock) s.kinds
+handed_long set driver s ReleaseCancel = go_long set driver CancelLock s.kinds
 handed_long set driver s (Start r) = length-set s.kinds r BlankKind
 handed_long set driver s (Take r label) = length-set s.kinds r Own
 handed_long set driver s (Begin r) = length-set s.kinds r BlankKind

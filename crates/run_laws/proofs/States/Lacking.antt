@@ -3,6 +3,7 @@ use Rattle.run_laws.proofs.States.Listed.{HasCancel, armed_fits}
 use Rattle.std.proofs.Common.{Option, subst, ◌≡◌, ℕ, ◌<◌, Bool, true, false, length, None, Some, refl, arith, sym, ◌∙◌}
 use Rattle.std.specs.Prelude.{IfSome, slice_get, slice_index_or, nat_lt, not}
 use Rattle.std.proofs.lemmas.Option.{slice_get-get_or, slice_get_within}
+use Rattle.model.specs.declared.set.QueueName.TheVariants.{Declared}
 use Rattle.model.specs.declared.abs.Rule.{Rule}
 use Rattle.model.specs.declared.event.Lock.{Lock}
 use Rattle.model.specs.declared.event.Lock.TheVariants.{SystemCancel}
@@ -126,8 +127,9 @@ module _ (set : Set) (states : States) (s : Shared) (a : Activation) where
   never_bare : (r q : ℕ) → Runs set states s a (Arm r q) → cancel_routine_of set a.driver q ≡ None
       → ⊥
   never_bare r q h none =
-      let has : HasCancel set a.driver q =
-      (armed_fits set a.driver (state_of states a).locks q (kind_of (state_of states a) r)
+      let has : HasCancel set a.driver (Declared q) =
+      (armed_fits set a.driver (state_of states a).locks (state_of states a).cancel (Declared q)
+      (kind_of (state_of states a) r)
       (first_none _ _ h.obeys) (listed_fits set states s a (Arm r q) h r)).0 in
       let no : None ≡ Some has.0 = sym none ∙ has.1 in
       cc

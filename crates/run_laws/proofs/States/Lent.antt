@@ -10,8 +10,10 @@ use Rattle.model.specs.declared.abs.Kind.{Kind}
 use Rattle.model.specs.declared.abs.Kind.TheVariants.{Blank, Num, New, Own, Armed}
 use Rattle.model.specs.declared.abs.Settled.TheVariants.{Settled as SettledMark}
 use Rattle.model.specs.declared.instr.Instr.{Instr}
-use Rattle.model.specs.declared.instr.Instr.TheVariants.{Const, Move, Clear, Load, LoadPaged, Get, Mark, Release, Insert, Remove, Unlink, Arm, Disarm, Start, Take, Begin, Pass, Call, Complete}
+use Rattle.model.specs.declared.instr.Instr.TheVariants.{Const, Move, Clear, Load, LoadPaged, Get, Mark, Release, Insert, Remove, Unlink, Arm, Disarm, Start, Take, Begin, Pass, Call, Complete, ReleaseCancel}
 use Rattle.model.specs.declared.limits.TheConstants.{REGISTERS}
+use Rattle.model.specs.declared.set.Guard.{Guard}
+use Rattle.model.specs.declared.set.Guard.TheVariants.{DeviceLock, CancelLock}
 use Rattle.model.specs.declared.set.QueueName.TheVariants.{Declared}
 use Rattle.model.specs.declared.set.Sort.{Sort}
 use Rattle.model.specs.declared.set.Sort.TheVariants.{Dispatch, Hold}
@@ -82,12 +84,12 @@ pub queued_not_new : (fits : Bool) (k : Kind) → queued_kind fits k ≡ None �
 queued_not_new fits New h = cc
 queued_not_new fits _ h = refl
 
-let_go_new : (set : Set) (driver lock : ℕ) (k : Kind) → is_new k ≡ true
+let_go_new : (set : Set) (driver : ℕ) (lock : Guard) (k : Kind) → is_new k ≡ true
     → is_new (let_go set driver lock k) ≡ true
 let_go_new set driver lock New h = refl
 let_go_new set driver lock _ h = cc
 
-all_go_new : (set : Set) (driver lock : ℕ) (kinds : List Kind) (j : ℕ)
+all_go_new : (set : Set) (driver : ℕ) (lock : Guard) (kinds : List Kind) (j : ℕ)
     → is_new (slice_index_or kinds j Blank) ≡ true
     → is_new (slice_index_or (all_let_go set driver lock kinds) j Blank) ≡ true
 all_go_new set driver lock [] j h = h
@@ -121,12 +123,14 @@ module _ (set : Set) (driver : ℕ) where
       new_set s.kinds r Num (free_not_new (kind_of s r) (second_none _ _ keeps)) (h fresh)
   handed_new s (Mark r) fits long keeps h fresh = marked_new s r (kind_of s r) h fresh
   handed_new s (Release lock) fits long keeps h fresh =
-      ((h fresh).0, all_go_new set driver lock s.kinds (h fresh).0 (h fresh).1)
+      ((h fresh).0, all_go_new set driver (DeviceLock lock) s.kinds (h fresh).0 (h fresh).1)
+  handed_new s ReleaseCancel fits long keeps h fresh =
+      ((h fresh).0, all_go_new set driver CancelLock s.kinds (h fresh).0 (h fresh).1)
   handed_new s (Insert r q) fits long keeps h fresh =
-      new_set s.kinds r (kind_inserted (cancel_routine_of set driver q) q)
+      new_set s.kinds r (kind_inserted (cancel_routine_of set driver q) (Declared q))
       (owned_not_new (kind_of s r) (first_none _ _ keeps)) (h fresh)
   handed_new s (Remove r q label) fits long keeps h fresh =
-      new_set s.kinds r (kind_removed (cancel_routine_of set driver q) q)
+      new_set s.kinds r (kind_removed (cancel_routine_of set driver q) (Declared q))
       (free_not_new (kind_of s r) (first_none _ _ (second_none _ _ keeps))) (h fresh)
   handed_new s (Unlink r q) fits long keeps h fresh =
       new_set s.kinds r Own

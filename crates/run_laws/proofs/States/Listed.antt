@@ -17,53 +17,60 @@ use Rattle.std.proofs.lemmas.List.{get_or-set_same}
 use Rattle.model.specs.declared.abs.Abs.{Abs}
 use Rattle.model.specs.declared.abs.Kind.{Kind}
 use Rattle.model.specs.declared.abs.Kind.TheVariants.{Blank, Num, Lower, New, Own, Listed, Armed, Taken, Cancelling, View}
-use Rattle.model.specs.declared.abs.Rule.TheVariants.{CancelState, Guard}
+use Rattle.model.specs.declared.abs.Rule.TheVariants.{CancelState, Guard as GuardRule}
 use Rattle.model.specs.declared.instr.Instr.{Instr}
-use Rattle.model.specs.declared.instr.Instr.TheVariants.{Const, Move, Clear, Load, LoadPaged, Get, Mark, Acquire, Release, Insert, Remove, Unlink, Arm, Disarm, Start, Take, Begin, Pass, Call, Complete}
+use Rattle.model.specs.declared.instr.Instr.TheVariants.{Const, Move, Clear, Load, LoadPaged, Get, Mark, Acquire, Release, AcquireCancel, ReleaseCancel, Insert, Remove, Unlink, Arm, Disarm, Start, Take, Begin, Pass, Call, Complete}
+use Rattle.model.specs.declared.set.Guard.{Guard}
+use Rattle.model.specs.declared.set.Guard.TheVariants.{DeviceLock, CancelLock}
 use Rattle.model.specs.declared.set.Queue.{Queue}
 use Rattle.model.specs.declared.set.QueueName.{QueueName}
 use Rattle.model.specs.declared.set.QueueName.TheVariants.{Declared}
 use Rattle.model.specs.declared.set.Sort.{Sort}
 use Rattle.model.specs.Kinds.{all_let_go, is_guard, is_listed, is_name, kind_disarmed, kind_inserted, kind_removed, left_behind, let_go, needs_guard}
-use Rattle.model.specs.LocalRule.{given_down, guard_fault, handed, handed_at_label, is_guarded, kind_of, marked, queued_kind, refuses, entry_of_sort, entry_of_cancel, entered_with}
+use Rattle.model.specs.LocalRule.{given_down, guard_fault, handed, handed_at_label, is_guarded, kind_of, marked, queued_kind, refuses, release_fault, with_held, entry_of_sort, entry_of_cancel, entered_with}
 use Rattle.std.proofs.lemmas.Bool.{cases_Bool, eqb-true}
-use Rattle.model.specs.Set.{Set, cancel_routine_of, cancelled_from, guard_of, is_named, only_one, cancels_for, Member, cancelled_in}
+use Rattle.model.specs.Set.{Set, cancel_routine_named, cancel_routine_of, cancelled_from, guard_named, is_named, only_one, cancels_for, Member, cancelled_in}
 use Rattle.run_laws.proofs.States.Along.{arrives_keep}
 use Rattle.run_laws.proofs.Lists.{Each, each_map, each_set}
 use Rattle.run_laws.proofs.States.Rules.{first_none, second_none, unbroken, granted}
 use Rattle.run_laws.proofs.Tests.{or_left, or_right}
 
--- a queue of a driver has a cancel routine
-abbrev pub HasCancel : Set → ℕ → ℕ → Type 0
-HasCancel set driver q = (routine : ℕ) × (cancel_routine_of set driver q ≡ Some routine)
+-- a list of a driver has a cancel routine
+abbrev pub HasCancel : Set → ℕ → QueueName → Type 0
+HasCancel set driver name = (routine : ℕ) × (cancel_routine_named set driver name ≡ Some routine)
 
--- a guard is among the locks that are held
-abbrev pub guards_in : List Bool → Option ℕ → Bool
-guards_in locks None = false
-guards_in locks (Some guard) = slice_index_or locks guard false
+-- a guard is held, by the spin locks that are, and whether the system cancel spin lock is
+abbrev pub guards_in : List Bool → Bool → Option Guard → Bool
+guards_in locks cancel None = false
+guards_in locks cancel (Some (DeviceLock guard)) = slice_index_or locks guard false
+guards_in locks cancel (Some CancelLock) = cancel
 
-abbrev pub Guarded : Set → ℕ → List Bool → ℕ → Type 0
-Guarded set driver locks q = guards_in locks (guard_of set driver q) ≡ true
+abbrev pub Guarded : Set → ℕ → List Bool → Bool → QueueName → Type 0
+Guarded set driver locks cancel name = guards_in locks cancel (guard_named set driver name) ≡ true
 
-abbrev pub KindFits : Set → ℕ → List Bool → Kind → Type 0
-KindFits set driver locks (Listed (Declared q)) =
-    HasCancel set driver q × Guarded set driver locks q
-KindFits set driver locks (Armed (Declared q)) = HasCancel set driver q × Guarded set driver locks q
-KindFits set driver locks (Taken (Declared q)) = HasCancel set driver q × Guarded set driver locks q
-KindFits set driver locks (Cancelling (Declared q)) = HasCancel set driver q
-KindFits set driver locks Blank = ⊤
-KindFits set driver locks Num = ⊤
-KindFits set driver locks Lower = ⊤
-KindFits set driver locks New = ⊤
-KindFits set driver locks Own = ⊤
-KindFits set driver locks View = ⊤
+abbrev pub KindFits : Set → ℕ → List Bool → Bool → Kind → Type 0
+KindFits set driver locks cancel (Listed name) =
+    HasCancel set driver name × Guarded set driver locks cancel name
+KindFits set driver locks cancel (Armed name) =
+    HasCancel set driver name × Guarded set driver locks cancel name
+KindFits set driver locks cancel (Taken name) =
+    HasCancel set driver name × Guarded set driver locks cancel name
+KindFits set driver locks cancel (Cancelling name) = HasCancel set driver name
+KindFits set driver locks cancel Blank = ⊤
+KindFits set driver locks cancel Num = ⊤
+KindFits set driver locks cancel Lower = ⊤
+KindFits set driver locks cancel New = ⊤
+KindFits set driver locks cancel Own = ⊤
+KindFits set driver locks cancel View = ⊤
 
 abbrev pub AllFit : Set → ℕ → Abs → Type 0
-AllFit set driver s = Each (KindFits set driver s.locks) s.kinds
+AllFit set driver s = Each (KindFits set driver s.locks s.cancel) s.kinds
 
-pub guarded_is : (s : Abs) (guard : Option ℕ) → is_guarded s guard ≡ guards_in s.locks guard
+pub guarded_is : (s : Abs) (guard : Option Guard)
+    → is_guarded s guard ≡ guards_in s.locks s.cancel guard
 guarded_is s None = refl
-guarded_is s (Some guard) = refl
+guarded_is s (Some (DeviceLock guard)) = refl
+guarded_is s (Some CancelLock) = refl
 
 -- locks that are held
 held_within : (locks : List Bool) (m : ℕ) → slice_index_or locks m false ≡ true → m < length locks
@@ -71,10 +78,10 @@ held_within [] m h = cc
 held_within (b ∷ locks) zero h = omega arith
 held_within (b ∷ locks) (suc m) h = omega (arith, held_within locks m h)
 
-acquired_guards : (locks : List Bool) (m : ℕ) (guard : Option ℕ) → guards_in locks guard ≡ true
-    → guards_in (slice_set locks m true) guard ≡ true
-acquired_guards locks m None h = cc
-acquired_guards locks m (Some g) h =
+-- what guards is held still after one lock more
+acquired_lock : (locks : List Bool) (m g : ℕ) → slice_index_or locks g false ≡ true
+    → slice_index_or (slice_set locks m true) g false ≡ true
+acquired_lock locks m g h =
     elim (eqb_tells m g) [
       | inl same ↦
           let at : slice_index_or locks m false ≡ true =
@@ -84,120 +91,164 @@ acquired_guards locks m (Some g) h =
       | inr apart ↦ get_or-set_other locks m g true false (λ e. apart.1 (sym e)) ∙ h
     ]
 
-other_guard : (locks : List Bool) (m : ℕ) (guard : Option ℕ) → is_guard guard m ≡ false
-    → guards_in locks guard ≡ true → guards_in (slice_set locks m false) guard ≡ true
-other_guard locks m None other h = cc
-other_guard locks m (Some g) other h =
+acquired_guards : (s : Abs) (lock : Guard) (guard : Option Guard)
+    → guards_in s.locks s.cancel guard ≡ true
+    → guards_in (with_held s lock true).locks (with_held s lock true).cancel guard ≡ true
+acquired_guards s lock None h = cc
+acquired_guards s (DeviceLock m) (Some (DeviceLock g)) h = acquired_lock s.locks m g h
+acquired_guards s (DeviceLock m) (Some CancelLock) h = h
+acquired_guards s CancelLock (Some (DeviceLock g)) h = h
+acquired_guards s CancelLock (Some CancelLock) h = refl
+
+-- and after another one is released
+other_guard : (s : Abs) (lock : Guard) (guard : Option Guard) → is_guard guard lock ≡ false
+    → guards_in s.locks s.cancel guard ≡ true
+    → guards_in (with_held s lock false).locks (with_held s lock false).cancel guard ≡ true
+other_guard s lock None other h = cc
+other_guard s (DeviceLock m) (Some (DeviceLock g)) other h =
     elim (eqb_tells g m) [
       | inl same ↦ let no : true ≡ false = sym same.0 ∙ other in cc
-      | inr apart ↦ get_or-set_other locks m g false false (λ e. apart.1 e) ∙ h
+      | inr apart ↦ get_or-set_other s.locks m g false false (λ e. apart.1 e) ∙ h
     ]
+other_guard s (DeviceLock m) (Some CancelLock) other h = h
+other_guard s CancelLock (Some (DeviceLock g)) other h = h
+other_guard s CancelLock (Some CancelLock) other h = cc
 
-named_same : (p q : ℕ) → is_name (Declared p) (Declared q) ≡ true → p ≡ q
-named_same p q h = eqb-true p q h
+pub named_same : (one other : QueueName) → is_name one other ≡ true → one ≡ other
+named_same (Declared p) (Declared q) h = ap (λ (x : ℕ). Declared x) (eqb-true p q h)
 
 module _ (set : Set) (driver : ℕ) where
   -- one register
-  pub fits_at : (locks : List Bool) (kinds : List Kind) (r : ℕ)
-      → Each (KindFits set driver locks) kinds
-      → KindFits set driver locks (slice_index_or kinds r Blank)
-  fits_at locks [] r h = tt
-  fits_at locks (k ∷ kinds) zero h = h.0
-  fits_at locks (k ∷ kinds) (suc r) h = fits_at locks kinds r h.1
+  pub fits_at : (locks : List Bool) (cancel : Bool) (kinds : List Kind) (r : ℕ)
+      → Each (KindFits set driver locks cancel) kinds
+      → KindFits set driver locks cancel (slice_index_or kinds r Blank)
+  fits_at locks cancel [] r h = tt
+  fits_at locks cancel (k ∷ kinds) zero h = h.0
+  fits_at locks cancel (k ∷ kinds) (suc r) h = fits_at locks cancel kinds r h.1
 
-  acquired_fits : (locks : List Bool) (m : ℕ) (k : Kind) → KindFits set driver locks k
-      → KindFits set driver (slice_set locks m true) k
-  acquired_fits locks m (Listed (Declared q)) h =
-      (h.0, acquired_guards locks m (guard_of set driver q) h.1)
-  acquired_fits locks m (Armed (Declared q)) h =
-      (h.0, acquired_guards locks m (guard_of set driver q) h.1)
-  acquired_fits locks m (Taken (Declared q)) h =
-      (h.0, acquired_guards locks m (guard_of set driver q) h.1)
-  acquired_fits locks m (Cancelling (Declared q)) h = h
-  acquired_fits locks m _ h = tt
+  kind_fits_at : (s : Abs) (r : ℕ) → AllFit set driver s
+      → KindFits set driver s.locks s.cancel (kind_of s r)
+  kind_fits_at s r h = fits_at s.locks s.cancel s.kinds r h
+
+  -- one lock more
+  acquired_fits : (s : Abs) (lock : Guard) (k : Kind) → KindFits set driver s.locks s.cancel k
+      → KindFits set driver (with_held s lock true).locks (with_held s lock true).cancel k
+  acquired_fits s lock (Listed name) h =
+      (h.0, acquired_guards s lock (guard_named set driver name) h.1)
+  acquired_fits s lock (Armed name) h =
+      (h.0, acquired_guards s lock (guard_named set driver name) h.1)
+  acquired_fits s lock (Taken name) h =
+      (h.0, acquired_guards s lock (guard_named set driver name) h.1)
+  acquired_fits s lock (Cancelling name) h = h
+  acquired_fits s lock _ h = tt
+
+  pub all_acquired : (s : Abs) (lock : Guard) → (with_held s lock true).kinds ≡ s.kinds
+      → AllFit set driver s → AllFit set driver (with_held s lock true)
+  all_acquired s lock same h =
+      rw same (each_map (KindFits set driver s.locks s.cancel)
+      (KindFits set driver (with_held s lock true).locks (with_held s lock true).cancel) s.kinds
+      (λ k fits. acquired_fits s lock k fits) h)
 
   -- a guard is released with no packet left that needs it
-  armed_goes : (locks : List Bool) (m q : ℕ) (b : Bool) → is_guard (guard_of set driver q) m ≡ b
-      → HasCancel set driver q → Guarded set driver locks q
-      → KindFits set driver (slice_set locks m false)
-      (if b then Blank else Armed (Declared q))
-  armed_goes locks m q true is has held = tt
-  armed_goes locks m q false is has held =
-      (has, other_guard locks m (guard_of set driver q) is held)
+  armed_goes : (s : Abs) (lock : Guard) (name : QueueName) (b : Bool)
+      → is_guard (guard_named set driver name) lock ≡ b
+      → HasCancel set driver name → Guarded set driver s.locks s.cancel name
+      → KindFits set driver (with_held s lock false).locks (with_held s lock false).cancel
+      (if b then Blank else Armed name)
+  armed_goes s lock name true is has held = tt
+  armed_goes s lock name false is has held =
+      (has, other_guard s lock (guard_named set driver name) is held)
 
-  freed_fits : (locks : List Bool) (m : ℕ) (k : Kind) → needs_guard set driver m k ≡ false
-      → KindFits set driver locks k
-      → KindFits set driver (slice_set locks m false) (let_go set driver m k)
-  freed_fits locks m (Listed (Declared q)) free h =
-      (h.0, other_guard locks m (guard_of set driver q) free h.1)
-  freed_fits locks m (Armed (Declared q)) free h =
-      armed_goes locks m q (is_guard (guard_of set driver q) m) refl h.0 h.1
-  freed_fits locks m (Taken (Declared q)) free h =
-      (h.0, other_guard locks m (guard_of set driver q) free h.1)
-  freed_fits locks m (Cancelling (Declared q)) free h = h
-  freed_fits locks m _ free h = tt
+  freed_fits : (s : Abs) (lock : Guard) (k : Kind) → needs_guard set driver lock k ≡ false
+      → KindFits set driver s.locks s.cancel k
+      → KindFits set driver (with_held s lock false).locks (with_held s lock false).cancel
+      (let_go set driver lock k)
+  freed_fits s lock (Listed name) free h =
+      (h.0, other_guard s lock (guard_named set driver name) free h.1)
+  freed_fits s lock (Armed name) free h =
+      armed_goes s lock name (is_guard (guard_named set driver name) lock) refl h.0 h.1
+  freed_fits s lock (Taken name) free h =
+      (h.0, other_guard s lock (guard_named set driver name) free h.1)
+  freed_fits s lock (Cancelling name) free h = h
+  freed_fits s lock _ free h = tt
 
-  all_freed : (locks : List Bool) (m : ℕ) (kinds : List Kind)
-      → list_any (needs_guard set driver m) kinds ≡ false → Each (KindFits set driver locks) kinds
-      → Each (KindFits set driver (slice_set locks m false)) (all_let_go set driver m kinds)
-  all_freed locks m [] free h = tt
-  all_freed locks m (k ∷ kinds) free h = (
-    freed_fits locks m k (or_left (needs_guard set driver m k)
-        (list_any (needs_guard set driver m) kinds) free) h.0,
-    all_freed locks m kinds
-        (or_right (needs_guard set driver m k) (list_any (needs_guard set driver m) kinds) free)
+  all_freed : (s : Abs) (lock : Guard) (kinds : List Kind)
+      → list_any (needs_guard set driver lock) kinds ≡ false
+      → Each (KindFits set driver s.locks s.cancel) kinds
+      → Each (KindFits set driver (with_held s lock false).locks (with_held s lock false).cancel)
+      (all_let_go set driver lock kinds)
+  all_freed s lock [] free h = tt
+  all_freed s lock (k ∷ kinds) free h = (
+    freed_fits s lock k (or_left (needs_guard set driver lock k)
+        (list_any (needs_guard set driver lock) kinds) free) h.0,
+    all_freed s lock kinds
+        (or_right (needs_guard set driver lock k)
+        (list_any (needs_guard set driver lock) kinds) free)
         h.1,
   )
 
-  -- an instruction on a queue breaks no rule where the guard is held
-  guard_held : (s : Abs) (q : ℕ) → guard_fault s set driver q ≡ None → Guarded set driver s.locks q
-  guard_held s q rule =
-      sym (guarded_is s (guard_of set driver q))
-      ∙ granted (is_guarded s (guard_of set driver q)) Guard rule
+  released_fits : (s : Abs) (lock : Guard) → release_fault s set driver lock ≡ None
+      → AllFit set driver s
+      → Each (KindFits set driver (with_held s lock false).locks (with_held s lock false).cancel)
+      (all_let_go set driver lock s.kinds)
+  released_fits s lock keeps h =
+      all_freed s lock s.kinds (unbroken _ _ (second_none _ _ keeps)) h
+
+  -- an instruction on a list breaks no rule where the guard is held
+  guard_held : (s : Abs) (name : QueueName) → guard_fault s set driver name ≡ None
+      → Guarded set driver s.locks s.cancel name
+  guard_held s name rule =
+      sym (guarded_is s (guard_named set driver name))
+      ∙ granted (is_guarded s (guard_named set driver name)) GuardRule rule
 
   -- what an instruction makes
-  inserted_fits : (locks : List Bool) (q : ℕ) (o : Option ℕ) → cancel_routine_of set driver q ≡ o
-      → Guarded set driver locks q → KindFits set driver locks (kind_inserted o q)
-  inserted_fits locks q None is held = tt
-  inserted_fits locks q (Some routine) is held = ((routine, is), held)
+  inserted_fits : (locks : List Bool) (cancel : Bool) (name : QueueName) (o : Option ℕ)
+      → cancel_routine_named set driver name ≡ o
+      → Guarded set driver locks cancel name
+      → KindFits set driver locks cancel (kind_inserted o name)
+  inserted_fits locks cancel name None is held = tt
+  inserted_fits locks cancel name (Some routine) is held = ((routine, is), held)
 
-  removed_fits : (locks : List Bool) (q : ℕ) (o : Option ℕ) → cancel_routine_of set driver q ≡ o
-      → Guarded set driver locks q → KindFits set driver locks (kind_removed o q)
-  removed_fits locks q None is held = tt
-  removed_fits locks q (Some routine) is held = ((routine, is), held)
+  removed_fits : (locks : List Bool) (cancel : Bool) (name : QueueName) (o : Option ℕ)
+      → cancel_routine_named set driver name ≡ o
+      → Guarded set driver locks cancel name
+      → KindFits set driver locks cancel (kind_removed o name)
+  removed_fits locks cancel name None is held = tt
+  removed_fits locks cancel name (Some routine) is held = ((routine, is), held)
 
-  pub armed_fits : (locks : List Bool) (q : ℕ) (k : Kind)
-      → queued_kind (is_listed (Declared q) k) k ≡ None → KindFits set driver locks k
-      → KindFits set driver locks (Armed (Declared q))
-  armed_fits locks q (Listed (Declared p)) rule h =
-      let same : p ≡ q = named_same p q (granted (is_name (Declared p) (Declared q)) CancelState
+  pub armed_fits : (locks : List Bool) (cancel : Bool) (name : QueueName) (k : Kind)
+      → queued_kind (is_listed name k) k ≡ None → KindFits set driver locks cancel k
+      → KindFits set driver locks cancel (Armed name)
+  armed_fits locks cancel name (Listed other) rule h =
+      let same : other ≡ name = named_same other name (granted (is_name other name) CancelState
       rule) in
-      subst (λ (x : ℕ). HasCancel set driver x × Guarded set driver locks x) same h
-  armed_fits locks q _ rule h = cc
+      subst (λ (x : QueueName). HasCancel set driver x × Guarded set driver locks cancel x) same h
+  armed_fits locks cancel name _ rule h = cc
 
-  disarmed_fits : (locks : List Bool) (k : Kind) → KindFits set driver locks k
-      → KindFits set driver locks (kind_disarmed k)
-  disarmed_fits locks (Armed (Declared q)) h = h
-  disarmed_fits locks (Taken (Declared q)) h = tt
-  disarmed_fits locks (Listed (Declared q)) h = h
-  disarmed_fits locks (Cancelling (Declared q)) h = h
-  disarmed_fits locks _ h = tt
+  disarmed_fits : (locks : List Bool) (cancel : Bool) (k : Kind)
+      → KindFits set driver locks cancel k → KindFits set driver locks cancel (kind_disarmed k)
+  disarmed_fits locks cancel (Armed name) h = h
+  disarmed_fits locks cancel (Taken name) h = tt
+  disarmed_fits locks cancel (Listed name) h = h
+  disarmed_fits locks cancel (Cancelling name) h = h
+  disarmed_fits locks cancel _ h = tt
 
-  left_fits : (locks : List Bool) (k : Kind) → KindFits set driver locks (left_behind k)
-  left_fits locks Num = tt
-  left_fits locks Blank = tt
-  left_fits locks Lower = tt
-  left_fits locks New = tt
-  left_fits locks Own = tt
-  left_fits locks (Listed name) = tt
-  left_fits locks (Armed name) = tt
-  left_fits locks (Taken name) = tt
-  left_fits locks (Cancelling name) = tt
-  left_fits locks View = tt
+  left_fits : (locks : List Bool) (cancel : Bool) (k : Kind)
+      → KindFits set driver locks cancel (left_behind k)
+  left_fits locks cancel Num = tt
+  left_fits locks cancel Blank = tt
+  left_fits locks cancel Lower = tt
+  left_fits locks cancel New = tt
+  left_fits locks cancel Own = tt
+  left_fits locks cancel (Listed name) = tt
+  left_fits locks cancel (Armed name) = tt
+  left_fits locks cancel (Taken name) = tt
+  left_fits locks cancel (Cancelling name) = tt
+  left_fits locks cancel View = tt
 
-  set_fits : (s : Abs) (r : ℕ) (k : Kind) → KindFits set driver s.locks k → AllFit set driver s
-      → Each (KindFits set driver s.locks) (slice_set s.kinds r k)
-  set_fits s r k new h = each_set (KindFits set driver s.locks) s.kinds r k h new
+  set_fits : (s : Abs) (r : ℕ) (k : Kind) → KindFits set driver s.locks s.cancel k → AllFit set driver s
+      → Each (KindFits set driver s.locks s.cancel) (slice_set s.kinds r k)
+  set_fits s r k new h = each_set (KindFits set driver s.locks s.cancel) s.kinds r k h new
 
   marked_fits : (s : Abs) (r : ℕ) (k : Kind) → AllFit set driver s
       → AllFit set driver (marked s r k)
@@ -214,35 +265,33 @@ module _ (set : Set) (driver : ℕ) where
       → AllFit set driver s → AllFit set driver (handed set driver s i)
   handed_fits s (Const r n) sort keeps h = set_fits s r Num tt h
   handed_fits s (Move r q) sort keeps h =
-      each_set (KindFits set driver s.locks) (slice_set s.kinds r (kind_of s q)) q
-      (left_behind (kind_of s q)) (set_fits s r (kind_of s q) (fits_at s.locks s.kinds q h) h)
-      (left_fits s.locks (kind_of s q))
+      each_set (KindFits set driver s.locks s.cancel) (slice_set s.kinds r (kind_of s q)) q
+      (left_behind (kind_of s q)) (set_fits s r (kind_of s q) (kind_fits_at s q h) h)
+      (left_fits s.locks s.cancel (kind_of s q))
   handed_fits s (Clear r) sort keeps h = set_fits s r Blank tt h
   handed_fits s (Load r c) sort keeps h = set_fits s r Num tt h
   handed_fits s (LoadPaged r c) sort keeps h = set_fits s r Num tt h
   handed_fits s (Get r q field) sort keeps h = set_fits s r Num tt h
   handed_fits s (Mark r) sort keeps h = marked_fits s r (kind_of s r) h
-  handed_fits s (Acquire lock) sort keeps h =
-      each_map (KindFits set driver s.locks) (KindFits set driver (slice_set s.locks lock true))
-      s.kinds
-      (λ k fits. acquired_fits s.locks lock k fits) h
-  handed_fits s (Release lock) sort keeps h =
-      all_freed s.locks lock s.kinds (unbroken _ _ (second_none _ _ keeps)) h
+  handed_fits s (Acquire lock) sort keeps h = all_acquired s (DeviceLock lock) refl h
+  handed_fits s (Release lock) sort keeps h = released_fits s (DeviceLock lock) keeps h
+  handed_fits s AcquireCancel sort keeps h = all_acquired s CancelLock refl h
+  handed_fits s ReleaseCancel sort keeps h = released_fits s CancelLock keeps h
   handed_fits s (Insert r q) sort keeps h =
-      set_fits s r (kind_inserted (cancel_routine_of set driver q) q)
-      (inserted_fits s.locks q (cancel_routine_of set driver q) refl
-      (guard_held s q (second_none _ _ keeps))) h
+      set_fits s r (kind_inserted (cancel_routine_of set driver q) (Declared q))
+      (inserted_fits s.locks s.cancel (Declared q) (cancel_routine_of set driver q) refl
+      (guard_held s (Declared q) (second_none _ _ keeps))) h
   handed_fits s (Remove r q label) sort keeps h =
-      set_fits s r (kind_removed (cancel_routine_of set driver q) q)
-      (removed_fits s.locks q (cancel_routine_of set driver q) refl
-      (guard_held s q (first_none _ _ keeps))) h
+      set_fits s r (kind_removed (cancel_routine_of set driver q) (Declared q))
+      (removed_fits s.locks s.cancel (Declared q) (cancel_routine_of set driver q) refl
+      (guard_held s (Declared q) (first_none _ _ keeps))) h
   handed_fits s (Unlink r q) sort keeps h = set_fits s r Own tt h
   handed_fits s (Arm r q) sort keeps h =
       set_fits s r (Armed (Declared q))
-      (armed_fits s.locks q (kind_of s r) (first_none _ _ keeps) (fits_at s.locks s.kinds r h)) h
+      (armed_fits s.locks s.cancel (Declared q) (kind_of s r) (first_none _ _ keeps) (kind_fits_at s r h)) h
   handed_fits s (Disarm r label) sort keeps h =
       set_fits s r (kind_disarmed (kind_of s r))
-      (disarmed_fits s.locks (kind_of s r) (fits_at s.locks s.kinds r h)) h
+      (disarmed_fits s.locks s.cancel (kind_of s r) (kind_fits_at s r h)) h
   handed_fits s (Start r) sort keeps h = set_fits s r Blank tt h
   handed_fits s (Take r label) sort keeps h = set_fits s r Own tt h
   handed_fits s (Begin r) sort keeps h = set_fits s r Blank tt h
@@ -258,10 +307,10 @@ module _ (set : Set) (driver : ℕ) where
   label_fits s _ h = h
 
 -- in the state of entry
-blank_fit : (set : Set) (driver : ℕ) (locks : List Bool) (count : ℕ)
-    → Each (KindFits set driver locks) (replicate count Blank)
-blank_fit set driver locks zero = tt
-blank_fit set driver locks (suc count) = (tt, blank_fit set driver locks count)
+blank_fit : (set : Set) (driver : ℕ) (locks : List Bool) (cancel : Bool) (count : ℕ)
+    → Each (KindFits set driver locks cancel) (replicate count Blank)
+blank_fit set driver locks cancel zero = tt
+blank_fit set driver locks cancel (suc count) = (tt, blank_fit set driver locks cancel count)
 
 -- a queue that names a routine has it for its cancel routine
 named_some : (o : Option ℕ) (number : ℕ) → is_named o number ≡ true → o ≡ Some number
@@ -322,10 +371,10 @@ single name x zero h = cc
 single name x (suc i) h = cc
 
 -- so the list that a cancel routine is entered for is the one that names it
-pub named_only : (set : Set) (driver number q : ℕ) (name : QueueName)
-    → cancel_routine_of set driver q ≡ Some number → cancels_for set driver number ≡ Some name
-    → name ≡ Declared q
-named_only set driver number q name named only =
+pub named_only : (set : Set) (driver number : ℕ) (list name : QueueName)
+    → cancel_routine_named set driver list ≡ Some number
+    → cancels_for set driver number ≡ Some name → name ≡ list
+named_only set driver number (Declared q) name named only =
     named_by (slice_get set.drivers driver) refl named only
   where
     named_by : (o : Option Driver) → slice_get set.drivers driver ≡ o
@@ -345,9 +394,9 @@ named_only set driver number q name named only =
         (ap (λ (names : List QueueName). slice_get names member.0) (sym list) ∙ member.1 ∙ same)
 
 -- in the state of entry
-named_fits : (set : Set) (driver number q : ℕ)
-    → cancels_for set driver number ≡ Some (Declared q) → HasCancel set driver q
-named_fits set driver number q only = named_by (slice_get set.drivers driver) refl only
+named_fits : (set : Set) (driver number : ℕ) (name : QueueName)
+    → cancels_for set driver number ≡ Some name → HasCancel set driver name
+named_fits set driver number (Declared q) only = named_by (slice_get set.drivers driver) refl only
   where
     named_by : (o : Option Driver) → slice_get set.drivers driver ≡ o
         → only_one (cancelled_in o number) ≡ Some (Declared q)
@@ -368,22 +417,22 @@ named_fits set driver number q only = named_by (slice_get set.drivers driver) re
         )
 
 entered_fits : (set : Set) (driver : ℕ) (k : Kind) (duty : Duty) (carried : Settled) (token : Bool)
-    → KindFits set driver (replicate SPIN_LOCKS false) k
+    → KindFits set driver (replicate SPIN_LOCKS false) false k
     → AllFit set driver (entered_with k duty carried token)
 entered_fits set driver k duty carried token fits =
-    (fits, blank_fit set driver (replicate SPIN_LOCKS false) (REGISTERS - 1))
+    (fits, blank_fit set driver (replicate SPIN_LOCKS false) false (REGISTERS - 1))
 
 module _ (set : Set) (driver number : ℕ) where
   cancel_fits : (name : Option QueueName) (s : Abs) → cancels_for set driver number ≡ name
       → entry_of_cancel name ≡ Some s → AllFit set driver s
   cancel_fits None s is h = cc
-  cancel_fits (Some (Declared q)) s is h =
-      let same : record (entered_with (Cancelling (Declared q)) NoDuty SettledMark false)
-      { cancel = true }
+  cancel_fits (Some name) s is h =
+      let same : record (entered_with (Cancelling name) NoDuty SettledMark false) { cancel = true }
       ≡ s = cc in
-      subst (AllFit set driver) same
-      (entered_fits set driver (Cancelling (Declared q)) NoDuty SettledMark false
-      (named_fits set driver number q is))
+      subst (AllFit set driver) same (
+        named_fits set driver number name is,
+        blank_fit set driver (replicate SPIN_LOCKS false) true (REGISTERS - 1),
+      )
 
   sort_fits : (sort : Sort) (s : Abs) → entry_of_sort sort (cancels_for set driver number) ≡ Some s
       → AllFit set driver s

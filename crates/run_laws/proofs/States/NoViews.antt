@@ -13,7 +13,9 @@ use Rattle.model.specs.declared.abs.Kind.{Kind}
 use Rattle.model.specs.declared.abs.Kind.TheVariants.{Blank, Num, Lower, New, Own, Listed, Armed, Taken, Cancelling, View}
 use Rattle.model.specs.declared.abs.Settled.TheVariants.{Settled as SettledMark}
 use Rattle.model.specs.declared.instr.Instr.{Instr}
-use Rattle.model.specs.declared.instr.Instr.TheVariants.{Const, Move, Clear, Load, LoadPaged, Get, Mark, Pass, Call, Complete, Release, Insert, Remove, Unlink, Arm, Disarm, Start, Take, Begin}
+use Rattle.model.specs.declared.instr.Instr.TheVariants.{Const, Move, Clear, Load, LoadPaged, Get, Mark, Pass, Call, Complete, Release, Insert, Remove, Unlink, Arm, Disarm, Start, Take, Begin, ReleaseCancel}
+use Rattle.model.specs.declared.set.Guard.{Guard}
+use Rattle.model.specs.declared.set.Guard.TheVariants.{DeviceLock, CancelLock}
 use Rattle.model.specs.declared.set.QueueName.{QueueName}
 use Rattle.model.specs.declared.set.QueueName.TheVariants.{Declared}
 use Rattle.model.specs.declared.set.Sort.TheVariants.{Propagate, Dpc, Dispatch, StartIo, Hold, Cancel}
@@ -79,20 +81,22 @@ pub record NeverMade (set : Set) (driver : ℕ) (f : Kind → Bool) : Type 0 whe
   pub number : f Num ≡ false
   pub lower : f Lower ≡ false
   pub own : f Own ≡ false
-  pub inserted : (q : ℕ) → f (kind_inserted (cancel_routine_of set driver q) q) ≡ false
-  pub removed : (q : ℕ) → f (kind_removed (cancel_routine_of set driver q) q) ≡ false
+  pub inserted : (q : ℕ) → f (kind_inserted (cancel_routine_of set driver q) (Declared q)) ≡ false
+  pub removed : (q : ℕ) → f (kind_removed (cancel_routine_of set driver q) (Declared q)) ≡ false
   pub armed : (q : ℕ) (k : Kind) → queued_kind (is_listed (Declared q) k) k ≡ None → f k ≡ false
       → f (Armed (Declared q)) ≡ false
   pub disarmed : (k : Kind) → f k ≡ false → f (kind_disarmed k) ≡ false
 
 module _ (f : Kind → Bool) (given : IsHanded f) where
-  pub handed_inserted : (cancel : Option ℕ) (q : ℕ) → f (kind_inserted cancel q) ≡ false
-  handed_inserted None q = given.blank
-  handed_inserted (Some routine) q = given.listed (Declared q)
+  pub handed_inserted : (cancel : Option ℕ) (name : QueueName)
+      → f (kind_inserted cancel name) ≡ false
+  handed_inserted None name = given.blank
+  handed_inserted (Some routine) name = given.listed name
 
-  pub handed_removed : (cancel : Option ℕ) (q : ℕ) → f (kind_removed cancel q) ≡ false
-  handed_removed None q = given.own
-  handed_removed (Some routine) q = given.taken (Declared q)
+  pub handed_removed : (cancel : Option ℕ) (name : QueueName)
+      → f (kind_removed cancel name) ≡ false
+  handed_removed None name = given.own
+  handed_removed (Some routine) name = given.taken name
 
   handed_disarmed : (k : Kind) → f k ≡ false → f (kind_disarmed k) ≡ false
   handed_disarmed (Armed name) h = given.listed name
@@ -106,8 +110,8 @@ module _ (f : Kind → Bool) (given : IsHanded f) where
         number = given.number;
         lower = given.lower;
         own = given.own;
-        inserted = λ q. handed_inserted (cancel_routine_of set driver q) q;
-        removed = λ q. handed_removed (cancel_routine_of set driver q) q;
+        inserted = λ q. handed_inserted (cancel_routine_of set driver q) (Declared q);
+        removed = λ q. handed_removed (cancel_routine_of set driver q) (Declared q);
         armed = λ q k keeps h. given.armed (Declared q);
         disarmed = handed_disarmed;
       }
@@ -146,13 +150,13 @@ pub none_at : (f : Kind → Bool) → IsHanded f → (kinds : List Kind) (r : �
 none_at f given kinds r h = none_blank f given.blank kinds r h
 
 module _ (set : Set) (driver : ℕ) (f : Kind → Bool) (never : NeverMade set driver f) where
-  go_none : (lock : ℕ) (k : Kind) → f k ≡ false → f (let_go set driver lock k) ≡ false
+  go_none : (lock : Guard) (k : Kind) → f k ≡ false → f (let_go set driver lock k) ≡ false
   go_none lock (Armed name) h =
       cond_both (is_guard (guard_named set driver name) lock) Blank (Armed name)
       (λ k. f k ≡ false) (λ guards. never.blank) (λ other. h)
   go_none lock _ h = h
 
-  all_go_none : (lock : ℕ) (kinds : List Kind) → list_any f kinds ≡ false
+  all_go_none : (lock : Guard) (kinds : List Kind) → list_any f kinds ≡ false
       → list_any f (all_let_go set driver lock kinds) ≡ false
   all_go_none lock [] h = refl
   all_go_none lock (k ∷ kinds) h =
@@ -183,9 +187,9 @@ module _ (set : Set) (driver : ℕ) (f : Kind → Bool) (never : NeverMade set d
   handed_none s (Get r q field) sort keeps h = none_set f s.kinds r Num never.number h
   handed_none s (Mark r) sort keeps h = marked_none s r (kind_of s r) h
   handed_none s (Insert r q) sort keeps h =
-      none_set f s.kinds r (kind_inserted (cancel_routine_of set driver q) q) (never.inserted q) h
+      none_set f s.kinds r (kind_inserted (cancel_routine_of set driver q) (Declared q)) (never.inserted q) h
   handed_none s (Remove r q label) sort keeps h =
-      none_set f s.kinds r (kind_removed (cancel_routine_of set driver q) q) (never.removed q) h
+      none_set f s.kinds r (kind_removed (cancel_routine_of set driver q) (Declared q)) (never.removed q) h
   handed_none s (Unlink r q) sort keeps h = none_set f s.kinds r Own never.own h
   handed_none s (Arm r q) sort keeps h =
       none_set f s.kinds r (Armed (Declared q))
@@ -193,7 +197,8 @@ module _ (set : Set) (driver : ℕ) (f : Kind → Bool) (never : NeverMade set d
   handed_none s (Disarm r label) sort keeps h =
       none_set f s.kinds r (kind_disarmed (kind_of s r))
       (never.disarmed (kind_of s r) (none_blank f never.blank s.kinds r h)) h
-  handed_none s (Release lock) sort keeps h = all_go_none lock s.kinds h
+  handed_none s (Release lock) sort keeps h = all_go_none (DeviceLock lock) s.kinds h
+  handed_none s ReleaseCancel sort keeps h = all_go_none CancelLock s.kinds h
   handed_none s (Start r) sort keeps h = none_set f s.kinds r Blank never.blank h
   handed_none s (Take r label) sort keeps h = none_set f s.kinds r Own never.own h
   handed_none s (Begin r) sort keeps h = none_set f s.kinds r Blank never.blank h

@@ -63,9 +63,11 @@ module _ (set : Set) (states : States) (s : Shared) (a : Activation) where
 
   -- what a register's kind says of a queue with a cancel routine
   pub listed_fits : (i : Instr) → Runs set states s a i → (r : ℕ)
-      → KindFits set a.driver (state_of states a).locks (kind_of (state_of states a) r)
+      → KindFits set a.driver (state_of states a).locks (state_of states a).cancel
+      (kind_of (state_of states a) r)
   listed_fits i h r =
-      fits_at set a.driver (state_of states a).locks (state_of states a).kinds r
+      fits_at set a.driver (state_of states a).locks (state_of states a).cancel
+      (state_of states a).kinds r
       (arrives_fits (member set a.driver a.routine h.routine) a.position (state_of states a)
       (h.known.follows.arrives a.position h.stays.within))
 

@@ -4,6 +4,7 @@
 use Rattle.std.proofs.Common.{◌<◌, ℕ, Bool, true, false, List, [], ◌∷◌, None, Some, refl, subst}
 use Rattle.std.specs.Prelude.{nat_eq, slice_set}
 use Rattle.std.proofs.lemmas.Bool.{cond_both}
+use Rattle.model.specs.declared.set.QueueName.TheVariants.{Declared}
 use Rattle.model.specs.declared.abs.Kind.TheVariants.{Own}
 use Rattle.model.specs.declared.instr.Instr.{Instr}
 use Rattle.model.specs.declared.instr.Instr.TheVariants.{Begin, Insert, Next, Remove, Start, Take, Unlink}
@@ -63,8 +64,8 @@ queue_moves set states s a i h (removes r q label n entries there) =
       jumped = false;
       moved = moved_next set states s a (Remove r q label) h refl (slice_set a.registers r (Ref n))
           (kinds_set s.issued (state_of states a).kinds a.registers r
-          (kind_removed (cancel_routine_of set a.driver q) q) (Ref n) h.stays.kinds
-          (removed_suits s.issued (cancel_routine_of set a.driver q) q (Ref n) (n, refl, all.0)));
+          (kind_removed (cancel_routine_of set a.driver q) (Declared q)) (Ref n) h.stays.kinds
+          (removed_suits s.issued (cancel_routine_of set a.driver q) (Declared q) (Ref n) (n, refl, all.0)));
       fits = queue_put_fits set s a.device q (n ∷ entries) entries there all.1 h.fits.queued;
       starts = h.fits.starts;
     }
