@@ -1,7 +1,7 @@
 -- What a step of a thread's top frame does: the shared part of the world and the frames after it,
 -- the actions that make it up, and the reply. It tells what is idle, waited for or wrong. It looks
 -- for no bug check: those are found from the actions (the module Fault).
-use Rattle.std.specs.Prelude.{ℕ, ◌+◌, ◌-◌, ◌%◌, ◌^◌, not, is_none, option_and_then, option_map, slice_index_or, Bool, true, false, List, [], ◌∷◌, ◌++◌, length, Option, None, Some, nat_eq, nat_lt, take, slice_get, slice_set, if◌then◌else◌}
+use Rattle.std.specs.Prelude.{ℕ, ◌+◌, ◌-◌, ◌%◌, ◌^◌, ◌&&◌, not, is_none, option_and_then, option_map, slice_index_or, Bool, true, false, List, [], ◌∷◌, ◌++◌, length, Option, None, Some, nat_eq, nat_lt, take, slice_get, slice_set, if◌then◌else◌}
 use Rattle.model.specs.declared.world.Activation.{Activation}
 use Rattle.model.specs.declared.world.Frame.{Frame}
 use Rattle.model.specs.declared.world.Frame.TheVariants.{Routine, Walk, Cancel as CancelFrame}
@@ -17,11 +17,11 @@ use Rattle.model.specs.declared.status.Status.{Status}
 use Rattle.model.specs.declared.status.Major.{Major}
 use Rattle.model.specs.declared.instr.Instr.{Instr}
 use Rattle.model.specs.declared.instr.Field.{Field}
-use Rattle.model.specs.declared.instr.Instr.TheVariants.{Const, Move, Clear, Add, Subtract, JumpIfZero, JumpIfLess, Jump, Loop, End, Load, Store, LoadPaged, StorePaged, Get, Put, Mark, Acquire, Release, AcquireCancel, ReleaseCancel, Insert, Remove, Unlink, Arm, Disarm, IfCancel, Start, Take, Begin, Next, Pass, Call, Complete, IfPending, Ret}
+use Rattle.model.specs.declared.instr.Instr.TheVariants.{Const, Move, Clear, Add, Subtract, JumpIfZero, JumpIfLess, Jump, Loop, End, Load, Store, LoadPaged, StorePaged, Get, Put, Mark, Acquire, Release, AcquireCancel, ReleaseCancel, Insert, Remove, Unlink, Arm, Disarm, IfCancel, Start, Take, Begin, Next, Dequeue, Pass, Call, Complete, IfPending, Ret}
 use Rattle.model.specs.declared.instr.Return.{Return}
 use Rattle.model.specs.declared.instr.Return.TheVariants.{WithStatus, Lower, Continue, Stop, Void}
 use Rattle.model.specs.declared.set.Device.{Device}
-use Rattle.model.specs.declared.set.QueueName.TheVariants.{Declared}
+use Rattle.model.specs.declared.set.QueueName.TheVariants.{Declared, DeviceQueue}
 use Rattle.model.specs.declared.set.Sort.{Sort}
 use Rattle.model.specs.declared.set.Sort.TheVariants.{Dispatch, StartIo, Dpc, Propagate, Hold, Cancel}
 use Rattle.model.specs.declared.world.Completion.{Completion}
@@ -31,8 +31,8 @@ use Rattle.model.specs.declared.event.OfDevice.{OfDevice}
 use Rattle.model.specs.declared.event.Reply.{Reply}
 use Rattle.model.specs.declared.event.Reply.TheVariants.{Stepped, Topped, Waited, Wrong}
 use Rattle.model.specs.Action.{Action, Executes, Acquires, Releases, TouchesPaged, Touches, Calls, Ups, Completes, Continues, Lends, Exchanges, Marks, Leaves, Returns, TopsOut, GoesWrong}
-use Rattle.model.specs.Queues.{StartState, is_full, inserted, unlinked, started, has_room_to_start, next_started, has_room_for_next, with_slot}
-use Rattle.model.specs.Set.{Set, serving, instruction_at, sort_of, lower_of, cancel_routine_of, cancel_routine_named, default_number}
+use Rattle.model.specs.Queues.{StartState, is_full, inserted, unlinked, head_of, dequeued, started, has_room_to_start, next_started, has_room_for_next, with_slot}
+use Rattle.model.specs.Set.{Set, serving, instruction_at, sort_of, lower_of, cancel_routine_of, cancel_routine_named, default_number, has_cancel}
 use Rattle.model.specs.World.{Shared, owner_of, with_owner, with_locks, with_cells, packet_of, with_packet, without_packet, packet_in, number_in, status_in, register, next, at_label, with_register, innermost, outer_loops, with_loops, field_of, with_info, mark_current, cancelled, with_armer, current_location, sent_down, shared_with, left_location, moved_up, carried_up, completion_of, asked_of, completed, entered, queue_of, with_queue, start_of, with_start}
 
 -- what a frame's step leaves: the shared part of the world, the frames that stand in place of the
@@ -267,12 +267,30 @@ abbrev pub ask_effect : Shared → Activation → ℕ → Option ℕ → Outcome
 ask_effect s a label None = goes_wrong s a
 ask_effect s a label (Some n) = ask_packet s a label n (packet_of s n)
 
--- `start r`: IoStartPacket
-abbrev pub start_effect : Shared → Activation → Option ℕ → Option StartState → Outcome
-start_effect s a None start = goes_wrong s a
-start_effect s a (Some n) None = goes_wrong s a
-start_effect s a (Some n) (Some start) =
-    record (goes_on (with_start s a.device (started start n)) (next a) (Touches n ∷ [])) {
+-- `start r`: IoStartPacket. Where the driver has a cancel routine for the device queue, that becomes
+-- the cancel routine of a packet which has to wait there
+abbrev pub armer_waiting : Activation → Armer
+armer_waiting a = record { device = a.device; queue = DeviceQueue }
+
+abbrev pub start_waiting : Shared → Activation → ℕ → StartState → Option Packet → Outcome
+start_waiting s a n start None =
+    goes_on (with_start s a.device (started start n)) (next a) (Touches n ∷ [])
+start_waiting s a n start (Some p) =
+    goes_on
+    (with_start (with_packet s n (with_armer p (Some (armer_waiting a)))) a.device
+    (started start n)) (next a)
+    (Touches n ∷ Exchanges n true ∷ [])
+
+abbrev pub start_packet : Shared → Activation → ℕ → StartState → Bool → Outcome
+start_packet s a n start false =
+    goes_on (with_start s a.device (started start n)) (next a) (Touches n ∷ [])
+start_packet s a n start true = start_waiting s a n start (packet_of s n)
+
+abbrev pub start_effect : Set → Shared → Activation → Option ℕ → Option StartState → Outcome
+start_effect set s a None start = goes_wrong s a
+start_effect set s a (Some n) None = goes_wrong s a
+start_effect set s a (Some n) (Some start) =
+    record (start_packet s a n start (has_cancel set a.driver DeviceQueue && start.busy)) {
       full = not (has_room_to_start start);
     }
 
@@ -293,13 +311,37 @@ begin_effect s a (Some n) None = goes_wrong s a
 begin_effect s a (Some n) (Some start) =
     goes_on (with_start s a.device (with_slot start (Some n))) (next a) (Touches n ∷ [])
 
--- `next`: IoStartNextPacket
-abbrev pub next_effect : Shared → Activation → Option StartState → Outcome
-next_effect s a None = goes_wrong s a
-next_effect s a (Some start) =
-    record (goes_on (with_start s a.device (next_started start)) (next a) []) {
+-- `next`: IoStartNextPacket. Where the driver has a cancel routine for the device queue, the packet
+-- that is started has none any more
+abbrev pub next_packet : Shared → Activation → StartState → ℕ → Option Packet → Outcome
+next_packet s a start n None =
+    goes_on (with_start s a.device (next_started start)) (next a) (Touches n ∷ [])
+next_packet s a start n (Some p) =
+    goes_on (with_start (with_packet s n (with_armer p None)) a.device (next_started start)) (next a)
+    (Touches n ∷ Exchanges n false ∷ [])
+
+abbrev pub next_waiting : Shared → Activation → StartState → Option ℕ → Outcome
+next_waiting s a start None = goes_on (with_start s a.device (next_started start)) (next a) []
+next_waiting s a start (Some n) = next_packet s a start n (packet_of s n)
+
+-- the packet whose cancel word `next` empties
+abbrev pub next_disarmed : Set → Activation → StartState → Option ℕ
+next_disarmed set a start =
+    if has_cancel set a.driver DeviceQueue then head_of start.device_queue else None
+
+abbrev pub next_effect : Set → Shared → Activation → Option StartState → Outcome
+next_effect set s a None = goes_wrong s a
+next_effect set s a (Some start) =
+    record (next_waiting s a start (next_disarmed set a start)) {
       full = not (has_room_for_next start);
     }
+
+-- `dequeue r`: the packet is taken off the device queue, wherever it stands there
+abbrev pub dequeue_effect : Shared → Activation → Option ℕ → Option StartState → Outcome
+dequeue_effect s a None start = goes_wrong s a
+dequeue_effect s a (Some n) None = goes_wrong s a
+dequeue_effect s a (Some n) (Some start) =
+    goes_on (with_start s a.device (dequeued start n)) (next a) (Touches n ∷ [])
 
 -- `mark r`: the current location of the packet is marked
 abbrev pub mark_packet : Shared → Activation → ℕ → Option Packet → Outcome
@@ -500,11 +542,13 @@ instruction_effect set s t under a (Disarm r label) =
 instruction_effect set s t under a (IfCancel r label) =
     ask_effect s a label (packet_in s (register a r))
 instruction_effect set s t under a (Start r) =
-    start_effect s a (packet_in s (register a r)) (start_of s a.device)
+    start_effect set s a (packet_in s (register a r)) (start_of s a.device)
 instruction_effect set s t under a (Take r label) = take_effect s a r label (start_of s a.device)
 instruction_effect set s t under a (Begin r) =
     begin_effect s a (packet_in s (register a r)) (start_of s a.device)
-instruction_effect set s t under a Next = next_effect s a (start_of s a.device)
+instruction_effect set s t under a Next = next_effect set s a (start_of s a.device)
+instruction_effect set s t under a (Dequeue r) =
+    dequeue_effect s a (packet_in s (register a r)) (start_of s a.device)
 instruction_effect set s t under a (Pass r) =
     pass_effect set s a (packet_in s (register a r)) (lower_of set a.device)
 instruction_effect set s t under a (Call r f) =
@@ -672,6 +716,7 @@ told_in (Start r) = None
 told_in (Take r label) = None
 told_in (Begin r) = None
 told_in Next = None
+told_in (Dequeue r) = None
 told_in (Pass r) = Some r
 told_in (Call r f) = Some r
 told_in (Complete r status) = None

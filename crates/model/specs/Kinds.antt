@@ -7,7 +7,7 @@ use Rattle.model.specs.declared.abs.Kind.TheVariants.{Blank, Num, Lower, New, Ow
 use Rattle.model.specs.declared.set.Guard.{Guard}
 use Rattle.model.specs.declared.set.Guard.TheVariants.{DeviceLock, CancelLock}
 use Rattle.model.specs.declared.set.QueueName.{QueueName}
-use Rattle.model.specs.declared.set.QueueName.TheVariants.{Declared}
+use Rattle.model.specs.declared.set.QueueName.TheVariants.{Declared, DeviceQueue}
 use Rattle.model.specs.Set.{Set, guard_named}
 
 -- a packet in a register
@@ -94,6 +94,9 @@ is_lower View = false
 -- the same list
 abbrev pub is_name : QueueName → QueueName → Bool
 is_name (Declared p) (Declared q) = nat_eq p q
+is_name (Declared p) DeviceQueue = false
+is_name DeviceQueue (Declared q) = false
+is_name DeviceQueue DeviceQueue = true
 
 -- a packet that is the routine's own, and stands in a list; that may be cancelled there; that was
 -- taken off it, and may be cancelled; that IoCancelIrp handed to its cancel routine
@@ -158,7 +161,8 @@ is_same_lock CancelLock (DeviceLock other) = false
 is_same_lock CancelLock CancelLock = true
 
 -- the lock guards a list; and a register needs it that holds a packet in the list which no cancel
--- routine can be called for, or one that was taken off it
+-- routine can be called for, or one that was taken off it. A packet of the device queue that
+-- IoCancelIrp handed to its cancel routine is in that queue until it is taken off
 abbrev pub is_guard : Option Guard → Guard → Bool
 is_guard None lock = false
 is_guard (Some guard) lock = is_same_lock guard lock
@@ -172,7 +176,9 @@ needs_guard set driver lock Own = false
 needs_guard set driver lock (Listed name) = is_guard (guard_named set driver name) lock
 needs_guard set driver lock (Armed name) = false
 needs_guard set driver lock (Taken name) = is_guard (guard_named set driver name) lock
-needs_guard set driver lock (Cancelling name) = false
+needs_guard set driver lock (Cancelling (Declared q)) = false
+needs_guard set driver lock (Cancelling DeviceQueue) =
+    is_guard (guard_named set driver DeviceQueue) lock
 needs_guard set driver lock View = false
 
 -- a completion ends the duty to a packet that wasn't marked

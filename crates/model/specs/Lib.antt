@@ -7,6 +7,7 @@ pub mod Forwarding
 pub mod Queues
 pub mod World
 pub mod Action
+pub mod Edition
 pub mod Effect
 pub mod Events
 pub mod Trace

@@ -15,13 +15,13 @@ use Rattle.model.specs.declared.abs.Settled.TheVariants.{Open, NeedMark, Settled
 use Rattle.model.specs.declared.abs.Rule.{Rule}
 use Rattle.model.specs.declared.abs.Rule.TheVariants.{Malformed, Unreachable, StatesDiffer, WrongKind, DoubleCompletion, MarkIrpPending, CancelSpinLock, SpinLock, LockHeld, Level, Guard as GuardRule, CancelState, Dropped, Token, Sort as SortRule, Completion, StackTooSmall, NoLower, TooLong, Memory}
 use Rattle.model.specs.declared.instr.Instr.{Instr}
-use Rattle.model.specs.declared.instr.Instr.TheVariants.{Const, Move, Clear, Add, Subtract, JumpIfZero, JumpIfLess, Jump, Loop, End, Load, Store, LoadPaged, StorePaged, Get, Put, Mark, Acquire, Release, AcquireCancel, ReleaseCancel, Insert, Remove, Unlink, Arm, Disarm, IfCancel, Start, Take, Begin, Next, Pass, Call, Complete, IfPending, Ret}
+use Rattle.model.specs.declared.instr.Instr.TheVariants.{Const, Move, Clear, Add, Subtract, JumpIfZero, JumpIfLess, Jump, Loop, End, Load, Store, LoadPaged, StorePaged, Get, Put, Mark, Acquire, Release, AcquireCancel, ReleaseCancel, Insert, Remove, Unlink, Arm, Disarm, IfCancel, Start, Take, Begin, Next, Dequeue, Pass, Call, Complete, IfPending, Ret}
 use Rattle.model.specs.declared.instr.Return.{Return}
 use Rattle.model.specs.declared.instr.Return.TheVariants.{WithStatus, Lower as LowerStatus, Continue, Stop, Void}
 use Rattle.model.specs.declared.set.Guard.{Guard}
 use Rattle.model.specs.declared.set.Guard.TheVariants.{DeviceLock, CancelLock}
 use Rattle.model.specs.declared.set.QueueName.{QueueName}
-use Rattle.model.specs.declared.set.QueueName.TheVariants.{Declared}
+use Rattle.model.specs.declared.set.QueueName.TheVariants.{Declared, DeviceQueue}
 use Rattle.model.specs.declared.set.Sort.{Sort}
 use Rattle.model.specs.declared.set.Sort.TheVariants.{Dispatch, StartIo, Dpc, Propagate, Hold, Cancel}
 use Rattle.model.specs.declared.status.Status.{Status}
@@ -29,7 +29,7 @@ use Rattle.model.specs.declared.status.Status.TheVariants.{Success, Pending as P
 use Rattle.model.specs.Kinds.{is_packet, is_view, is_new, is_kept, is_blank, is_lower, is_listed, is_cancelling, is_exchanged, names_list, needs_guard, kind_inserted, kind_removed, kind_disarmed, all_let_go, left_behind, duty_completed}
 use Rattle.model.specs.Forwarding.{lacks_lower, is_too_small}
 use Rattle.model.specs.declared.limits.TheConstants.{REGISTERS, SPIN_LOCKS}
-use Rattle.model.specs.Set.{Set, Member, Flow, Onward, Branches, Jumps, Opens, Closes, Leaves, flow_of, cancel_routine_of, cancels_for, guard_named, sort_of}
+use Rattle.model.specs.Set.{Set, Member, Flow, Onward, Branches, Jumps, Opens, Closes, Leaves, flow_of, cancel_routine_of, cancels_for, has_cancel, guard_named, sort_of}
 
 -- the state in which a routine is entered, if it may be: a dispatch routine may do anything with
 -- the packet in its first register, a completion routine that lets the completion go on may look at
@@ -465,6 +465,12 @@ abbrev pub has_startio : Set → ℕ → Bool
 has_startio set driver =
     is_some (option_and_then (λ d. d.startio) (slice_get set.drivers driver))
 
+-- where packets of the device queue have a cancel routine, their guard is held while one may be put
+-- into it, or the first one is started
+abbrev pub waiting_fault : Abs → Set → ℕ → Option Rule
+waiting_fault s set driver =
+    if has_cancel set driver DeviceQueue then guard_fault s set driver DeviceQueue else None
+
 -- the current packet is taken in a DPC routine, which gets the token with it
 abbrev pub is_dpc : Sort → Bool
 is_dpc Dispatch = false
@@ -521,12 +527,17 @@ refuses s (Disarm r label) sort set driver =
     queued_kind (is_exchanged (kind_of s r)) (kind_of s r)
 refuses s (IfCancel r label) sort set driver = demanded any_packet (kind_of s r)
 refuses s (Start r) sort set driver =
-    least_of (demanded an_owned_one (kind_of s r)) (unless (has_startio set driver) SortRule)
+    least_of (demanded an_owned_one (kind_of s r))
+    (least_of (waiting_fault s set driver) (unless (has_startio set driver) SortRule))
 refuses s (Take r label) sort set driver =
     least_of (take_fault s sort) (free_kind (kind_of s r))
 refuses s (Begin r) sort set driver =
     least_of (demanded an_owned_one (kind_of s r)) (unless s.token Token)
-refuses s Next sort set driver = unless s.token Token
+refuses s Next sort set driver = least_of (waiting_fault s set driver) (unless s.token Token)
+refuses s (Dequeue r) sort set driver =
+    least_of (queued_kind (is_cancelling DeviceQueue (kind_of s r)) (kind_of s r))
+    (least_of (guard_fault s set driver DeviceQueue)
+    (unless (has_cancel set driver DeviceQueue) SortRule))
 refuses s (Pass r) sort set driver =
     least_of (demanded a_new_one (kind_of s r)) (forward_fault s sort set driver 0)
 refuses s (Call r f) sort set driver =
@@ -606,6 +617,7 @@ handed set driver s (Start r) = with_kind s r Blank
 handed set driver s (Take r label) = record (with_kind s r Own) { token = true }
 handed set driver s (Begin r) = record (with_kind s r Blank) { token = false }
 handed set driver s Next = record s { token = false }
+handed set driver s (Dequeue r) = with_kind s r Own
 handed set driver s (Pass r) = given_down s r (kind_of s r)
 handed set driver s (Call r f) = given_down s r (kind_of s r)
 handed set driver s (Complete r status) =
@@ -646,6 +658,7 @@ handed_at_label s (Start r) = s
 handed_at_label s (Take r label) = with_kind s r Blank
 handed_at_label s (Begin r) = s
 handed_at_label s Next = s
+handed_at_label s (Dequeue r) = s
 handed_at_label s (Pass r) = s
 handed_at_label s (Call r f) = s
 handed_at_label s (Complete r status) = s

@@ -74,6 +74,10 @@ room_for_next starts (n ∷ waiting) = not (is_full starts)
 abbrev pub has_room_for_next : StartState → Bool
 has_room_for_next s = room_for_next s.start_list s.device_queue
 
+-- the same without a packet in the device queue
+abbrev pub dequeued : StartState → ℕ → StartState
+dequeued s n = record s { device_queue = unlinked s.device_queue n }
+
 -- the same after StartIo began for the first packet of the start list
 abbrev pub without_first_to_start : StartState → StartState
 without_first_to_start s = record s { start_list = without_head s.start_list }

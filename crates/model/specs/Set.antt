@@ -1,15 +1,15 @@
 -- Driver sets: drivers and devices, and which routine serves what.
-use Rattle.std.specs.Prelude.{ℕ, ◌+◌, Bool, false, List, [], ◌∷◌, Option, None, Some, nat_eq, unwrap_or, option_and_then, option_map, slice_get, if◌then◌else◌}
+use Rattle.std.specs.Prelude.{ℕ, ◌+◌, Bool, false, List, [], ◌∷◌, Option, None, Some, nat_eq, is_some, unwrap_or, option_and_then, option_map, slice_get, if◌then◌else◌}
 use Rattle.model.specs.declared.instr.Instr.{Instr}
-use Rattle.model.specs.declared.instr.Instr.TheVariants.{Const, Move, Clear, Add, Subtract, JumpIfZero, JumpIfLess, Jump, Loop, End, Load, Store, LoadPaged, StorePaged, Get, Put, Mark, Acquire, Release, AcquireCancel, ReleaseCancel, Insert, Remove, Unlink, Arm, Disarm, IfCancel, Start, Take, Begin, Next, Pass, Call, Complete, IfPending, Ret}
+use Rattle.model.specs.declared.instr.Instr.TheVariants.{Const, Move, Clear, Add, Subtract, JumpIfZero, JumpIfLess, Jump, Loop, End, Load, Store, LoadPaged, StorePaged, Get, Put, Mark, Acquire, Release, AcquireCancel, ReleaseCancel, Insert, Remove, Unlink, Arm, Disarm, IfCancel, Start, Take, Begin, Next, Dequeue, Pass, Call, Complete, IfPending, Ret}
 use Rattle.model.specs.declared.instr.Return.TheVariants.{WithStatus}
 use Rattle.model.specs.declared.set.Driver.{Driver}
 use Rattle.model.specs.declared.set.Device.{Device}
 use Rattle.model.specs.declared.set.Guard.{Guard}
-use Rattle.model.specs.declared.set.Guard.TheVariants.{DeviceLock}
+use Rattle.model.specs.declared.set.Guard.TheVariants.{DeviceLock, CancelLock}
 use Rattle.model.specs.declared.set.Queue.{Queue}
 use Rattle.model.specs.declared.set.QueueName.{QueueName}
-use Rattle.model.specs.declared.set.QueueName.TheVariants.{Declared}
+use Rattle.model.specs.declared.set.QueueName.TheVariants.{Declared, DeviceQueue}
 use Rattle.model.specs.declared.set.Routine.{Routine}
 use Rattle.model.specs.declared.set.Sort.{Sort}
 use Rattle.model.specs.declared.set.Sort.TheVariants.{Dispatch}
@@ -85,11 +85,17 @@ cancel_routine_of set driver q =
 -- the lock that guards a list by its name, and the cancel routine of the packets in it
 abbrev pub guard_named : Set → ℕ → QueueName → Option Guard
 guard_named set driver (Declared q) = option_map (λ lock. DeviceLock lock) (guard_of set driver q)
+guard_named set driver DeviceQueue = Some CancelLock
 
 abbrev pub cancel_routine_named : Set → ℕ → QueueName → Option ℕ
 cancel_routine_named set driver (Declared q) = cancel_routine_of set driver q
+cancel_routine_named set driver DeviceQueue =
+    option_and_then (λ d. d.startio_cancel) (slice_get set.drivers driver)
 
--- the lists whose cancel routine a routine is, from the queue of a number on
+abbrev pub has_cancel : Set → ℕ → QueueName → Bool
+has_cancel set driver name = is_some (cancel_routine_named set driver name)
+
+-- the lists whose cancel routine a routine is: the device queue, and from the queue of a number on
 abbrev pub is_named : Option ℕ → ℕ → Bool
 is_named None number = false
 is_named (Some cancel) number = nat_eq cancel number
@@ -102,7 +108,9 @@ cancelled_from (queue ∷ queues) q number =
 
 abbrev pub cancelled_in : Option Driver → ℕ → List QueueName
 cancelled_in None number = []
-cancelled_in (Some d) number = cancelled_from d.queues 0 number
+cancelled_in (Some d) number =
+    if is_named d.startio_cancel number then DeviceQueue ∷ cancelled_from d.queues 0 number
+    else cancelled_from d.queues 0 number
 
 -- the one list whose cancel routine a routine of a driver is, if it is that of exactly one
 abbrev pub only_one : List QueueName → Option QueueName
@@ -171,6 +179,7 @@ flow_of (Start r) = Onward
 flow_of (Take r label) = Branches label
 flow_of (Begin r) = Onward
 flow_of Next = Onward
+flow_of (Dequeue r) = Onward
 flow_of (Pass r) = Onward
 flow_of (Call r f) = Onward
 flow_of (Complete r status) = Onward

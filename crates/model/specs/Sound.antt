@@ -2,7 +2,7 @@
 -- It doesn't keep that a routine ends in a return, nor anything that the verifier decides.
 use Rattle.std.specs.Prelude.{ℕ, suc, ⊤, ◌^◌, ◌<◌, ◌≤◌, List, [], ◌∷◌, length, All, IfSome, Option, None, Some, slice_get}
 use Rattle.model.specs.declared.instr.Instr.{Instr}
-use Rattle.model.specs.declared.instr.Instr.TheVariants.{Const, Move, Clear, Add, Subtract, JumpIfZero, JumpIfLess, Jump, Loop, End, Load, Store, LoadPaged, StorePaged, Get, Put, Mark, Acquire, Release, AcquireCancel, ReleaseCancel, Insert, Remove, Unlink, Arm, Disarm, IfCancel, Start, Take, Begin, Next, Pass, Call, Complete, IfPending, Ret}
+use Rattle.model.specs.declared.instr.Instr.TheVariants.{Const, Move, Clear, Add, Subtract, JumpIfZero, JumpIfLess, Jump, Loop, End, Load, Store, LoadPaged, StorePaged, Get, Put, Mark, Acquire, Release, AcquireCancel, ReleaseCancel, Insert, Remove, Unlink, Arm, Disarm, IfCancel, Start, Take, Begin, Next, Dequeue, Pass, Call, Complete, IfPending, Ret}
 use Rattle.model.specs.declared.instr.Return.{Return}
 use Rattle.model.specs.declared.instr.Return.TheVariants.{WithStatus, Lower, Continue, Stop, Void}
 use Rattle.model.specs.declared.limits.TheConstants.{CELLS, MAX_DEVICES, MAX_DRIVERS, MAX_INSTRUCTIONS, MAX_QUEUES, MAX_ROUTINES, MAX_STACK, MAX_TURNS, REGISTERS, SPIN_LOCKS}
@@ -70,6 +70,7 @@ OperandFits (Start r) = IsRegister r
 OperandFits (Take r label) = IsRegister r
 OperandFits (Begin r) = IsRegister r
 OperandFits Next = ⊤
+OperandFits (Dequeue r) = IsRegister r
 OperandFits (Pass r) = IsRegister r
 OperandFits (Call r f) = IsRegister r
 OperandFits (Complete r status) = IsRegister r
@@ -168,6 +169,7 @@ completion_named (Start r) = None
 completion_named (Take r label) = None
 completion_named (Begin r) = None
 completion_named Next = None
+completion_named (Dequeue r) = None
 completion_named (Pass r) = None
 completion_named (Call r f) = f
 completion_named (Complete r status) = None
@@ -214,6 +216,7 @@ queue_named (Start r) = None
 queue_named (Take r label) = None
 queue_named (Begin r) = None
 queue_named Next = None
+queue_named (Dequeue r) = None
 queue_named (Pass r) = None
 queue_named (Call r f) = None
 queue_named (Complete r status) = None
@@ -235,6 +238,12 @@ IsCancel Propagate = ⊥
 IsCancel Hold = ⊥
 IsCancel Cancel = ⊤
 
+-- the cancel routine of the device queue likewise, of a driver with a StartIo routine
+abbrev pub WaitingFits : List Routine → Option ℕ → Option ℕ → Type 0
+WaitingFits routines startio None = ⊤
+WaitingFits routines None (Some cancel) = ⊥
+WaitingFits routines (Some startio) (Some cancel) = HasSort IsCancel (slice_get routines cancel)
+
 abbrev pub CancelFits : List Routine → Queue → Type 0
 CancelFits routines queue =
     IfSome queue.cancel (λ number. HasSort IsCancel (slice_get routines number))
@@ -244,8 +253,8 @@ abbrev pub GuardFits : Queue → Type 0
 GuardFits queue = IsSpinLock queue.guard
 
 -- a driver has at most 32 routines, each of which fits, and its handlers, its StartIo and its DPC
--- routine, the routines of its calls and the cancel routines of its queues are among them; it has
--- at most 4 queues, and the queues that its instructions name are among them
+-- routine, the routines of its calls and the cancel routines of its queues and of its device queue
+-- are among them; it has at most 4 queues, and the queues that its instructions name are among them
 pub record DriverFits (driver : Driver) : Type 0 where
   pub few : length driver.routines ≤ MAX_ROUTINES
   pub routines : All RoutineFits driver.routines
@@ -253,6 +262,7 @@ pub record DriverFits (driver : Driver) : Type 0 where
   pub write : HandlerFits driver.routines driver.write
   pub control : HandlerFits driver.routines driver.control
   pub startio : StartIoFits driver.routines driver.startio
+  pub waiting : WaitingFits driver.routines driver.startio driver.startio_cancel
   pub dpc : DpcFits driver.routines driver.dpc
   pub calls : All (CallsFit driver.routines) driver.routines
   pub few_queues : length driver.queues ≤ MAX_QUEUES

@@ -1,5 +1,5 @@
 -- What there is to tell of the threads, packets and devices of a world.
-use Rattle.std.specs.Prelude.{ℕ, ◌-◌, ◌++◌, Bool, false, List, [], ◌∷◌, length, map, Option, None, Some, is_some, nat_lt, option_map, replicate, slice_get, if◌then◌else◌}
+use Rattle.std.specs.Prelude.{ℕ, ◌-◌, ◌++◌, Bool, false, List, length, map, Option, None, Some, is_some, nat_lt, option_map, replicate, slice_get, if◌then◌else◌}
 use Rattle.model.specs.declared.limits.TheConstants.{MAX_STACK}
 use Rattle.model.specs.declared.view.FrameView.{FrameView}
 use Rattle.model.specs.declared.view.FrameView.TheVariants.{Routine as RoutineView, Walk as WalkView, Cancel as CancelView}

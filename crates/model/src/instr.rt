@@ -101,6 +101,8 @@ pub enum Instr {
     Begin(Register),
     /// `next`: IoStartNextPacket.
     Next,
+    /// `dequeue r`: the packet is taken off the device queue, wherever it stands there.
+    Dequeue(Register),
     /// `pass r`: IoSkipCurrentIrpStackLocation and IoCallDriver for the lower device, which is
     /// asked in the caller's own location.
     Pass(Register),

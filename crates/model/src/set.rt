@@ -21,8 +21,8 @@ pub enum Sort {
     /// A completion routine that may hold the packet: it is lent it, and takes it back
     /// (STATUS_MORE_PROCESSING_REQUIRED) or lets the completion go on.
     Hold,
-    /// A cancel routine of a queue: IoCancelIrp calls it for a packet of that queue, with the
-    /// system cancel spin lock held.
+    /// A cancel routine of a queue or of the device queue: IoCancelIrp calls it for a packet of
+    /// that list, with the system cancel spin lock held.
     Cancel,
 }
 
@@ -55,10 +55,14 @@ pub enum Guard {
 pub enum QueueName {
     /// The queue of this number that the driver declares.
     Declared(u8),
+    /// The device queue, in which packets wait for the StartIo routine of a busy device.
+    DeviceQueue,
 }
 
 /// A driver: its routines and queues, and the numbers of the routines that serve each major
-/// function, of its StartIo routine and of its DPC routine.
+/// function, of its StartIo routine, of the cancel routine of the packets in the device queue, and
+/// of its DPC routine. Without that cancel routine a packet that waits for StartIo can't be
+/// cancelled; a driver without a StartIo routine has none.
 #[derive(Drop)]
 pub struct Driver {
     pub routines: Items<Routine>,
@@ -67,6 +71,7 @@ pub struct Driver {
     pub write: Option<u8>,
     pub control: Option<u8>,
     pub startio: Option<u8>,
+    pub startio_cancel: Option<u8>,
     pub dpc: Option<u8>,
 }
 
