@@ -25,6 +25,7 @@ driver_of code =
       write = None;
       control = None;
       startio = None;
+      startio_cancel = None;
       dpc = None;
     }
 

@@ -34,6 +34,7 @@ doubling_driver =
       write = None;
       control = None;
       startio = Some 1;
+      startio_cancel = None;
       dpc = Some 2;
     }
 

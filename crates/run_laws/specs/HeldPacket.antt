@@ -28,6 +28,7 @@ completing_driver =
       write = None;
       control = None;
       startio = None;
+      startio_cancel = None;
       dpc = None;
     }
 
@@ -57,6 +58,7 @@ holding_driver =
       write = None;
       control = None;
       startio = None;
+      startio_cancel = None;
       dpc = Some 2;
     }
 

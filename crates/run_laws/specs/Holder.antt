@@ -18,7 +18,8 @@ use Rattle.model.specs.Kinds.{is_right}
 use Rattle.model.specs.LocalRule.{is_hold}
 use Rattle.model.specs.Queues.{StartState}
 use Rattle.model.specs.Run.{Run, frames_on, run}
-use Rattle.model.specs.Set.{Set, cancel_routine_of, routine_of, sort_of}
+use Rattle.model.specs.declared.set.QueueName.TheVariants.{DeviceQueue}
+use Rattle.model.specs.Set.{has_cancel, Set, cancel_routine_of, routine_of, sort_of}
 use Rattle.model.specs.Sound.{IsSound}
 use Rattle.model.specs.Typable.{IsTypable}
 use Rattle.model.specs.World.{Shared, packet_of}
@@ -121,25 +122,30 @@ abbrev pub times_named : Option Packet → ℕ
 times_named None = 0
 times_named (Some p) = if is_some p.armer then 1 else 0
 
--- how often it stands in what a device has for StartIo: in its start list, its device queue and its
--- current slot; in that of all devices; in all that hold it where no register does: the queues
--- without a cancel routine, what devices have for StartIo, and its cancel word; and in all lists
--- together
+-- how often it stands in what a device has for StartIo, where it is held: in its start list, its
+-- current slot, and its device queue, unless packets there have a cancel routine; in that of all
+-- devices from one on; in all that hold it where no register does: the queues without a cancel
+-- routine, what devices have for StartIo, and its cancel word; and in all lists together
 abbrev pub times_in_slot : Option ℕ → ℕ → ℕ
 times_in_slot None n = 0
 times_in_slot (Some m) n = if nat_eq m n then 1 else 0
 
-abbrev pub times_at : StartState → ℕ → ℕ
-times_at start n =
-    times_in start.start_list n + times_in start.device_queue n + times_in_slot start.slot n
+abbrev pub waits_cancelable : Set → ℕ → Bool
+waits_cancelable set d = has_cancel set (routine_of_device (slice_get set.devices d)) DeviceQueue
 
-abbrev pub times_started : List StartState → ℕ → ℕ
-times_started [] n = 0
-times_started (start ∷ starts) n = times_at start n + times_started starts n
+abbrev pub times_at : Bool → StartState → ℕ → ℕ
+times_at cancelable start n =
+    times_in start.start_list n + (if cancelable then 0 else times_in start.device_queue n)
+    + times_in_slot start.slot n
+
+abbrev pub times_started : Set → ℕ → List StartState → ℕ → ℕ
+times_started set d [] n = 0
+times_started set d (start ∷ starts) n =
+    times_at (waits_cancelable set d) start n + times_started set (d + 1) starts n
 
 abbrev pub times_waiting : Set → Shared → ℕ → ℕ
 times_waiting set s n =
-    times_plain set 0 s.queues n + times_started s.starts n + times_named (packet_of s n)
+    times_plain set 0 s.queues n + times_started set 0 s.starts n + times_named (packet_of s n)
 
 abbrev pub times_to_start : List StartState → ℕ → ℕ
 times_to_start [] n = 0
@@ -165,7 +171,7 @@ pub record StandsInside (set : Set) (a : Activation) : Type 0 where
   pub registers : length a.registers ≡ REGISTERS
 
 -- a packet of a run that was issued and hasn't topped out has one holder, be it a register, the I/O
--- manager's frame, a place in a queue without a cancel routine, a start list or a device queue, a
+-- manager's frame, a place in a start list or in a queue or device queue without a cancel routine, a
 -- current slot, or its cancel word, is in the list of live packets, and stands at most once in all
 -- lists together; any other one has none, isn't there, and stands in none. Every routine's frame, on
 -- top of its thread or below, stands at a position, whose state tells its registers' rights

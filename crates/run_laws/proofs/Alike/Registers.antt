@@ -6,7 +6,7 @@ use Rattle.model.specs.declared.abs.Abs.{Abs}
 use Rattle.model.specs.declared.abs.Kind.{Kind}
 use Rattle.model.specs.declared.abs.Kind.TheVariants.{Blank as BlankKind, Num as NumKind, Lower, New, Own, Armed}
 use Rattle.model.specs.declared.instr.Instr.{Instr}
-use Rattle.model.specs.declared.instr.Instr.TheVariants.{Const, Move, Clear, Load, LoadPaged, Get, Mark, Release, Insert, Remove, Unlink, Arm, Disarm, Start, Take, Begin, Pass, Call, Complete, ReleaseCancel}
+use Rattle.model.specs.declared.instr.Instr.TheVariants.{Const, Move, Clear, Load, LoadPaged, Get, Mark, Release, Insert, Remove, Unlink, Arm, Disarm, Start, Take, Begin, Pass, Call, Complete, ReleaseCancel, Dequeue}
 use Rattle.model.specs.declared.set.Guard.{Guard}
 use Rattle.model.specs.declared.set.Guard.TheVariants.{DeviceLock, CancelLock}
 use Rattle.model.specs.declared.set.QueueName.TheVariants.{Declared}
@@ -161,6 +161,8 @@ module _ (s : Abs) (sort : Sort) (set : Set) (driver : ℕ) where
       (λ is. operand_some (Insert r q) r obeys refl)
   same_handed us vs (Unlink r q) obeys keeps h =
       same_turn s.kinds us vs r Own h (λ is. operand_some (Unlink r q) r obeys refl)
+  same_handed us vs (Dequeue r) obeys keeps h =
+      same_turn s.kinds us vs r Own h (λ is. operand_some (Dequeue r) r obeys refl)
   same_handed us vs (Arm r q) obeys keeps h =
       same_turn s.kinds us vs r (Armed (Declared q)) h
       (λ is. operand_some (Arm r q) r obeys refl)

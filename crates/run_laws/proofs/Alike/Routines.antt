@@ -8,7 +8,7 @@ use Rattle.model.specs.declared.abs.Kind.TheVariants.{Lower as LowerKind, Blank 
 use Rattle.model.specs.declared.abs.Rule.{Rule}
 use Rattle.model.specs.declared.event.Lock.TheVariants.{SystemCancel}
 use Rattle.model.specs.declared.instr.Instr.{Instr}
-use Rattle.model.specs.declared.instr.Instr.TheVariants.{Const, Move, Clear, Add, Subtract, JumpIfZero, JumpIfLess, Jump, Loop, End, Load, Store, LoadPaged, StorePaged, Get, Put, Mark, Acquire, Release, AcquireCancel, ReleaseCancel, Insert, Remove, Unlink, Arm, Disarm, IfCancel, Start, Take, Begin, Next, Pass, Call, Complete, IfPending, Ret}
+use Rattle.model.specs.declared.instr.Instr.TheVariants.{Const, Move, Clear, Add, Subtract, JumpIfZero, JumpIfLess, Jump, Loop, End, Load, Store, LoadPaged, StorePaged, Get, Put, Mark, Acquire, Release, AcquireCancel, ReleaseCancel, Insert, Remove, Unlink, Arm, Disarm, IfCancel, Start, Take, Begin, Next, Pass, Call, Complete, IfPending, Ret, Dequeue}
 use Rattle.model.specs.declared.instr.Return.{Return}
 use Rattle.model.specs.declared.instr.Return.TheVariants.{WithStatus, Lower, Continue, Stop, Void}
 use Rattle.model.specs.declared.limits.TheConstants.{MAX_LOOPS}
@@ -22,7 +22,7 @@ use Rattle.model.specs.declared.world.Packet.{Packet}
 use Rattle.model.specs.declared.world.Value.{Value}
 use Rattle.model.specs.declared.world.Value.TheVariants.{Blank}
 use Rattle.model.specs.Action.{Action, Executes, Touches}
-use Rattle.model.specs.Effect.{Outcome, arm_effect, ask_effect, begin_effect, call_effect, complete_effect, difference_of, disarm_effect, get_effect, insert_effect, instruction_effect, is_less_at, is_walk, is_zero_at, jump_effect, let_on, look_effect, mark_effect, number_effect, pass_effect, put_effect, return_effect, return_lower, spin_lock, start_effect, store_effect, store_paged_effect, sum_of, unlink_effect, routine_effect, frame_effect}
+use Rattle.model.specs.Effect.{Outcome, arm_effect, ask_effect, begin_effect, call_effect, complete_effect, difference_of, disarm_effect, get_effect, insert_effect, instruction_effect, is_less_at, is_walk, is_zero_at, jump_effect, let_on, look_effect, mark_effect, number_effect, pass_effect, put_effect, return_effect, return_lower, spin_lock, start_effect, store_effect, store_paged_effect, sum_of, unlink_effect, routine_effect, frame_effect, dequeue_effect}
 use Rattle.model.specs.Kinds.{is_blank, is_lower}
 use Rattle.model.specs.LocalRule.{kind_of, broken_if, duty_fault}
 use Rattle.model.specs.Set.{Set, cancel_routine_of, lower_of, sort_of, instruction_at}
@@ -30,7 +30,7 @@ use Rattle.model.specs.World.{Shared, innermost, register, packet_of, packet_in,
 use Rattle.run_laws.proofs.Alike.Frames.{AlikeActivation, AlikeFrame, IsLive}
 use Rattle.run_laws.proofs.Alike.Outcomes.{AlikeOutcome, by_same, by_one, wrong, packet_same, number_same, on_next, on_number, on_set, on_label}
 use Rattle.run_laws.proofs.Alike.Registers.{SameRegisters, same_get, same_move}
-use Rattle.run_laws.proofs.Alike.Words.{numbers, jumps, opens, closes, loads, loads_paged, stores, stores_paged, puts, marks, arms, takes, frees, inserts_one, unlinks_one, starts_one, begins_one, starts_next_one, completes, passes, calls, disarms, asks_for, looks, gets, removes, takes_out}
+use Rattle.run_laws.proofs.Alike.Words.{numbers, jumps, opens, closes, loads, loads_paged, stores, stores_paged, puts, marks, arms, takes, frees, inserts_one, unlinks_one, starts_one, begins_one, starts_next_one, completes, passes, calls, disarms, asks_for, looks, gets, removes, takes_out, dequeues_one}
 use Rattle.run_laws.proofs.Past.Packets.{named}
 use Rattle.run_laws.proofs.Past.Walks.{UnderIssued}
 use Rattle.run_laws.proofs.States.Frames.{Runs, state_of}
@@ -293,7 +293,7 @@ module _ (set : Set) (states : States) (s : Shared) (t : ℕ) (a : Activation) w
           by_packet (IfCancel r label) run r refl (λ d. ask_effect s d label)
           (asks_for set states s t a us long h (IfCancel r label) run refl refl label refl)
       executes (Start r) run at =
-          by_packet (Start r) run r refl (λ d o. start_effect s d o (start_of s a.device))
+          by_packet (Start r) run r refl (λ d o. start_effect set s d o (start_of s a.device))
           (λ o. starts_one set states s t a us long h (Start r) run refl refl o
           (start_of s a.device))
       executes (Take r label) run at =
@@ -304,6 +304,10 @@ module _ (set : Set) (states : States) (s : Shared) (t : ℕ) (a : Activation) w
           (start_of s a.device))
       executes Next run at =
           starts_next_one set states s t a us long h Next run refl refl (start_of s a.device)
+      executes (Dequeue r) run at =
+          by_packet (Dequeue r) run r refl (λ d o. dequeue_effect s d o (start_of s a.device))
+          (λ o. dequeues_one set states s t a us long h (Dequeue r) run refl refl o
+          (start_of s a.device))
       executes (Pass r) run at =
           by_packet (Pass r) run r refl (λ d o. pass_effect set s d o (lower_of set a.device))
           (λ o. passes set states s t a us long h (Pass r) run refl refl o (lower_of set a.device))

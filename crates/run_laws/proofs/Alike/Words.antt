@@ -1,8 +1,8 @@
 -- An instruction does the same to routines that a machine may not tell apart: it takes nothing from
 -- registers in which they differ.
-use Rattle.std.proofs.Common.{◌≡◌, ℕ, Bool, true, false, List, [], ◌∷◌, length, Option, None, Some, refl, is_none}
-use Rattle.std.specs.Prelude.{nat_eq, slice_get, if◌then◌else◌}
-use Rattle.model.specs.declared.set.QueueName.TheVariants.{Declared}
+use Rattle.std.proofs.Common.{◌≡◌, ℕ, Bool, true, false, List, [], ◌∷◌, length, Option, None, Some, refl, is_none, not}
+use Rattle.std.specs.Prelude.{nat_eq, slice_get, if◌then◌else◌, ◌&&◌}
+use Rattle.model.specs.declared.set.QueueName.TheVariants.{Declared, DeviceQueue}
 use Rattle.model.specs.declared.abs.Kind.TheVariants.{Own}
 use Rattle.model.specs.declared.event.Lock.{Lock}
 use Rattle.model.specs.declared.instr.Field.{Field}
@@ -17,10 +17,10 @@ use Rattle.model.specs.declared.world.Packet.{Packet}
 use Rattle.model.specs.declared.world.Value.{Value}
 use Rattle.model.specs.declared.world.Value.TheVariants.{Ref}
 use Rattle.model.specs.Action.{Action, Acquires}
-use Rattle.model.specs.Effect.{acquire_effect, dispatched, arm_effect, arm_packet, asks, ask_effect, ask_packet, begin_effect, call_effect, call_packet, complete_effect, complete_packet, disarm_effect, disarm_packet, get_effect, get_packet, goes_on, insert_effect, jump_effect, load_effect, load_paged_effect, look_effect, look_packet, end_effect, mark_effect, mark_packet, next_effect, number_effect, pass_effect, pass_packet, put_effect, put_packet, release_effect, remove_effect, remove_from, start_effect, store_effect, store_paged_effect, take_effect, take_from, unlink_effect, waits, goes_wrong}
+use Rattle.model.specs.Effect.{acquire_effect, dispatched, arm_effect, arm_packet, asks, ask_effect, ask_packet, begin_effect, call_effect, call_packet, complete_effect, complete_packet, disarm_effect, disarm_packet, get_effect, get_packet, goes_on, insert_effect, jump_effect, load_effect, load_paged_effect, look_effect, look_packet, end_effect, mark_effect, mark_packet, next_effect, number_effect, pass_effect, pass_packet, put_effect, put_packet, release_effect, remove_effect, remove_from, start_effect, store_effect, store_paged_effect, take_effect, take_from, unlink_effect, waits, goes_wrong, start_waiting, start_packet, next_packet, next_waiting, next_disarmed, dequeue_effect}
 use Rattle.model.specs.Kinds.{kind_removed}
-use Rattle.model.specs.Queues.{StartState}
-use Rattle.model.specs.Set.{Set, cancel_routine_of, flow_of, label_of}
+use Rattle.model.specs.Queues.{StartState, has_room_to_start, has_room_for_next}
+use Rattle.model.specs.Set.{Set, cancel_routine_of, flow_of, label_of, has_cancel}
 use Rattle.model.specs.World.{Shared, asked_of, current_location, next, at_label, innermost, with_loops, packet_of}
 use Rattle.run_laws.proofs.Alike.Frames.{AlikeFrames, AlikeActivation, alike_under}
 use Rattle.run_laws.proofs.Alike.Outcomes.{AlikeOutcome, alike_self, stays, wrong, on_next, on_set, on_kept, on_number, on_label, on_turn}
@@ -180,9 +180,24 @@ module _ (set : Set) (states : States) (s : Shared) (t : ℕ) (a : Activation) (
     unlinks_one q (Some n) (Some entries) = record { others = refl; frames = (kept, tt) }
     unlinks_one q _ _ = wrong set states s a us long h
 
+    starts_waiting : (n : ℕ) (start : StartState) (p : Option Packet)
+        → AlikeOutcome set states
+        (record (start_waiting s b n start p) { full = not (has_room_to_start start) })
+        (record (start_waiting s a n start p) { full = not (has_room_to_start start) })
+    starts_waiting n start None = record { others = refl; frames = (kept, tt) }
+    starts_waiting n start (Some p) = record { others = refl; frames = (kept, tt) }
+
+    starts_by : (n : ℕ) (start : StartState) (waits : Bool)
+        → AlikeOutcome set states
+        (record (start_packet s b n start waits) { full = not (has_room_to_start start) })
+        (record (start_packet s a n start waits) { full = not (has_room_to_start start) })
+    starts_by n start false = record { others = refl; frames = (kept, tt) }
+    starts_by n start true = starts_waiting n start (packet_of s n)
+
     pub starts_one : (n : Option ℕ) (o : Option StartState)
-        → AlikeOutcome set states (start_effect s b n o) (start_effect s a n o)
-    starts_one (Some n) (Some start) = record { others = refl; frames = (kept, tt) }
+        → AlikeOutcome set states (start_effect set s b n o) (start_effect set s a n o)
+    starts_one (Some n) (Some start) =
+        starts_by n start (has_cancel set a.driver DeviceQueue && start.busy)
     starts_one _ _ = wrong set states s a us long h
 
     pub begins_one : (n : Option ℕ) (o : Option StartState)
@@ -190,10 +205,29 @@ module _ (set : Set) (states : States) (s : Shared) (t : ℕ) (a : Activation) (
     begins_one (Some n) (Some start) = record { others = refl; frames = (kept, tt) }
     begins_one _ _ = wrong set states s a us long h
 
+    next_packets : (start : StartState) (n : ℕ) (p : Option Packet)
+        → AlikeOutcome set states
+        (record (next_packet s b start n p) { full = not (has_room_for_next start) })
+        (record (next_packet s a start n p) { full = not (has_room_for_next start) })
+    next_packets start n None = record { others = refl; frames = (kept, tt) }
+    next_packets start n (Some p) = record { others = refl; frames = (kept, tt) }
+
+    next_by : (start : StartState) (o : Option ℕ)
+        → AlikeOutcome set states
+        (record (next_waiting s b start o) { full = not (has_room_for_next start) })
+        (record (next_waiting s a start o) { full = not (has_room_for_next start) })
+    next_by start None = record { others = refl; frames = (kept, tt) }
+    next_by start (Some n) = next_packets start n (packet_of s n)
+
     pub starts_next_one : (o : Option StartState)
-        → AlikeOutcome set states (next_effect s b o) (next_effect s a o)
+        → AlikeOutcome set states (next_effect set s b o) (next_effect set s a o)
     starts_next_one None = wrong set states s a us long h
-    starts_next_one (Some start) = record { others = refl; frames = (kept, tt) }
+    starts_next_one (Some start) = next_by start (next_disarmed set a start)
+
+    pub dequeues_one : (n : Option ℕ) (o : Option StartState)
+        → AlikeOutcome set states (dequeue_effect s b n o) (dequeue_effect s a n o)
+    dequeues_one (Some n) (Some start) = record { others = refl; frames = (kept, tt) }
+    dequeues_one _ _ = wrong set states s a us long h
 
     -- a packet is completed, or sent down
     completes_one : (status : Status) (n : ℕ) (o : Option Packet)

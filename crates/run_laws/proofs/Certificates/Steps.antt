@@ -36,6 +36,8 @@ use Rattle.run_laws.proofs.States.Queueing.{queue_moves, MovedOn}
 use Rattle.run_laws.proofs.Steps.Queues.{queued_touches}
 use Rattle.model.specs.declared.world.CancelStep.{CancelStep}
 use Rattle.run_laws.proofs.States.Cancelled.{begins_called}
+use Rattle.run_laws.proofs.Steps.Comes.{works_on_waiting}
+use Rattle.run_laws.proofs.States.Queueing.{waits_move}
 
 -- what a frame has left to execute
 abbrev pub frame_due : Set → Frame → ℕ
@@ -210,6 +212,10 @@ module _ (set : Set) (states : States) (s : Shared) where
       let moves : Pays (frame_due set) set (Routine a) 1 (Routine b ∷ []) =
       moves_on a b (onto set a.driver (state_of states a) i on.jumped) 1 refl on.moved in
       elim (queued_touches queued) [ inl none ↦ rw none moves | inr one ↦ rw one.1 moves ]
+  pays t under f o h (works_on_waiting a i starts n p armer full at there waits) =
+      let on : MovedOn set states s a i (next a) s.queues starts =
+      waits_move set states s a i (runs set states s a i h at) waits in
+      moves_on a (next a) (onto set a.driver (state_of states a) i on.jumped) 1 refl on.moved
   pays t under f o h (completes_packet a r status n p at reads there) =
       let here : Pays (frame_due set) set (Routine a) 1 (Routine (next a) ∷ []) =
       goes_next_on a (Complete r status) 1 refl h at refl in

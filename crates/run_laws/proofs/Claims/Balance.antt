@@ -1,35 +1,51 @@
 -- What a step does to the numbers of claims: one register's packet becomes of another kind, and
 -- with it the packet's word may change, and whether it stands in a queue of the device. Each kind
 -- of step keeps the balance.
-use Rattle.std.proofs.Common.{◌≡◌, ℕ, ◌+◌, ◌≤◌, ◌⊎◌, inl, inr, Bool, true, false, refl, sym, ◌∙◌, arith, subst}
+use Rattle.std.proofs.Common.{◌≡◌, ℕ, ◌+◌, ◌≤◌, ◌⊎◌, inl, inr, Bool, true, false, refl, sym, ◌∙◌, arith, subst, eq-eqb, ◌≢◌, ap}
 use Rattle.std.specs.Prelude.{nat_eq, if◌then◌else◌}
 use Rattle.std.proofs.lemmas.Bool.Decides.{eqb_tells}
 use Rattle.model.specs.declared.abs.Kind.{Kind}
 use Rattle.model.specs.declared.abs.Kind.TheVariants.{Blank as BlankKind, Own, Listed, Armed, Taken, Cancelling}
 use Rattle.model.specs.declared.set.QueueName.{QueueName}
-use Rattle.model.specs.declared.set.QueueName.TheVariants.{Declared}
+use Rattle.model.specs.declared.set.QueueName.TheVariants.{Declared, DeviceQueue}
 use Rattle.model.specs.declared.world.Value.TheVariants.{Ref}
-use Rattle.model.specs.Kinds.{is_armed, is_cancelling, is_listed}
+use Rattle.model.specs.Kinds.{is_armed, is_cancelling, is_listed, is_name}
 use Rattle.model.specs.Set.{Set}
 use Rattle.run_laws.specs.Holder.{named_as}
-use Rattle.run_laws.proofs.Claims.Sums.{Balanced, Numbers, is_cancelable, is_taken, was_taken}
+use Rattle.run_laws.proofs.Claims.Sums.{Balanced, Numbers, is_cancelable, is_taken, was_taken, is_declared}
 
--- 1 for one device, queue and packet, 0 for others
-abbrev pub hit : ℕ → ℕ → ℕ → ℕ → ℕ → ℕ → ℕ
+-- two names are of one list or not
+pub names_tell : (one other : QueueName)
+    → ((is_name one other ≡ true) × (one ≡ other)) ⊎ ((is_name one other ≡ false) × (one ≢ other))
+names_tell (Declared q) (Declared p) =
+    elim (eqb_tells q p) [
+      | inl same ↦ inl (same.0, ap (λ (x : ℕ). Declared x) same.1)
+      | inr apart ↦ inr (apart.0, λ h. (let same : q ≡ p = cc in apart.1 same))
+    ]
+names_tell (Declared q) DeviceQueue = inr (refl, λ h. cc)
+names_tell DeviceQueue (Declared p) = inr (refl, λ h. cc)
+names_tell DeviceQueue DeviceQueue = inl (refl, refl)
+
+pub name_same : (q : QueueName) → is_name q q ≡ true
+name_same (Declared q) = eq-eqb q q refl
+name_same DeviceQueue = refl
+
+-- 1 for one device, list and packet, 0 for others
+abbrev pub hit : ℕ → QueueName → ℕ → ℕ → QueueName → ℕ → ℕ
 hit d q n e p m =
-    if nat_eq q p then (if nat_eq d e then (if nat_eq n m then 1 else 0) else 0) else 0
+    if is_name q p then (if nat_eq d e then (if nat_eq n m then 1 else 0) else 0) else 0
 
-pub hit_elsewhere : (d q n e p m : ℕ) → nat_eq d e ≡ false → hit d q n e p m ≡ 0
+pub hit_elsewhere : (d : ℕ) (q : QueueName) (n e : ℕ) (p : QueueName) (m : ℕ) → nat_eq d e ≡ false → hit d q n e p m ≡ 0
 hit_elsewhere d q n e p m far =
-    rw far (elim (eqb_tells q p) [
+    rw far (elim (names_tell q p) [
       | inr other ↦ rw other.0 refl
       | inl its ↦ rw its.0 refl
     ])
 
-module _ (P : ℕ → ℕ → ℕ → Type 0) (d q n : ℕ) (h : P d q n) where
-  hit_tells : (e p m : ℕ) → (hit d q n e p m ≡ 0) ⊎ ((hit d q n e p m ≡ 1) × P e p m)
+module _ (P : ℕ → QueueName → ℕ → Type 0) (d : ℕ) (q : QueueName) (n : ℕ) (h : P d q n) where
+  hit_tells : (e : ℕ) (p : QueueName) (m : ℕ) → (hit d q n e p m ≡ 0) ⊎ ((hit d q n e p m ≡ 1) × P e p m)
   hit_tells e p m =
-      elim (eqb_tells q p) [
+      elim (names_tell q p) [
         | inr far ↦ inl (rw far.0 refl)
         | inl its ↦ elim (eqb_tells d e) [
           | inr far ↦ inl (rw (its.0, far.0) refl)
@@ -38,7 +54,7 @@ module _ (P : ℕ → ℕ → ℕ → Type 0) (d q n : ℕ) (h : P d q n) where
             | inl same ↦ inr (
               rw (its.0, there.0, same.0) refl,
               subst (λ (x : ℕ). P e p x) same.1
-                  (subst (λ (x : ℕ). P e x n) its.1 (subst (λ (x : ℕ). P x q n) there.1 h)),
+                  (subst (λ (x : QueueName). P e x n) its.1 (subst (λ (x : ℕ). P x q n) there.1 h)),
             )
           ]
         ]
@@ -55,11 +71,11 @@ at_swapped false true one = refl
 at_swapped false false one = refl
 
 -- as many registers of a kind as before, but for the packet of one, which became of another kind
-abbrev pub OneTurns : (QueueName → Kind → Bool) → (one other : ℕ → ℕ → ℕ → ℕ) → Kind → Kind → ℕ → ℕ
+abbrev pub OneTurns : (QueueName → Kind → Bool) → (one other : ℕ → QueueName → ℕ → ℕ) → Kind → Kind → ℕ → ℕ
     → Type 0
 OneTurns f one other j k e m =
-    (d q n : ℕ) → other d q n + at_kind (f (Declared q)) (λ c. nat_eq c d) e j m n
-    ≡ one d q n + at_kind (f (Declared q)) (λ c. nat_eq c d) e k m n
+    (d : ℕ) (q : QueueName) (n : ℕ) → other d q n + at_kind (f q) (λ c. nat_eq c d) e j m n
+    ≡ one d q n + at_kind (f q) (λ c. nat_eq c d) e k m n
 
 pub record KindTurns (x y : Numbers) (j k : Kind) (e m : ℕ) : Type 0 where
   pub armed : OneTurns is_armed x.armed y.armed j k e m
@@ -78,32 +94,32 @@ once_turned x y j k e m turns none once n =
     omega (arith, turns.takes n, once n)
 
 -- a number stays, or has one more or one fewer at one place
-abbrev pub Same : (ℕ → ℕ → ℕ → ℕ) → (ℕ → ℕ → ℕ → ℕ) → Type 0
-Same one other = (d q n : ℕ) → other d q n ≡ one d q n
+abbrev pub Same : (ℕ → QueueName → ℕ → ℕ) → (ℕ → QueueName → ℕ → ℕ) → Type 0
+Same one other = (d : ℕ) (q : QueueName) (n : ℕ) → other d q n ≡ one d q n
 
-abbrev pub More : ℕ → ℕ → ℕ → (ℕ → ℕ → ℕ → ℕ) → (ℕ → ℕ → ℕ → ℕ) → Type 0
-More e p m one other = (d q n : ℕ) → other d q n ≡ one d q n + hit e p m d q n
+abbrev pub More : ℕ → QueueName → ℕ → (ℕ → QueueName → ℕ → ℕ) → (ℕ → QueueName → ℕ → ℕ) → Type 0
+More e p m one other = (d : ℕ) (q : QueueName) (n : ℕ) → other d q n ≡ one d q n + hit e p m d q n
 
-abbrev pub Fewer : ℕ → ℕ → ℕ → (ℕ → ℕ → ℕ → ℕ) → (ℕ → ℕ → ℕ → ℕ) → Type 0
-Fewer e p m one other = (d q n : ℕ) → other d q n + hit e p m d q n ≡ one d q n
+abbrev pub Fewer : ℕ → QueueName → ℕ → (ℕ → QueueName → ℕ → ℕ) → (ℕ → QueueName → ℕ → ℕ) → Type 0
+Fewer e p m one other = (d : ℕ) (q : QueueName) (n : ℕ) → other d q n + hit e p m d q n ≡ one d q n
 
 -- what went and what came
-abbrev Moves : (one other out into : ℕ → ℕ → ℕ → ℕ) → Type 0
+abbrev Moves : (one other out into : ℕ → QueueName → ℕ → ℕ) → Type 0
 Moves one other out into =
-    (d q n : ℕ) → other d q n + out d q n ≡ one d q n + into d q n
+    (d : ℕ) (q : QueueName) (n : ℕ) → other d q n + out d q n ≡ one d q n + into d q n
 
-abbrev none : ℕ → ℕ → ℕ → ℕ
+abbrev none : ℕ → QueueName → ℕ → ℕ
 none d q n = 0
 
-by_same : (one other : ℕ → ℕ → ℕ → ℕ) → Same one other → Moves one other none none
+by_same : (one other : ℕ → QueueName → ℕ → ℕ) → Same one other → Moves one other none none
 by_same one other h d q n = omega (arith, h d q n)
 
-by_more : (e p m : ℕ) (one other : ℕ → ℕ → ℕ → ℕ) → More e p m one other
+by_more : (e : ℕ) (p : QueueName) (m : ℕ) (one other : ℕ → QueueName → ℕ → ℕ) → More e p m one other
     → Moves one other none (hit e p m)
 by_more e p m one other h d q n =
     omega (arith, h d q n)
 
-by_fewer : (e p m : ℕ) (one other : ℕ → ℕ → ℕ → ℕ) → Fewer e p m one other
+by_fewer : (e : ℕ) (p : QueueName) (m : ℕ) (one other : ℕ → QueueName → ℕ → ℕ) → Fewer e p m one other
     → Moves one other (hit e p m) none
 by_fewer e p m one other h d q n =
     omega (arith, h d q n)
@@ -111,11 +127,14 @@ by_fewer e p m one other h d q n =
 module _ (set : Set) (x y : Numbers) (b : Balanced set x)
     (once : (n : ℕ) → y.takes n + y.lists n ≤ 1) where
   -- claims are given up, or nothing changes
-  pub balanced_less : ((d q n : ℕ) → y.armed d q n ≤ x.armed d q n)
-      → ((d q n : ℕ) → y.taken d q n ≤ x.taken d q n)
+  pub balanced_less : ((d : ℕ) (q : QueueName) (n : ℕ) → y.armed d q n ≤ x.armed d q n)
+      → ((d : ℕ) (q : QueueName) (n : ℕ) → y.taken d q n ≤ x.taken d q n)
       → Same x.listed y.listed → Same x.cancelling y.cancelling → Same x.word y.word
-      → Same x.entries y.entries → Balanced set y
-  balanced_less armed taken listed cancelling word entries =
+      → ((d : ℕ) (q : QueueName) (n : ℕ) → is_declared q ≡ true → y.entries d q n ≡ x.entries d q n)
+      → ((d : ℕ) (q : QueueName) (n : ℕ) → is_cancelable set d q ≡ true
+      → y.entries d q n ≤ x.entries d q n)
+      → Balanced set y
+  balanced_less armed taken listed cancelling word declared entries =
       record {
         backed = λ d q n.
             omega (arith, armed d q n, taken d q n, cancelling d q n, word d q n, b.backed d q n);
@@ -125,20 +144,20 @@ module _ (set : Set) (x y : Numbers) (b : Balanced set x)
               listed d q n,
               cancelling d q n,
               word d q n,
-              entries d q n,
+              entries d q n is,
               b.entered d q n is,
             );
-        standing = λ d q n.
-            omega (arith, listed d q n, armed d q n, entries d q n, b.standing d q n);
+        standing = λ d q n is.
+            omega (arith, listed d q n, armed d q n, declared d q n is, b.standing d q n is);
         once = once;
       }
 
   module _ (j k : Kind) (e m : ℕ) (turns : KindTurns x y j k e m)
-      (word_out word_in out into : ℕ → ℕ → ℕ → ℕ) (word : Moves x.word y.word word_out word_in)
+      (word_out word_in out into : ℕ → QueueName → ℕ → ℕ) (word : Moves x.word y.word word_out word_in)
       (entries : Moves x.entries y.entries out into) where
-    module _ (d q n : ℕ) where
+    module _ (d : ℕ) (q : QueueName) (n : ℕ) where
       abbrev of : (QueueName → Kind → Bool) → Kind → ℕ
-      of f i = at_kind (f (Declared q)) (λ c. nat_eq c d) e i m n
+      of f i = at_kind (f q) (λ c. nat_eq c d) e i m n
 
       -- the changes alone keep a side of the balance
       by_backed : of is_armed k + of is_taken k + word_out d q n + of is_cancelling j
@@ -168,38 +187,38 @@ module _ (set : Set) (x y : Numbers) (b : Balanced set x)
             b.entered d q n is,
           )
 
-      by_standing : of is_listed k + of is_armed k + out d q n
+      by_standing : is_declared q ≡ true → of is_listed k + of is_armed k + out d q n
           ≤ of is_listed j + of is_armed j + into d q n
           → y.listed d q n + y.armed d q n ≤ y.entries d q n
-      by_standing fair =
-          omega (arith, turns.listed d q n, turns.armed d q n, entries d q n, b.standing d q n)
+      by_standing is fair =
+          omega (arith, turns.listed d q n, turns.armed d q n, entries d q n, b.standing d q n is)
 
     -- and so all of it
-    by_turn : ((d q n : ℕ) → of d q n is_armed k + of d q n is_taken k + word_out d q n
+    by_turn : ((d : ℕ) (q : QueueName) (n : ℕ) → of d q n is_armed k + of d q n is_taken k + word_out d q n
         + of d q n is_cancelling j
         ≤ of d q n is_armed j + of d q n is_taken j + word_in d q n + of d q n is_cancelling k)
-        → ((d q n : ℕ) → into d q n + word_out d q n + of d q n is_cancelling j
+        → ((d : ℕ) (q : QueueName) (n : ℕ) → into d q n + word_out d q n + of d q n is_cancelling j
         + of d q n is_listed j
         ≤ out d q n + word_in d q n + of d q n is_cancelling k + of d q n is_listed k)
-        → ((d q n : ℕ) → of d q n is_listed k + of d q n is_armed k + out d q n
+        → ((d : ℕ) (q : QueueName) (n : ℕ) → of d q n is_listed k + of d q n is_armed k + out d q n
         ≤ of d q n is_listed j + of d q n is_armed j + into d q n)
         → Balanced set y
     by_turn backed entered standing =
         record {
           backed = λ d q n. by_backed d q n (backed d q n);
           entered = λ d q n is. by_entered d q n is (entered d q n);
-          standing = λ d q n. by_standing d q n (standing d q n);
+          standing = λ d q n is. by_standing d q n is (standing d q n);
           once = once;
         }
 
   -- a claim is given up
   pub balanced_gives : (j : Kind) (e m : ℕ)
-      → ((q : ℕ) → (is_listed (Declared q) j ≡ false) × (is_cancelling (Declared q) j ≡ false))
+      → ((q : QueueName) → (is_listed q j ≡ false) × (is_cancelling q j ≡ false))
       → KindTurns x y j BlankKind e m → Same x.word y.word → Same x.entries y.entries
       → Balanced set y
   balanced_gives j e m plain turns word entries =
-      let no_right : (d q n : ℕ) → at_kind (is_listed (Declared q)) (λ c. nat_eq c d) e j m n
-      + at_kind (is_cancelling (Declared q)) (λ c. nat_eq c d) e j m n ≡ 0 =
+      let no_right : (d : ℕ) (q : QueueName) (n : ℕ) → at_kind (is_listed q) (λ c. nat_eq c d) e j m n
+      + at_kind (is_cancelling q) (λ c. nat_eq c d) e j m n ≡ 0 =
       λ d q n. rw ((plain q).0, (plain q).1) refl in
       by_turn j BlankKind e m turns none none none none (by_same x.word y.word word)
       (by_same x.entries y.entries entries)
@@ -208,20 +227,22 @@ module _ (set : Set) (x y : Numbers) (b : Balanced set x)
       (λ d q n. omega arith)
 
   -- for one packet and one queue of a device
-  module _ (e p m : ℕ) where
-    abbrev at : ℕ → ℕ → ℕ → ℕ
+  module _ (e : ℕ) (p : QueueName) (m : ℕ) where
+    abbrev at : ℕ → QueueName → ℕ → ℕ
     at = hit e p m
 
     -- where nobody names an entry at that place, and nobody comes to, one may go there
     one_gone : (j k : Kind) → KindTurns x y j k e m → x.armed e p m ≡ 0 → x.listed e p m ≡ 0
-        → ((d q n : ℕ) → at_kind (is_listed (Declared q)) (λ c. nat_eq c d) e k m n
-        + at_kind (is_armed (Declared q)) (λ c. nat_eq c d) e k m n ≡ 0)
-        → ((d q n : ℕ) → at d q n ≡ 0 → y.listed d q n + y.armed d q n ≤ y.entries d q n)
-        → (d q n : ℕ) → y.listed d q n + y.armed d q n ≤ y.entries d q n
-    one_gone j k turns no_armed no_listed nobody elsewhere d q n =
+        → ((d : ℕ) (q : QueueName) (n : ℕ) → at_kind (is_listed q) (λ c. nat_eq c d) e k m n
+        + at_kind (is_armed q) (λ c. nat_eq c d) e k m n ≡ 0)
+        → ((d : ℕ) (q : QueueName) (n : ℕ) → is_declared q ≡ true → at d q n ≡ 0
+        → y.listed d q n + y.armed d q n ≤ y.entries d q n)
+        → (d : ℕ) (q : QueueName) (n : ℕ) → is_declared q ≡ true
+        → y.listed d q n + y.armed d q n ≤ y.entries d q n
+    one_gone j k turns no_armed no_listed nobody elsewhere d q n is =
         elim (hit_tells (λ d q n. (x.armed d q n ≡ 0) × (x.listed d q n ≡ 0)) e p m
         (no_armed, no_listed) d q n) [
-          | inl far ↦ elsewhere d q n far
+          | inl far ↦ elsewhere d q n is far
           | inr here ↦
               let no_a : x.armed d q n ≡ 0 = here.1.0 in
               let no_l : x.listed d q n ≡ 0 = here.1.1 in
@@ -229,10 +250,10 @@ module _ (set : Set) (x y : Numbers) (b : Balanced set x)
         ]
 
     -- a packet is put into a queue with a cancel routine, or into one without
-    pub balanced_inserts : KindTurns x y Own (Listed (Declared p)) e m → Same x.word y.word
+    pub balanced_inserts : KindTurns x y Own (Listed p) e m → Same x.word y.word
         → More e p m x.entries y.entries → Balanced set y
     balanced_inserts turns word entries =
-        by_turn Own (Listed (Declared p)) e m turns none none none at
+        by_turn Own (Listed p) e m turns none none none at
         (by_same x.word y.word word) (by_more e p m x.entries y.entries entries)
         (λ d q n. omega arith) (λ d q n. omega arith) (λ d q n. omega arith)
 
@@ -252,8 +273,8 @@ module _ (set : Set) (x y : Numbers) (b : Balanced set x)
                     (omega arith)
                 | inr here ↦ let no : true ≡ false = sym is ∙ here.1 in cc
               ];
-          standing = λ d q n.
-              by_standing Own BlankKind e m turns none none none at words more d q n (omega arith);
+          standing = λ d q n is.
+              by_standing Own BlankKind e m turns none none none at words more d q n is (omega arith);
           once = once;
         }
 
@@ -261,7 +282,7 @@ module _ (set : Set) (x y : Numbers) (b : Balanced set x)
     -- that names an entry, and nobody else has
     pub balanced_removes : is_cancelable set e p ≡ true
         → x.armed e p m ≡ 0 → x.taken e p m ≡ 0 → x.listed e p m ≡ 0
-        → KindTurns x y BlankKind (Taken (Declared p)) e m → Same x.word y.word
+        → KindTurns x y BlankKind (Taken p) e m → Same x.word y.word
         → Fewer e p m x.entries y.entries → Balanced set y
     balanced_removes may no_armed no_taken no_listed turns word entries =
         let words : Moves x.word y.word none none = by_same x.word y.word word in
@@ -273,7 +294,7 @@ module _ (set : Set) (x y : Numbers) (b : Balanced set x)
               × (x.listed d q n ≡ 0)) e p m (may, no_armed, no_taken, no_listed) d q n) [
                 | inl far ↦
                     let nothing : at d q n ≡ 0 = far in
-                    by_backed BlankKind (Taken (Declared p)) e m turns none none at none words less
+                    by_backed BlankKind (Taken p) e m turns none none at none words less
                     d q n (omega arith)
                 | inr here ↦
                     let one : at d q n ≡ 1 = here.0 in
@@ -291,14 +312,14 @@ module _ (set : Set) (x y : Numbers) (b : Balanced set x)
                     )
               ];
           entered = λ d q n is.
-              by_entered BlankKind (Taken (Declared p)) e m turns none none at none words less d q n
+              by_entered BlankKind (Taken p) e m turns none none at none words less d q n
               is (omega arith);
-          standing = one_gone BlankKind (Taken (Declared p)) turns no_armed no_listed
+          standing = one_gone BlankKind (Taken p) turns no_armed no_listed
               (λ d q n. refl)
-              (λ d q n far.
+              (λ d q n is far.
               let nothing : at d q n ≡ 0 = far in
-              by_standing BlankKind (Taken (Declared p)) e m turns none none at none words less d q
-              n (omega arith));
+              by_standing BlankKind (Taken p) e m turns none none at none words less d q
+              n is (omega arith));
           once = once;
         }
 
@@ -316,25 +337,25 @@ module _ (set : Set) (x y : Numbers) (b : Balanced set x)
               by_entered BlankKind Own e m turns none none at none words less d q n is
               (omega arith);
           standing = one_gone BlankKind Own turns no_armed no_listed (λ d q n. refl)
-              (λ d q n far.
+              (λ d q n is far.
               let nothing : at d q n ≡ 0 = far in
-              by_standing BlankKind Own e m turns none none at none words less d q n (omega arith));
+              by_standing BlankKind Own e m turns none none at none words less d q n is (omega arith));
           once = once;
         }
 
     -- a packet is unlinked that no cancel routine was set for; or by its cancel routine, where it
     -- stands in the queue no more, and nobody has a claim
-    pub balanced_unlinks : KindTurns x y (Listed (Declared p)) Own e m → Same x.word y.word
+    pub balanced_unlinks : KindTurns x y (Listed p) Own e m → Same x.word y.word
         → Fewer e p m x.entries y.entries → Balanced set y
     balanced_unlinks turns word entries =
-        by_turn (Listed (Declared p)) Own e m turns none none at none
+        by_turn (Listed p) Own e m turns none none at none
         (by_same x.word y.word word) (by_fewer e p m x.entries y.entries entries)
         (λ d q n. omega arith) (λ d q n. omega arith) (λ d q n. omega arith)
 
     pub balanced_cancels : x.armed e p m ≡ 0 → x.taken e p m ≡ 0 → x.listed e p m ≡ 0
         → y.entries e p m ≡ 0
-        → ((d q n : ℕ) → hit e p m d q n ≡ 0 → y.entries d q n ≡ x.entries d q n)
-        → KindTurns x y (Cancelling (Declared p)) Own e m → Same x.word y.word → Balanced set y
+        → ((d : ℕ) (q : QueueName) (n : ℕ) → hit e p m d q n ≡ 0 → y.entries d q n ≡ x.entries d q n)
+        → KindTurns x y (Cancelling p) Own e m → Same x.word y.word → Balanced set y
     balanced_cancels no_armed no_taken no_listed no_entry others turns word =
         let words : Moves x.word y.word none none = by_same x.word y.word word in
         let changed : Moves x.entries y.entries x.entries y.entries = λ d q n. omega arith in
@@ -344,7 +365,7 @@ module _ (set : Set) (x y : Numbers) (b : Balanced set x)
               (no_armed, no_taken) d q n) [
                 | inl far ↦
                     let nothing : at d q n ≡ 0 = far in
-                    by_backed (Cancelling (Declared p)) Own e m turns none none x.entries y.entries
+                    by_backed (Cancelling p) Own e m turns none none x.entries y.entries
                     words changed d q n (omega arith)
                 | inr here ↦
                     let no_a : x.armed d q n ≡ 0 = here.1.0 in
@@ -356,65 +377,117 @@ module _ (set : Set) (x y : Numbers) (b : Balanced set x)
                 | inl far ↦
                     let nothing : at d q n ≡ 0 = far in
                     let s : y.entries d q n ≡ x.entries d q n = others d q n far in
-                    by_entered (Cancelling (Declared p)) Own e m turns none none x.entries y.entries
+                    by_entered (Cancelling p) Own e m turns none none x.entries y.entries
                     words changed d q n is (omega arith)
                 | inr here ↦ let nothing : y.entries d q n ≡ 0 = here.1 in omega arith
               ];
-          standing = one_gone (Cancelling (Declared p)) Own turns no_armed no_listed
+          standing = one_gone (Cancelling p) Own turns no_armed no_listed
               (λ d q n. refl)
-              (λ d q n far.
+              (λ d q n is far.
               let s : y.entries d q n ≡ x.entries d q n = others d q n far in
-              by_standing (Cancelling (Declared p)) Own e m turns none none x.entries y.entries
-              words changed d q n (omega arith));
+              by_standing (Cancelling p) Own e m turns none none x.entries y.entries
+              words changed d q n is (omega arith));
           once = once;
         }
 
     -- a cancel routine is set; or the word is emptied, where the packet stands in the queue, or was
     -- taken off it
-    pub balanced_arms : KindTurns x y (Listed (Declared p)) (Armed (Declared p)) e m
+    pub balanced_arms : KindTurns x y (Listed p) (Armed p) e m
         → More e p m x.word y.word → Same x.entries y.entries → Balanced set y
     balanced_arms turns word entries =
-        by_turn (Listed (Declared p)) (Armed (Declared p)) e m turns none at none none
+        by_turn (Listed p) (Armed p) e m turns none at none none
         (by_more e p m x.word y.word word) (by_same x.entries y.entries entries)
         (λ d q n. omega arith) (λ d q n. omega arith) (λ d q n. omega arith)
 
-    pub balanced_disarms : KindTurns x y (Armed (Declared p)) (Listed (Declared p)) e m
+    pub balanced_disarms : KindTurns x y (Armed p) (Listed p) e m
         → Fewer e p m x.word y.word → Same x.entries y.entries → Balanced set y
     balanced_disarms turns word entries =
-        by_turn (Armed (Declared p)) (Listed (Declared p)) e m turns at none none none
+        by_turn (Armed p) (Listed p) e m turns at none none none
         (by_fewer e p m x.word y.word word) (by_same x.entries y.entries entries)
         (λ d q n. omega arith) (λ d q n. omega arith) (λ d q n. omega arith)
 
     pub balanced_keeps_taken : x.entries e p m ≡ 0
-        → KindTurns x y (Taken (Declared p)) Own e m → Fewer e p m x.word y.word
+        → KindTurns x y (Taken p) Own e m → Fewer e p m x.word y.word
         → Same x.entries y.entries → Balanced set y
     balanced_keeps_taken no_entry turns word entries =
         let words : Moves x.word y.word at none = by_fewer e p m x.word y.word word in
         let stay : Moves x.entries y.entries none none = by_same x.entries y.entries entries in
         record {
           backed = λ d q n.
-              by_backed (Taken (Declared p)) Own e m turns at none none none words stay d q n
+              by_backed (Taken p) Own e m turns at none none none words stay d q n
               (omega arith);
           entered = λ d q n is.
               elim (hit_tells (λ d q n. x.entries d q n ≡ 0) e p m no_entry d q n) [
                 | inl far ↦
                     let nothing : at d q n ≡ 0 = far in
-                    by_entered (Taken (Declared p)) Own e m turns at none none none words stay d q n
+                    by_entered (Taken p) Own e m turns at none none none words stay d q n
                     is (omega arith)
                 | inr here ↦
                     let nothing : x.entries d q n ≡ 0 = here.1 in
                     omega (arith, entries d q n)
               ];
-          standing = λ d q n.
-              by_standing (Taken (Declared p)) Own e m turns at none none none words stay d q n
+          standing = λ d q n is.
+              by_standing (Taken p) Own e m turns at none none none words stay d q n is
               (omega arith);
           once = once;
         }
 
     -- the cancel routine begins: it has the right that the word had
-    pub balanced_calls : KindTurns x y BlankKind (Cancelling (Declared p)) e m
+    pub balanced_calls : KindTurns x y BlankKind (Cancelling p) e m
         → Fewer e p m x.word y.word → Same x.entries y.entries → Balanced set y
     balanced_calls turns word entries =
-        by_turn BlankKind (Cancelling (Declared p)) e m turns at none none none
+        by_turn BlankKind (Cancelling p) e m turns at none none none
         (by_fewer e p m x.word y.word word) (by_same x.entries y.entries entries)
         (λ d q n. omega arith) (λ d q n. omega arith) (λ d q n. omega arith)
+
+    -- IoStartPacket puts a packet into a list with its cancel routine set at once; IoStartNextPacket
+    -- takes one off it and empties its word, while nobody has a claim to it there
+    pub balanced_waits : KindTurns x y Own BlankKind e m → More e p m x.word y.word
+        → More e p m x.entries y.entries → Balanced set y
+    balanced_waits turns word entries =
+        by_turn Own BlankKind e m turns none at none at
+        (by_more e p m x.word y.word word) (by_more e p m x.entries y.entries entries)
+        (λ d q n. omega arith) (λ d q n. omega arith) (λ d q n. omega arith)
+
+    pub balanced_starts : is_declared p ≡ false → x.armed e p m ≡ 0 → x.taken e p m ≡ 0
+        → Same x.armed y.armed → Same x.taken y.taken → Same x.listed y.listed
+        → Same x.cancelling y.cancelling → Fewer e p m x.word y.word
+        → Fewer e p m x.entries y.entries → Balanced set y
+    balanced_starts waits no_armed no_taken armed taken listed cancelling word entries =
+        record {
+          backed = λ d q n.
+              elim (hit_tells (λ d q n. (x.armed d q n ≡ 0) × (x.taken d q n ≡ 0)) e p m
+              (no_armed, no_taken) d q n) [
+                | inl far ↦
+                    let nothing : at d q n ≡ 0 = far in
+                    omega (
+                      arith,
+                      armed d q n,
+                      taken d q n,
+                      cancelling d q n,
+                      word d q n,
+                      b.backed d q n,
+                    )
+                | inr here ↦
+                    let no_a : x.armed d q n ≡ 0 = here.1.0 in
+                    let no_t : x.taken d q n ≡ 0 = here.1.1 in
+                    omega (arith, armed d q n, taken d q n)
+              ];
+          entered = λ d q n is.
+              omega (
+                arith,
+                listed d q n,
+                cancelling d q n,
+                word d q n,
+                entries d q n,
+                b.entered d q n is,
+              );
+          standing = λ d q n is.
+              elim (hit_tells (λ d q n. is_declared q ≡ false) e p m waits d q n) [
+                | inl far ↦
+                    let nothing : at d q n ≡ 0 = far in
+                    omega (arith, listed d q n, armed d q n, entries d q n, b.standing d q n is)
+                | inr here ↦ let no : true ≡ false = sym is ∙ here.1 in cc
+              ];
+          once = once;
+        }

@@ -105,34 +105,27 @@ module _ (set : Set) (states : States) (w : World) (past : List Entry) (good : I
         ∙ at_swapped (g (Cancelling armer.queue)) (on armer.device) (if nat_eq n m then 1 else 0) in
         omega (arith, changed set states g of on m w past good stands t h leaves)
 
-    called_for : (name : QueueName) → armer.queue ≡ name → Claimed set states to
-    called_for (Declared q) is =
-        let sums : (g : Kind → Bool) → OfQueues g → (on : ℕ → Bool) (m : ℕ)
-        → thread_sum (frame_names states g on m) to.threads + 0
-        ≡ thread_sum (frame_names states g on m) w.threads
-        + at_kind g on armer.device (Cancelling (Declared q)) n m =
-        λ g of on m. called_sums g of on m
-        ∙ ap (λ (name : QueueName). thread_sum (frame_names states g on m) w.threads
-        + at_kind g on armer.device (Cancelling name) n m) is in
+    pub calls_claims : Claimed set states to
+    calls_claims =
         let changes : KindTurns (numbers states w) (numbers states to) BlankKind
-        (Cancelling (Declared q)) armer.device n =
+        (Cancelling armer.queue) armer.device n =
         record {
-          armed = λ d l. sums (is_armed (Declared l)) (armed_queues (Declared l)) (λ e. nat_eq e d);
-          taken = λ d l. sums (is_taken (Declared l)) (taken_queues (Declared l)) (λ e. nat_eq e d);
+          armed = λ d l. called_sums (is_armed l) (armed_queues l) (λ e. nat_eq e d);
+          taken = λ d l. called_sums (is_taken l) (taken_queues l) (λ e. nat_eq e d);
           listed = λ d l.
-              sums (is_listed (Declared l)) (listed_queues (Declared l)) (λ e. nat_eq e d);
+              called_sums (is_listed l) (listed_queues l) (λ e. nat_eq e d);
           cancelling = λ d l.
-              sums (is_cancelling (Declared l)) (cancelling_queues (Declared l))
+              called_sums (is_cancelling l) (cancelling_queues l)
               (λ e. nat_eq e d);
-          takes = sums was_taken was_queues (λ e. true);
+          takes = called_sums was_taken was_queues (λ e. true);
         } in
         record {
           balanced = balanced_calls set (numbers states w) (numbers states to) c.balanced
               (once_turned (numbers states w) (numbers states to) BlankKind
-              (Cancelling (Declared q)) armer.device n changes refl
+              (Cancelling armer.queue) armer.device n changes refl
               (λ m. rw shared (c.balanced.once m)))
-              armer.device q n changes
-              (λ d l m. rw shared (word_emptied w.shared n armer.device q p there armer (refl, is)
+              armer.device armer.queue n changes
+              (λ d l m. rw shared (word_emptied w.shared n armer.device armer.queue p there armer (refl, refl)
               is_set
               d l m))
               (λ d l m. rw shared refl);
@@ -141,17 +134,14 @@ module _ (set : Set) (states : States) (w : World) (past : List Entry) (good : I
                 (λ l m.
                     omega (
                       arith,
-                      called_names (is_armed (Declared l)) (armed_queues (Declared l)) m,
-                      called_names (is_taken (Declared l)) (taken_queues (Declared l)) m,
-                      called_names (is_cancelling (Declared l)) (cancelling_queues (Declared l)) m,
-                      one_name (is_name armer.queue (Declared l)) (nat_eq n m),
+                      called_names (is_armed l) (armed_queues l) m,
+                      called_names (is_taken l) (taken_queues l) m,
+                      called_names (is_cancelling l) (cancelling_queues l) m,
+                      one_name (is_name armer.queue l) (nat_eq n m),
                     )),
                 tt,
               ));
         }
-
-    pub calls_claims : Claimed set states to
-    calls_claims = called_for armer.queue refl
 
 module _ (states : States) (s : Shared) where
   -- IoCancelIrp goes on, or ends
@@ -159,7 +149,7 @@ module _ (states : States) (s : Shared) where
       → ((g : Kind → Bool) → OfQueues g → (on : ℕ → Bool) (m : ℕ)
       → stack_sum (frame_names states g on m) frames ≡ 0)
       → Each (FrameApart states) frames
-      → ((m d q : ℕ) → word_at (find o.shared.packets m) d q ≡ word_at (find s.packets m) d q)
+      → ((m d : ℕ) (q : QueueName) → word_at (find o.shared.packets m) d q ≡ word_at (find s.packets m) d q)
       → o.shared.queues ≡ s.queues → o.shared.starts ≡ s.starts
       → Quiet states s (CancelFrame cancel) o
   cancel_quiet cancel frames o is none others words queues starts =

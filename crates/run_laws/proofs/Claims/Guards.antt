@@ -45,6 +45,9 @@ use Rattle.run_laws.specs.ArrivingStates.{States}
 use Rattle.run_laws.proofs.States.Stacks.{Stacked, Stands}
 use Rattle.run_laws.proofs.States.Standing.{Standing, stands_there}
 use Rattle.run_laws.proofs.Tests.{not_and}
+use Rattle.model.specs.declared.set.QueueName.TheVariants.{DeviceQueue}
+use Rattle.model.specs.declared.abs.Kind.TheVariants.{Cancelling}
+use Rattle.model.specs.Kinds.{is_cancelling}
 
 -- kinds that a register has only while the guard of a queue is held
 abbrev pub NeedsGuard : Set → ℕ → (Kind → Bool) → QueueName → Type 0
@@ -70,6 +73,13 @@ module _ (set : Set) (driver : ℕ) (name : QueueName) where
   pub taken_needs : NeedsGuard set driver (is_taken name) name
   taken_needs locks cancel (Taken other) is h = guard_for locks cancel other is h.1
   taken_needs locks cancel _ is h = cc
+
+-- a register with a packet that was handed to the cancel routine of the device queue needs its guard
+-- too
+pub waiting_needs : (set : Set) (driver : ℕ)
+    → NeedsGuard set driver (is_cancelling DeviceQueue) DeviceQueue
+waiting_needs set driver locks cancel (Cancelling DeviceQueue) is h = h.1
+waiting_needs set driver locks cancel _ is h = cc
 
 -- a guard of a device as a lock
 abbrev lock_of : ℕ → Guard → Lock

@@ -2,6 +2,7 @@
 -- Own, and a cancel word that isn't empty hold the packet, and it has one holder.
 use Rattle.std.proofs.Common.{◌≡◌, ℕ, ◌+◌, ◌≤◌, Bool, true, false, List, [], ◌∷◌, Option, None, Some, refl, ap, arith, eq-eqb}
 use Rattle.std.specs.Prelude.{nat_eq, is_some, if◌then◌else◌}
+use Rattle.model.specs.declared.set.QueueName.TheVariants.{Declared, DeviceQueue}
 use Rattle.model.specs.declared.abs.Kind.{Kind}
 use Rattle.model.specs.declared.abs.Kind.TheVariants.{Own, Listed, Taken, Cancelling}
 use Rattle.model.specs.declared.set.QueueName.{QueueName}
@@ -15,14 +16,15 @@ use Rattle.model.specs.declared.world.Value.{Value}
 use Rattle.model.specs.Kinds.{is_armed, is_cancelling, is_listed, is_right}
 use Rattle.model.specs.Set.{Set}
 use Rattle.model.specs.World.{World, packet_of, queue_of}
-use Rattle.run_laws.specs.Holder.{frame_rights, named_as, named_in, names as value_names, stack_sum, thread_sum, times_listed, times_named, times_queued, times_waiting}
+use Rattle.run_laws.specs.Holder.{frame_rights, named_as, named_in, names as value_names, stack_sum, thread_sum, times_listed, times_named, times_queued, times_waiting, times_to_start}
 use Rattle.run_laws.proofs.Claims.Names.{names}
-use Rattle.run_laws.proofs.Claims.Queues.{queued_zero, to_start_le}
-use Rattle.run_laws.proofs.Claims.Sums.{Balanced, frame_names, is_taken, names_on, numbers, takes_in, times_of, was_taken, word_at, word_for}
+use Rattle.run_laws.proofs.Claims.Queues.{queued_zero, to_start_zero}
+use Rattle.run_laws.proofs.Claims.Sums.{Balanced, frame_names, is_taken, names_on, numbers, takes_in, times_of, was_taken, word_at, word_for, is_cancelable, list_of}
 use Rattle.run_laws.proofs.Holders.Sums.{Held, unheld, unheld_one}
 use Rattle.run_laws.proofs.Past.LivePackets.{find, find_place}
 use Rattle.run_laws.proofs.States.Frames.{state_of}
 use Rattle.run_laws.specs.ArrivingStates.{States}
+use Rattle.run_laws.proofs.Claims.Balance.{name_same}
 
 -- sums over frames, and over threads
 pub stack_most : (few more : Frame → ℕ) → ((f : Frame) → few f ≤ more f) → (frames : List Frame)
@@ -91,51 +93,46 @@ three_if : (b : Bool) (one two three all : ℕ) → one + two + three ≤ all
 three_if true one two three all h = h
 three_if false one two three all h = omega arith
 
-module _ (states : States) (d q n : ℕ) where
+module _ (states : States) (d : ℕ) (q : QueueName) (n : ℕ) where
   rights_three : (f : Frame)
-      → frame_names states (is_listed (Declared q)) (λ e. nat_eq e d) n f
-      + frame_names states (is_cancelling (Declared q)) (λ e. nat_eq e d) n f
+      → frame_names states (is_listed q) (λ e. nat_eq e d) n f
+      + frame_names states (is_cancelling q) (λ e. nat_eq e d) n f
       + frame_names states is_own (λ e. true) n f ≤ frame_rights states f n
   rights_three (Routine a) =
-      three_if (nat_eq a.device d) (names states (is_listed (Declared q)) a n)
-      (names states (is_cancelling (Declared q)) a n) (names states is_own a n)
+      three_if (nat_eq a.device d) (names states (is_listed q) a n)
+      (names states (is_cancelling q) a n) (names states is_own a n)
       (frame_rights states (Routine a) n)
-      (kinds_three (Declared q) (state_of states a).kinds a.registers n)
+      (kinds_three q (state_of states a).kinds a.registers n)
   rights_three _ = omega arith
 
   pub rights_cover : (threads : List Thread)
-      → names_on states (is_listed (Declared q)) d n threads
-      + names_on states (is_cancelling (Declared q)) d n threads
+      → names_on states (is_listed q) d n threads
+      + names_on states (is_cancelling q) d n threads
       + owns_in states n threads ≤ thread_sum (λ f. frame_rights states f n) threads
   rights_cover threads =
-      thread_three (frame_names states (is_listed (Declared q)) (λ e. nat_eq e d) n)
-      (frame_names states (is_cancelling (Declared q)) (λ e. nat_eq e d) n)
+      thread_three (frame_names states (is_listed q) (λ e. nat_eq e d) n)
+      (frame_names states (is_cancelling q) (λ e. nat_eq e d) n)
       (frame_names states is_own (λ e. true) n) (λ f. frame_rights states f n) rights_three threads
 
 -- what a cancel word names, one word names
-named_word : (o : Option Armer) (d q : ℕ) → word_for o d q ≤ (if is_some o then 1 else 0)
+named_word : (o : Option Armer) (d : ℕ) (q : QueueName) → word_for o d q ≤ (if is_some o then 1 else 0)
 named_word None d q = omega arith
 named_word (Some armer) d q = some_le _ 1
 
-word_named : (o : Option Packet) (d q : ℕ) → word_at o d q ≤ times_named o
+word_named : (o : Option Packet) (d : ℕ) (q : QueueName) → word_at o d q ≤ times_named o
 word_named None d q = omega arith
 word_named (Some p) d q = named_word p.armer d q
 
 -- a packet that no register of kind Taken for a queue names is named by none
-kind_takes : (k : Kind) (v : Value) (n : ℕ) → ((q : ℕ) → named_as (is_taken (Declared q)) k v n ≡ 0)
+kind_takes : (k : Kind) (v : Value) (n : ℕ) → ((q : QueueName) → named_as (is_taken q) k v n ≡ 0)
     → named_as was_taken k v n ≡ 0
-kind_takes (Taken (Declared q)) v n none = takes_of q none
-  where
-    takes_of : (q : ℕ) → ((p : ℕ) → named_as (is_taken (Declared p)) (Taken (Declared q)) v n ≡ 0)
-        → value_names v n ≡ 0
-    takes_of q none =
-        let one : named_as (is_taken (Declared q)) (Taken (Declared q)) v n ≡ 0 = none q in
-        let same : nat_eq q q ≡ true = eq-eqb q q refl in
-        rw same at one
+kind_takes (Taken q) v n none =
+    let one : named_as (is_taken q) (Taken q) v n ≡ 0 = none q in
+    rw (name_same q) at one
 kind_takes _ v n none = refl
 
 kinds_takes : (kinds : List Kind) (values : List Value) (n : ℕ)
-    → ((q : ℕ) → named_in (is_taken (Declared q)) kinds values n ≡ 0)
+    → ((q : QueueName) → named_in (is_taken q) kinds values n ≡ 0)
     → named_in was_taken kinds values n ≡ 0
 kinds_takes [] values n none = refl
 kinds_takes (k ∷ kinds) [] n none = refl
@@ -149,20 +146,20 @@ kinds_takes (k ∷ kinds) (v ∷ values) n none =
     omega arith
 
 frame_no_takes : (states : States) (n : ℕ) (f : Frame)
-    → ((d q : ℕ) → frame_names states (is_taken (Declared q)) (λ e. nat_eq e d) n f ≡ 0)
+    → ((d : ℕ) (q : QueueName) → frame_names states (is_taken q) (λ e. nat_eq e d) n f ≡ 0)
     → frame_names states was_taken (λ e. true) n f ≡ 0
 frame_no_takes states n (Walk m) none = refl
 frame_no_takes states n (CancelFrame c) none = refl
 frame_no_takes states n (Routine a) none =
     kinds_takes (state_of states a).kinds a.registers n (λ q.
-    let one : frame_names states (is_taken (Declared q)) (λ e. nat_eq e a.device) n (Routine a)
+    let one : frame_names states (is_taken q) (λ e. nat_eq e a.device) n (Routine a)
     ≡ 0 =
     none a.device q in
     let same : nat_eq a.device a.device ≡ true = eq-eqb a.device a.device refl in
     rw same at one)
 
 stack_no_takes : (states : States) (n : ℕ) (frames : List Frame)
-    → ((d q : ℕ) → stack_sum (frame_names states (is_taken (Declared q)) (λ e. nat_eq e d) n) frames
+    → ((d : ℕ) (q : QueueName) → stack_sum (frame_names states (is_taken q) (λ e. nat_eq e d) n) frames
     ≡ 0)
     → stack_sum (frame_names states was_taken (λ e. true) n) frames ≡ 0
 stack_no_takes states n [] none = refl
@@ -176,7 +173,7 @@ stack_no_takes states n (f ∷ frames) none =
     omega arith
 
 no_takes : (states : States) (n : ℕ) (threads : List Thread)
-    → ((d q : ℕ) → names_on states (is_taken (Declared q)) d n threads ≡ 0)
+    → ((d : ℕ) (q : QueueName) → names_on states (is_taken q) d n threads ≡ 0)
     → takes_in states n threads ≡ 0
 no_takes states n [] none = refl
 no_takes states n (thread ∷ threads) none =
@@ -190,9 +187,9 @@ no_takes states n (thread ∷ threads) none =
 
 module _ (set : Set) (states : States) (w : World) (kept : Held set states w) (n : ℕ) where
   -- the holders of a packet are one
-  pub one_holder : (d q : ℕ)
-      → names_on states (is_listed (Declared q)) d n w.threads
-      + names_on states (is_cancelling (Declared q)) d n w.threads
+  pub one_holder : (d : ℕ) (q : QueueName)
+      → names_on states (is_listed q) d n w.threads
+      + names_on states (is_cancelling q) d n w.threads
       + owns_in states n w.threads
       + times_waiting set w.shared n ≤ 1
   one_holder d q =
@@ -204,7 +201,7 @@ module _ (set : Set) (states : States) (w : World) (kept : Held set states w) (n
       )
 
   -- and its cancel word, where it isn't empty, is one
-  pub word_holds : (d q : ℕ) → word_at (find w.shared.packets n) d q
+  pub word_holds : (d : ℕ) (q : QueueName) → word_at (find w.shared.packets n) d q
       ≤ times_waiting set w.shared n
   word_holds d q =
       let same : word_at (packet_of w.shared n) d q ≡ word_at (find w.shared.packets n) d q =
@@ -213,41 +210,46 @@ module _ (set : Set) (states : States) (w : World) (kept : Held set states w) (n
 
   -- a packet that has none of these holders stands in no list, and was taken off none
   pub none_alone : Balanced set (numbers states w)
-      → ((d q : ℕ)
-      → names_on states (is_listed (Declared q)) d n w.threads
-      + names_on states (is_cancelling (Declared q)) d n w.threads
+      → ((d : ℕ) (q : QueueName)
+      → names_on states (is_listed q) d n w.threads
+      + names_on states (is_cancelling q) d n w.threads
       + times_waiting set w.shared n ≡ 0)
       → takes_in states n w.threads + times_listed w.shared n ≡ 0
   none_alone b nothing =
       let waiting : times_waiting set w.shared n ≡ 0 =
-      (let none : names_on states (is_listed (Declared 0)) 0 n w.threads
-      + names_on states (is_cancelling (Declared 0)) 0 n w.threads
-      + times_waiting set w.shared n ≡ 0 = nothing 0 0 in omega arith) in
+      (let none : names_on states (is_listed DeviceQueue) 0 n w.threads
+      + names_on states (is_cancelling DeviceQueue) 0 n w.threads
+      + times_waiting set w.shared n ≡ 0 = nothing 0 DeviceQueue in omega arith) in
       let takes : takes_in states n w.threads ≡ 0 =
       no_takes states n w.threads (λ d q.
-      let none : names_on states (is_listed (Declared q)) d n w.threads
-      + names_on states (is_cancelling (Declared q)) d n w.threads
+      let none : names_on states (is_listed q) d n w.threads
+      + names_on states (is_cancelling q) d n w.threads
       + times_waiting set w.shared n ≡ 0 = nothing d q in
       let word : word_at (find w.shared.packets n) d q
       ≤ times_waiting set w.shared n = word_holds d q in
-      let backed : names_on states (is_armed (Declared q)) d n w.threads
-      + names_on states (is_taken (Declared q)) d n w.threads
+      let backed : names_on states (is_armed q) d n w.threads
+      + names_on states (is_taken q) d n w.threads
       ≤ word_at (find w.shared.packets n) d q
-      + names_on states (is_cancelling (Declared q)) d n w.threads = b.backed d q n in
+      + names_on states (is_cancelling q) d n w.threads = b.backed d q n in
       omega arith) in
+      let empty : (d : ℕ) (q : QueueName) → is_cancelable set d q ≡ true
+      → times_of (list_of w.shared d q) n ≡ 0 =
+      λ d q may.
+      let none : names_on states (is_listed q) d n w.threads
+      + names_on states (is_cancelling q) d n w.threads
+      + times_waiting set w.shared n ≡ 0 = nothing d q in
+      let word : word_at (find w.shared.packets n) d q
+      ≤ times_waiting set w.shared n = word_holds d q in
+      let entered : times_of (list_of w.shared d q) n
+      ≤ word_at (find w.shared.packets n) d q
+      + names_on states (is_cancelling q) d n w.threads
+      + names_on states (is_listed q) d n w.threads = b.entered d q n may in
+      omega arith in
       let queued : times_queued w.shared.queues n ≡ 0 =
-      queued_zero set w.shared n (omega arith) (λ d q may.
-      let none : names_on states (is_listed (Declared q)) d n w.threads
-      + names_on states (is_cancelling (Declared q)) d n w.threads
-      + times_waiting set w.shared n ≡ 0 = nothing d q in
-      let word : word_at (find w.shared.packets n) d q
-      ≤ times_waiting set w.shared n = word_holds d q in
-      let entered : times_of (queue_of w.shared d q) n
-      ≤ word_at (find w.shared.packets n) d q
-      + names_on states (is_cancelling (Declared q)) d n w.threads
-      + names_on states (is_listed (Declared q)) d n w.threads = b.entered d q n may in
-      omega arith) in
-      omega (arith, to_start_le w.shared.starts n)
+      queued_zero set w.shared n (omega arith) (λ d q may. empty d (Declared q) may) in
+      let to_start : times_to_start w.shared.starts n ≡ 0 =
+      to_start_zero set w.shared n (omega arith) (λ d may. empty d DeviceQueue may) in
+      omega arith
 
   -- nor does one that is a routine's own
   pub own_alone : Balanced set (numbers states w) → 1 ≤ owns_in states n w.threads
@@ -258,10 +260,10 @@ module _ (set : Set) (states : States) (w : World) (kept : Held set states w) (n
 
   -- one whose word names a queue, which its cancel routine was called for or which is listed, is
   -- live
-  pub holder_lives : (d q : ℕ) (count : ℕ)
+  pub holder_lives : (d : ℕ) (q : QueueName) (count : ℕ)
       → count ≤ word_at (find w.shared.packets n) d q
-      + names_on states (is_cancelling (Declared q)) d n w.threads
-      + names_on states (is_listed (Declared q)) d n w.threads
+      + names_on states (is_cancelling q) d n w.threads
+      + names_on states (is_listed q) d n w.threads
       → count ≤ unheld (find w.shared.packets n)
   holder_lives d q count le =
       omega (arith, kept.rights n, rights_cover states d q n w.threads, word_holds d q)

@@ -6,7 +6,7 @@ use Rattle.model.specs.declared.abs.Abs.{Abs}
 use Rattle.model.specs.declared.abs.Kind.{Kind}
 use Rattle.model.specs.declared.abs.Kind.TheVariants.{Blank as BlankKind, Num as NumKind, Lower as LowerKind, New, Own, Listed, Armed, Taken, Cancelling}
 use Rattle.model.specs.declared.instr.Instr.{Instr}
-use Rattle.model.specs.declared.instr.Instr.TheVariants.{Add, Subtract, Const, Move, Clear, Load, LoadPaged, Get, Mark, Release, Insert, Remove, Unlink, Arm, Disarm, Start, Take, Begin, Pass, Call, Complete, ReleaseCancel}
+use Rattle.model.specs.declared.instr.Instr.TheVariants.{Add, Subtract, Const, Move, Clear, Load, LoadPaged, Get, Mark, Release, Insert, Remove, Unlink, Arm, Disarm, Start, Take, Begin, Pass, Call, Complete, ReleaseCancel, Dequeue}
 use Rattle.model.specs.declared.limits.TheConstants.{REGISTERS}
 use Rattle.model.specs.declared.set.Guard.{Guard}
 use Rattle.model.specs.declared.set.QueueName.{QueueName}
@@ -81,6 +81,7 @@ still_so set driver s (Mark r) free same quiet = cc
 still_so set driver s (Insert r q) free same quiet = cc
 still_so set driver s (Remove r q label) free same quiet = cc
 still_so set driver s (Unlink r q) free same quiet = cc
+still_so set driver s (Dequeue r) free same quiet = cc
 still_so set driver s (Arm r q) free same quiet = cc
 still_so set driver s (Disarm r label) free same quiet = cc
 still_so set driver s (Release lock) free same quiet = cc

@@ -10,7 +10,7 @@ use Rattle.model.specs.declared.abs.Rule.TheVariants.{Guard as GuardRule}
 use Rattle.model.specs.declared.instr.Instr.{Instr}
 use Rattle.model.specs.declared.instr.Instr.TheVariants.{Insert, Remove, Unlink}
 use Rattle.model.specs.declared.set.QueueName.{QueueName}
-use Rattle.model.specs.declared.set.QueueName.TheVariants.{Declared}
+use Rattle.model.specs.declared.set.QueueName.TheVariants.{Declared, DeviceQueue}
 use Rattle.model.specs.declared.world.Activation.{Activation}
 use Rattle.model.specs.declared.world.Frame.TheVariants.{Routine}
 use Rattle.model.specs.declared.world.Value.TheVariants.{Ref}
@@ -49,6 +49,10 @@ use Rattle.run_laws.proofs.States.Rules.{first_none, granted, second_none, unbro
 use Rattle.run_laws.proofs.States.Standing.{Standing}
 use Rattle.run_laws.proofs.Steps.Comes.{Reads}
 use Rattle.run_laws.proofs.Tests.{or_left, or_right}
+use Rattle.run_laws.proofs.Claims.Queues.{Puts, puts_queue, unlinked_times}
+use Rattle.run_laws.proofs.Claims.WordSteps.{list_le}
+use Rattle.run_laws.proofs.Claims.Sums.{list_of, is_cancelable}
+use Rattle.run_laws.proofs.Claims.Balance.{name_same}
 
 module _ (set : Set) (states : States) (w : World) (past : List Entry) (good : IsGood set states)
     (stands : Standing set states w past) (c : Claimed set states w) (t : ℕ)
@@ -62,7 +66,7 @@ module _ (set : Set) (states : States) (w : World) (past : List Entry) (good : I
   abbrev Changes : Kind → Kind → ℕ → Type 0
   Changes j k m = KindTurns (numbers states w) (numbers states to) j k a.device m
 
-  words_same : (d q n : ℕ) → word_at (find to.shared.packets n) d q
+  words_same : (d : ℕ) (q : QueueName) (n : ℕ) → word_at (find to.shared.packets n) d q
       ≡ word_at (find w.shared.packets n) d q
   words_same d q n = rw packets refl
 
@@ -70,9 +74,11 @@ module _ (set : Set) (states : States) (w : World) (past : List Entry) (good : I
   pub lists_claims : (b : Activation) → KeepsNames states a b → b.device ≡ a.device
       → h.outcome.frames ≡ Routine b ∷ []
       → h.outcome.shared.queues ≡ w.shared.queues
+      → ((d n : ℕ) → is_cancelable set d DeviceQueue ≡ true
+      → times_of (list_of to.shared d DeviceQueue) n ≤ times_of (list_of w.shared d DeviceQueue) n)
       → ((n : ℕ) → takes_in states n w.threads + times_listed h.outcome.shared n ≤ 1)
       → Claimed set states to
-  lists_claims b keeps device frames queues once =
+  lists_claims b keeps device frames queues waiting once =
       let same : (g : Kind → Bool) → OfQueues g → (on : ℕ → Bool) (n : ℕ)
       → thread_sum (frame_names states g on n) to.threads
       ≡ thread_sum (frame_names states g on n) w.threads =
@@ -84,7 +90,7 @@ module _ (set : Set) (states : States) (w : World) (past : List Entry) (good : I
       ap (stack_sum (frame_names states g on n)) frames in
       omega (arith, frame_keeps states a b keeps device g of on n)) in
       record {
-        balanced = same_balance set states w to c.balanced same words_same queues once;
+        balanced = same_balance set states w to c.balanced same words_same queues waiting once;
         apart = all_apart set states w past good stands c t h leaves
             (rw frames (
               apart_keeps states a b keeps
@@ -158,11 +164,12 @@ module _ (set : Set) (states : States) (w : World) (past : List Entry) (good : I
         (kind_inserted (cancel_routine_of set a.driver q) (Declared q)) m refl refl inserted_own
         (reads_ref w.shared (register a r) m reads)
 
-    inserted_entries : (d p n : ℕ) → times_of (queue_of to.shared d p) n
-        ≡ times_of (queue_of w.shared d p) n + hit a.device q m d p n
+    inserted_entries : (d : ℕ) (p : QueueName) (n : ℕ) → times_of (list_of to.shared d p) n
+        ≡ times_of (list_of w.shared d p) n + hit a.device (Declared q) m d p n
     inserted_entries d p n =
-        rw queues (entries_more w.shared a.device q m entries (inserted entries m) there
-        (λ n. times_pushed entries m n) d p n)
+        entries_more w.shared to.shared a.device (Declared q) m entries (inserted entries m)
+        (puts_queue w.shared to.shared a.device q entries (inserted entries m) there queues starts)
+        (λ n. times_pushed entries m n) d p n
 
     inserts_by : (cancel : Option ℕ) → cancel_routine_of set a.driver q ≡ cancel
         → TurnsNames states a (next a) Own (kind_inserted cancel (Declared q)) m → Claimed set states to
@@ -175,8 +182,8 @@ module _ (set : Set) (states : States) (w : World) (past : List Entry) (good : I
               (once_turned (numbers states w) (numbers states to) Own BlankKind
               a.device m changes refl
               (once_put m (own_there (Insert r q) r m run inserted_own reads) inserted_lists))
-              a.device q m
-              (cancelable_is set a.device a.driver q None run.stays.serves none)
+              a.device (Declared q) m
+              (cancelable_is set a.device a.driver (Declared q) None run.stays.serves none)
               changes
               words_same inserted_entries;
           apart = all_apart set states w past good stands c t h leaves
@@ -195,7 +202,7 @@ module _ (set : Set) (states : States) (w : World) (past : List Entry) (good : I
               (once_turned (numbers states w) (numbers states to) Own (Listed (Declared q))
               a.device m changes refl
               (once_put m (own_there (Insert r q) r m run inserted_own reads) inserted_lists))
-              a.device q m
+              a.device (Declared q) m
               changes
               words_same inserted_entries;
           apart = all_apart set states w past good stands c t h leaves
@@ -271,7 +278,7 @@ module _ (set : Set) (states : States) (w : World) (past : List Entry) (good : I
       removed_taken : names_on states (is_taken (Declared q)) a.device m w.threads ≡ 0
       removed_taken =
           let none : takes_in states m w.threads ≡ 0 = removed_takes in
-          omega (arith, taken_le states w a.device q m)
+          omega (arith, taken_le states w a.device (Declared q) m)
 
       removed_fewer : (n : ℕ) → times_in entries n + (if nat_eq m n then 1 else 0)
           ≡ times_in (m ∷ entries) n
@@ -286,11 +293,12 @@ module _ (set : Set) (states : States) (w : World) (past : List Entry) (good : I
             removed_fewer n,
           ))
 
-      removed_entries : (d p n : ℕ) → times_of (queue_of to.shared d p) n + hit a.device q m d p n
-          ≡ times_of (queue_of w.shared d p) n
+      removed_entries : (d : ℕ) (p : QueueName) (n : ℕ) → times_of (list_of to.shared d p) n + hit a.device (Declared q) m d p n
+          ≡ times_of (list_of w.shared d p) n
       removed_entries d p n =
-          rw queues (entries_fewer w.shared a.device q m (m ∷ entries) entries there removed_fewer d
-          p n)
+          entries_fewer w.shared to.shared a.device (Declared q) m (m ∷ entries) entries
+          (puts_queue w.shared to.shared a.device q (m ∷ entries) entries there queues starts)
+          removed_fewer d p n
 
       removed_turns : TurnsNames states a taker BlankKind
           (kind_removed (cancel_routine_of set a.driver q) (Declared q)) m
@@ -313,7 +321,7 @@ module _ (set : Set) (states : States) (w : World) (past : List Entry) (good : I
                 a.device m changes refl
                 (once_less (λ n.
                 omega (arith, removed_lists n))))
-                a.device q m removed_armed removed_listed
+                a.device (Declared q) m removed_armed removed_listed
                 changes
                 words_same removed_entries;
             apart = all_apart set states w past good stands c t h leaves
@@ -331,14 +339,14 @@ module _ (set : Set) (states : States) (w : World) (past : List Entry) (good : I
             balanced = balanced_removes set (numbers states w) (numbers states to) c.balanced
                 (λ n.
                 omega (arith, changes.takes n, removed_lists n, c.balanced.once n))
-                a.device q m
-                (cancelable_is set a.device a.driver q (Some cancel) run.stays.serves some)
+                a.device (Declared q) m
+                (cancelable_is set a.device a.driver (Declared q) (Some cancel) run.stays.serves some)
                 removed_armed removed_taken removed_listed
                 changes
                 words_same removed_entries;
             apart = all_apart set states w past good stands c t h leaves
                 (rw frames (
-                  apart_up states a taker BlankKind (Taken (Declared q)) m q turns
+                  apart_up states a taker BlankKind (Taken (Declared q)) m (Declared q) turns
                       ((λ p n e. omega arith), (λ p. refl))
                       (let none : names_on states (is_taken (Declared q)) a.device m w.threads ≡ 0 =
                       removed_taken in
@@ -355,6 +363,74 @@ module _ (set : Set) (states : States) (w : World) (past : List Entry) (good : I
 
       pub removes_claims : Claimed set states to
       removes_claims = removes_by (cancel_routine_of set a.driver q) refl removed_turns
+
+    -- a packet is taken off a list by the cancel routine that was called for it
+    module _ (i : Instr) (name : QueueName) (r m : ℕ) (entries : List ℕ)
+        (run : Runs set states w.shared a i)
+        (reads : Reads w.shared a r m) (there : list_of w.shared a.device name ≡ Some entries)
+        (frames : h.outcome.frames ≡ Routine (next a) ∷ [])
+        (put : Puts w.shared to.shared a.device name entries (unlinked entries m))
+        (less : (n : ℕ) → times_listed h.outcome.shared n ≤ times_listed w.shared n)
+        (rule : guard_fault (state_of states a) set a.driver name ≡ None)
+        (is : kind_of (state_of states a) r ≡ Cancelling name)
+        (turns : TurnsNames states a (next a) (Cancelling name) Own m) where
+      cancelled_name : 1 ≤ names states (is_cancelling name) a m
+      cancelled_name =
+          let one : named_as (is_cancelling name) (kind_of (state_of states a) r) (register a r) m
+          ≡ 1 =
+          rw (is, name_same name, reads_ref w.shared (register a r) m reads, eq-eqb m m refl) refl
+          in
+          omega (
+            arith,
+            named_le (is_cancelling name) w.shared.issued (state_of states a).kinds a.registers r m run.stays.kinds,
+          )
+
+      pub unlinks_cancelled : Claimed set states to
+      unlinks_cancelled =
+          let one : 1 ≤ names states (is_cancelling name) a m = cancelled_name in
+          let among : names states (is_cancelling name) a m
+          ≤ names_on states (is_cancelling name) a.device m w.threads =
+          names_among set states w past good stands c t h leaves a (is_cancelling name) m frame in
+          let holder : names_on states (is_listed name) a.device m w.threads
+          + names_on states (is_cancelling name) a.device m w.threads
+          + owns_in states m w.threads + times_waiting set w.shared m ≤ 1 =
+          one_holder set states w kept m a.device name in
+          let free : names states (is_armed name) a m + names states (is_taken name) a m
+          + names states (is_cancelling name) a m ≤ 1 = apart_a name m in
+          let armed : names_on states (is_armed name) a.device m w.threads
+          ≡ names states (is_armed name) a m =
+          alone i name run rule (is_armed name) (armed_needs set a.driver name) m in
+          let taken : names_on states (is_taken name) a.device m w.threads
+          ≡ names states (is_taken name) a m =
+          alone i name run rule (is_taken name) (taken_needs set a.driver name) m in
+          let its : times_of (list_of w.shared a.device name) m ≡ times_in entries m =
+          ap (λ (o : Option (List ℕ)). times_of o m) there in
+          let le : times_of (list_of w.shared a.device name) m ≤ times_listed w.shared m =
+          list_le w.shared a.device name m in
+          let once : takes_in states m w.threads + times_listed w.shared m
+          ≤ 1 = c.balanced.once m in
+          let few : times_in entries m ≤ 1 = omega arith in
+          let changes : Changes (Cancelling name) Own m =
+          kind_turns set states w past good stands c t h leaves a (next a) (Cancelling name)
+          Own m frame frames refl turns in
+          record {
+            balanced = balanced_cancels set (numbers states w) (numbers states to) c.balanced
+                (once_turned (numbers states w) (numbers states to) (Cancelling name) Own
+                a.device m changes refl
+                (once_less less))
+                a.device name m (omega arith) (omega arith) (omega arith)
+                (unlinked_out w.shared to.shared a.device name m entries put few)
+                (λ d p n none. entries_others w.shared to.shared a.device name m entries
+                (unlinked entries m) put (λ n other. unlinked_other entries m n other) d p n none)
+                changes
+                words_same;
+            apart = all_apart set states w past good stands c t h leaves
+                (rw frames (
+                  apart_down states a (next a) (Cancelling name) Own m turns
+                      (λ p. (refl, refl, refl)) apart_a,
+                  tt,
+                ));
+          }
 
     -- a packet is unlinked
     module _ (r q m : ℕ) (entries : List ℕ) (run : Runs set states w.shared a (Unlink r q))
@@ -380,26 +456,18 @@ module _ (set : Set) (states : States) (w : World) (past : List Entry) (good : I
             named_le g w.shared.issued (state_of states a).kinds a.registers r m run.stays.kinds,
           )
 
-      unlinked_times : (n : ℕ) → times_in (unlinked entries m) n ≤ times_in entries n
-      unlinked_times n =
-          elim (cases_lt 0 (times_in entries m)) [
-            | inl some ↦
-                omega (arith, unlinked_fewer entries m n some)
-            | inr few ↦
-                let same : times_in (unlinked entries m) n ≡ times_in entries n =
-                ap (λ (xs : List ℕ). times_in xs n) (unlinked_none entries m (omega arith)) in
-                omega arith
-          ]
-
       unlinked_lists : (n : ℕ) → times_listed h.outcome.shared n ≤ times_listed w.shared n
       unlinked_lists n =
           rw (queues, starts) (omega (
             arith,
             times_put w.shared a.device q entries (unlinked entries m) n there,
-            unlinked_times n,
+            unlinked_times entries m n,
           ))
 
-      unlinks_by : Unlinks q (kind_of (state_of states a) r) → Claimed set states to
+      put : Puts w.shared to.shared a.device (Declared q) entries (unlinked entries m)
+      put = puts_queue w.shared to.shared a.device q entries (unlinked entries m) there queues starts
+
+      unlinks_by : Unlinks (Declared q) (kind_of (state_of states a) r) → Claimed set states to
       unlinks_by (inl is) =
           let turns : TurnsNames states a (next a) (Listed (Declared q)) Own m =
           unlinked_turns (Listed (Declared q)) is in
@@ -411,7 +479,7 @@ module _ (set : Set) (states : States) (w : World) (past : List Entry) (good : I
           in
           let stand : names_on states (is_listed (Declared q)) a.device m w.threads
           + names_on states (is_armed (Declared q)) a.device m w.threads
-          ≤ times_of (queue_of w.shared a.device q) m = c.balanced.standing a.device q m in
+          ≤ times_of (queue_of w.shared a.device q) m = c.balanced.standing a.device (Declared q) m refl in
           let its : times_of (queue_of w.shared a.device q) m ≡ times_in entries m =
           ap (λ (o : Option (List ℕ)). times_of o m) there in
           let some : 1 ≤ times_in entries m = omega arith in
@@ -423,12 +491,11 @@ module _ (set : Set) (states : States) (w : World) (past : List Entry) (good : I
                 (once_turned (numbers states w) (numbers states to) (Listed (Declared q)) Own
                 a.device m changes refl
                 (once_less unlinked_lists))
-                a.device q m
+                a.device (Declared q) m
                 changes
                 words_same
-                (λ d p n. rw queues (entries_fewer w.shared a.device q m entries
-                (unlinked entries m)
-                there (λ n. unlinked_fewer entries m n some) d p n));
+                (λ d p n. entries_fewer w.shared to.shared a.device (Declared q) m entries
+                (unlinked entries m) put (λ n. unlinked_fewer entries m n some) d p n);
             apart = all_apart set states w past good stands c t h leaves
                 (rw frames (
                   apart_down states a (next a) (Listed (Declared q)) Own m turns
@@ -437,61 +504,13 @@ module _ (set : Set) (states : States) (w : World) (past : List Entry) (good : I
                 ));
           }
       unlinks_by (inr is) =
-          let turns : TurnsNames states a (next a) (Cancelling (Declared q)) Own m =
-          unlinked_turns (Cancelling (Declared q)) is in
-          let one : 1 ≤ names states (is_cancelling (Declared q)) a m =
-          unlinked_name (Cancelling (Declared q)) (is_cancelling (Declared q)) is (eq-eqb q q refl)
-          in
-          let among : names states (is_cancelling (Declared q)) a m
-          ≤ names_on states (is_cancelling (Declared q)) a.device m w.threads =
-          names_among set states w past good stands c t h leaves a (is_cancelling (Declared q)) m
-          frame in
-          let holder : names_on states (is_listed (Declared q)) a.device m w.threads
-          + names_on states (is_cancelling (Declared q)) a.device m w.threads
-          + owns_in states m w.threads + times_waiting set w.shared m ≤ 1 =
-          one_holder set states w kept m a.device q in
-          let free : names states (is_armed (Declared q)) a m
-          + names states (is_taken (Declared q)) a m
-          + names states (is_cancelling (Declared q)) a m ≤ 1 = apart_a q m in
-          let rule : guard_fault (state_of states a) set a.driver (Declared q) ≡ None =
-          second_none (unlink_kind (Declared q) (kind_of (state_of states a) r))
-          (guard_fault (state_of states a) set a.driver (Declared q)) run.obeys in
-          let armed : names_on states (is_armed (Declared q)) a.device m w.threads
-          ≡ names states (is_armed (Declared q)) a m =
-          alone (Unlink r q) (Declared q) run rule (is_armed (Declared q))
-          (armed_needs set a.driver (Declared q)) m in
-          let taken : names_on states (is_taken (Declared q)) a.device m w.threads
-          ≡ names states (is_taken (Declared q)) a m =
-          alone (Unlink r q) (Declared q) run rule (is_taken (Declared q))
-          (taken_needs set a.driver (Declared q)) m in
-          let le : times_in entries m ≤ times_queued w.shared.queues m =
-          times_le w.shared a.device q entries m there in
-          let once : takes_in states m w.threads + times_listed w.shared m
-          ≤ 1 = c.balanced.once m in
-          let few : times_in entries m ≤ 1 = omega arith in
-          let changes : Changes (Cancelling (Declared q)) Own m =
-          kind_turns set states w past good stands c t h leaves a (next a) (Cancelling (Declared q))
-          Own m frame frames refl turns in
-          record {
-            balanced = balanced_cancels set (numbers states w) (numbers states to) c.balanced
-                (once_turned (numbers states w) (numbers states to) (Cancelling (Declared q)) Own
-                a.device m changes refl
-                (once_less unlinked_lists))
-                a.device q m (omega arith) (omega arith) (omega arith)
-                (rw queues (unlinked_out w.shared a.device q m entries there few))
-                (λ d p n none. rw queues (entries_others w.shared a.device q m entries
-                (unlinked entries m) there (λ n other. unlinked_other entries m n other) d p n
-                none))
-                changes
-                words_same;
-            apart = all_apart set states w past good stands c t h leaves
-                (rw frames (
-                  apart_down states a (next a) (Cancelling (Declared q)) Own m turns
-                      (λ p. (refl, refl, refl)) apart_a,
-                  tt,
-                ));
-          }
+          unlinks_cancelled (Unlink r q) (Declared q) r m entries run reads there frames put
+          unlinked_lists
+          (second_none (unlink_kind (Declared q) (kind_of (state_of states a) r))
+          (guard_fault (state_of states a) set a.driver (Declared q)) run.obeys) is
+          (unlinked_turns (Cancelling (Declared q)) is)
 
       pub unlinks_claims : Claimed set states to
       unlinks_claims =
-          unlinks_by (unlinked_kind q (kind_of (state_of states a) r) (first_none _ _ run.obeys))
+          unlinks_by
+          (unlinked_kind (Declared q) (kind_of (state_of states a) r) (first_none _ _ run.obeys))

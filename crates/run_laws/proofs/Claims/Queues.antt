@@ -1,38 +1,44 @@
 -- How often packets stand in queues with a cancel routine, after one is put into a queue or taken
 -- off it; and a packet that stands in no list.
-use Rattle.std.proofs.Common.{◌≡◌, ℕ, zero, suc, ◌+◌, ◌≤◌, ◌⊎◌, inl, inr, true, false, List, [], ◌∷◌, Option, Some, refl, ap, sym, ◌∙◌, subst, arith, eq-eqb}
+use Rattle.std.proofs.Common.{◌≡◌, ℕ, zero, suc, ◌+◌, ◌≤◌, ◌⊎◌, inl, inr, true, false, List, [], ◌∷◌, Option, Some, refl, ap, sym, ◌∙◌, subst, arith, eq-eqb, Bool, option_map}
 use Rattle.std.specs.Prelude.{is_some, nat_eq, option_and_then, slice_get, slice_index_or, slice_set, if◌then◌else◌}
 use Rattle.std.proofs.lemmas.Bool.{cases_Bool}
 use Rattle.std.proofs.lemmas.Bool.Decides.{eqb_tells}
 use Rattle.std.proofs.lemmas.Option.{get_or_from_slice_get}
+use Rattle.model.specs.declared.set.QueueName.{QueueName}
+use Rattle.model.specs.declared.set.QueueName.TheVariants.{Declared, DeviceQueue}
 use Rattle.model.specs.Effect.{routine_of_device}
 use Rattle.model.specs.Queues.{StartState, unlinked}
-use Rattle.model.specs.Set.{Set, cancel_routine_of}
-use Rattle.model.specs.World.{Shared, queue_of, with_queue}
-use Rattle.run_laws.specs.Holder.{times_in, times_on, times_plain, times_plain_on, times_queued, times_started, times_to_start}
-use Rattle.run_laws.proofs.Claims.Balance.{hit, hit_elsewhere}
-use Rattle.run_laws.proofs.Claims.Sums.{is_cancelable, times_of}
+use Rattle.model.specs.Set.{Set, cancel_routine_of, is_named}
+use Rattle.model.specs.World.{Shared, queue_of, with_queue, start_of, with_start}
+use Rattle.run_laws.specs.Holder.{times_in, times_on, times_plain, times_plain_on, times_queued, times_started, times_to_start, waits_cancelable, times_at}
+use Rattle.run_laws.proofs.Claims.Balance.{hit, hit_elsewhere, name_same}
+use Rattle.run_laws.proofs.Claims.Sums.{is_cancelable, times_of, list_of}
 use Rattle.run_laws.proofs.Lists.{set_other, set_same}
 use Rattle.run_laws.proofs.States.Fits.{queue_row}
+use Rattle.model.specs.Kinds.{is_name}
 
--- a queue that was put: it, or another one as it was
-abbrev pub PutOrNot : Shared → ℕ → ℕ → List ℕ → List ℕ → ℕ → ℕ → Type 0
-PutOrNot s d q before after e p =
-    ((nat_eq d e ≡ true) × (nat_eq q p ≡ true) × (queue_of s e p ≡ Some before)
-    × (queue_of (with_queue s d q after) e p ≡ Some after))
-    ⊎ (((n m : ℕ) → hit d q n e p m ≡ 0) × (queue_of (with_queue s d q after) e p ≡ queue_of s e p))
+-- a list in place of another one: it, or a list that is as it was
+abbrev pub PutOrNot : Shared → Shared → ℕ → QueueName → List ℕ → List ℕ → ℕ → QueueName → Type 0
+PutOrNot s to d q before after e p =
+    ((nat_eq d e ≡ true) × (is_name q p ≡ true) × (list_of s e p ≡ Some before)
+    × (list_of to e p ≡ Some after))
+    ⊎ (((n m : ℕ) → hit d q n e p m ≡ 0) × (list_of to e p ≡ list_of s e p))
 
-pub put_or_not : (s : Shared) (d q : ℕ) (before after : List ℕ) (e p : ℕ)
+abbrev pub Puts : Shared → Shared → ℕ → QueueName → List ℕ → List ℕ → Type 0
+Puts s to d q before after = (e : ℕ) (p : QueueName) → PutOrNot s to d q before after e p
+
+put_queue_at : (s : Shared) (d q : ℕ) (before after : List ℕ) (e p : ℕ)
     → queue_of s d q ≡ Some before
-    → PutOrNot s d q before after e p
-put_or_not s d q before after e p there =
+    → PutOrNot s (with_queue s d q after) d (Declared q) before after e (Declared p)
+put_queue_at s d q before after e p there =
     let row : (lists : List (List ℕ)) × (slice_get s.queues d ≡ Some lists)
     × (slice_get lists q ≡ Some before) = queue_row s d q before there in
     let same : slice_index_or s.queues d [] ≡ row.0 =
     get_or_from_slice_get s.queues d row.0 [] row.1 in
     elim (eqb_tells d e) [
       | inr apart ↦ inr (
-        λ n m. hit_elsewhere d q n e p m apart.0,
+        λ n m. hit_elsewhere d (Declared q) n e (Declared p) m apart.0,
         ap (λ (o : Option (List (List ℕ))). option_and_then (λ lists. slice_get lists p) o)
             (set_other s.queues d e (slice_set (slice_index_or s.queues d []) q after)
             (λ same. apart.1 same)),
@@ -66,50 +72,102 @@ put_or_not s d q before after e p there =
           ]
     ]
 
-module _ (s : Shared) (d q m : ℕ) (before after : List ℕ) (there : queue_of s d q ≡ Some before)
-  where
-    abbrev now : ℕ → ℕ → ℕ → ℕ
-    now e p n = times_of (queue_of (with_queue s d q after) e p) n
+-- a queue, and a device queue
+pub put_queue : (s : Shared) (d q : ℕ) (before after : List ℕ) → queue_of s d q ≡ Some before
+    → Puts s (with_queue s d q after) d (Declared q) before after
+put_queue s d q before after there e (Declared p) = put_queue_at s d q before after e p there
+put_queue s d q before after there e DeviceQueue = inr ((λ n m. refl), refl)
 
-    abbrev was : ℕ → ℕ → ℕ → ℕ
-    was e p n = times_of (queue_of s e p) n
+pub put_waiting : (s : Shared) (d : ℕ) (before after : StartState) → start_of s d ≡ Some before
+    → Puts s (with_start s d after) d DeviceQueue before.device_queue after.device_queue
+put_waiting s d before after there e (Declared p) = inr ((λ n m. refl), refl)
+put_waiting s d before after there e DeviceQueue =
+    elim (eqb_tells d e) [
+      | inr apart ↦ inr (
+        λ n m. rw apart.0 refl,
+        ap (λ (o : Option StartState). option_map (λ start. start.device_queue) o)
+            (set_other s.starts d e after (λ same. apart.1 same)),
+      )
+      | inl here ↦ inl (
+        here.0,
+        refl,
+        ap (λ (o : Option StartState). option_map (λ start. start.device_queue) o)
+            (subst (λ (x : ℕ). slice_get s.starts x ≡ Some before) here.1 there),
+        ap (λ (o : Option StartState). option_map (λ start. start.device_queue) o)
+            (subst (λ (x : ℕ). slice_get (slice_set s.starts d after) x ≡ Some after) here.1
+            (set_same s.starts d before after there)),
+      )
+    ]
 
-    pub entries_more : ((n : ℕ) → times_in after n ≡ times_in before n
-        + (if nat_eq m n then 1 else 0))
-        → (e p n : ℕ) → now e p n ≡ was e p n + hit d q m e p n
-    entries_more more e p n =
-        elim (put_or_not s d q before after e p there) [
-          | inl its ↦ rw (its.0, its.1, its.2, its.3) (more n)
-          | inr other ↦
-              let same : now e p n ≡ was e p n =
-              ap (λ (o : Option (List ℕ)). times_of o n) other.1 in
-              omega (arith, other.0 m n)
-        ]
+pub puts_queue : (s to : Shared) (d q : ℕ) (before after : List ℕ) → queue_of s d q ≡ Some before
+    → to.queues ≡ (with_queue s d q after).queues → to.starts ≡ s.starts
+    → Puts s to d (Declared q) before after
+puts_queue s to d q before after there queues starts e (Declared p) =
+    rw queues (put_queue s d q before after there e (Declared p))
+puts_queue s to d q before after there queues starts e DeviceQueue =
+    rw starts (put_queue s d q before after there e DeviceQueue)
 
-    pub entries_fewer : ((n : ℕ) → times_in after n + (if nat_eq m n then 1 else 0)
-        ≡ times_in before n)
-        → (e p n : ℕ) → now e p n + hit d q m e p n ≡ was e p n
-    entries_fewer fewer e p n =
-        elim (put_or_not s d q before after e p there) [
-          | inl its ↦ rw (its.0, its.1, its.2, its.3) (fewer n)
-          | inr other ↦
-              let same : now e p n ≡ was e p n =
-              ap (λ (o : Option (List ℕ)). times_of o n) other.1 in
-              omega (arith, other.0 m n)
-        ]
+pub puts_waiting : (s to : Shared) (d : ℕ) (before after : StartState)
+    → start_of s d ≡ Some before → to.queues ≡ s.queues
+    → to.starts ≡ (with_start s d after).starts
+    → Puts s to d DeviceQueue before.device_queue after.device_queue
+puts_waiting s to d before after there queues starts e (Declared p) =
+    rw queues (put_waiting s d before after there e (Declared p))
+puts_waiting s to d before after there queues starts e DeviceQueue =
+    rw starts (put_waiting s d before after there e DeviceQueue)
 
-    pub entries_others : ((n : ℕ) → nat_eq m n ≡ false → times_in after n ≡ times_in before n)
-        → (e p n : ℕ) → hit d q m e p n ≡ 0 → now e p n ≡ was e p n
-    entries_others others e p n none =
-        elim (put_or_not s d q before after e p there) [
-          | inl its ↦
-              let missed : (if nat_eq m n then 1 else 0) ≡ zero = rw (its.0, its.1) at none in
-              rw (its.2, its.3) (elim (cases_Bool (nat_eq m n)) [
-                | inl same ↦ let no : 1 ≡ zero = rw same at missed in absurd (omega arith)
-                | inr apart ↦ others n apart
-              ])
-          | inr other ↦ ap (λ (o : Option (List ℕ)). times_of o n) other.1
-        ]
+module _ (s to : Shared) (d : ℕ) (q : QueueName) (m : ℕ) (before after : List ℕ)
+    (put : Puts s to d q before after) where
+  abbrev now : ℕ → QueueName → ℕ → ℕ
+  now e p n = times_of (list_of to e p) n
+
+  abbrev was : ℕ → QueueName → ℕ → ℕ
+  was e p n = times_of (list_of s e p) n
+
+  pub entries_more : ((n : ℕ) → times_in after n ≡ times_in before n
+      + (if nat_eq m n then 1 else 0))
+      → (e : ℕ) (p : QueueName) (n : ℕ) → now e p n ≡ was e p n + hit d q m e p n
+  entries_more more e p n =
+      elim (put e p) [
+        | inl its ↦ rw (its.0, its.1, its.2, its.3) (more n)
+        | inr other ↦
+            let same : now e p n ≡ was e p n =
+            ap (λ (o : Option (List ℕ)). times_of o n) other.1 in
+            omega (arith, other.0 m n)
+      ]
+
+  pub entries_fewer : ((n : ℕ) → times_in after n + (if nat_eq m n then 1 else 0)
+      ≡ times_in before n)
+      → (e : ℕ) (p : QueueName) (n : ℕ) → now e p n + hit d q m e p n ≡ was e p n
+  entries_fewer fewer e p n =
+      elim (put e p) [
+        | inl its ↦ rw (its.0, its.1, its.2, its.3) (fewer n)
+        | inr other ↦
+            let same : now e p n ≡ was e p n =
+            ap (λ (o : Option (List ℕ)). times_of o n) other.1 in
+            omega (arith, other.0 m n)
+      ]
+
+  pub entries_same : ((n : ℕ) → times_in after n ≡ times_in before n)
+      → (e : ℕ) (p : QueueName) (n : ℕ) → now e p n ≡ was e p n
+  entries_same same e p n =
+      elim (put e p) [
+        | inl its ↦ rw (its.2, its.3) (same n)
+        | inr other ↦ ap (λ (o : Option (List ℕ)). times_of o n) other.1
+      ]
+
+  pub entries_others : ((n : ℕ) → nat_eq m n ≡ false → times_in after n ≡ times_in before n)
+      → (e : ℕ) (p : QueueName) (n : ℕ) → hit d q m e p n ≡ 0 → now e p n ≡ was e p n
+  entries_others others e p n none =
+      elim (put e p) [
+        | inl its ↦
+            let missed : (if nat_eq m n then 1 else 0) ≡ zero = rw (its.0, its.1) at none in
+            rw (its.2, its.3) (elim (cases_Bool (nat_eq m n)) [
+              | inl same ↦ let no : 1 ≡ zero = rw same at missed in absurd (omega arith)
+              | inr apart ↦ others n apart
+            ])
+        | inr other ↦ ap (λ (o : Option (List ℕ)). times_of o n) other.1
+      ]
 
 -- a packet that is unlinked
 pub unlinked_fewer : (entries : List ℕ) (m n : ℕ) → 1 ≤ times_in entries m
@@ -148,6 +206,15 @@ unlinked_other (k ∷ entries) m n other =
           rw apart.0 (omega (arith, unlinked_other entries m n other))
     ]
 
+pub unlinked_times : (entries : List ℕ) (m n : ℕ)
+    → times_in (unlinked entries m) n ≤ times_in entries n
+unlinked_times [] m n = omega arith
+unlinked_times (k ∷ entries) m n =
+    elim (eqb_tells k m) [
+      | inl same ↦ rw same.0 (omega arith)
+      | inr apart ↦ rw apart.0 (omega (arith, unlinked_times entries m n))
+    ]
+
 -- one that stood there at most once stands there no more
 unlinked_gone : (entries : List ℕ) (m : ℕ) → times_in entries m ≤ 1
     → times_in (unlinked entries m) m ≡ 0
@@ -163,24 +230,57 @@ unlinked_gone (k ∷ entries) m few =
           rw (apart.0, apart.0) (omega arith)
     ]
 
-pub unlinked_out : (s : Shared) (d q m : ℕ) (entries : List ℕ) → queue_of s d q ≡ Some entries
-    → times_in entries m ≤ 1
-    → times_of (queue_of (with_queue s d q (unlinked entries m)) d q) m ≡ 0
-unlinked_out s d q m entries there few =
-    elim (put_or_not s d q entries (unlinked entries m) d q there) [
+pub unlinked_out : (s to : Shared) (d : ℕ) (q : QueueName) (m : ℕ) (entries : List ℕ)
+    → Puts s to d q entries (unlinked entries m) → times_in entries m ≤ 1
+    → times_of (list_of to d q) m ≡ 0
+unlinked_out s to d q m entries put few =
+    elim (put d q) [
       | inl its ↦ rw its.3 (unlinked_gone entries m few)
       | inr other ↦
           let no : hit d q m d q m ≡ 0 = other.0 m m in
-          let one : 1 ≡ zero = rw (eq-eqb d d refl, eq-eqb q q refl, eq-eqb m m refl) at no in
+          let one : 1 ≡ zero = rw (eq-eqb d d refl, name_same q, eq-eqb m m refl) at no in
           absurd (omega arith)
     ]
 
 -- what devices have for StartIo holds what stands in their lists
-pub to_start_le : (starts : List StartState) (n : ℕ)
-    → times_to_start starts n ≤ times_started starts n
-to_start_le [] n = omega arith
-to_start_le (start ∷ starts) n =
-    omega (arith, to_start_le starts n)
+waiting_zero : (b : Bool) (start : StartState) (n : ℕ) → times_at b start n ≡ 0
+    → (b ≡ true → times_in start.device_queue n ≡ 0)
+    → times_in start.start_list n + times_in start.device_queue n ≡ 0
+waiting_zero true start n none empty =
+    omega (arith, empty refl)
+waiting_zero false start n none empty = omega arith
+
+starts_zero : (set : Set) (d : ℕ) (starts : List StartState) (n : ℕ)
+    → times_started set d starts n ≡ 0
+    → ((i : ℕ) (start : StartState) → slice_get starts i ≡ Some start
+    → waits_cancelable set (d + i) ≡ true → times_in start.device_queue n ≡ 0)
+    → times_to_start starts n ≡ 0
+starts_zero set d [] n none empty = refl
+starts_zero set d (start ∷ starts) n none empty =
+    let place : d + zero ≡ d = omega arith in
+    let first : times_in start.start_list n + times_in start.device_queue n ≡ 0 =
+    waiting_zero (waits_cancelable set d) start n (omega arith)
+    (λ is. empty zero start refl
+    (subst (λ (x : ℕ). waits_cancelable set x ≡ true) (sym place) is)) in
+    let others : times_to_start starts n ≡ 0 =
+    starts_zero set (d + 1) starts n (omega arith)
+    (λ i start there is.
+    let next : d + 1 + i ≡ d + suc i = omega arith in
+    empty (suc i) start there (subst (λ (x : ℕ). waits_cancelable set x ≡ true) next is)) in
+    omega arith
+
+pub to_start_zero : (set : Set) (s : Shared) (n : ℕ) → times_started set 0 s.starts n ≡ 0
+    → ((d : ℕ) → is_cancelable set d DeviceQueue ≡ true
+    → times_of (list_of s d DeviceQueue) n ≡ 0)
+    → times_to_start s.starts n ≡ 0
+to_start_zero set s n none empty =
+    starts_zero set 0 s.starts n none
+    (λ i start there is.
+    let place : 0 + i ≡ i = omega arith in
+    let its : list_of s i DeviceQueue ≡ Some start.device_queue = rw there refl in
+    let zero_times : times_of (list_of s i DeviceQueue) n ≡ 0 =
+    empty i (subst (λ (x : ℕ). waits_cancelable set x ≡ true) place is) in
+    sym (ap (λ (o : Option (List ℕ)). times_of o n) its) ∙ zero_times)
 
 -- a packet that stands in no queue without a cancel routine, and in none that has one
 on_zero : (set : Set) (driver q : ℕ) (lists : List (List ℕ)) (n : ℕ)
@@ -213,7 +313,7 @@ queues_zero : (set : Set) (d : ℕ) (queues : List (List (List ℕ))) (n : ℕ)
     → times_plain set d queues n ≡ 0
     → ((i q : ℕ) (lists : List (List ℕ)) (entries : List ℕ) → slice_get queues i ≡ Some lists
     → slice_get lists q ≡ Some entries
-    → is_cancelable set (d + i) q ≡ true → times_in entries n ≡ 0)
+    → is_cancelable set (d + i) (Declared q) ≡ true → times_in entries n ≡ 0)
     → times_queued queues n ≡ 0
 queues_zero set d [] n plain none = refl
 queues_zero set d (lists ∷ queues) n plain none =
@@ -223,18 +323,18 @@ queues_zero set d (lists ∷ queues) n plain none =
     (λ q entries there has.
     let its : 0 + q ≡ q = omega arith in
     none zero q lists entries refl there
-    (subst (λ (x : ℕ). is_cancelable set x q ≡ true) (sym place)
-    (subst (λ (x : ℕ). is_cancelable set d x ≡ true) its has))) in
+    (subst (λ (x : ℕ). is_cancelable set x (Declared q) ≡ true) (sym place)
+    (subst (λ (x : ℕ). is_cancelable set d (Declared x) ≡ true) its has))) in
     let others : times_queued queues n ≡ 0 =
     queues_zero set (d + 1) queues n (omega arith)
     (λ i q found entries there its has.
     let next : d + 1 + i ≡ d + suc i = omega arith in
     none (suc i) q found entries there its
-    (subst (λ (x : ℕ). is_cancelable set x q ≡ true) next has)) in
+    (subst (λ (x : ℕ). is_cancelable set x (Declared q) ≡ true) next has)) in
     omega arith
 
 pub queued_zero : (set : Set) (s : Shared) (n : ℕ) → times_plain set 0 s.queues n ≡ 0
-    → ((d q : ℕ) → is_cancelable set d q ≡ true → times_of (queue_of s d q) n ≡ 0)
+    → ((d q : ℕ) → is_cancelable set d (Declared q) ≡ true → times_of (queue_of s d q) n ≡ 0)
     → times_queued s.queues n ≡ 0
 queued_zero set s n plain none =
     queues_zero set 0 s.queues n plain
@@ -242,5 +342,5 @@ queued_zero set s n plain none =
     let place : 0 + i ≡ i = omega arith in
     let found : queue_of s i q ≡ Some entries = rw there its in
     let zero_times : times_of (queue_of s i q) n ≡ 0 =
-    none i q (subst (λ (x : ℕ). is_cancelable set x q ≡ true) place has) in
+    none i q (subst (λ (x : ℕ). is_cancelable set x (Declared q) ≡ true) place has) in
     sym (ap (λ (o : Option (List ℕ)). times_of o n) found) ∙ zero_times)

@@ -48,7 +48,7 @@ use Rattle.run_laws.proofs.States.Obeyed.{SendsDown, completes_one, returns_by, 
 use Rattle.run_laws.proofs.States.OnTop.{OnTop, runs}
 use Rattle.run_laws.specs.ArrivingStates.{States}
 use Rattle.run_laws.proofs.States.Rules.{first_none}
-use Rattle.run_laws.proofs.Steps.Comes.{Comes, Reads, awaits_lock, calls_down, cancels, carries_up, completes_gone, completes_packet, computes, ends_cancel, ends_dpc, ends_startio, errs, exchanges, frees_lock, lends_to, lets_go, lets_walk, looks_at, marks_packet, opens_loop, pages, passes_down, resumes_gone, resumes_none, resumes_walk, retakes_lock, returns_status, stops_none, stops_walk, takes_lock, tops_out, touches_gone, turns_loop, walks_gone, walks_to, walks_up, works_on_queues, writes_info}
+use Rattle.run_laws.proofs.Steps.Comes.{Comes, Reads, awaits_lock, calls_down, cancels, carries_up, completes_gone, completes_packet, computes, ends_cancel, ends_dpc, ends_startio, errs, exchanges, frees_lock, lends_to, lets_go, lets_walk, looks_at, marks_packet, opens_loop, pages, passes_down, resumes_gone, resumes_none, resumes_walk, retakes_lock, returns_status, stops_none, stops_walk, takes_lock, tops_out, touches_gone, turns_loop, walks_gone, walks_to, walks_up, works_on_queues, writes_info, works_on_waiting}
 use Rattle.run_laws.proofs.Steps.Faults.{fault_among, is_touch, topped_faults}
 use Rattle.run_laws.proofs.Steps.Onward.{goes_device, turned_device, turned_registers}
 use Rattle.run_laws.proofs.Steps.Words.{Forwarding, lock_taken, packet_operand, work_of}
@@ -58,14 +58,14 @@ pub record Quiet (states : States) (s : Shared) (f : Frame) (o : Outcome) : Type
   pub names : (g : Kind → Bool) → OfQueues g → (on : ℕ → Bool) (n : ℕ)
       → stack_sum (frame_names states g on n) o.frames ≡ frame_names states g on n f
   pub apart : FrameApart states f → Each (FrameApart states) o.frames
-  pub words : (n d q : ℕ) → word_at (find o.shared.packets n) d q ≡ word_at (find s.packets n) d q
+  pub words : (n d : ℕ) (q : QueueName) → word_at (find o.shared.packets n) d q ≡ word_at (find s.packets n) d q
   pub queues : o.shared.queues ≡ s.queues
   pub starts : o.shared.starts ≡ s.starts
 
 -- a packet with another cancel word, or with the one that it had
 module _ (s : Shared) (n : ℕ) (p q : Packet) (there : packet_of s n ≡ Some p)
     (number : q.number ≡ p.number) where
-  pub word_put : (m d l : ℕ) → word_at (find (with_packet s n q).packets m) d l
+  pub word_put : (m d : ℕ) (l : QueueName) → word_at (find (with_packet s n q).packets m) d l
       ≡ (if nat_eq n m then word_for q.armer d l else word_at (find s.packets m) d l)
   word_put m d l =
       let its : q.number ≡ n = number ∙ numbered s n p there in
@@ -74,7 +74,7 @@ module _ (s : Shared) (n : ℕ) (p q : Packet) (there : packet_of s n ≡ Some p
         | inr other ↦ rw other.0 refl
       ])
 
-  pub word_kept : q.armer ≡ p.armer → (m d l : ℕ)
+  pub word_kept : q.armer ≡ p.armer → (m d : ℕ) (l : QueueName)
       → word_at (find (with_packet s n q).packets m) d l ≡ word_at (find s.packets m) d l
   word_kept same m d l =
       word_put m d l ∙ (elim (eqb_tells n m) [
@@ -93,9 +93,9 @@ module _ (states : States) (a b : Activation) (keeps : KeepsNames states a b) wh
   apart_keeps h q n =
       omega (
         arith,
-        keeps (is_armed (Declared q)) (armed_queues (Declared q)) n,
-        keeps (is_taken (Declared q)) (taken_queues (Declared q)) n,
-        keeps (is_cancelling (Declared q)) (cancelling_queues (Declared q)) n,
+        keeps (is_armed q) (armed_queues q) n,
+        keeps (is_taken q) (taken_queues q) n,
+        keeps (is_cancelling q) (cancelling_queues q) n,
         h q n,
       )
 
@@ -114,9 +114,9 @@ module _ (states : States) (a : Activation) (none : NamesNone states a) where
   apart_none q n =
       omega (
         arith,
-        none (is_armed (Declared q)) (armed_queues (Declared q)) n,
-        none (is_taken (Declared q)) (taken_queues (Declared q)) n,
-        none (is_cancelling (Declared q)) (cancelling_queues (Declared q)) n,
+        none (is_armed q) (armed_queues q) n,
+        none (is_taken q) (taken_queues q) n,
+        none (is_cancelling q) (cancelling_queues q) n,
       )
 
 -- a routine begins, but for a cancel routine
@@ -186,6 +186,7 @@ abbrev pub is_loud : {set : Set} {s : Shared} {t : ℕ} {under : Option Frame} {
 is_loud (exchanges a i b jumped r n p armer at is goes operand reads there how) = true
 is_loud (frees_lock a i lock owner at frees there) = true
 is_loud (works_on_queues a i b queues starts actions full at queued) = true
+is_loud (works_on_waiting a i starts n p armer full at there waits) = true
 is_loud (tops_out n p there none last) = true
 is_loud (cancels n step made moves) = true
 is_loud _ = false
@@ -197,7 +198,7 @@ module _ (set : Set) (states : States) (s : Shared) (past : List Entry) (actor :
       → ((g : Kind → Bool) → OfQueues g → (on : ℕ → Bool) (n : ℕ)
       → stack_sum (frame_names states g on n) above ≡ 0)
       → Each (FrameApart states) above
-      → ((n d q : ℕ) → word_at (find o.shared.packets n) d q ≡ word_at (find s.packets n) d q)
+      → ((n d : ℕ) (q : QueueName) → word_at (find o.shared.packets n) d q ≡ word_at (find s.packets n) d q)
       → o.shared.queues ≡ s.queues → o.shared.starts ≡ s.starts → Quiet states s (Routine a) o
   goes_quiet a b above o keeps device frames none others words queues starts =
       record {
@@ -215,7 +216,7 @@ module _ (set : Set) (states : States) (s : Shared) (past : List Entry) (actor :
 
   pub on_quiet : (a b : Activation) (o : Outcome) → KeepsNames states a b → b.device ≡ a.device
       → o.frames ≡ Routine b ∷ []
-      → ((n d q : ℕ) → word_at (find o.shared.packets n) d q ≡ word_at (find s.packets n) d q)
+      → ((n d : ℕ) (q : QueueName) → word_at (find o.shared.packets n) d q ≡ word_at (find s.packets n) d q)
       → o.shared.queues ≡ s.queues → o.shared.starts ≡ s.starts → Quiet states s (Routine a) o
   on_quiet a b o keeps device frames words queues starts =
       goes_quiet a b [] o keeps device frames (λ g of on n. refl) tt words queues starts
@@ -223,7 +224,7 @@ module _ (set : Set) (states : States) (s : Shared) (past : List Entry) (actor :
   -- a routine returns
   returns_quiet : (a : Activation) (form : Return) (o : Outcome) → Runs set states s a (Ret form)
       → o.frames ≡ []
-      → ((n d q : ℕ) → word_at (find o.shared.packets n) d q ≡ word_at (find s.packets n) d q)
+      → ((n d : ℕ) (q : QueueName) → word_at (find o.shared.packets n) d q ≡ word_at (find s.packets n) d q)
       → o.shared.queues ≡ s.queues → o.shared.starts ≡ s.starts → Quiet states s (Routine a) o
   returns_quiet a form o h frames words queues starts =
       let back : Bool = gives_back (sort_of set a.driver a.routine) form in
@@ -245,7 +246,7 @@ module _ (set : Set) (states : States) (s : Shared) (past : List Entry) (actor :
       → ((g : Kind → Bool) → OfQueues g → (on : ℕ → Bool) (m : ℕ)
       → stack_sum (frame_names states g on m) frames ≡ 0)
       → Each (FrameApart states) frames
-      → ((m d q : ℕ) → word_at (find o.shared.packets m) d q ≡ word_at (find s.packets m) d q)
+      → ((m d : ℕ) (q : QueueName) → word_at (find o.shared.packets m) d q ≡ word_at (find s.packets m) d q)
       → o.shared.queues ≡ s.queues → o.shared.starts ≡ s.starts → Quiet states s (Walk n) o
   walk_quiet n frames o is none others words queues starts =
       record {
@@ -360,6 +361,8 @@ module _ (set : Set) (states : States) (s : Shared) (past : List Entry) (actor :
   quiet_step under f o top holding (frees_lock a i lock owner at frees there) loud quiet = cc
   quiet_step under f o top holding
       (works_on_queues a i b queues starts actions full at queued) loud quiet = cc
+  quiet_step under f o top holding
+      (works_on_waiting a i starts n p armer full at there waits) loud quiet = cc
   quiet_step under f o top holding (completes_packet a r status n p at reads there) loud quiet =
       let h : Runs set states s a (Complete r status) = runs set states s a (Complete r status) top
       at in

@@ -219,7 +219,7 @@ module _ (set : Set) (states : States) (w : World) (past : List Entry) (good : I
       → {b : Activation} {queues : List (List (List ℕ))} {lists : List StartState}
       {actions : List Action} {full : Bool}
       → h.outcome ≡ queued_to w.shared b queues lists actions full
-      → Queued w.shared a i b queues lists actions full → Claimed set states to
+      → Queued set w.shared a i b queues lists actions full → Claimed set states to
   queues_by a i frame run outcome (inserts r q n entries reads there) =
       inserts_claims set states w past good stands c t h leaves kept a frame
       (ap (λ (x : Outcome). x.shared.packets) outcome) r q n entries run
@@ -242,7 +242,7 @@ module _ (set : Set) (states : States) (w : World) (past : List Entry) (good : I
       same_by a (at_label a label) frame outcome
       (label_names set states w.shared a (Remove r q label) run r label refl refl
       (unbroken _ _ (first_none _ _ (second_none _ _ run.obeys)))) refl
-  queues_by a i frame run outcome (starts_packet r n start reads there) =
+  queues_by a i frame run outcome (starts_packet r n start reads there plain) =
       let own : kind_of (state_of states a) r ≡ Own =
       inserts_right (kind_of (state_of states a) r) (first_none _ _ run.obeys) in
       lists_claims set states w past good stands c t h leaves kept a frame
@@ -284,7 +284,7 @@ module _ (set : Set) (states : States) (w : World) (past : List Entry) (good : I
       (turns_nothing states a (next a) Own BlankKind n refl refl
       (next_turns set states w.shared a (Begin r) run r Own BlankKind n refl refl own
       (reads_ref w.shared (register a r) n reads))) refl there (λ m. refl)
-  queues_by a i frame run outcome (starts_next start there) =
+  queues_by a i frame run outcome (starts_next start there none) =
       start_by a (next a) start (next_started start) frame outcome
       (kinds_names set states w.shared a Next run refl refl) refl there (waits_next start)
 

@@ -2,8 +2,9 @@
 -- becomes of another kind, and what the other frames have.
 use Rattle.std.proofs.Common.{◌≡◌, ℕ, ◌+◌, ◌-◌, ◌≤◌, Bool, true, false, List, [], ◌∷◌, ◌++◌, Option, None, Some, refl, ap, sym, ◌∙◌, subst, arith, inl, inr, eq-eqb}
 use Rattle.std.specs.Prelude.{nat_eq, if◌then◌else◌}
+use Rattle.model.specs.declared.set.QueueName.{QueueName}
 use Rattle.model.specs.declared.abs.Kind.{Kind}
-use Rattle.model.specs.declared.set.QueueName.TheVariants.{Declared}
+use Rattle.model.specs.declared.set.QueueName.TheVariants.{Declared, DeviceQueue}
 use Rattle.model.specs.declared.status.Status.{Status}
 use Rattle.model.specs.declared.world.Activation.{Activation}
 use Rattle.model.specs.declared.world.Frame.{Frame}
@@ -21,7 +22,7 @@ use Rattle.run_laws.proofs.Claims.Balance.{KindTurns, Same, at_kind, at_swapped,
 use Rattle.run_laws.proofs.Claims.Changed.{changed}
 use Rattle.run_laws.proofs.Claims.Names.{KeepsNames, OfQueues, TurnsNames, armed_queues, cancelling_queues, listed_queues, names, queue_packets, taken_queues, was_queues}
 use Rattle.run_laws.proofs.Claims.Quiet.{Quiet, apart_keeps}
-use Rattle.run_laws.proofs.Claims.Sums.{Balanced, Claimed, FrameApart, frame_names, is_taken, names_on, numbers, takes_in, was_taken}
+use Rattle.run_laws.proofs.Claims.Sums.{Balanced, Claimed, FrameApart, frame_names, is_taken, names_on, numbers, takes_in, was_taken, is_declared, is_cancelable, times_of, list_of}
 use Rattle.run_laws.proofs.Holders.Rights.{named_told}
 use Rattle.run_laws.proofs.Holders.Sums.{top_le}
 use Rattle.run_laws.proofs.Lists.{Each, each_after, each_append, each_before}
@@ -98,6 +99,21 @@ module _ (set : Set) (states : States) (issued : ℕ) where
   after_apart below f (Some status) (e ∷ frames) stacked to h =
       let no : Some status ≡ None = to.0 in cc
 
+declared_same : (set : Set) (v w : World) → w.shared.queues ≡ v.shared.queues → (d : ℕ)
+    (q : QueueName) (n : ℕ) → is_declared q ≡ true
+    → times_of (list_of w.shared d q) n ≡ times_of (list_of v.shared d q) n
+declared_same set v w queues d (Declared q) n is = rw queues refl
+declared_same set v w queues d DeviceQueue n is = cc
+
+entries_less : (set : Set) (v w : World) → w.shared.queues ≡ v.shared.queues
+    → ((d n : ℕ) → is_cancelable set d DeviceQueue ≡ true
+    → times_of (list_of w.shared d DeviceQueue) n ≤ times_of (list_of v.shared d DeviceQueue) n)
+    → (d : ℕ) (q : QueueName) (n : ℕ) → is_cancelable set d q ≡ true
+    → times_of (list_of w.shared d q) n ≤ times_of (list_of v.shared d q) n
+entries_less set v w queues waiting d (Declared q) n is =
+    omega (arith, declared_same set v w queues d (Declared q) n refl)
+entries_less set v w queues waiting d DeviceQueue n is = waiting d n is
+
 -- frames name as many packets of queues with a cancel routine as before, words and queues are as
 -- they were, and no packet stands in two lists
 pub same_balance : (set : Set) (states : States) (v w : World) → Balanced set (numbers states v)
@@ -106,25 +122,28 @@ pub same_balance : (set : Set) (states : States) (v w : World) → Balanced set 
     ≡ thread_sum (frame_names states g on n) v.threads)
     → Same (numbers states v).word (numbers states w).word
     → w.shared.queues ≡ v.shared.queues
+    → ((d n : ℕ) → is_cancelable set d DeviceQueue ≡ true
+    → times_of (list_of w.shared d DeviceQueue) n ≤ times_of (list_of v.shared d DeviceQueue) n)
     → ((n : ℕ) → takes_in states n v.threads + times_listed w.shared n ≤ 1)
     → Balanced set (numbers states w)
-same_balance set states v w balanced same words queues once =
+same_balance set states v w balanced same words queues waiting once =
     balanced_less set (numbers states v) (numbers states w) balanced
     (λ n.
     omega (arith, same was_taken was_queues (λ e. true) n, once n))
     (λ d q n. omega (
       arith,
-      same (is_armed (Declared q)) (armed_queues (Declared q)) (λ e. nat_eq e d) n,
+      same (is_armed q) (armed_queues q) (λ e. nat_eq e d) n,
     ))
     (λ d q n. omega (
       arith,
-      same (is_taken (Declared q)) (taken_queues (Declared q)) (λ e. nat_eq e d) n,
+      same (is_taken q) (taken_queues q) (λ e. nat_eq e d) n,
     ))
-    (λ d q n. same (is_listed (Declared q)) (listed_queues (Declared q)) (λ e. nat_eq e d) n)
-    (λ d q n. same (is_cancelling (Declared q)) (cancelling_queues (Declared q)) (λ e. nat_eq e d)
+    (λ d q n. same (is_listed q) (listed_queues q) (λ e. nat_eq e d) n)
+    (λ d q n. same (is_cancelling q) (cancelling_queues q) (λ e. nat_eq e d)
     n)
     words
-    (λ d q n. rw queues refl)
+    (λ d q n is. declared_same set v w queues d q n is)
+    (λ d q n is. entries_less set v w queues waiting d q n is)
 
 module _ (set : Set) (states : States) (w : World) (past : List Entry) (good : IsGood set states)
     (stands : Standing set states w past) (c : Claimed set states w) (t : ℕ)
@@ -208,14 +227,14 @@ module _ (set : Set) (states : States) (w : World) (past : List Entry) (good : I
     kind_turns =
         record {
           armed = λ d q n.
-              turned_sums (is_armed (Declared q)) (armed_queues (Declared q)) (λ e. nat_eq e d) n;
+              turned_sums (is_armed q) (armed_queues q) (λ e. nat_eq e d) n;
           taken = λ d q n.
-              turned_sums (is_taken (Declared q)) (taken_queues (Declared q)) (λ e. nat_eq e d) n;
+              turned_sums (is_taken q) (taken_queues q) (λ e. nat_eq e d) n;
           listed = λ d q n.
-              turned_sums (is_listed (Declared q)) (listed_queues (Declared q)) (λ e. nat_eq e d)
+              turned_sums (is_listed q) (listed_queues q) (λ e. nat_eq e d)
               n;
           cancelling = λ d q n.
-              turned_sums (is_cancelling (Declared q)) (cancelling_queues (Declared q))
+              turned_sums (is_cancelling q) (cancelling_queues q)
               (λ e. nat_eq e d) n;
           takes = turned_sums was_taken was_queues (λ e. true);
         }
@@ -238,6 +257,7 @@ module _ (set : Set) (states : States) (w : World) (past : List Entry) (good : I
       record {
         balanced = same_balance set states w after c.balanced
             (λ g of on n. same_sums g of on n (q.names g of on n)) (λ d p n. q.words n d p) q.queues
+            (λ d n is. rw (q.starts) (omega arith))
             (λ n.
             let lists : times_listed h.outcome.shared n ≡ times_listed w.shared n =
             rw (q.queues, q.starts) refl in

@@ -1,11 +1,11 @@
 -- Claims to packets that may be cancelled. A register of kind Armed or Taken is no right: the
 -- packet's cancel word has it, or the cancel routine that IoCancelIrp called. Counted over all
 -- frames, for a queue of a device and a packet.
-use Rattle.std.specs.Prelude.{ℕ, ◌≡◌, ◌≤◌, ◌+◌, ◌&&◌, Bool, true, false, List, Option, None, Some, is_some, nat_eq, if◌then◌else◌, slice_get, ⊤}
+use Rattle.std.specs.Prelude.{ℕ, ◌≡◌, ◌≤◌, ◌+◌, ◌&&◌, Bool, true, false, List, Option, None, Some, is_some, nat_eq, if◌then◌else◌, slice_get, ⊤, option_map}
 use Rattle.model.specs.declared.abs.Kind.{Kind}
 use Rattle.model.specs.declared.abs.Kind.TheVariants.{Taken}
 use Rattle.model.specs.declared.set.QueueName.{QueueName}
-use Rattle.model.specs.declared.set.QueueName.TheVariants.{Declared}
+use Rattle.model.specs.declared.set.QueueName.TheVariants.{Declared, DeviceQueue}
 use Rattle.model.specs.declared.world.Armer.{Armer}
 use Rattle.model.specs.declared.world.Frame.{Frame}
 use Rattle.model.specs.declared.world.Frame.TheVariants.{Routine, Walk, Cancel as CancelFrame}
@@ -14,8 +14,8 @@ use Rattle.model.specs.declared.world.Thread.{Thread}
 use Rattle.model.specs.Effect.{routine_of_device}
 use Rattle.model.specs.Kinds.{is_armed, is_cancelling, is_listed, is_name}
 use Rattle.model.specs.Run.{frames_on}
-use Rattle.model.specs.Set.{Set, cancel_routine_of}
-use Rattle.model.specs.World.{World, queue_of}
+use Rattle.model.specs.Set.{Set, cancel_routine_of, has_cancel}
+use Rattle.model.specs.World.{World, queue_of, Shared, start_of}
 use Rattle.run_laws.specs.Holder.{named_in, thread_sum, times_in, times_listed}
 use Rattle.run_laws.proofs.Lists.{Each}
 use Rattle.run_laws.proofs.Past.LivePackets.{find}
@@ -47,19 +47,28 @@ abbrev pub takes_in : States → ℕ → List Thread → ℕ
 takes_in states n threads = thread_sum (frame_names states was_taken (λ device. true) n) threads
 
 -- 1 where a cancel word names a queue of a device
-abbrev pub word_for : Option Armer → ℕ → ℕ → ℕ
+abbrev pub word_for : Option Armer → ℕ → QueueName → ℕ
 word_for None d q = 0
 word_for (Some armer) d q =
-    if nat_eq armer.device d && is_name armer.queue (Declared q) then 1 else 0
+    if nat_eq armer.device d && is_name armer.queue q then 1 else 0
 
-abbrev pub word_at : Option Packet → ℕ → ℕ → ℕ
+abbrev pub word_at : Option Packet → ℕ → QueueName → ℕ
 word_at None d q = 0
 word_at (Some p) d q = word_for p.armer d q
 
--- a queue of a device has a cancel routine
-abbrev pub is_cancelable : Set → ℕ → ℕ → Bool
-is_cancelable set d q =
-    is_some (cancel_routine_of set (routine_of_device (slice_get set.devices d)) q)
+-- a queue that the driver declares, and not the device queue
+abbrev pub is_declared : QueueName → Bool
+is_declared (Declared q) = true
+is_declared DeviceQueue = false
+
+-- a list of a device has a cancel routine
+abbrev pub is_cancelable : Set → ℕ → QueueName → Bool
+is_cancelable set d q = has_cancel set (routine_of_device (slice_get set.devices d)) q
+
+-- the entries of a list of a device, if it is there
+abbrev pub list_of : Shared → ℕ → QueueName → Option (List ℕ)
+list_of s d (Declared q) = queue_of s d q
+list_of s d DeviceQueue = option_map (λ start. start.device_queue) (start_of s d)
 
 -- how often a packet stands in a queue that is there
 abbrev pub times_of : Option (List ℕ) → ℕ → ℕ
@@ -69,9 +78,9 @@ times_of (Some entries) n = times_in entries n
 -- in one frame a packet that the cancel routine was called for is in no claim
 abbrev pub FrameApart : States → Frame → Type 0
 FrameApart states (Routine a) =
-    (q n : ℕ) → named_in (is_armed (Declared q)) (state_of states a).kinds a.registers n
-    + named_in (is_taken (Declared q)) (state_of states a).kinds a.registers n
-    + named_in (is_cancelling (Declared q)) (state_of states a).kinds a.registers n ≤ 1
+    (q : QueueName) (n : ℕ) → named_in (is_armed q) (state_of states a).kinds a.registers n
+    + named_in (is_taken q) (state_of states a).kinds a.registers n
+    + named_in (is_cancelling q) (state_of states a).kinds a.registers n ≤ 1
 FrameApart states (Walk m) = ⊤
 FrameApart states (CancelFrame c) = ⊤
 
@@ -79,36 +88,37 @@ FrameApart states (CancelFrame c) = ⊤
 -- where the packet's cancel word names the queue, and how often it stands there; and for a packet,
 -- registers of kind Taken for any queue, and how often it stands in all lists together
 pub record Numbers : Type 0 where
-  pub armed : ℕ → ℕ → ℕ → ℕ
-  pub taken : ℕ → ℕ → ℕ → ℕ
-  pub listed : ℕ → ℕ → ℕ → ℕ
-  pub cancelling : ℕ → ℕ → ℕ → ℕ
-  pub word : ℕ → ℕ → ℕ → ℕ
-  pub entries : ℕ → ℕ → ℕ → ℕ
+  pub armed : ℕ → QueueName → ℕ → ℕ
+  pub taken : ℕ → QueueName → ℕ → ℕ
+  pub listed : ℕ → QueueName → ℕ → ℕ
+  pub cancelling : ℕ → QueueName → ℕ → ℕ
+  pub word : ℕ → QueueName → ℕ → ℕ
+  pub entries : ℕ → QueueName → ℕ → ℕ
   pub takes : ℕ → ℕ
   pub lists : ℕ → ℕ
 
 abbrev pub numbers : States → World → Numbers
 numbers states w =
     record {
-      armed = λ d q n. names_on states (is_armed (Declared q)) d n w.threads;
-      taken = λ d q n. names_on states (is_taken (Declared q)) d n w.threads;
-      listed = λ d q n. names_on states (is_listed (Declared q)) d n w.threads;
-      cancelling = λ d q n. names_on states (is_cancelling (Declared q)) d n w.threads;
+      armed = λ d q n. names_on states (is_armed q) d n w.threads;
+      taken = λ d q n. names_on states (is_taken q) d n w.threads;
+      listed = λ d q n. names_on states (is_listed q) d n w.threads;
+      cancelling = λ d q n. names_on states (is_cancelling q) d n w.threads;
       word = λ d q n. word_at (find w.shared.packets n) d q;
-      entries = λ d q n. times_of (queue_of w.shared d q) n;
+      entries = λ d q n. times_of (list_of w.shared d q) n;
       takes = λ n. takes_in states n w.threads;
       lists = λ n. times_listed w.shared n;
     }
 
 -- who has a claim is backed by the word or by the cancel routine; an entry of a queue with a cancel
 -- routine has its word, its cancel routine, or a register of kind Listed; a register of kind Listed
--- or Armed names an entry; and a packet stands in one list, or was taken off by one, or neither
+-- or Armed names an entry of its queue; and a packet stands in one list, or was taken off by one, or neither
 pub record Balanced (set : Set) (x : Numbers) : Type 0 where
-  pub backed : (d q n : ℕ) → x.armed d q n + x.taken d q n ≤ x.word d q n + x.cancelling d q n
-  pub entered : (d q n : ℕ) → is_cancelable set d q ≡ true
+  pub backed : (d : ℕ) (q : QueueName) (n : ℕ) → x.armed d q n + x.taken d q n ≤ x.word d q n + x.cancelling d q n
+  pub entered : (d : ℕ) (q : QueueName) (n : ℕ) → is_cancelable set d q ≡ true
       → x.entries d q n ≤ x.word d q n + x.cancelling d q n + x.listed d q n
-  pub standing : (d q n : ℕ) → x.listed d q n + x.armed d q n ≤ x.entries d q n
+  pub standing : (d : ℕ) (q : QueueName) (n : ℕ) → is_declared q ≡ true
+      → x.listed d q n + x.armed d q n ≤ x.entries d q n
   pub once : (n : ℕ) → x.takes n + x.lists n ≤ 1
 
 pub record Claimed (set : Set) (states : States) (w : World) : Type 0 where

@@ -1,6 +1,6 @@
 -- An exchange of a packet's cancel word keeps claims, and so does the release of a lock: the word
 -- has the right that a register of kind Listed had, and gives it back, or to the cancel routine.
-use Rattle.std.proofs.Common.{◌≡◌, ◌⊎◌, ℕ, ◌+◌, ◌≤◌, Bool, true, false, List, [], ◌∷◌, Option, None, Some, refl, ap, sym, ◌∙◌, subst, arith, inl, inr, eq-eqb, eqb-true}
+use Rattle.std.proofs.Common.{◌≡◌, ◌⊎◌, ℕ, ◌+◌, ◌≤◌, Bool, true, false, List, [], ◌∷◌, Option, None, Some, refl, ap, sym, ◌∙◌, subst, arith, inl, inr, eq-eqb, eqb-true, slice_get, option_map, sub-le}
 use Rattle.std.specs.Prelude.{is_some, nat_eq, slice_set, if◌then◌else◌, ◌&&◌}
 use Rattle.std.proofs.lemmas.Bool.{cases_Bool}
 use Rattle.std.proofs.lemmas.Bool.Decides.{eqb_tells}
@@ -9,7 +9,7 @@ use Rattle.model.specs.declared.abs.Kind.TheVariants.{Blank as BlankKind, Own, L
 use Rattle.model.specs.declared.instr.Instr.{Instr}
 use Rattle.model.specs.declared.instr.Instr.TheVariants.{Arm, Disarm, Release, ReleaseCancel}
 use Rattle.model.specs.declared.set.Guard.{Guard}
-use Rattle.model.specs.declared.set.QueueName.TheVariants.{Declared}
+use Rattle.model.specs.declared.set.QueueName.TheVariants.{Declared, DeviceQueue}
 use Rattle.model.specs.declared.world.Activation.{Activation}
 use Rattle.model.specs.declared.world.Frame.TheVariants.{Routine}
 use Rattle.model.specs.Effect.{armer_of}
@@ -18,14 +18,14 @@ use Rattle.model.specs.LocalRule.{handed, kind_of, queued_kind}
 use Rattle.model.specs.Set.{Set, flow_of}
 use Rattle.run_laws.proofs.States.Moves.{has_next}
 use Rattle.model.specs.Trace.{Entry}
-use Rattle.model.specs.World.{Shared, World, at_label, next, queue_of, register, packet_of, with_armer, with_packet}
-use Rattle.run_laws.specs.Holder.{named_as, named_in, stack_sum, thread_sum, times_listed, times_queued, times_waiting, times_named}
-use Rattle.run_laws.proofs.Claims.Balance.{KindTurns, balanced_gives, balanced_less, hit, balanced_arms, balanced_disarms, balanced_keeps_taken, once_turned}
+use Rattle.model.specs.World.{Shared, World, at_label, next, queue_of, register, packet_of, with_armer, with_packet, start_of}
+use Rattle.run_laws.specs.Holder.{named_as, named_in, stack_sum, thread_sum, times_listed, times_queued, times_waiting, times_named, times_to_start}
+use Rattle.run_laws.proofs.Claims.Balance.{KindTurns, balanced_gives, balanced_less, hit, balanced_arms, balanced_disarms, balanced_keeps_taken, once_turned, names_tell, name_same}
 use Rattle.run_laws.proofs.Claims.Held.{one_holder, owns_in, word_holds}
 use Rattle.run_laws.proofs.Claims.Names.{OfQueues, TurnsNames, armed_queues, cancelling_queues, listed_queues, names, next_turns, taken_queues, was_queues, gone_names, label_turns, next_names, stay_names}
 use Rattle.run_laws.proofs.Claims.Quiet.{word_kept, word_put}
 use Rattle.run_laws.proofs.Claims.Steps.{after, all_apart, apart_here, kind_turns, names_among, same_sums, less_sums}
-use Rattle.run_laws.proofs.Claims.Sums.{Claimed, FrameApart, frame_names, is_taken, names_on, numbers, takes_in, times_of, was_taken, word_at, word_for}
+use Rattle.run_laws.proofs.Claims.Sums.{Claimed, FrameApart, frame_names, is_taken, names_on, numbers, takes_in, times_of, was_taken, word_at, word_for, list_of}
 use Rattle.run_laws.proofs.Claims.Working.{apart_down, apart_up, taken_le}
 use Rattle.run_laws.proofs.Holders.Counts.{reads_ref}
 use Rattle.run_laws.proofs.Holders.Queued.{times_le}
@@ -44,23 +44,26 @@ use Rattle.model.specs.declared.world.Armer.{Armer}
 use Rattle.model.specs.declared.world.Packet.{Packet}
 use Rattle.run_laws.proofs.Past.Packets.{found}
 use Rattle.run_laws.proofs.Tests.{if_le}
+use Rattle.run_laws.proofs.States.Listed.{named_same}
+use Rattle.run_laws.proofs.Holders.Started.{waits_in}
+use Rattle.model.specs.Queues.{StartState}
+use Rattle.run_laws.proofs.Lists.{sum_le}
 
 -- an exchange wants a packet that stands in a queue, or a claim
-armed_kind : (q : ℕ) (k : Kind) → queued_kind (is_listed (Declared q) k) k ≡ None
-    → k ≡ Listed (Declared q)
-armed_kind q (Listed (Declared p)) h =
-    elim (eqb_tells p q) [
-      | inl same ↦ ap (λ (x : ℕ). Listed (Declared x)) same.1
+armed_kind : (q : QueueName) (k : Kind) → queued_kind (is_listed q k) k ≡ None → k ≡ Listed q
+armed_kind q (Listed p) h =
+    elim (names_tell p q) [
+      | inl same ↦ ap (λ (x : QueueName). Listed x) same.1
       | inr apart ↦ let no = rw apart.0 at h in cc
     ]
 armed_kind q _ h = cc
 
 abbrev pub Claims : Kind → Type 0
-Claims k = (q : ℕ) × ((k ≡ Armed (Declared q)) ⊎ (k ≡ Taken (Declared q)))
+Claims k = (q : QueueName) × ((k ≡ Armed q) ⊎ (k ≡ Taken q))
 
 disarmed_kind : (k : Kind) → queued_kind (is_exchanged k) k ≡ None → Claims k
-disarmed_kind (Armed (Declared q)) h = (q, inl refl)
-disarmed_kind (Taken (Declared q)) h = (q, inr refl)
+disarmed_kind (Armed q) h = (q, inl refl)
+disarmed_kind (Taken q) h = (q, inr refl)
 disarmed_kind _ h = cc
 
 no_armer : (o : Option Armer) → (if is_some o then 1 else 0) ≤ 0 → o ≡ None
@@ -72,17 +75,14 @@ names_both : (here its : Bool) → 1 ≤ (if here && its then 1 else 0) → (her
 names_both true true h = (refl, refl)
 names_both _ _ h = absurd (omega arith)
 
-named_queue : (name : QueueName) (q : ℕ) → is_name name (Declared q) ≡ true → name ≡ Declared q
-named_queue (Declared p) q h = ap (λ (x : ℕ). Declared x) (eqb-true p q h)
+abbrev pub IsFor : Armer → ℕ → QueueName → Type 0
+IsFor armer d q = (armer.device ≡ d) × (armer.queue ≡ q)
 
-abbrev pub IsFor : Armer → ℕ → ℕ → Type 0
-IsFor armer d q = (armer.device ≡ d) × (armer.queue ≡ Declared q)
-
-word_is_for : (armer : Armer) (d q : ℕ) → 1 ≤ word_for (Some armer) d q → IsFor armer d q
+word_is_for : (armer : Armer) (d : ℕ) (q : QueueName) → 1 ≤ word_for (Some armer) d q → IsFor armer d q
 word_is_for armer d q h =
-    let both : (nat_eq armer.device d ≡ true) × (is_name armer.queue (Declared q) ≡ true) =
-    names_both (nat_eq armer.device d) (is_name armer.queue (Declared q)) h in
-    (eqb-true armer.device d both.0, named_queue armer.queue q both.1)
+    let both : (nat_eq armer.device d ≡ true) × (is_name armer.queue q ≡ true) =
+    names_both (nat_eq armer.device d) (is_name armer.queue q) h in
+    (eqb-true armer.device d both.0, named_same armer.queue q both.1)
 
 if_both : (here its : Bool) (one : ℕ) → (if here && its then one else 0)
     ≡ (if its then (if here then one else 0) else 0)
@@ -91,17 +91,17 @@ if_both false true one = refl
 if_both false false one = refl
 
 -- what a word says of each queue
-word_hit : (armer : Armer) (d q m e p : ℕ) → IsFor armer d q
+word_hit : (armer : Armer) (d : ℕ) (q : QueueName) (m e : ℕ) (p : QueueName) → IsFor armer d q
     → word_for (Some armer) e p ≡ hit d q m e p m
 word_hit armer d q m e p is =
-    rw (is.0, is.1, eq-eqb m m refl) (if_both (nat_eq d e) (nat_eq q p) 1)
+    rw (is.0, is.1, eq-eqb m m refl) (if_both (nat_eq d e) (is_name q p) 1)
 
 -- a packet's word before and after: filled, or emptied
-module _ (s : Shared) (m d q : ℕ) (p : Packet) (there : packet_of s m ≡ Some p) (armer : Armer)
+module _ (s : Shared) (m d : ℕ) (q : QueueName) (p : Packet) (there : packet_of s m ≡ Some p) (armer : Armer)
     (is : IsFor armer d q) where
-  hit_other : (e l n : ℕ) → nat_eq m n ≡ false → hit d q m e l n ≡ 0
+  pub hit_other : (e : ℕ) (l : QueueName) (n : ℕ) → nat_eq m n ≡ false → hit d q m e l n ≡ 0
   hit_other e l n other =
-      rw other (elim (cases_Bool (nat_eq q l)) [
+      rw other (elim (cases_Bool (is_name q l)) [
         | inr apart ↦ rw apart refl
         | inl its ↦ rw its (elim (cases_Bool (nat_eq d e)) [
           | inr apart ↦ rw apart refl
@@ -109,10 +109,10 @@ module _ (s : Shared) (m d q : ℕ) (p : Packet) (there : packet_of s m ≡ Some
         ])
       ])
 
-  word_there : (e l : ℕ) → word_at (find s.packets m) e l ≡ word_for p.armer e l
+  word_there : (e : ℕ) (l : QueueName) → word_at (find s.packets m) e l ≡ word_for p.armer e l
   word_there e l = ap (λ (o : Option Packet). word_at o e l) (found s m (Some p) there)
 
-  pub word_filled : p.armer ≡ None → (e l n : ℕ)
+  pub word_filled : p.armer ≡ None → (e : ℕ) (l : QueueName) (n : ℕ)
       → word_at (find (with_packet s m (with_armer p (Some armer))).packets n) e l
       ≡ word_at (find s.packets n) e l + hit d q m e l n
   word_filled empty e l n =
@@ -136,7 +136,7 @@ module _ (s : Shared) (m d q : ℕ) (p : Packet) (there : packet_of s m ≡ Some
             omega (arith, word_hit armer d q m e l is)
       ]
 
-  pub word_emptied : p.armer ≡ Some armer → (e l n : ℕ)
+  pub word_emptied : p.armer ≡ Some armer → (e : ℕ) (l : QueueName) (n : ℕ)
       → word_at (find (with_packet s m (with_armer p None)).packets n) e l + hit d q m e l n
       ≡ word_at (find s.packets n) e l
   word_emptied set_to e l n =
@@ -160,28 +160,50 @@ module _ (s : Shared) (m d q : ℕ) (p : Packet) (there : packet_of s m ≡ Some
             omega (arith, word_hit armer d q m e l is)
       ]
 
--- a packet that stands in a queue stands in all
+-- a packet that stands in a list stands in all
+pub waiting_le : (starts : List StartState) (d : ℕ) (start : StartState) (n : ℕ)
+    → slice_get starts d ≡ Some start → waits_in start n ≤ times_to_start starts n
+waiting_le starts d start n there =
+    sum_le (λ start. waits_in start n) (λ starts. times_to_start starts n) (λ x xs. refl) starts d
+    start there
+
+waiting_of_le : (s : Shared) (d n : ℕ) (o : Option StartState) → start_of s d ≡ o
+    → times_of (option_map (λ start. start.device_queue) o) n ≤ times_to_start s.starts n
+waiting_of_le s d n None there = omega arith
+waiting_of_le s d n (Some start) there = omega (arith, waiting_le s.starts d start n there)
+
 pub times_of_le : (s : Shared) (d q n : ℕ) (o : Option (List ℕ)) → queue_of s d q ≡ o
     → times_of o n ≤ times_queued s.queues n
 times_of_le s d q n None there = omega arith
 times_of_le s d q n (Some entries) there = times_le s d q entries n there
 
+pub list_le : (s : Shared) (d : ℕ) (q : QueueName) (n : ℕ)
+    → times_of (list_of s d q) n ≤ times_listed s n
+list_le s d (Declared q) n =
+    omega (arith, times_of_le s d q n (queue_of s d q) refl)
+list_le s d DeviceQueue n =
+    omega (arith, waiting_of_le s d n (start_of s d) refl)
+
+lists_same : (s to : Shared) → to.queues ≡ s.queues → to.starts ≡ s.starts → (d : ℕ)
+    (q : QueueName) (n : ℕ) → times_of (list_of to d q) n ≡ times_of (list_of s d q) n
+lists_same s to queues starts d (Declared q) n = rw queues refl
+lists_same s to queues starts d DeviceQueue n = rw starts refl
+
 -- a cancel word that isn't empty is for the queue of a claim
 pub word_names : (set : Set) (states : States) (w : World) → Held set states w
     → Claimed set states w
-    → (d q m : ℕ) (p : Packet) (armer : Armer) → packet_of w.shared m ≡ Some p
+    → (d : ℕ) (q : QueueName) (m : ℕ) (p : Packet) (armer : Armer) → packet_of w.shared m ≡ Some p
     → p.armer ≡ Some armer
-    → 1 ≤ names_on states (is_armed (Declared q)) d m w.threads
-    + names_on states (is_taken (Declared q)) d m w.threads
+    → 1 ≤ names_on states (is_armed q) d m w.threads + names_on states (is_taken q) d m w.threads
     → IsFor armer d q
 word_names set states w kept c d q m p armer there is claims =
-    let backed : names_on states (is_armed (Declared q)) d m w.threads
-    + names_on states (is_taken (Declared q)) d m w.threads
+    let backed : names_on states (is_armed q) d m w.threads
+    + names_on states (is_taken q) d m w.threads
     ≤ word_at (find w.shared.packets m) d q
-    + names_on states (is_cancelling (Declared q)) d m w.threads = c.balanced.backed d q m in
+    + names_on states (is_cancelling q) d m w.threads = c.balanced.backed d q m in
     let named : times_named (packet_of w.shared m) ≡ 1 = rw (there, is) refl in
-    let holder : names_on states (is_listed (Declared q)) d m w.threads
-    + names_on states (is_cancelling (Declared q)) d m w.threads
+    let holder : names_on states (is_listed q) d m w.threads
+    + names_on states (is_cancelling q) d m w.threads
     + owns_in states m w.threads + times_waiting set w.shared m ≤ 1 =
     one_holder set states w kept m d q in
     let word : word_at (find w.shared.packets m) d q ≡ word_for (Some armer) d q =
@@ -226,7 +248,7 @@ module _ (set : Set) (states : States) (w : World) (past : List Entry) (good : I
       pub arms_claims : Claimed set states to
       arms_claims =
           let is : kind_of (state_of states a) r ≡ Listed (Declared q) =
-          armed_kind q (kind_of (state_of states a) r) (first_none _ _ run.obeys) in
+          armed_kind (Declared q) (kind_of (state_of states a) r) (first_none _ _ run.obeys) in
           let turns : TurnsNames states a (next a) (Listed (Declared q)) (Armed (Declared q)) m =
           next_turns set states w.shared a (Arm r q) run r (Listed (Declared q))
           (Armed (Declared q)) m refl refl is (reads_ref w.shared (register a r) m reads) in
@@ -236,17 +258,17 @@ module _ (set : Set) (states : States) (w : World) (past : List Entry) (good : I
           let holder : names_on states (is_listed (Declared q)) a.device m w.threads
           + names_on states (is_cancelling (Declared q)) a.device m w.threads
           + owns_in states m w.threads + times_waiting set w.shared m ≤ 1 =
-          one_holder set states w kept m a.device q in
+          one_holder set states w kept m a.device (Declared q) in
           let named : times_named (packet_of w.shared m) ≡ (if is_some p.armer then 1 else 0) =
           ap times_named there in
           let empty : p.armer ≡ None = no_armer p.armer (omega arith) in
-          let word : word_at (find w.shared.packets m) a.device q ≤ times_waiting set w.shared m =
-          word_holds set states w kept m a.device q in
+          let word : word_at (find w.shared.packets m) a.device (Declared q) ≤ times_waiting set w.shared m =
+          word_holds set states w kept m a.device (Declared q) in
           let backed : names_on states (is_armed (Declared q)) a.device m w.threads
           + names_on states (is_taken (Declared q)) a.device m w.threads
-          ≤ word_at (find w.shared.packets m) a.device q
+          ≤ word_at (find w.shared.packets m) a.device (Declared q)
           + names_on states (is_cancelling (Declared q)) a.device m w.threads =
-          c.balanced.backed a.device q m in
+          c.balanced.backed a.device (Declared q) m in
           let armed : names states (is_armed (Declared q)) a m
           ≤ names_on states (is_armed (Declared q)) a.device m w.threads =
           names_among set states w past good stands c t h leaves a (is_armed (Declared q)) m frame
@@ -267,15 +289,15 @@ module _ (set : Set) (states : States) (w : World) (past : List Entry) (good : I
                 (once_turned (numbers states w) (numbers states to) (Listed (Declared q))
                 (Armed (Declared q)) a.device m changes refl
                 (λ n. rw shared (c.balanced.once n)))
-                a.device q m
+                a.device (Declared q) m
                 changes
-                (λ d l n. rw shared (word_filled w.shared m a.device q p there (armer_of a q)
+                (λ d l n. rw shared (word_filled w.shared m a.device (Declared q) p there (armer_of a q)
                 (refl, refl)
                 empty d l n))
                 (λ d l n. rw shared refl);
             apart = all_apart set states w past good stands c t h leaves
                 (rw frames (
-                  apart_up states a (next a) (Listed (Declared q)) (Armed (Declared q)) m q turns
+                  apart_up states a (next a) (Listed (Declared q)) (Armed (Declared q)) m (Declared q) turns
                       ((λ l n e. omega arith), (λ l. refl)) (omega arith) apart_a,
                   tt,
                 ));
@@ -294,23 +316,23 @@ module _ (set : Set) (states : States) (w : World) (past : List Entry) (good : I
 
     module _ (armer : Armer) (is_set : p.armer ≡ Some armer)
         (frames : h.outcome.frames ≡ Routine (next a) ∷ []) where
-      empties_by : (q : ℕ) → (kind_of (state_of states a) r ≡ Armed (Declared q))
-          ⊎ (kind_of (state_of states a) r ≡ Taken (Declared q)) → Claimed set states to
+      empties_by : (q : QueueName) → (kind_of (state_of states a) r ≡ Armed q)
+          ⊎ (kind_of (state_of states a) r ≡ Taken q) → Claimed set states to
       empties_by q (inl is) =
-          let turns : TurnsNames states a (next a) (Armed (Declared q)) (Listed (Declared q)) m =
-          disarmed_turns (Armed (Declared q)) is in
-          let one : 1 ≤ names_on states (is_armed (Declared q)) a.device m w.threads =
-          named_here (Disarm r label) r m run reads (Armed (Declared q)) (is_armed (Declared q)) is
-          (eq-eqb q q refl) in
+          let turns : TurnsNames states a (next a) (Armed q) (Listed q) m =
+          disarmed_turns (Armed q) is in
+          let one : 1 ≤ names_on states (is_armed q) a.device m w.threads =
+          named_here (Disarm r label) r m run reads (Armed q) (is_armed q) is
+          (name_same q) in
           let its : IsFor armer a.device q =
           word_names set states w kept c a.device q m p armer there is_set (omega arith) in
-          let changes : Changes (Armed (Declared q)) (Listed (Declared q)) m =
-          kind_turns set states w past good stands c t h leaves a (next a) (Armed (Declared q))
-          (Listed (Declared q)) m frame frames refl turns in
+          let changes : Changes (Armed q) (Listed q) m =
+          kind_turns set states w past good stands c t h leaves a (next a) (Armed q)
+          (Listed q) m frame frames refl turns in
           record {
             balanced = balanced_disarms set (numbers states w) (numbers states to) c.balanced
-                (once_turned (numbers states w) (numbers states to) (Armed (Declared q))
-                (Listed (Declared q)) a.device m changes refl
+                (once_turned (numbers states w) (numbers states to) (Armed q)
+                (Listed q) a.device m changes refl
                 (λ n. rw shared (c.balanced.once n)))
                 a.device q m
                 changes
@@ -319,31 +341,31 @@ module _ (set : Set) (states : States) (w : World) (past : List Entry) (good : I
                 (λ d l n. rw shared refl);
             apart = all_apart set states w past good stands c t h leaves
                 (rw frames (
-                  apart_down states a (next a) (Armed (Declared q)) (Listed (Declared q)) m
+                  apart_down states a (next a) (Armed q) (Listed q) m
                       turns (λ l. (refl, refl, refl)) apart_a,
                   tt,
                 ));
           }
       empties_by q (inr is) =
-          let turns : TurnsNames states a (next a) (Taken (Declared q)) Own m =
-          disarmed_turns (Taken (Declared q)) is in
-          let one : 1 ≤ names_on states (is_taken (Declared q)) a.device m w.threads =
-          named_here (Disarm r label) r m run reads (Taken (Declared q)) (is_taken (Declared q)) is
-          (eq-eqb q q refl) in
+          let turns : TurnsNames states a (next a) (Taken q) Own m =
+          disarmed_turns (Taken q) is in
+          let one : 1 ≤ names_on states (is_taken q) a.device m w.threads =
+          named_here (Disarm r label) r m run reads (Taken q) (is_taken q) is
+          (name_same q) in
           let its : IsFor armer a.device q =
           word_names set states w kept c a.device q m p armer there is_set (omega arith) in
-          let takes : names_on states (is_taken (Declared q)) a.device m w.threads
+          let takes : names_on states (is_taken q) a.device m w.threads
           ≤ takes_in states m w.threads = taken_le states w a.device q m in
           let once : takes_in states m w.threads + times_listed w.shared m
           ≤ 1 = c.balanced.once m in
-          let entries : times_of (queue_of w.shared a.device q) m ≤ times_queued w.shared.queues m =
-          times_of_le w.shared a.device q m (queue_of w.shared a.device q) refl in
-          let changes : Changes (Taken (Declared q)) Own m =
-          kind_turns set states w past good stands c t h leaves a (next a) (Taken (Declared q)) Own
+          let entries : times_of (list_of w.shared a.device q) m ≤ times_listed w.shared m =
+          list_le w.shared a.device q m in
+          let changes : Changes (Taken q) Own m =
+          kind_turns set states w past good stands c t h leaves a (next a) (Taken q) Own
           m frame frames refl turns in
           record {
             balanced = balanced_keeps_taken set (numbers states w) (numbers states to) c.balanced
-                (once_turned (numbers states w) (numbers states to) (Taken (Declared q)) Own
+                (once_turned (numbers states w) (numbers states to) (Taken q) Own
                 a.device m changes refl
                 (λ n. rw shared (c.balanced.once n)))
                 a.device q m (omega arith)
@@ -353,7 +375,7 @@ module _ (set : Set) (states : States) (w : World) (past : List Entry) (good : I
                 (λ d l n. rw shared refl);
             apart = all_apart set states w past good stands c t h leaves
                 (rw frames (
-                  apart_down states a (next a) (Taken (Declared q)) Own m
+                  apart_down states a (next a) (Taken q) Own m
                       turns (λ l. (refl, refl, refl)) apart_a,
                   tt,
                 ));
@@ -370,8 +392,8 @@ module _ (set : Set) (states : States) (w : World) (past : List Entry) (good : I
         ≡ Routine (at_label a label) ∷ [])
       where
         gives_up : (j : Kind) → kind_of (state_of states a) r ≡ j
-            → ((q : ℕ) → (is_listed (Declared q) j ≡ false)
-            × (is_cancelling (Declared q) j ≡ false))
+            → ((q : QueueName) → (is_listed q j ≡ false)
+            × (is_cancelling q j ≡ false))
             → Claimed set states to
         gives_up j is plain =
             let turns : TurnsNames states a (at_label a label) j BlankKind m =
@@ -402,8 +424,8 @@ module _ (set : Set) (states : States) (w : World) (past : List Entry) (good : I
             let claims : Claims (kind_of (state_of states a) r) =
             disarmed_kind (kind_of (state_of states a) r) run.obeys in
             elim claims.1 [
-              | inl is ↦ gives_up (Armed (Declared claims.0)) is (λ q. (refl, refl))
-              | inr is ↦ gives_up (Taken (Declared claims.0)) is (λ q. (refl, refl))
+              | inl is ↦ gives_up (Armed claims.0) is (λ q. (refl, refl))
+              | inr is ↦ gives_up (Taken claims.0) is (λ q. (refl, refl))
             ]
 
   -- a lock is released that may be a guard
@@ -465,24 +487,25 @@ module _ (set : Set) (states : States) (w : World) (past : List Entry) (good : I
             let lists : times_listed h.outcome.shared n ≡ times_listed w.shared n =
             rw (queues, starts) refl in
             omega (arith, less_all was_taken was_queues (λ e. true) n, c.balanced.once n))
-            (λ d l n. less_all (is_armed (Declared l)) (armed_queues (Declared l)) (λ e. nat_eq e d)
+            (λ d l n. less_all (is_armed l) (armed_queues l) (λ e. nat_eq e d)
             n)
-            (λ d l n. less_all (is_taken (Declared l)) (taken_queues (Declared l)) (λ e. nat_eq e d)
+            (λ d l n. less_all (is_taken l) (taken_queues l) (λ e. nat_eq e d)
             n)
-            (λ d l n. same_all (is_listed (Declared l)) (listed_queues (Declared l)) (λ name. refl)
+            (λ d l n. same_all (is_listed l) (listed_queues l) (λ name. refl)
             (λ e. nat_eq e d) n)
-            (λ d l n. same_all (is_cancelling (Declared l)) (cancelling_queues (Declared l))
+            (λ d l n. same_all (is_cancelling l) (cancelling_queues l)
             (λ name. refl) (λ e. nat_eq e d) n)
             (λ d l n. rw packets refl)
-            (λ d l n. rw queues refl);
+            (λ d l n is. lists_same w.shared to.shared queues starts d l n)
+            (λ d l n is. omega (arith, lists_same w.shared to.shared queues starts d l n));
         apart = all_apart set states w past good stands c t h leaves
             (rw frames (
               (λ q n.
                   omega (
                     arith,
-                    less (is_armed (Declared q)) (armed_queues (Declared q)) n,
-                    less (is_taken (Declared q)) (taken_queues (Declared q)) n,
-                    less (is_cancelling (Declared q)) (cancelling_queues (Declared q)) n,
+                    less (is_armed q) (armed_queues q) n,
+                    less (is_taken q) (taken_queues q) n,
+                    less (is_cancelling q) (cancelling_queues q) n,
                     apart_a q n,
                   )),
               tt,

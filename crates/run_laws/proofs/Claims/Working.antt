@@ -4,6 +4,7 @@ use Rattle.std.specs.Prelude.{is_some, nat_eq, slice_get, if◌then◌else◌}
 use Rattle.std.specs.List.{list_any}
 use Rattle.std.proofs.lemmas.Bool.{cases_Bool}
 use Rattle.std.proofs.lemmas.Bool.Decides.{eqb_tells}
+use Rattle.model.specs.declared.set.QueueName.{QueueName}
 use Rattle.model.specs.declared.abs.Kind.{Kind}
 use Rattle.model.specs.declared.abs.Kind.TheVariants.{Listed, Taken, Cancelling}
 use Rattle.model.specs.declared.set.QueueName.TheVariants.{Declared}
@@ -13,9 +14,9 @@ use Rattle.model.specs.declared.world.Frame.TheVariants.{Routine}
 use Rattle.model.specs.declared.world.Value.{Value}
 use Rattle.model.specs.declared.world.Value.TheVariants.{Ref}
 use Rattle.model.specs.Effect.{routine_of_device}
-use Rattle.model.specs.Kinds.{is_armed, is_cancelling}
+use Rattle.model.specs.Kinds.{is_armed, is_cancelling, is_name}
 use Rattle.model.specs.LocalRule.{unlink_kind}
-use Rattle.model.specs.Set.{Set, cancel_routine_of}
+use Rattle.model.specs.Set.{Set, cancel_routine_of, cancel_routine_named}
 use Rattle.model.specs.World.{World}
 use Rattle.run_laws.specs.Holder.{named_as, named_in}
 use Rattle.run_laws.proofs.Claims.Held.{thread_most}
@@ -25,20 +26,21 @@ use Rattle.run_laws.proofs.Holders.Rights.{named_none}
 use Rattle.run_laws.proofs.States.Frames.{Serves, state_of}
 use Rattle.run_laws.specs.ArrivingStates.{States}
 use Rattle.run_laws.proofs.Tests.{or_left, or_right}
+use Rattle.run_laws.proofs.Claims.Balance.{names_tell}
 
 -- a queue is unlinked from by one that stands there, or that the cancel routine was called for
-abbrev pub Unlinks : ℕ → Kind → Type 0
-Unlinks q k = (k ≡ Listed (Declared q)) ⊎ (k ≡ Cancelling (Declared q))
+abbrev pub Unlinks : QueueName → Kind → Type 0
+Unlinks q k = (k ≡ Listed q) ⊎ (k ≡ Cancelling q)
 
-pub unlinked_kind : (q : ℕ) (k : Kind) → unlink_kind (Declared q) k ≡ None → Unlinks q k
-unlinked_kind q (Listed (Declared p)) h =
-    elim (eqb_tells p q) [
-      | inl same ↦ inl (ap (λ (x : ℕ). Listed (Declared x)) same.1)
+pub unlinked_kind : (q : QueueName) (k : Kind) → unlink_kind q k ≡ None → Unlinks q k
+unlinked_kind q (Listed p) h =
+    elim (names_tell p q) [
+      | inl same ↦ inl (ap (λ (x : QueueName). Listed x) same.1)
       | inr apart ↦ let no = rw apart.0 at h in cc
     ]
-unlinked_kind q (Cancelling (Declared p)) h =
-    elim (eqb_tells p q) [
-      | inl same ↦ inr (ap (λ (x : ℕ). Cancelling (Declared x)) same.1)
+unlinked_kind q (Cancelling p) h =
+    elim (names_tell p q) [
+      | inl same ↦ inr (ap (λ (x : QueueName). Cancelling x) same.1)
       | inr apart ↦ let no = rw apart.0 at h in cc
     ]
 unlinked_kind q _ h = cc
@@ -55,48 +57,48 @@ some_none f g less (k ∷ kinds) h =
     refl
 
 -- in one frame: its claims to a packet, and one of a kind
-abbrev pub claims : States → Activation → ℕ → ℕ → ℕ
+abbrev pub claims : States → Activation → QueueName → ℕ → ℕ
 claims states a q n =
-    names states (is_armed (Declared q)) a n + names states (is_taken (Declared q)) a n
-    + names states (is_cancelling (Declared q)) a n
+    names states (is_armed q) a n + names states (is_taken q) a n
+    + names states (is_cancelling q) a n
 
-abbrev claims_as : Kind → ℕ → ℕ → ℕ → ℕ
+abbrev claims_as : Kind → QueueName → ℕ → ℕ → ℕ
 claims_as k q m n =
-    named_as (is_armed (Declared q)) k (Ref m) n + named_as (is_taken (Declared q)) k (Ref m) n
-    + named_as (is_cancelling (Declared q)) k (Ref m) n
+    named_as (is_armed q) k (Ref m) n + named_as (is_taken q) k (Ref m) n
+    + named_as (is_cancelling q) k (Ref m) n
 
 claims_turn : (states : States) (a b : Activation) (j k : Kind) (m : ℕ)
-    → TurnsNames states a b j k m → (q n : ℕ)
+    → TurnsNames states a b j k m → (q : QueueName) (n : ℕ)
     → claims states b q n + claims_as j q m n ≡ claims states a q n + claims_as k q m n
 claims_turn states a b j k m turns q n =
     omega (
       arith,
-      turns (is_armed (Declared q)) (armed_queues (Declared q)) n,
-      turns (is_taken (Declared q)) (taken_queues (Declared q)) n,
-      turns (is_cancelling (Declared q)) (cancelling_queues (Declared q)) n,
+      turns (is_armed q) (armed_queues q) n,
+      turns (is_taken q) (taken_queues q) n,
+      turns (is_cancelling q) (cancelling_queues q) n,
     )
 
 pub apart_down : (states : States) (a b : Activation) (j k : Kind) (m : ℕ)
     → TurnsNames states a b j k m
-    → ((q : ℕ) → (is_armed (Declared q) k ≡ false) × (is_taken (Declared q) k ≡ false)
-    × (is_cancelling (Declared q) k ≡ false))
+    → ((q : QueueName) → (is_armed q k ≡ false) × (is_taken q k ≡ false)
+    × (is_cancelling q k ≡ false))
     → FrameApart states (Routine a) → FrameApart states (Routine b)
 apart_down states a b j k m turns none h q n =
     let nothing : claims_as k q m n ≡ 0 = rw ((none q).0, (none q).1, (none q).2) refl in
     omega (arith, claims_turn states a b j k m turns q n, h q n)
 
 -- a claim comes for a packet that is in none
-abbrev pub NewClaim : Kind → ℕ → Type 0
+abbrev pub NewClaim : Kind → QueueName → Type 0
 NewClaim k q =
-    ((p n m : ℕ) → named_as (is_armed (Declared p)) k (Ref m) n
-    + named_as (is_taken (Declared p)) k (Ref m) n
-    ≡ (if nat_eq q p then (if nat_eq m n then 1 else 0) else 0))
-    × ((p : ℕ) → is_cancelling (Declared p) k ≡ false)
+    ((p : QueueName) (n m : ℕ) → named_as (is_armed p) k (Ref m) n
+    + named_as (is_taken p) k (Ref m) n
+    ≡ (if is_name q p then (if nat_eq m n then 1 else 0) else 0))
+    × ((p : QueueName) → is_cancelling p k ≡ false)
 
-claim_tells : (l q m n sum : ℕ) → sum ≡ (if nat_eq l q then (if nat_eq m n then 1 else 0) else 0)
+claim_tells : (l q : QueueName) (m n sum : ℕ) → sum ≡ (if is_name l q then (if nat_eq m n then 1 else 0) else 0)
     → (sum ≡ 0) ⊎ ((l ≡ q) × (m ≡ n) × (sum ≡ 1))
 claim_tells l q m n sum h =
-    elim (eqb_tells l q) [
+    elim (names_tell l q) [
       | inr apart ↦ inl (rw apart.0 at h)
       | inl its ↦ elim (eqb_tells m n) [
         | inr other ↦ inl (rw (its.0, other.0) at h)
@@ -104,53 +106,53 @@ claim_tells l q m n sum h =
       ]
     ]
 
-pub apart_up : (states : States) (a b : Activation) (j k : Kind) (m l : ℕ)
+pub apart_up : (states : States) (a b : Activation) (j k : Kind) (m : ℕ) (l : QueueName)
     → TurnsNames states a b j k m
     → NewClaim k l → claims states a l m ≡ 0
     → FrameApart states (Routine a) → FrameApart states (Routine b)
 apart_up states a b j k m l turns new free h q n =
     let turn : claims states b q n + claims_as j q m n ≡ claims states a q n + claims_as k q m n =
     claims_turn states a b j k m turns q n in
-    let no_cancelling : named_as (is_cancelling (Declared q)) k (Ref m) n ≡ 0 =
-    named_none (is_cancelling (Declared q)) k (Ref m) n (new.1 q) in
+    let no_cancelling : named_as (is_cancelling q) k (Ref m) n ≡ 0 =
+    named_none (is_cancelling q) k (Ref m) n (new.1 q) in
     let before : claims states a q n ≤ 1 = h q n in
-    elim (claim_tells l q m n (named_as (is_armed (Declared q)) k (Ref m) n
-    + named_as (is_taken (Declared q)) k (Ref m) n) (new.0 q n m)) [
+    elim (claim_tells l q m n (named_as (is_armed q) k (Ref m) n
+    + named_as (is_taken q) k (Ref m) n) (new.0 q n m)) [
       | inl none ↦
-          let claim : named_as (is_armed (Declared q)) k (Ref m) n
-          + named_as (is_taken (Declared q)) k (Ref m) n ≡ 0 = none in
+          let claim : named_as (is_armed q) k (Ref m) n
+          + named_as (is_taken q) k (Ref m) n ≡ 0 = none in
           omega arith
       | inr one ↦
-          let claim : named_as (is_armed (Declared q)) k (Ref m) n
-          + named_as (is_taken (Declared q)) k (Ref m) n ≡ 1 = one.2 in
+          let claim : named_as (is_armed q) k (Ref m) n
+          + named_as (is_taken q) k (Ref m) n ≡ 1 = one.2 in
           let zero_before : claims states a q n ≡ 0 =
           subst (λ (x : ℕ). claims states a q x ≡ 0) one.1
-          (subst (λ (x : ℕ). claims states a x m ≡ 0) one.0 free) in
+          (subst (λ (x : QueueName). claims states a x m ≡ 0) one.0 free) in
           omega arith
     ]
 
 -- registers of kind Taken for a queue of a device are among those for any
-taken_some : (name : ℕ) (k : Kind) (v : Value) (n : ℕ)
-    → named_as (is_taken (Declared name)) k v n ≤ named_as was_taken k v n
-taken_some name (Taken (Declared q)) v n =
-    elim (cases_Bool (nat_eq q name)) [
+taken_some : (name : QueueName) (k : Kind) (v : Value) (n : ℕ)
+    → named_as (is_taken name) k v n ≤ named_as was_taken k v n
+taken_some name (Taken q) v n =
+    elim (cases_Bool (is_name q name)) [
       | inl same ↦ rw same (omega arith)
       | inr apart ↦ rw apart (omega arith)
     ]
 taken_some name _ v n = omega arith
 
-taken_many : (q : ℕ) (kinds : List Kind) (values : List Value) (n : ℕ)
-    → named_in (is_taken (Declared q)) kinds values n ≤ named_in was_taken kinds values n
+taken_many : (q : QueueName) (kinds : List Kind) (values : List Value) (n : ℕ)
+    → named_in (is_taken q) kinds values n ≤ named_in was_taken kinds values n
 taken_many q [] values n = omega arith
 taken_many q (k ∷ kinds) [] n = omega arith
 taken_many q (k ∷ kinds) (v ∷ values) n =
     omega (arith, taken_some q k v n, taken_many q kinds values n)
 
-taken_frame : (states : States) (d q n : ℕ) (f : Frame)
-    → frame_names states (is_taken (Declared q)) (λ e. nat_eq e d) n f
+taken_frame : (states : States) (d : ℕ) (q : QueueName) (n : ℕ) (f : Frame)
+    → frame_names states (is_taken q) (λ e. nat_eq e d) n f
     ≤ frame_names states was_taken (λ e. true) n f
 taken_frame states d q n (Routine a) =
-    let many : names states (is_taken (Declared q)) a n ≤ names states was_taken a n =
+    let many : names states (is_taken q) a n ≤ names states was_taken a n =
     taken_many q (state_of states a).kinds a.registers n in
     elim (cases_Bool (nat_eq a.device d)) [
       | inl same ↦ rw same many
@@ -158,15 +160,15 @@ taken_frame states d q n (Routine a) =
     ]
 taken_frame states d q n _ = omega arith
 
-pub taken_le : (states : States) (w : World) (d q n : ℕ)
-    → names_on states (is_taken (Declared q)) d n w.threads ≤ takes_in states n w.threads
+pub taken_le : (states : States) (w : World) (d : ℕ) (q : QueueName) (n : ℕ)
+    → names_on states (is_taken q) d n w.threads ≤ takes_in states n w.threads
 taken_le states w d q n =
-    thread_most (frame_names states (is_taken (Declared q)) (λ e. nat_eq e d) n)
+    thread_most (frame_names states (is_taken q) (λ e. nat_eq e d) n)
     (frame_names states was_taken (λ e. true) n) (taken_frame states d q n) w.threads
 
 -- a queue of the device has a cancel routine
-pub cancelable_is : (set : Set) (d driver q : ℕ) (o : Option ℕ) → Serves set d driver
-    → cancel_routine_of set driver q ≡ o → is_cancelable set d q ≡ is_some o
+pub cancelable_is : (set : Set) (d driver : ℕ) (q : QueueName) (o : Option ℕ)
+    → Serves set d driver → cancel_routine_named set driver q ≡ o → is_cancelable set d q ≡ is_some o
 cancelable_is set d driver q o serves is =
     let its : routine_of_device (slice_get set.devices d) ≡ driver =
     ap routine_of_device serves.1 ∙ serves.2 in

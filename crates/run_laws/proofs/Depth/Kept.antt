@@ -24,7 +24,7 @@ use Rattle.run_laws.proofs.States.Frames.{IsGood, Serves}
 use Rattle.run_laws.specs.ArrivingStates.{States}
 use Rattle.run_laws.proofs.States.Standing.{Standing, stands_there, on_top, startio_enters}
 use Rattle.run_laws.proofs.Steps.Below.{stood}
-use Rattle.run_laws.proofs.Steps.Comes.{walks_gone, Comes, Cancels, takes_cancel, cancels, works_on_queues}
+use Rattle.run_laws.proofs.Steps.Comes.{walks_gone, Comes, Cancels, takes_cancel, cancels, works_on_queues, works_on_waiting}
 use Rattle.model.specs.declared.world.Frame.TheVariants.{Routine, Walk, Cancel as CancelFrame}
 use Rattle.run_laws.proofs.Holders.Counts.{Holding}
 use Rattle.run_laws.proofs.Holders.Sums.{Held}
@@ -66,6 +66,7 @@ cancel_full_of set s t under f o is (cancels n step made moves) =
     cancel_full set s t n step made moves
 cancel_full_of set s t under f o is (works_on_queues a i b queues starts actions full at queued) =
     cc
+cancel_full_of set s t under f o is (works_on_waiting a i starts n p armer full at there waits) = cc
 cancel_full_of set s t under f o is _ = refl
 
 module _ (set : Set) (states : States) (w : World) (t : ℕ) (falls : AllFall set w) where

@@ -29,7 +29,7 @@ use Rattle.run_laws.specs.ToldTops.{TopOutsAreTold}
 use Rattle.run_laws.proofs.Past.LivePackets.{Rises, find, find_place, find_push, find_remove, find_set, rises_push, rises_remove, rises_set}
 use Rattle.run_laws.proofs.Past.Packets.{absent, found, found_lt, lt_false, lt_more, lt_true, numbered}
 use Rattle.run_laws.proofs.Runs.Events.{Answers, goes_on_with, answers, set_in, answers_none}
-use Rattle.run_laws.proofs.Steps.Comes.{Cancels, sets_flag, finds_empty, finds_none, calls_cancel, Comes, writes_info, marks_packet, exchanges, completes_packet, passes_down, calls_down, resumes_walk, walks_to, lends_to, walks_up, carries_up, tops_out, cancels}
+use Rattle.run_laws.proofs.Steps.Comes.{Cancels, sets_flag, finds_empty, finds_none, calls_cancel, Comes, writes_info, marks_packet, exchanges, completes_packet, passes_down, calls_down, resumes_walk, walks_to, lends_to, walks_up, carries_up, tops_out, cancels, works_on_waiting}
 use Rattle.run_laws.proofs.Steps.Walk.{comes}
 use Rattle.run_laws.proofs.Tests.{and_false}
 
@@ -148,6 +148,8 @@ module _ (set : Set) (s : Shared) (t : ℕ) (rises : Rises 0 s.packets s.issued)
       live_set s rises n p (shared_with p lower) there refl
   frame_tells under f o (calls_down a r g n p lower at reads there down) =
       live_set s rises n p (sent_down p lower (set_by a g)) there refl
+  frame_tells under f o (works_on_waiting a i starts n p armer full at there waits) =
+      live_set s rises n p (with_armer p armer) there refl
   frame_tells under f o (resumes_walk a n p at sort there) =
       live_set s rises n p (record p { completing = true }) there refl
   frame_tells under f o (walks_to n p c there with lends) =

@@ -213,8 +213,8 @@ module _ (s : Shared) (p : Packet) (rises : Rises 0 s.packets s.issued)
       (find_push 0 s.packets s.issued p rises number) (rw (new_none, empty) refl) m in
       let in_queues : times_plain set 0 after.queues m ≡ times_plain set 0 s.queues m =
       ap (λ (qs : List (List (List ℕ))). times_plain set 0 qs m) queues in
-      let to_start : times_started after.starts m ≡ times_started s.starts m =
-      ap (λ (xs : List StartState). times_started xs m) starts in
+      let to_start : times_started set 0 after.starts m ≡ times_started set 0 s.starts m =
+      ap (λ (xs : List StartState). times_started set 0 xs m) starts in
       omega arith
 
 -- a frame's rights are to live packets, and to others than those that wait in lists and slots

@@ -8,7 +8,7 @@ use Rattle.model.specs.declared.abs.Abs.{Abs}
 use Rattle.model.specs.declared.abs.Kind.{Kind}
 use Rattle.model.specs.declared.abs.Kind.TheVariants.{Blank as BlankKind, Listed, Armed, Taken}
 use Rattle.model.specs.declared.instr.Instr.{Instr}
-use Rattle.model.specs.declared.instr.Instr.TheVariants.{Arm, Disarm, Release, Const, Move, Clear, Load, LoadPaged, Get, Mark, Insert, Remove, Unlink, Start, Take, Begin, Pass, Call, Complete, ReleaseCancel}
+use Rattle.model.specs.declared.instr.Instr.TheVariants.{Arm, Disarm, Release, Const, Move, Clear, Load, LoadPaged, Get, Mark, Insert, Remove, Unlink, Start, Take, Begin, Pass, Call, Complete, ReleaseCancel, Dequeue}
 use Rattle.model.specs.declared.set.Guard.{Guard}
 use Rattle.model.specs.declared.set.Guard.TheVariants.{DeviceLock, CancelLock}
 use Rattle.model.specs.declared.set.QueueName.TheVariants.{Declared}
@@ -82,6 +82,7 @@ rights_still set driver s (Mark r) values n same quiet = cc
 rights_still set driver s (Insert r q) values n same quiet = cc
 rights_still set driver s (Remove r q label) values n same quiet = cc
 rights_still set driver s (Unlink r q) values n same quiet = cc
+rights_still set driver s (Dequeue r) values n same quiet = cc
 rights_still set driver s (Arm r q) values n same quiet = cc
 rights_still set driver s (Disarm r label) values n same quiet = cc
 rights_still set driver s (Release lock) values n same quiet =

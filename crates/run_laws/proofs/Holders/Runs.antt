@@ -22,7 +22,7 @@ use Rattle.model.specs.Run.{Run, begun}
 use Rattle.model.specs.Set.{Set, instruction_at, sort_of}
 use Rattle.model.specs.Trace.{Entry, Actor}
 use Rattle.model.specs.World.{World, idle_thread, new_packet, packet_of, Shared}
-use Rattle.run_laws.specs.Holder.{times_waiting, frame_rights, frame_walks, stack_sum, thread_sum, holders, alive, is_live, walking}
+use Rattle.run_laws.specs.Holder.{times_waiting, frame_rights, frame_walks, stack_sum, thread_sum, holders, alive, is_live, walking, waits_cancelable}
 use Rattle.run_laws.proofs.Holders.Counts.{Holding, new_unheld, new_held, new_waits}
 use Rattle.run_laws.proofs.Holders.Lent.{IsLent, stops_hold}
 use Rattle.run_laws.proofs.Holders.Plain.{none_plain}
@@ -346,8 +346,8 @@ module _ (set : Set) (states : States) (w : World) (past : List Entry) (good : I
       omega (
         arith,
         begun_rights set states w.shared.issued a StartIo h.n n (startio_enters set states w past good stands actor.thread h),
-        started_put w.shared.starts h.d h.start start n h.has,
-        times_first h.start h.n n h.first,
+        started_put set w.shared.starts h.d h.start start n h.has,
+        times_first (waits_cancelable set h.d) h.start h.n n h.first,
       ))
       (λ n. refl)
   -- IoCancelIrp begins: its frame has no packet
@@ -387,7 +387,7 @@ held_begun set states threads =
             arith,
             idle_sum (λ f. frame_rights states f n) threads,
             none_plain set n 0 (length set.devices),
-            none_started (length set.devices) n,
+            none_started set (length set.devices) n,
           );
       walks = λ n. none_walking set threads n;
     }

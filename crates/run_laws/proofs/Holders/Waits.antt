@@ -1,30 +1,30 @@
 -- What the instructions about queues do to the rights of a routine's frame: a packet goes from a
 -- register to a list or to the current slot, or from one of these to a register.
-use Rattle.std.proofs.Common.{◌≡◌, ℕ, ◌+◌, ◌<◌, List, ◌∷◌, length, Option, None, Some, Bool, true, false, refl, ap, ◌∙◌, arith, eqb-true, slice_get, subst, sym}
-use Rattle.std.specs.Prelude.{⊤, nat_eq, slice_set, if◌then◌else◌, ◌||◌}
+use Rattle.std.proofs.Common.{◌≡◌, ℕ, ◌+◌, ◌<◌, List, ◌∷◌, length, Option, None, Some, Bool, true, false, refl, ap, ◌∙◌, arith, eqb-true, slice_get, subst, sym, inl, inr, find, is_some}
+use Rattle.std.specs.Prelude.{⊤, nat_eq, slice_set, if◌then◌else◌, ◌||◌, ◌&&◌}
 use Rattle.model.specs.declared.abs.Abs.{Abs}
 use Rattle.model.specs.declared.abs.Kind.{Kind}
-use Rattle.model.specs.declared.abs.Kind.TheVariants.{Blank as BlankKind, Own, Listed, Taken, Cancelling}
+use Rattle.model.specs.declared.abs.Kind.TheVariants.{Blank as BlankKind, Own, Listed, Taken, Cancelling, Armed}
 use Rattle.model.specs.declared.abs.Rule.{Rule}
 use Rattle.model.specs.declared.abs.Rule.TheVariants.{Dropped, Token, CancelState}
 use Rattle.model.specs.declared.instr.Instr.{Instr}
-use Rattle.model.specs.declared.instr.Instr.TheVariants.{Begin, Insert, Next, Remove, Start, Take, Unlink}
+use Rattle.model.specs.declared.instr.Instr.TheVariants.{Begin, Insert, Next, Remove, Start, Take, Unlink, Dequeue}
 use Rattle.model.specs.declared.limits.TheConstants.{REGISTERS}
 use Rattle.model.specs.declared.set.QueueName.{QueueName}
-use Rattle.model.specs.declared.set.QueueName.TheVariants.{Declared}
+use Rattle.model.specs.declared.set.QueueName.TheVariants.{Declared, DeviceQueue}
 use Rattle.model.specs.declared.world.Activation.{Activation}
 use Rattle.model.specs.declared.world.Frame.{Frame}
 use Rattle.model.specs.declared.world.Frame.TheVariants.{Routine, Walk, Cancel as CancelFrame}
 use Rattle.model.specs.declared.world.Value.TheVariants.{Ref}
 use Rattle.model.specs.Action.{Action}
 use Rattle.model.specs.Effect.{routine_of_device}
-use Rattle.model.specs.Kinds.{is_name, is_packet, is_right, kind_inserted, kind_removed}
-use Rattle.model.specs.LocalRule.{an_owned_one, demanded, free_kind, handed, handed_at_label, kind_of, least_of, unless, unlink_kind}
-use Rattle.model.specs.Queues.{StartState, inserted, next_started, started, with_slot, unlinked}
-use Rattle.model.specs.Set.{Set, flow_of, label_of, cancel_routine_of}
+use Rattle.model.specs.Kinds.{is_name, is_packet, is_right, kind_inserted, kind_removed, is_cancelling}
+use Rattle.model.specs.LocalRule.{an_owned_one, demanded, free_kind, handed, handed_at_label, kind_of, least_of, unless, unlink_kind, queued_kind}
+use Rattle.model.specs.Queues.{StartState, inserted, next_started, started, with_slot, unlinked, dequeued}
+use Rattle.model.specs.Set.{Set, flow_of, label_of, cancel_routine_of, has_cancel}
 use Rattle.model.specs.Sound.{OperandFits}
-use Rattle.model.specs.World.{Shared, at_label, next, register, start_of, with_queue, with_register, queue_of}
-use Rattle.run_laws.specs.Holder.{frame_rights, right, rights, times_in, times_in_slot, times_waiting, names}
+use Rattle.model.specs.World.{Shared, at_label, next, register, start_of, with_queue, with_register, queue_of, packet_of}
+use Rattle.run_laws.specs.Holder.{frame_rights, right, rights, times_in, times_in_slot, times_waiting, names, waits_cancelable, times_started, times_at}
 use Rattle.run_laws.proofs.Holders.Counts.{reads_ref}
 use Rattle.run_laws.proofs.Holders.Plain.{plain_in, plain_counts, plain_put, plain_skips}
 use Rattle.run_laws.proofs.Holders.Queued.{times_pushed}
@@ -38,7 +38,18 @@ use Rattle.run_laws.proofs.States.Obeyed.{inserts_right}
 use Rattle.run_laws.proofs.States.OnTop.{listed_fits}
 use Rattle.run_laws.specs.ArrivingStates.{States}
 use Rattle.run_laws.proofs.States.Rules.{first_none, granted, second_none, unbroken}
-use Rattle.run_laws.proofs.Steps.Comes.{Queued, Reads, inserts, jumping, puts_in, removes, removes_none, starts_next, starts_packet, takes_none, takes_out, unlinks}
+use Rattle.run_laws.proofs.Steps.Comes.{Queued, Reads, inserts, jumping, puts_in, removes, removes_none, starts_next, starts_packet, takes_none, takes_out, unlinks, starts_gone, Waits, dequeues_packet}
+use Rattle.run_laws.proofs.Steps.Queues.{is_gone}
+use Rattle.model.specs.declared.world.Armer.{Armer}
+use Rattle.model.specs.declared.world.Packet.{Packet}
+use Rattle.run_laws.proofs.Steps.Comes.{Waits, arms_waiting, disarms_next}
+use Rattle.model.specs.Queues.{head_of, next_started, started}
+use Rattle.run_laws.specs.Holder.{times_at, times_named, times_started, times_plain}
+use Rattle.run_laws.proofs.Holders.Started.{times_waited, times_disarmed, started_put}
+use Rattle.model.specs.World.{packet_of}
+use Rattle.run_laws.proofs.Steps.Comes.{Executing}
+use Rattle.model.specs.Effect.{next_disarmed}
+use Rattle.std.specs.Prelude.{⊤}
 
 -- a routine's frame that has the token of its device finds the current slot empty
 abbrev pub FreesSlot : States → Shared → Frame → Type 0
@@ -235,8 +246,10 @@ unlinked_cancel : (set : Set) (driver : ℕ) (locks : List Bool) (cancel : Bool)
     → unlink_kind name k ≡ None → KindFits set driver locks cancel k → HasCancel set driver name
 unlinked_cancel set driver locks cancel name (Listed other) h fits =
     subst (λ (x : QueueName). HasCancel set driver x) (either_queue other name h) fits.0
-unlinked_cancel set driver locks cancel name (Cancelling other) h fits =
-    subst (λ (x : QueueName). HasCancel set driver x) (same_queue other name h) fits
+unlinked_cancel set driver locks cancel name (Cancelling (Declared q)) h fits =
+    subst (λ (x : QueueName). HasCancel set driver x) (same_queue (Declared q) name h) fits
+unlinked_cancel set driver locks cancel name (Cancelling DeviceQueue) h fits =
+    subst (λ (x : QueueName). HasCancel set driver x) (same_queue DeviceQueue name h) fits.0
 unlinked_cancel set driver locks cancel name _ h fits = cc
 
 -- so each packet is held as often after the instruction as before it
@@ -351,38 +364,83 @@ module _ (set : Set) (states : States) (s : Shared) (a : Activation) where
         skips_here (Unlink r q) h q has.0 (unlinked entries m) has.1 n,
       )
 
+-- both, and the first of a list where there is a cancel routine
+pub and_both : (one other : Bool) → (one && other) ≡ true → (one ≡ true) × (other ≡ true)
+and_both true true h = (refl, refl)
+and_both true false h = cc
+and_both false other h = cc
+
+pub first_both : (b : Bool) (o : Option ℕ) (n : ℕ) → (if b then o else None) ≡ Some n
+    → (b ≡ true) × (o ≡ Some n)
+first_both true o n h = (refl, h)
+first_both false o n h = cc
+
+-- whether the device queue of the frame's device has a cancel routine
+pub served_waits : (set : Set) (states : States) (s : Shared) (a : Activation) (i : Instr)
+    → Runs set states s a i → waits_cancelable set a.device ≡ has_cancel set a.driver DeviceQueue
+served_waits set states s a i h =
+    ap (λ (driver : ℕ). has_cancel set driver DeviceQueue)
+    (device_driver set a.device a.driver h.stays.serves)
+
+-- the packet in a device queue that is started next has its cancel routine set
+abbrev pub NextArmed : Set → Shared → Frame → Type 0
+NextArmed set s (Routine a) =
+    (n : ℕ) (start : StartState) (p : Packet) → Executing set a Next
+    → start_of s a.device ≡ Some start
+    → next_disarmed set a start ≡ Some n → packet_of s n ≡ Some p
+    → (armer : Armer) × (p.armer ≡ Some armer) × (armer.device ≡ a.device)
+    × (armer.queue ≡ DeviceQueue)
+NextArmed set s (Walk n) = ⊤
+NextArmed set s (CancelFrame c) = ⊤
+
+-- a right in a register is to a live packet
+abbrev pub OwnsLive : States → Shared → Activation → Type 0
+OwnsLive states s a =
+    (r n : ℕ) → is_right (kind_of (state_of states a) r) ≡ true → Reads s a r n
+    → packet_of s n ≡ None → ⊥
+
+dequeued_right : (k : Kind) → queued_kind (is_cancelling DeviceQueue k) k ≡ None
+    → is_right k ≡ true
+dequeued_right (Cancelling name) h = refl
+dequeued_right _ h = cc
+
 pub queued_rights : (set : Set) (states : States) (s : Shared) (a : Activation) (i : Instr)
-    → Runs set states s a i → FreesSlot states s (Routine a)
+    → Runs set states s a i → FreesSlot states s (Routine a) → OwnsLive states s a
     → {b : Activation} {queues : List (List (List ℕ))} {lists : List StartState}
-    {actions : List Action} {full : Bool} → Queued s a i b queues lists actions full → (n : ℕ)
+    {actions : List Action} {full : Bool} → (queued : Queued set s a i b queues lists actions full)
+    → is_gone queued ≡ false → (n : ℕ)
     → frame_rights states (Routine b) n
     + times_waiting set (record s { queues = queues; starts = lists }) n
     ≡ frame_rights states (Routine a) n + times_waiting set s n
-queued_rights set states s a i h frees (inserts r q m entries reads there) n =
+queued_rights set states s a i h frees live (inserts r q m entries reads there) stays n =
     inserted_rights set states s a r q m entries h reads there (cancel_routine_of set a.driver q)
     refl n
-queued_rights set states s a i h frees (removes r q label m entries there) n =
+queued_rights set states s a i h frees live (removes r q label m entries there) stays n =
     removed_rights set states s a r q label m entries h there (cancel_routine_of set a.driver q)
     refl n
-queued_rights set states s a i h frees (removes_none r q label there) n =
+queued_rights set states s a i h frees live (removes_none r q label there) stays n =
     let same : frame_rights states (Routine (at_label a label)) n
     ≡ frame_rights states (Routine a) n =
     rights_missed set states s a (Remove r q label) h r label refl refl
     (free_removed _ _ (kind_of (state_of states a) r) h.obeys) n in
     omega arith
-queued_rights set states s a i h frees (unlinks r q m entries reads there) n =
+queued_rights set states s a i h frees live (unlinks r q m entries reads there) stays n =
     unlinked_rights set states s a r q m entries h there n
-queued_rights set states s a i h frees (starts_packet r m start reads there) n =
+queued_rights set states s a i h frees live (starts_packet r m start reads there plain) stays n =
     let gone : frame_rights states (Routine (next a)) n + (if nat_eq m n then 1 else 0)
     ≡ frame_rights states (Routine a) n =
     rights_given set states s a (Start r) h r m refl refl
     (gives_right (kind_of (state_of states a) r) _ h.obeys) reads n in
-    omega (
-      arith,
-      started_put s.starts a.device start (started start m) n there,
-      times_given start m n,
-    )
-queued_rights set states s a i h frees (takes_out r label m start there slot) n =
+    elim plain [
+      | inl may ↦ omega (
+        arith,
+        started_put set s.starts a.device start (started start m) n there,
+        times_given set a.device a.driver start m n (served_waits set states s a i h) may,
+      )
+      | inr gone ↦ absurd (live r m (gives_right (kind_of (state_of states a) r) _ h.obeys) reads
+      gone)
+    ]
+queued_rights set states s a i h frees live (takes_out r label m start there slot) stays n =
     let won : frame_rights states (Routine (next (with_register a r (Ref m)))) n
     ≡ frame_rights states (Routine a) n + (if nat_eq m n then 1 else 0) =
     rights_taken set states s a (Take r label) h r m refl refl
@@ -392,16 +450,16 @@ queued_rights set states s a i h frees (takes_out r label m start there slot) n 
     ap (λ (slot : Option ℕ). times_in_slot slot n) slot in
     omega (
       arith,
-      started_put s.starts a.device start (with_slot start None) n there,
-      times_slot start None n,
+      started_put set s.starts a.device start (with_slot start None) n there,
+      times_slot (waits_cancelable set a.device) start None n,
     )
-queued_rights set states s a i h frees (takes_none r label start there slot) n =
+queued_rights set states s a i h frees live (takes_none r label start there slot) stays n =
     let same : frame_rights states (Routine (at_label a label)) n
     ≡ frame_rights states (Routine a) n =
     rights_missed set states s a (Take r label) h r label refl refl
     (free_before _ (kind_of (state_of states a) r) h.obeys) n in
     omega arith
-queued_rights set states s a i h frees (puts_in r m start reads there) n =
+queued_rights set states s a i h frees live (puts_in r m start reads there) stays n =
     let gone : frame_rights states (Routine (next a)) n + (if nat_eq m n then 1 else 0)
     ≡ frame_rights states (Routine a) n =
     rights_given set states s a (Begin r) h r m refl refl
@@ -414,14 +472,84 @@ queued_rights set states s a i h frees (puts_in r m start reads there) n =
     ap (λ (slot : Option ℕ). times_in_slot slot n) (frees start token there) in
     omega (
       arith,
-      started_put s.starts a.device start (with_slot start (Some m)) n there,
-      times_slot start (Some m) n,
+      started_put set s.starts a.device start (with_slot start (Some m)) n there,
+      times_slot (waits_cancelable set a.device) start (Some m) n,
     )
-queued_rights set states s a i h frees (starts_next start there) n =
+queued_rights set states s a i h frees live (starts_next start there none) stays n =
     let same : frame_rights states (Routine (next a)) n ≡ frame_rights states (Routine a) n =
     rights_kept set states s a Next h refl refl n in
     omega (
       arith,
-      started_put s.starts a.device start (next_started start) n there,
-      times_next start n,
+      started_put set s.starts a.device start (next_started start) n there,
+      times_next set a.device a.driver start n (served_waits set states s a i h) none,
+    )
+queued_rights set states s a i h frees live (starts_gone m start there first gone) stays n = cc
+queued_rights set states s a i h frees live (dequeues_packet r m start reads there) stays n =
+    let rule : queued_kind (is_cancelling DeviceQueue (kind_of (state_of states a) r))
+    (kind_of (state_of states a) r) ≡ None = first_none _ _ h.obeys in
+    let may : waits_cancelable set a.device ≡ true =
+    served_waits set states s a i h
+    ∙ granted (has_cancel set a.driver DeviceQueue) _ (second_none _ _ (second_none _ _ h.obeys)) in
+    let same : frame_rights states (Routine (next a)) n ≡ frame_rights states (Routine a) n =
+    rights_stay set states s a (Dequeue r) h r Own refl refl
+    (sym (dequeued_right (kind_of (state_of states a) r) rule)) n in
+    let put : times_started set 0 (slice_set s.starts a.device (dequeued start m)) n
+    + times_at (waits_cancelable set a.device) start n
+    ≡ times_started set 0 s.starts n
+    + times_at (waits_cancelable set a.device) (dequeued start m) n =
+    started_put set s.starts a.device start (dequeued start m) n there in
+    let even : times_at (waits_cancelable set a.device) (dequeued start m) n
+    ≡ times_at (waits_cancelable set a.device) start n = rw may refl in
+    omega arith
+
+-- a packet that has to wait in a device queue with a cancel routine is held by its word; the next
+-- one that is started is held by the start list again
+pub waited_rights : (set : Set) (states : States) (s : Shared) (a : Activation) (i : Instr)
+    → Runs set states s a i → {starts : List StartState} {n : ℕ} {armer : Option Armer}
+    {full : Bool} → Waits set s a i starts n armer full → (p : Packet)
+    → ((r : ℕ) → is_right (kind_of (state_of states a) r) ≡ true → Reads s a r n
+    → is_some p.armer ≡ false)
+    → (is_some armer ≡ false → is_some p.armer ≡ true)
+    → (words : ℕ → ℕ)
+    → ((m : ℕ) → is_some p.armer ≡ false → is_some armer ≡ true
+    → words m ≡ times_named (packet_of s m) + (if nat_eq n m then 1 else 0))
+    → ((m : ℕ) → is_some p.armer ≡ true → is_some armer ≡ false
+    → words m + (if nat_eq n m then 1 else 0) ≡ times_named (packet_of s m))
+    → (m : ℕ)
+    → frame_rights states (Routine (next a)) m
+    + (times_plain set 0 s.queues m + times_started set 0 starts m + words m)
+    ≡ frame_rights states (Routine a) m + times_waiting set s m
+waited_rights set states s a i h (arms_waiting r n start reads there armed) p unarmed held words
+    more less m =
+    let right : is_right (kind_of (state_of states a) r) ≡ true =
+    gives_right (kind_of (state_of states a) r) _ h.obeys in
+    let gone : frame_rights states (Routine (next a)) m + (if nat_eq n m then 1 else 0)
+    ≡ frame_rights states (Routine a) m =
+    rights_given set states s a (Start r) h r n refl refl right reads m in
+    let both : (has_cancel set a.driver DeviceQueue ≡ true) × (start.busy ≡ true) =
+    and_both (has_cancel set a.driver DeviceQueue) start.busy armed in
+    let may : waits_cancelable set a.device ≡ true = served_waits set states s a (Start r) h ∙ both.0
+    in
+    let same : times_at (waits_cancelable set a.device) (started start n) m
+    ≡ times_at (waits_cancelable set a.device) start m = rw may (times_waited start n m both.1) in
+    omega (
+      arith,
+      started_put set s.starts a.device start (started start n) m there,
+      more m (unarmed r right reads) refl,
+    )
+waited_rights set states s a i h (disarms_next n start there first) p unarmed held words more less
+    m =
+    let same : frame_rights states (Routine (next a)) m ≡ frame_rights states (Routine a) m =
+    rights_kept set states s a Next h refl refl m in
+    let both : (has_cancel set a.driver DeviceQueue ≡ true)
+    × (head_of start.device_queue ≡ Some n) =
+    first_both (has_cancel set a.driver DeviceQueue) (head_of start.device_queue) n first in
+    let may : waits_cancelable set a.device ≡ true = served_waits set states s a Next h ∙ both.0 in
+    let won : times_at (waits_cancelable set a.device) (next_started start) m
+    ≡ times_at (waits_cancelable set a.device) start m + (if nat_eq n m then 1 else 0) =
+    rw may (times_disarmed start n m both.1) in
+    omega (
+      arith,
+      started_put set s.starts a.device start (next_started start) m there,
+      less m (held refl) refl,
     )

@@ -1,6 +1,7 @@
 -- What a register of kind Armed or Taken names is live, since its cancel word or its cancel routine
 -- holds it; and so is what stands in a queue.
 use Rattle.run_laws.proofs.Holders.Plain.{plain_in, driver_at, plain_le, plain_counts}
+use Rattle.model.specs.declared.set.QueueName.{QueueName}
 use Rattle.model.specs.declared.world.Value.TheVariants.{Ref}
 use Rattle.run_laws.proofs.Claims.Tops.{named_some, top_there}
 use Rattle.run_laws.proofs.Claims.Held.{holder_lives}
@@ -28,6 +29,21 @@ use Rattle.run_laws.proofs.Runs.Events.{StepsFrame}
 use Rattle.run_laws.proofs.States.Frames.{IsGood, state_of}
 use Rattle.run_laws.specs.ArrivingStates.{States}
 use Rattle.run_laws.proofs.States.Standing.{Standing}
+use Rattle.run_laws.proofs.Claims.Sums.{list_of}
+use Rattle.run_laws.proofs.Claims.Balance.{name_same}
+use Rattle.model.specs.declared.set.QueueName.TheVariants.{Declared, DeviceQueue}
+use Rattle.model.specs.Queues.{StartState}
+use Rattle.model.specs.World.{start_of}
+use Rattle.std.specs.Prelude.{option_map}
+use Rattle.run_laws.specs.Holder.{times_at, waits_cancelable}
+use Rattle.run_laws.proofs.Holders.Started.{started_le}
+
+start_found : (o : Option StartState) (entries : List ℕ)
+    → option_map (λ start. start.device_queue) o ≡ Some entries
+    → (start : StartState) × (o ≡ Some start) × (start.device_queue ≡ entries)
+start_found None entries h = cc
+start_found (Some start) entries h =
+    let same : start.device_queue ≡ entries = cc in (start, refl, same)
 
 none_some : (o : Option ℕ) → is_some o ≡ false → o ≡ None
 none_some None h = refl
@@ -36,15 +52,15 @@ none_some (Some routine) h = cc
 module _ (set : Set) (states : States) (w : World) (past : List Entry) (good : IsGood set states)
     (stands : Standing set states w past) (held : Held set states w)
     (claimed : Claimed set states w) where
-  backed_lives : (d q n : ℕ)
-      → 1 ≤ names_on states (is_armed (Declared q)) d n w.threads
-      + names_on states (is_taken (Declared q)) d n w.threads
+  backed_lives : (d : ℕ) (q : QueueName) (n : ℕ)
+      → 1 ≤ names_on states (is_armed q) d n w.threads
+      + names_on states (is_taken q) d n w.threads
       → 1 ≤ unheld (find w.shared.packets n)
   backed_lives d q n some =
-      let backed : names_on states (is_armed (Declared q)) d n w.threads
-      + names_on states (is_taken (Declared q)) d n w.threads
+      let backed : names_on states (is_armed q) d n w.threads
+      + names_on states (is_taken q) d n w.threads
       ≤ word_at (find w.shared.packets n) d q
-      + names_on states (is_cancelling (Declared q)) d n w.threads =
+      + names_on states (is_cancelling q) d n w.threads =
       claimed.balanced.backed d q n in
       holder_lives set states w held n d q 1 (omega arith)
 
@@ -53,15 +69,15 @@ module _ (set : Set) (states : States) (w : World) (past : List Entry) (good : I
       pub exchanged_lives : (kind : Kind) (r n : ℕ) → kind_of (state_of states a) r ≡ kind
           → is_exchanged kind ≡ true → register a r ≡ Ref n
           → 1 ≤ unheld (find w.shared.packets n)
-      exchanged_lives (Armed (Declared q)) r n is claim refers =
-          let some : 1 ≤ names_on states (is_armed (Declared q)) a.device n w.threads =
-          named_some states w t k a there (is_armed (Declared q)) refl r n
-          (rw is (eq-eqb q q refl)) refers in
+      exchanged_lives (Armed q) r n is claim refers =
+          let some : 1 ≤ names_on states (is_armed q) a.device n w.threads =
+          named_some states w t k a there (is_armed q) refl r n
+          (rw is (name_same q)) refers in
           backed_lives a.device q n (omega arith)
-      exchanged_lives (Taken (Declared q)) r n is claim refers =
-          let some : 1 ≤ names_on states (is_taken (Declared q)) a.device n w.threads =
-          named_some states w t k a there (is_taken (Declared q)) refl r n
-          (rw is (eq-eqb q q refl)) refers in
+      exchanged_lives (Taken q) r n is claim refers =
+          let some : 1 ≤ names_on states (is_taken q) a.device n w.threads =
+          named_some states w t k a there (is_taken q) refl r n
+          (rw is (name_same q)) refers in
           backed_lives a.device q n (omega arith)
       exchanged_lives _ r n is claim refers = cc
 
@@ -76,18 +92,26 @@ module _ (set : Set) (states : States) (w : World) (past : List Entry) (good : I
   pub claims_live : (t : ℕ) (h : StepsFrame set w t) → ClaimsLive states w.shared h.frame
   claims_live t h = frame_claims t h h.frame refl
 
-  entries_of : (d q n : ℕ) (entries : List ℕ) (b : Bool) → queue_of w.shared d q ≡ Some entries
+  entries_of : (d : ℕ) (q : QueueName) (n : ℕ) (entries : List ℕ) (b : Bool) → list_of w.shared d q ≡ Some entries
       → is_cancelable set d q ≡ b → times_in entries n ≤ unheld (find w.shared.packets n)
   entries_of d q n entries true there may =
-      let entered : times_of (queue_of w.shared d q) n
+      let entered : times_of (list_of w.shared d q) n
       ≤ word_at (find w.shared.packets n) d q
-      + names_on states (is_cancelling (Declared q)) d n w.threads
-      + names_on states (is_listed (Declared q)) d n w.threads =
+      + names_on states (is_cancelling q) d n w.threads
+      + names_on states (is_listed q) d n w.threads =
       claimed.balanced.entered d q n may in
-      let here : times_of (queue_of w.shared d q) n ≡ times_in entries n =
+      let here : times_of (list_of w.shared d q) n ≡ times_in entries n =
       ap (λ (o : Option (List ℕ)). times_of o n) there in
       holder_lives set states w held n d q (times_in entries n) (omega arith)
-  entries_of d q n entries false there may =
+  entries_of d DeviceQueue n entries false there may =
+      let found : (start : StartState) × (start_of w.shared d ≡ Some start)
+      × (start.device_queue ≡ entries) = start_found (start_of w.shared d) entries there in
+      let counts : times_in found.0.device_queue n ≤ times_at (waits_cancelable set d) found.0 n =
+      rw may (omega arith) in
+      let same : times_in found.0.device_queue n ≡ times_in entries n =
+      ap (λ (xs : List ℕ). times_in xs n) found.2 in
+      omega (arith, started_le set w.shared.starts d found.0 n found.1, held.rights n)
+  entries_of d (Declared q) n entries false there may =
       let counts : plain_in set (driver_at set d) q entries n ≡ times_in entries n =
       plain_counts set n (driver_at set d) q entries (none_some _ may) in
       omega (arith, plain_le set n w.shared d q entries there, held.rights n)

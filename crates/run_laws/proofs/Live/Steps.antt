@@ -1,6 +1,7 @@
 -- Each step keeps what frames see, and touches live packets alone: a register that has a packet has
 -- the right to it, or refers to the packet of the I/O manager's frame below, and that frame holds
 -- its packet.
+use Rattle.model.specs.declared.set.QueueName.{QueueName}
 use Rattle.model.specs.declared.instr.Return.TheVariants.{Continue}
 use Rattle.run_laws.proofs.States.Cancelled.{begins_called}
 use Rattle.model.specs.declared.world.CancelStep.{CancelStep}
@@ -50,11 +51,21 @@ use Rattle.run_laws.proofs.Steps.Locking.{freed_word, taken_word, LockWord}
 use Rattle.run_laws.proofs.States.LoopEnds.{moved_end, moved_loop}
 use Rattle.model.specs.declared.set.Sort.{Sort}
 use Rattle.model.specs.Queues.{StartState}
-use Rattle.model.specs.declared.instr.Instr.TheVariants.{Begin, Call, Pass, Complete, Mark, Insert, Put, End, Loop, Start, Unlink, Ret}
+use Rattle.model.specs.declared.instr.Instr.TheVariants.{Begin, Call, Pass, Complete, Mark, Insert, Put, End, Loop, Start, Unlink, Ret, Next}
 use Rattle.run_laws.proofs.Holders.Sums.{own_if, unheld}
 use Rattle.run_laws.proofs.Past.LivePackets.{find}
 use Rattle.run_laws.specs.Holder.{times_in}
 use Rattle.run_laws.proofs.States.Queueing.{queue_moves, MovedOn}
+use Rattle.run_laws.proofs.Claims.Sums.{list_of}
+use Rattle.model.specs.declared.set.QueueName.TheVariants.{Declared, DeviceQueue}
+use Rattle.model.specs.Queues.{head_of}
+use Rattle.model.specs.Set.{has_cancel}
+use Rattle.run_laws.proofs.Holders.Waits.{first_both}
+use Rattle.run_laws.proofs.Steps.Comes.{Waits, starts_gone, dequeues_packet, works_on_waiting}
+use Rattle.model.specs.declared.instr.Instr.TheVariants.{Dequeue}
+use Rattle.run_laws.proofs.Steps.Comes.{Waits, arms_waiting, disarms_next}
+use Rattle.model.specs.declared.world.Armer.{Armer}
+use Rattle.std.proofs.Common.{[], ◌∷◌}
 
 -- a routine that goes on sees what it saw
 goes_seen : (set : Set) (states : States) (under : Option Frame) (a b : Activation)
@@ -150,6 +161,15 @@ module _ (set : Set) (states : States) (s : Shared) where
   cancels_seen t None n step o h sees _ = tt
 
   -- every shape
+  waits_seen : (under : Option Frame) (a : Activation) (i : Instr) → Runs set states s a i
+      → {starts : List StartState} {n : ℕ} {armer : Option Armer} {full : Bool}
+      → Waits set s a i starts n armer full → Seen set states under (Routine a)
+      → Seen set states under (Routine (next a))
+  waits_seen under a i run (arms_waiting r n start reads there armed) sees =
+      next_seen under a (Start r) run refl refl sees
+  waits_seen under a i run (disarms_next n start there first) sees =
+      next_seen under a Next run refl refl sees
+
   pub seen : (t : ℕ) (under top : Option Frame) (f : Frame) (o : Outcome) → OnTop set states s f
       → Seen set states under f
       → Comes set s t top f o → AllSeen set states under o.frames
@@ -185,6 +205,8 @@ module _ (set : Set) (states : States) (s : Shared) where
   seen t under top f o h sees
       (exchanges a i b jumped r n p armer at work goes operand reads there how) =
       (moves_seen under a i b jumped (runs set states s a i h at) goes sees, tt)
+  seen t under top f o h sees (works_on_waiting a i starts n p armer full at there waits) =
+      (waits_seen under a i (runs set states s a i h at) waits sees, tt)
   seen t under top f o h sees (takes_lock a i lock at taken free) =
       (lock_seen under a i h at (taken_word a i lock taken) sees, tt)
   seen t under top f o h sees (retakes_lock a i lock at taken owned) =
@@ -273,7 +295,8 @@ ClaimsLive states s (CancelFrame c) = ⊤
 
 abbrev pub EntriesLive : Shared → Type 0
 EntriesLive s =
-    (d q n : ℕ) (entries : List ℕ) → queue_of s d q ≡ Some entries → 1 ≤ times_in entries n
+    (d : ℕ) (q : QueueName) (n : ℕ) (entries : List ℕ) → list_of s d q ≡ Some entries
+    → 1 ≤ times_in entries n
     → 1 ≤ unheld (find s.packets n)
 
 -- the packet of the I/O manager's frame below, if it is one that didn't lend it, is live
@@ -395,12 +418,18 @@ module _ (set : Set) (states : States) (s : Shared) (past : List Entry) where
       ap (λ (gone : Bool). bug_if gone IrqlNotLessOrEqual (PacketSubject n))
       (untopped s past n own.0 tells own.1)
 
+  head_counts : (entries : List ℕ) (n : ℕ) → head_of entries ≡ Some n → 1 ≤ times_in entries n
+  head_counts [] n h = cc
+  head_counts (m ∷ entries) n h =
+      let same : m ≡ n = cc in
+      rw (same, eq-eqb n n refl) (omega arith)
+
   queued_faults : (actor : Actor) (under : Option Frame) (a : Activation) (i : Instr)
       → OnTop set states s (Routine a) → Holding set states s past (Routine a)
       → Seen set states under (Routine a) → UnderLives set s under (Routine a)
       → ClaimsLive states s (Routine a) → EntriesLive s → Executing set a i
       → {b : Activation} {queues : List (List (List ℕ))} {lists : List StartState}
-      {actions : List Action} {full : Bool} → Queued s a i b queues lists actions full
+      {actions : List Action} {full : Bool} → Queued set s a i b queues lists actions full
       → fault_among is_touch past actor (Executes ∷ actions) ≡ None
   queued_faults actor under a i h holding seen live claims entries_live at
       (inserts r q n entries reads there) =
@@ -410,7 +439,7 @@ module _ (set : Set) (states : States) (s : Shared) (past : List Entry) where
       (removes r q label n entries there) =
       let one : times_in (n ∷ entries) n ≡ 1 + times_in entries n = rw (eq-eqb n n refl) refl in
       first_only _ (queued_lives n holding.tells
-      (entries_live a.device q n (n ∷ entries) there (omega arith)) actor)
+      (entries_live a.device (Declared q) n (n ∷ entries) there (omega arith)) actor)
   queued_faults actor under a i h holding seen live claims entries_live at
       (removes_none r q label there) = refl
   queued_faults actor under a i h holding seen live claims entries_live at
@@ -418,7 +447,7 @@ module _ (set : Set) (states : States) (s : Shared) (past : List Entry) where
       first_only _ (under_one actor n (packet_of s n) holding.tells refl
       (operand_lives under a (Unlink r q) r n _ h holding at seen live claims refl reads refl))
   queued_faults actor under a i h holding seen live claims entries_live at
-      (starts_packet r n start reads there) =
+      (starts_packet r n start reads there plain) =
       first_only _ (under_one actor n (packet_of s n) holding.tells refl
       (operand_lives under a (Start r) r n _ h holding at seen live claims refl reads refl))
   queued_faults actor under a i h holding seen live claims entries_live at
@@ -430,8 +459,20 @@ module _ (set : Set) (states : States) (s : Shared) (past : List Entry) where
       first_only _ (under_one actor n (packet_of s n) holding.tells refl
       (operand_lives under a (Begin r) r n _ h holding at seen live claims refl reads refl))
   queued_faults actor under a i h holding seen live claims entries_live at
-      (starts_next start there) =
+      (starts_next start there none) =
       refl
+  queued_faults actor under a i h holding seen live claims entries_live at
+      (starts_gone n start there first gone) =
+      let its : list_of s a.device DeviceQueue ≡ Some start.device_queue = rw there refl in
+      first_only _ (queued_lives n holding.tells
+      (entries_live a.device DeviceQueue n start.device_queue its
+      (head_counts start.device_queue n
+      (first_both (has_cancel set a.driver DeviceQueue) (head_of start.device_queue) n first).1))
+      actor)
+  queued_faults actor under a i h holding seen live claims entries_live at
+      (dequeues_packet r n start reads there) =
+      first_only _ (under_one actor n (packet_of s n) holding.tells refl
+      (operand_lives under a (Dequeue r) r n _ h holding at seen live claims refl reads refl))
 
   -- a step of IoCancelIrp touches none
   cancel_touches : (actor : Actor) (n : ℕ) (step : CancelStep) (o : Outcome)
@@ -459,6 +500,9 @@ module _ (set : Set) (states : States) (s : Shared) (past : List Entry) where
       first_only _ (touched_one actor n p tells there)
   touch_faults actor under f o tells h holding seen live claims entries_live
       (exchanges a i b jumped r n p armer at work goes operand reads there how) =
+      first_only _ (touched_one actor n p tells there)
+  touch_faults actor under f o tells h holding seen live claims entries_live
+      (works_on_waiting a i starts n p armer full at there waits) =
       first_only _ (touched_one actor n p tells there)
   touch_faults actor under f o tells h holding seen live claims entries_live
       (resumes_walk a n p at sort there) =

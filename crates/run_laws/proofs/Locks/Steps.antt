@@ -53,6 +53,9 @@ use Rattle.model.specs.declared.set.QueueName.{QueueName}
 use Rattle.model.specs.declared.event.Lock.TheVariants.{SystemCancel}
 use Rattle.model.specs.declared.world.CancelStep.{CancelStep}
 use Rattle.run_laws.proofs.States.Cancelled.{begins_called}
+use Rattle.run_laws.proofs.Steps.Comes.{works_on_waiting}
+use Rattle.run_laws.proofs.States.Queueing.{waits_move}
+use Rattle.run_laws.proofs.Steps.Queues.{waits_work}
 
 -- where an activation goes on after an instruction that is about no lock, the same locks are said
 module _ (set : Set) (states : States) (s : Shared) (a : Activation) (i : Instr)
@@ -82,9 +85,9 @@ onto_says : (set : Set) (driver : ℕ) (s : Abs) (i : Instr) (jumped : Bool) (d 
 onto_says set driver s i false d l quiet = handed_says set driver s i d l quiet
 onto_says set driver s i true d l quiet = label_says s i d l
 
-queued_quiet : {s : Shared} {a b : Activation} {i : Instr} {queues : List (List (List ℕ))}
+queued_quiet : {set : Set} {s : Shared} {a b : Activation} {i : Instr} {queues : List (List (List ℕ))}
     {lists : List StartState} {actions : List Action} {full : Bool}
-    → Queued s a i b queues lists actions full → is_locking (work_of i) ≡ false
+    → Queued set s a i b queues lists actions full → is_locking (work_of i) ≡ false
 queued_quiet queued = ap is_locking (queued_work queued)
 
 -- a routine that begins says no spin lock of a device
@@ -316,6 +319,14 @@ module _ (set : Set) (states : States) (s : Shared) (past : List Entry) (actor :
         | inl none ↦ rw none (agrees l ∙ sym says)
         | inr one ↦ rw one.1 (agrees l ∙ sym says)
       ]
+  own under f o top agrees (works_on_waiting a i starts n p armer full at there waits) l =
+      let on : MovedOn set states s a i (next a) s.queues starts =
+      waits_move set states s a i (runs set states s a i top at) waits in
+      agrees l ∙ sym
+      (ap (λ d. state_says (state_of states (next a)) d l) on.moved.device
+      ∙ ap (λ state. state_says state a.device l) on.moved.arrives
+      ∙ onto_says set a.driver (state_of states a) i on.jumped a.device l
+      (ap is_locking (waits_work waits)))
   own under f o top agrees (completes_packet a r status n p at reads there) l =
       let h : Runs set states s a (Complete r status) = runs set states s a (Complete r status) top
       at in

@@ -21,7 +21,7 @@ use Rattle.run_laws.proofs.Past.Packets.{Tells, named, tells_moved, tells_kept, 
 use Rattle.run_laws.proofs.Past.Stacks.{changed_info, changed_mark, changed_completed, changed_share, changed_down, changed_up, changed_marked_up, changed_flag, changed_word, changed_back, changed_lent}
 use Rattle.run_laws.proofs.Past.Walks.{UnderIssued}
 use Rattle.run_laws.proofs.Steps.Faults.{none_first}
-use Rattle.run_laws.proofs.Steps.Comes.{Cancels, takes_cancel, retakes_cancel, flags_gone, sets_flag, exchanges_gone, finds_empty, finds_none, calls_cancel, Comes, writes_info, marks_packet, exchanges, resumes_walk, resumes_gone, takes_lock, retakes_lock, frees_lock, completes_packet, completes_gone, passes_down, calls_down, walks_to, lends_to, cancels, walks_up, carries_up, tops_out, works_on_queues}
+use Rattle.run_laws.proofs.Steps.Comes.{Cancels, takes_cancel, retakes_cancel, flags_gone, sets_flag, exchanges_gone, finds_empty, finds_none, calls_cancel, Comes, writes_info, marks_packet, exchanges, resumes_walk, resumes_gone, takes_lock, retakes_lock, frees_lock, completes_packet, completes_gone, passes_down, calls_down, walks_to, lends_to, cancels, walks_up, carries_up, tops_out, works_on_queues, works_on_waiting}
 use Rattle.run_laws.proofs.Steps.Queues.{queued_touches}
 
 module _ (set : Set) (s : Shared) (past : List Entry) (actor : Actor) where
@@ -78,6 +78,9 @@ module _ (set : Set) (s : Shared) (past : List Entry) (actor : Actor) where
       tells_top s past tells n p there
   told_packets under f o tells low (works_on_queues a i b queues starts actions full at queued) =
       elim (queued_touches queued) [ inl none ↦ rw none tells | inr one ↦ rw one.1 tells ]
+  told_packets under f o tells low (works_on_waiting a i starts n p armer full at there waits) =
+      tells_exchanged s past tells n p (with_armer p armer) there (is_some armer)
+      (changed_word p armer)
   told_packets under f o tells low _ = tells
 
   -- a lock that is freed was the thread's, or there was a bug check

@@ -65,6 +65,9 @@ use Rattle.run_laws.proofs.Holders.Rights.{rights_turn}
 use Rattle.run_laws.proofs.Holders.Counts.{reads_ref}
 use Rattle.run_laws.proofs.Holders.Sums.{unheld_one, unheld}
 use Rattle.std.proofs.lemmas.Bool.Decides.{eqb_tells}
+use Rattle.run_laws.proofs.Steps.Comes.{Waits, arms_waiting, disarms_next, works_on_waiting, starts_gone, dequeues_packet}
+use Rattle.run_laws.proofs.States.HandedOver.{next_hold}
+use Rattle.model.specs.declared.instr.Instr.TheVariants.{Dequeue}
 
 -- what leaves the packets with who has them leaves the duty
 onto_duty : (set : Set) (driver : ℕ) (s : Abs) (i : Instr) (jumped : Bool)
@@ -325,7 +328,7 @@ module _ (set : Set) (states : States) (s : Shared) (past : List Entry) (actor :
   takes_own : (i : Instr) (r n : ℕ) (k : Kind) {queues : List (List (List ℕ))}
       {lists : List StartState}
       {actions : List Action} {full : Bool} → Executing set a i
-      → Queued s a i (next (with_register a r (Ref n))) queues lists actions full
+      → Queued set s a i (next (with_register a r (Ref n))) queues lists actions full
       → has_next (flow_of i) ≡ true → (handed set a.driver now i).kinds ≡ slice_set now.kinds r k
       → (handed set a.driver now i).duty ≡ now.duty
       → GoesOnAs states a (next (with_register a r (Ref n)))
@@ -352,9 +355,30 @@ module _ (set : Set) (states : States) (s : Shared) (past : List Entry) (actor :
       turns_as i r BlankKind (at_label a label) true at (jumping label labelled) refl kinds duty
       (λ x. tt)
 
+  next_as : Executing set a Next → GoesOnAs states a (next a)
+  next_as at =
+      let run : Runs set states s a Next = h.routine.runs Next at in
+      let on : state_of states (next a) ≡ handed set a.driver now Next =
+      arrives_next set states s a Next run refl in
+      record {
+        driver = refl;
+        routine = refl;
+        duty = ap (λ (state : Abs). state.duty) on;
+        lowers = λ x left. subst (λ (state : Abs). Lowers x state.kinds a.registers) (sym on) left;
+        news = λ m refers.
+            next_hold is_new handed_news (RefersTo m) set states s a tt Next run refl refl refers;
+      }
+
+  waits_as : (i : Instr) → Executing set a i → {starts : List StartState} {n : ℕ}
+      {armer : Option Armer} {full : Bool} → Waits set s a i starts n armer full
+      → GoesOnAs states a (next a)
+  waits_as i at (arms_waiting r n start reads there armed) =
+      next_turns (Start r) r BlankKind at refl refl refl refl (λ x. tt)
+  waits_as i at (disarms_next n start there first) = next_as at
+
   queued_as : (i : Instr) (b : Activation) (queues : List (List (List ℕ)))
       (lists : List StartState) (actions : List Action) (full : Bool) → Executing set a i
-      → Queued s a i b queues lists actions full → GoesOnAs states a b
+      → Queued set s a i b queues lists actions full → GoesOnAs states a b
   queued_as i b queues lists actions full at (inserts r q n entries reads there) =
       next_turns (Insert r q) r (kind_inserted (cancel_routine_of set a.driver q) (Declared q)) at refl refl
       refl refl (λ x. inserted_lower x (cancel_routine_of set a.driver q) q (register a r))
@@ -365,7 +389,7 @@ module _ (set : Set) (states : States) (s : Shared) (past : List Entry) (actor :
       takes_nothing (Remove r q label) r label at refl refl refl
   queued_as i b queues lists actions full at (unlinks r q n entries reads there) =
       next_turns (Unlink r q) r Own at refl refl refl refl (λ x. tt)
-  queued_as i b queues lists actions full at (starts_packet r n start reads there) =
+  queued_as i b queues lists actions full at (starts_packet r n start reads there plain) =
       next_turns (Start r) r BlankKind at refl refl refl refl (λ x. tt)
   queued_as i b queues lists actions full at (takes_out r label n start there slot) =
       takes_own (Take r label) r n Own at (takes_out r label n start there slot) refl refl refl
@@ -373,19 +397,10 @@ module _ (set : Set) (states : States) (s : Shared) (past : List Entry) (actor :
       takes_nothing (Take r label) r label at refl refl refl
   queued_as i b queues lists actions full at (puts_in r n start reads there) =
       next_turns (Begin r) r BlankKind at refl refl refl refl (λ x. tt)
-  queued_as i b queues lists actions full at (starts_next start there) =
-      let run : Runs set states s a Next = h.routine.runs Next at in
-      let on : state_of states (next a) ≡ handed set a.driver now Next =
-      arrives_next set states s a Next run refl in
-      record {
-        driver = refl;
-        routine = refl;
-        duty = ap (λ (state : Abs). state.duty) on;
-        lowers = λ x left. subst (λ (state : Abs). Lowers x state.kinds a.registers) (sym on) left;
-        news = λ m refers.
-            queued_hold is_new handed_news (RefersTo m) set states s a Next tt run
-            (starts_next start there) refers;
-      }
+  queued_as i b queues lists actions full at (starts_next start there none) = next_as at
+  queued_as i b queues lists actions full at (starts_gone n start there first gone) = next_as at
+  queued_as i b queues lists actions full at (dequeues_packet r n start reads there) =
+      next_turns (Dequeue r) r Own at refl refl refl refl (λ x. tt)
 
   -- a packet's cancel routine is exchanged
   arm_same : (r q : ℕ) (registers : List Value) → Written a (Arm r q) registers
@@ -608,6 +623,10 @@ module _ (set : Set) (states : States) (s : Shared) (past : List Entry) (actor :
       full
       (queued_as i c queues starts actions full at queued)
       (elim (queued_touches queued) [ inl none ↦ rw none refl | inr one ↦ rw one.1 refl ])
+  dispatch_does below o (works_on_waiting b i starts n p armer full at there waits) quiet =
+      stays_quiet (record (with_packet s n (with_armer p armer)) { starts = starts }) (next a)
+      (Executes ∷ Touches n ∷ Exchanges n (is_some armer) ∷ []) Stepped full
+      (waits_as i at waits) refl
   dispatch_does below o (completes_packet b r status n p at reads there) quiet =
       let run : Runs set states s a (Complete r status) = h.routine.runs (Complete r status) at in
       let rule : complete_kind (kind_of now r) ≡ None = first_none _ _ run.obeys in

@@ -11,7 +11,7 @@ use Rattle.model.specs.declared.abs.Kind.{Kind}
 use Rattle.model.specs.declared.abs.Kind.TheVariants.{Blank, Num, Lower, New, Own, Armed, View}
 use Rattle.model.specs.declared.abs.Settled.TheVariants.{Settled as SettledMark}
 use Rattle.model.specs.declared.instr.Instr.{Instr}
-use Rattle.model.specs.declared.instr.Instr.TheVariants.{Const, Move, Clear, Load, LoadPaged, Get, Mark, Pass, Call, Complete, IfPending, Insert, Release, Remove, Unlink, Arm, Disarm, Start, Take, Begin, ReleaseCancel}
+use Rattle.model.specs.declared.instr.Instr.TheVariants.{Const, Move, Clear, Load, LoadPaged, Get, Mark, Pass, Call, Complete, IfPending, Insert, Release, Remove, Unlink, Arm, Disarm, Start, Take, Begin, ReleaseCancel, Dequeue}
 use Rattle.model.specs.declared.set.Guard.{Guard}
 use Rattle.model.specs.declared.set.Guard.TheVariants.{DeviceLock, CancelLock}
 use Rattle.model.specs.declared.set.QueueName.{QueueName}
@@ -276,6 +276,9 @@ handed_dutiful s (Remove r q label) set driver rule fits long h =
     dutied_written s.duty s.kinds r (kind_removed (cancel_routine_of set driver q) (Declared q))
     (not_new _ (unbroken _ _ (first_none _ _ (second_none _ _ rule)))) plain.0 plain.1 h
 handed_dutiful s (Unlink r q) set driver rule fits long h =
+    dutied_written s.duty s.kinds r Own (queued_not_new _ (kind_of s r) (first_none _ _ rule)) refl
+    refl h
+handed_dutiful s (Dequeue r) set driver rule fits long h =
     dutied_written s.duty s.kinds r Own (queued_not_new _ (kind_of s r) (first_none _ _ rule)) refl
     refl h
 handed_dutiful s (Arm r q) set driver rule fits long h =

@@ -29,7 +29,7 @@ use Rattle.run_laws.proofs.States.NoViews.{is_deferred}
 use Rattle.run_laws.specs.ArrivingStates.{States}
 use Rattle.run_laws.proofs.States.Stacks.{Stacked, Stands}
 use Rattle.run_laws.proofs.States.Told.{last_under}
-use Rattle.run_laws.proofs.Steps.Comes.{Cancels, awaits_cancel, finds_empty, finds_none, sets_flag, cancels, Comes, awaits_lock, calls_down, carries_up, computes, ends_cancel, errs, exchanges, lends_to, lets_go, marks_packet, opens_loop, resumes_gone, resumes_none, resumes_walk, returns_status, stops_none, stops_walk, tops_out, turns_loop, walks_gone, walks_to, walks_up, ends_dpc, works_on_queues, ends_startio}
+use Rattle.run_laws.proofs.Steps.Comes.{Cancels, awaits_cancel, finds_empty, finds_none, sets_flag, cancels, Comes, awaits_lock, calls_down, carries_up, computes, ends_cancel, errs, exchanges, lends_to, lets_go, marks_packet, opens_loop, resumes_gone, resumes_none, resumes_walk, returns_status, stops_none, stops_walk, tops_out, turns_loop, walks_gone, walks_to, walks_up, ends_dpc, works_on_queues, ends_startio, works_on_waiting}
 use Rattle.run_laws.proofs.Steps.Queues.{queued_touches}
 use Rattle.run_laws.proofs.Uses.Events.{KnownWorld, known_top}
 use Rattle.run_laws.proofs.Uses.Fates.{PacketUses, UsesTell}
@@ -144,6 +144,9 @@ module _ (set : Set) (states : States) (w : World) (past : List Entry) (actor : 
       (names_activation a.driver a.routine actor.tag serves.0, h)
   routine_says under below a o on serves
       (exchanges b i c jumped r n p armer at work goes operand reads there how) h =
+      (tt, (tt, (names_activation a.driver a.routine actor.tag serves.0, h)))
+  routine_says under below a o on serves
+      (works_on_waiting b i starts n p armer full at there waits) h =
       (tt, (tt, (names_activation a.driver a.routine actor.tag serves.0, h)))
   routine_says under below a o on serves (resumes_walk b n p at sort there) h =
       (tt, (tt, (names_activation a.driver a.routine actor.tag serves.0, h)))

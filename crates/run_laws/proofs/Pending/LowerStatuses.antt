@@ -5,7 +5,7 @@ use Rattle.model.specs.declared.set.Guard.{Guard}
 use Rattle.model.specs.declared.set.Guard.TheVariants.{DeviceLock, CancelLock}
 use Rattle.model.specs.declared.abs.Abs.{Abs}
 use Rattle.model.specs.declared.instr.Instr.{Instr}
-use Rattle.model.specs.declared.instr.Instr.TheVariants.{Arm, Begin, Call, Clear, Complete, Const, Disarm, Get, Insert, Load, LoadPaged, Mark, Move, Pass, Release, Remove, Start, Take, Unlink, ReleaseCancel}
+use Rattle.model.specs.declared.instr.Instr.TheVariants.{Arm, Begin, Call, Clear, Complete, Const, Disarm, Get, Insert, Load, LoadPaged, Mark, Move, Pass, Release, Remove, Start, Take, Unlink, ReleaseCancel, Dequeue}
 use Rattle.model.specs.Set.{Set, guard_named}
 use Rattle.run_laws.proofs.Steps.Words.{is_giving, keeps_registers, work_of}
 use Rattle.std.specs.Prelude.{⊤, slice_set, slice_index_or}
@@ -129,6 +129,7 @@ lowers_kept b set driver s (Mark r) values same quiet h = cc
 lowers_kept b set driver s (Insert r q) values same quiet h = cc
 lowers_kept b set driver s (Remove r q label) values same quiet h = cc
 lowers_kept b set driver s (Unlink r q) values same quiet h = cc
+lowers_kept b set driver s (Dequeue r) values same quiet h = cc
 lowers_kept b set driver s (Arm r q) values same quiet h = cc
 lowers_kept b set driver s (Disarm r label) values same quiet h = cc
 lowers_kept b set driver s (Release lock) values same quiet h =

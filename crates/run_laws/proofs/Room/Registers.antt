@@ -9,18 +9,18 @@ use Rattle.model.specs.declared.abs.Kind.{Kind}
 use Rattle.model.specs.declared.abs.Kind.TheVariants.{Blank as BlankKind, Num as NumKind, Lower, New, Own, Listed, Armed, Taken, Cancelling, View}
 use Rattle.model.specs.declared.abs.Settled.{Settled}
 use Rattle.model.specs.declared.instr.Instr.{Instr}
-use Rattle.model.specs.declared.instr.Instr.TheVariants.{Const, Move, Clear, Load, LoadPaged, Get, Mark, Release, Insert, Remove, Unlink, Arm, Disarm, Start, Take, Begin, Pass, Call, Complete, ReleaseCancel}
+use Rattle.model.specs.declared.instr.Instr.TheVariants.{Const, Move, Clear, Load, LoadPaged, Get, Mark, Release, Insert, Remove, Unlink, Arm, Disarm, Start, Take, Begin, Pass, Call, Complete, ReleaseCancel, Dequeue}
 use Rattle.model.specs.declared.set.Guard.{Guard}
 use Rattle.model.specs.declared.set.Guard.TheVariants.{DeviceLock, CancelLock}
 use Rattle.model.specs.declared.set.QueueName.{QueueName}
-use Rattle.model.specs.declared.set.QueueName.TheVariants.{Declared}
+use Rattle.model.specs.declared.set.QueueName.TheVariants.{Declared, DeviceQueue}
 use Rattle.model.specs.declared.set.Sort.{Sort}
 use Rattle.model.specs.declared.status.Status.{Status}
 use Rattle.model.specs.declared.world.Activation.{Activation}
 use Rattle.model.specs.declared.world.Value.{Value}
 use Rattle.model.specs.declared.world.Value.TheVariants.{Blank, Num, Ref, Status as StatusValue}
-use Rattle.model.specs.Kinds.{all_let_go, is_guard, is_right, kind_disarmed, kind_inserted, left_behind, let_go}
-use Rattle.model.specs.LocalRule.{given_down, handed, handed_at_label, kind_of, mark_fault, marked, refuses, unlink_kind}
+use Rattle.model.specs.Kinds.{all_let_go, is_guard, is_right, kind_disarmed, kind_inserted, left_behind, let_go, is_cancelling}
+use Rattle.model.specs.LocalRule.{given_down, handed, handed_at_label, kind_of, mark_fault, marked, refuses, unlink_kind, queued_kind}
 use Rattle.model.specs.Set.{Set, cancel_routine_of, flow_of, guard_named, sort_of}
 use Rattle.model.specs.World.{Shared, next}
 use Rattle.run_laws.specs.Holder.{right, rights}
@@ -246,6 +246,10 @@ module _ (f : Kind → Bool) (claim : IsClaim f) (M : ℕ → Type 0) where
   unlinked_claim name (Cancelling other) rule = claim.cancelling other
   unlinked_claim name _ rule = cc
 
+  dequeued_claim : (k : Kind) → queued_kind (is_cancelling DeviceQueue k) k ≡ None → f k ≡ true
+  dequeued_claim (Cancelling other) rule = claim.cancelling other
+  dequeued_claim _ rule = cc
+
   -- what has to hold of the packet to which an instruction gives a right, or a mark
   abbrev pub Gains : Abs → List Value → Instr → Type 0
   Gains s values i =
@@ -291,6 +295,10 @@ module _ (f : Kind → Bool) (claim : IsClaim f) (M : ℕ → Type 0) where
         claim_turn s.kinds values r Own
         (λ is. claim_get s.kinds values r h
         (unlinked_claim (Declared q) (kind_of s r) (first_none _ _ rule))) h
+    handed_claims (Dequeue r) rule brought gains h =
+        claim_turn s.kinds values r Own
+        (λ is. claim_get s.kinds values r h
+        (dequeued_claim (kind_of s r) (first_none _ _ rule))) h
     handed_claims (Arm r q) rule brought gains h =
         claim_turn s.kinds values r (Armed (Declared q))
         (never (Armed (Declared q)) (claim.armed (Declared q))) h

@@ -51,6 +51,7 @@ use Rattle.run_laws.proofs.States.Standing.{Standing, on_top, startio_enters}
 use Rattle.run_laws.proofs.States.Told.{told_last, told_is}
 use Rattle.run_laws.proofs.Steps.Below.{stood}
 use Rattle.run_laws.proofs.Steps.Faults.{is_call, fault_among}
+use Rattle.run_laws.specs.Holder.{waits_cancelable}
 
 -- every frame that has the right to a live packet has room for its device, and so has each packet
 -- that waits; and the way up of each live packet
@@ -83,10 +84,11 @@ roomy_begun set states threads =
             times_le (begun set threads).world.shared d q entries n there in
             absurd (omega arith);
         starts = λ d n start there some.
-            let none : times_started (replicate (length set.devices) idle) n ≡ 0 =
-            none_started (length set.devices) n in
-            let le : times_at start n ≤ times_started (replicate (length set.devices) idle) n =
-            started_le (begun set threads).world.shared.starts d start n there in
+            let none : times_started set 0 (replicate (length set.devices) idle) n ≡ 0 =
+            none_started set (length set.devices) n in
+            let le : times_at (waits_cancelable set d) start n
+            ≤ times_started set 0 (replicate (length set.devices) idle) n =
+            started_le set (begun set threads).world.shared.starts d start n there in
             absurd (omega arith);
         words = λ n p armer there is. cc;
       };
@@ -285,9 +287,11 @@ module _ (set : Set) (states : States) (w : World) (past : List Entry) (good : I
         → FrameRoom set states (with_start w.shared h.d (without_first_to_start h.start))
         (startio_activation set h.d h.routine h.n)
     startio_room t h =
-        let gone : times_at (without_first_to_start h.start) h.n + (if nat_eq h.n h.n then 1 else 0)
-        ≡ times_at h.start h.n = times_first h.start h.n h.n h.first in
-        let one : times_at (without_first_to_start h.start) h.n + 1 ≡ times_at h.start h.n =
+        let b : Bool = waits_cancelable set h.d in
+        let gone : times_at b (without_first_to_start h.start) h.n
+        + (if nat_eq h.n h.n then 1 else 0) ≡ times_at b h.start h.n =
+        times_first b h.start h.n h.n h.first in
+        let one : times_at b (without_first_to_start h.start) h.n + 1 ≡ times_at b h.start h.n =
         rw (eq-eqb h.n h.n refl) at gone in
         begins_started set states w.shared.issued
         (with_start w.shared h.d (without_first_to_start h.start))
@@ -324,9 +328,9 @@ module _ (set : Set) (states : States) (w : World) (past : List Entry) (good : I
               queues = roomy.waiting.queues;
               starts = start_put_room set w.shared roomy.waiting h.d h.start start h.has
                   (λ m some.
-                  let gone : times_at start m + (if nat_eq h.n m then 1 else 0)
-                  ≡ times_at h.start m =
-                  times_first h.start h.n m h.first in
+                  let gone : times_at (waits_cancelable set h.d) start m
+                  + (if nat_eq h.n m then 1 else 0) ≡ times_at (waits_cancelable set h.d) h.start m =
+                  times_first (waits_cancelable set h.d) h.start h.n m h.first in
                   roomy.waiting.starts h.d m h.start h.has (omega arith));
               words = roomy.waiting.words;
             }) roomy.ways

@@ -22,7 +22,7 @@ use Rattle.model.specs.Kinds.{is_right, kind_removed}
 use Rattle.model.specs.LocalRule.{kind_of}
 use Rattle.model.specs.Queues.{StartState, inserted, next_started, started, unlinked, with_slot}
 use Rattle.model.specs.Set.{Set, cancel_routine_of}
-use Rattle.model.specs.World.{Shared, current_location, is_marked, packet_of, queue_of, register, start_of, with_queue, with_register, with_start}
+use Rattle.model.specs.World.{Shared, current_location, is_marked, packet_of, queue_of, register, start_of, with_queue, with_register, with_start, next}
 use Rattle.run_laws.specs.Holder.{times_at, times_in, times_in_slot, times_named, times_plain, times_waiting}
 use Rattle.run_laws.proofs.Claims.Sums.{is_cancelable}
 use Rattle.run_laws.proofs.Holders.Counts.{reads_ref}
@@ -42,6 +42,15 @@ use Rattle.run_laws.proofs.States.Queueing.{queue_moves}
 use Rattle.run_laws.specs.ArrivingStates.{States}
 use Rattle.run_laws.proofs.States.Rules.{first_none}
 use Rattle.run_laws.proofs.Steps.Comes.{Queued, Reads, inserts, jumping, puts_in, removes, removes_none, starts_next, starts_packet, takes_none, takes_out, unlinks}
+use Rattle.run_laws.specs.Holder.{waits_cancelable}
+use Rattle.run_laws.proofs.Holders.Waits.{served_waits, first_both}
+use Rattle.run_laws.proofs.Holders.Started.{times_disarmed}
+use Rattle.run_laws.proofs.Steps.Comes.{Waits, arms_waiting, disarms_next, starts_gone, dequeues_packet}
+use Rattle.model.specs.Queues.{head_of, dequeued}
+use Rattle.model.specs.Set.{has_cancel}
+use Rattle.model.specs.declared.set.QueueName.TheVariants.{Declared, DeviceQueue}
+use Rattle.std.proofs.lemmas.Bool.{cond_both}
+use Rattle.model.specs.declared.instr.Instr.TheVariants.{Dequeue}
 
 -- the locations that a packet has left, its current one among them, are as many as a device's stack
 -- size
@@ -75,12 +84,13 @@ HasPlace set s d n = (p : Packet) → find s.packets n ≡ Some p → Place set 
 
 abbrev pub QueuesRoom : Set → Shared → Type 0
 QueuesRoom set s =
-    (d q n : ℕ) (entries : List ℕ) → queue_of s d q ≡ Some entries → is_cancelable set d q ≡ false
-    → 1 ≤ times_in entries n → HasPlace set s d n
+    (d q n : ℕ) (entries : List ℕ) → queue_of s d q ≡ Some entries
+    → is_cancelable set d (Declared q) ≡ false → 1 ≤ times_in entries n → HasPlace set s d n
 
 abbrev pub StartsRoom : Set → Shared → Type 0
 StartsRoom set s =
-    (d n : ℕ) (start : StartState) → start_of s d ≡ Some start → 1 ≤ times_at start n
+    (d n : ℕ) (start : StartState) → start_of s d ≡ Some start
+    → 1 ≤ times_at (waits_cancelable set d) start n
     → HasPlace set s d n
 
 abbrev pub WordsRoom : Set → Shared → Type 0
@@ -124,17 +134,17 @@ pub record SameWaiting (s after : Shared) : Type 0 where
       → (p : Packet) × (find s.packets n ≡ Some p) × (p.armer ≡ Some armer)
 
 plain_some : (set : Set) (s : Shared) (d q n : ℕ) (entries : List ℕ) → queue_of s d q ≡ Some entries
-    → is_cancelable set d q ≡ false → 1 ≤ times_in entries n → 1 ≤ times_waiting set s n
+    → is_cancelable set d (Declared q) ≡ false → 1 ≤ times_in entries n → 1 ≤ times_waiting set s n
 plain_some set s d q n entries there plain some =
-    let le : (if is_cancelable set d q then 0 else times_in entries n)
+    let le : (if is_cancelable set d (Declared q) then 0 else times_in entries n)
     ≤ times_plain set 0 s.queues n = plain_le set n s d q entries there in
     let all : times_in entries n ≤ times_plain set 0 s.queues n = rw plain at le in
     omega arith
 
 started_some : (set : Set) (s : Shared) (d n : ℕ) (start : StartState) → start_of s d ≡ Some start
-    → 1 ≤ times_at start n → 1 ≤ times_waiting set s n
+    → 1 ≤ times_at (waits_cancelable set d) start n → 1 ≤ times_waiting set s n
 started_some set s d n start there some =
-    omega (arith, started_le s.starts d start n there)
+    omega (arith, started_le set s.starts d start n there)
 
 pub word_some : (set : Set) (s : Shared) (n : ℕ) (p : Packet) (armer : Armer)
     → find s.packets n ≡ Some p → p.armer ≡ Some armer → 1 ≤ times_waiting set s n
@@ -173,30 +183,54 @@ waiting_kept set s after waiting same keeps =
 module _ (set : Set) (s : Shared) (waiting : WaitingRoom set s) (d : ℕ) where
   -- a queue in place of another
   queue_put_room : (q : ℕ) (before after : List ℕ) → queue_of s d q ≡ Some before
-      → (is_cancelable set d q ≡ false → (m : ℕ) → 1 ≤ times_in after m → HasPlace set s d m)
+      → (is_cancelable set d (Declared q) ≡ false → (m : ℕ) → 1 ≤ times_in after m
+      → HasPlace set s d m)
       → QueuesRoom set (with_queue s d q after)
   queue_put_room q before after there room e k m entries here plain some =
       elim (queue_after s d q before after e k entries there here) [
         | inl its ↦
             let count : times_in entries m ≡ times_in after m =
             ap (λ (xs : List ℕ). times_in xs m) its.2 in
-            let free : is_cancelable set d q ≡ false = rw (its.0, its.1) plain in
+            let free : is_cancelable set d (Declared q) ≡ false = rw (its.0, its.1) plain in
             subst (λ (device : ℕ). HasPlace set s device m) its.0 (room free m (omega arith))
         | inr same ↦ waiting.queues e k m entries same plain some
       ]
 
   -- what a device has for StartIo in place of something else
   pub start_put_room : (before after : StartState) → start_of s d ≡ Some before
-      → ((m : ℕ) → 1 ≤ times_at after m → HasPlace set s d m)
+      → ((m : ℕ) → 1 ≤ times_at (waits_cancelable set d) after m → HasPlace set s d m)
       → StartsRoom set (with_start s d after)
   start_put_room before after there room e m start here some =
       elim (start_after s d before after e start there here) [
         | inl its ↦
-            let count : times_at start m ≡ times_at after m =
-            ap (λ (x : StartState). times_at x m) its.1 in
+            let count : times_at (waits_cancelable set e) start m
+            ≡ times_at (waits_cancelable set d) after m =
+            ap (λ (x : StartState). times_at (waits_cancelable set e) x m) its.1
+            ∙ ap (λ (x : ℕ). times_at (waits_cancelable set x) after m) (sym its.0) in
             subst (λ (device : ℕ). HasPlace set s device m) its.0 (room m (omega arith))
         | inr same ↦ waiting.starts e m start same some
       ]
+
+-- of a packet that has topped out nothing is asked
+gone_place : (set : Set) (s : Shared) (d n : ℕ) → packet_of s n ≡ None → HasPlace set s d n
+gone_place set s d n gone p there =
+    let no : None ≡ Some p = sym gone ∙ (find_place s.packets n ∙ there) in cc
+
+started_most : (b : Bool) (start : StartState) (n m : ℕ)
+    → times_at b (started start n) m ≤ times_at b start m + (if nat_eq n m then 1 else 0)
+started_most b start n m =
+    cond_both start.busy (record start { device_queue = inserted start.device_queue n })
+    (record start { start_list = inserted start.start_list n; busy = true })
+    (λ (x : StartState). times_at b x m ≤ times_at b start m + (if nat_eq n m then 1 else 0))
+    (λ busy. queue_most b (times_in (inserted start.device_queue n) m)
+    (times_in start.device_queue m) (if nat_eq n m then 1 else 0) (times_in start.start_list m)
+    (times_in_slot start.slot m) (times_pushed start.device_queue n m))
+    (λ free. omega (arith, times_pushed start.start_list n m))
+  where
+    queue_most : (b : Bool) (more some one listed slot : ℕ) → more ≡ some + one
+        → listed + (if b then 0 else more) + slot ≤ listed + (if b then 0 else some) + slot + one
+    queue_most true more some one listed slot h = omega arith
+    queue_most false more some one listed slot h = omega arith
 
 -- what is taken off a queue is one of those that stood there before
 unlinked_some : (entries : List ℕ) (n m : ℕ) → times_in (unlinked entries n) m ≤ times_in entries m
@@ -208,8 +242,13 @@ unlinked_some (entry ∷ entries) n m =
       | inr apart ↦ rw apart.0 (omega arith)
     ]
 
+dequeued_less : (b : Bool) (start : StartState) (n m : ℕ)
+    → times_at b (dequeued start n) m ≤ times_at b start m
+dequeued_less true start n m = omega arith
+dequeued_less false start n m = omega (arith, unlinked_some start.device_queue n m)
+
 pub served_cancels : (set : Set) (device driver q : ℕ) → Serves set device driver
-    → is_cancelable set device q ≡ is_some (cancel_routine_of set driver q)
+    → is_cancelable set device (Declared q) ≡ is_some (cancel_routine_of set driver q)
 served_cancels set device driver q serves =
     ap (λ (x : ℕ). is_some (cancel_routine_of set x q)) (device_driver set device driver serves)
 
@@ -262,7 +301,7 @@ module _ (set : Set) (states : States) (s : Shared) (a : Activation)
     queued_claims : (i : Instr) (h : Runs set states s a i) → {b : Activation}
         {queues : List (List (List ℕ))} {lists : List StartState} {actions : List Action}
         {full : Bool}
-        → Queued s a i b queues lists actions full
+        → Queued set s a i b queues lists actions full
         → HoldOf f (Refers M) (state_of states a).kinds a.registers
         → HoldOf f (Refers M) (state_of states b).kinds b.registers
     queued_claims i h (inserts r q n entries reads there) held =
@@ -280,7 +319,7 @@ module _ (set : Set) (states : States) (s : Shared) (a : Activation)
         (λ no. cc) held
     queued_claims i h (unlinks r q n entries reads there) held =
         next_claims f claim M set states s a (Unlink r q) h refl refl (λ k is. cc) held
-    queued_claims i h (starts_packet r n start reads there) held =
+    queued_claims i h (starts_packet r n start reads there plain) held =
         next_claims f claim M set states s a (Start r) h refl refl (λ k is. cc) held
     queued_claims i h (takes_out r label n start there slot) held =
         subst (λ (state : Abs). HoldOf f (Refers M) state.kinds
@@ -293,13 +332,26 @@ module _ (set : Set) (states : States) (s : Shared) (a : Activation)
         (λ no. cc) held
     queued_claims i h (puts_in r n start reads there) held =
         next_claims f claim M set states s a (Begin r) h refl refl (λ k is. cc) held
-    queued_claims i h (starts_next start there) held =
+    queued_claims i h (starts_next start there none) held =
+        next_claims f claim M set states s a Next h refl refl (λ k is. cc) held
+    queued_claims i h (starts_gone n start there first gone) held =
+        next_claims f claim M set states s a Next h refl refl (λ k is. cc) held
+    queued_claims i h (dequeues_packet r n start reads there) held =
+        next_claims f claim M set states s a (Dequeue r) h refl refl (λ k is. cc) held
+
+    waits_claims : (i : Instr) → Runs set states s a i → {starts : List StartState} {n : ℕ}
+        {armer : Option Armer} {full : Bool} → Waits set s a i starts n armer full
+        → HoldOf f (Refers M) (state_of states a).kinds a.registers
+        → HoldOf f (Refers M) (state_of states (next a)).kinds a.registers
+    waits_claims i h (arms_waiting r n start reads there armed) held =
+        next_claims f claim M set states s a (Start r) h refl refl (λ k is. cc) held
+    waits_claims i h (disarms_next n start there first) held =
         next_claims f claim M set states s a Next h refl refl (λ k is. cc) held
 
   pub queued_room : (i : Instr) → Runs set states s a i → {b : Activation}
       {queues : List (List (List ℕ))} {lists : List StartState} {actions : List Action}
       {full : Bool}
-      → Queued s a i b queues lists actions full → FrameRoom set states s b
+      → Queued set s a i b queues lists actions full → FrameRoom set states s b
   queued_room i h {b = b} queued =
       let device : b.device ≡ a.device = (queue_moves set states s a i h queued).moved.device in
       record {
@@ -327,7 +379,7 @@ module _ (set : Set) (states : States) (s : Shared) (a : Activation)
   pub waiting_queued : (i : Instr) → Runs set states s a i → {b : Activation}
       {queues : List (List (List ℕ))} {lists : List StartState} {actions : List Action}
       {full : Bool}
-      → Queued s a i b queues lists actions full
+      → Queued set s a i b queues lists actions full
       → WaitingRoom set (record s { queues = queues; starts = lists })
   waiting_queued i h (inserts r q n entries reads there) =
       record {
@@ -361,17 +413,26 @@ module _ (set : Set) (states : States) (s : Shared) (a : Activation)
         starts = waiting.starts;
         words = waiting.words;
       }
-  waiting_queued i h (starts_packet r n start reads there) =
+  waiting_queued i h (starts_packet r n start reads there plain) =
       record {
         queues = waiting.queues;
         starts = start_put_room set s waiting a.device start (started start n) there
-            (λ m some.
-            let given : times_at (started start n) m
-            ≡ times_at start m + (if nat_eq n m then 1 else 0) = times_given start n m in
-            given_place n m (times_at start m)
-            (owned_place r n (inserts_right (kind_of (state_of states a) r)
-            (first_none _ _ h.obeys)) reads)
-            (waiting.starts a.device m start there) (omega arith));
+            (λ m some. elim plain [
+              | inl may ↦
+                  let given : times_at (waits_cancelable set a.device) (started start n) m
+                  ≡ times_at (waits_cancelable set a.device) start m
+                  + (if nat_eq n m then 1 else 0) =
+                  times_given set a.device a.driver start n m
+                  (served_waits set states s a (Start r) h) may in
+                  given_place n m (times_at (waits_cancelable set a.device) start m)
+                  (owned_place r n (inserts_right (kind_of (state_of states a) r)
+                  (first_none _ _ h.obeys)) reads)
+                  (waiting.starts a.device m start there) (omega arith)
+              | inr gone ↦
+                  given_place n m (times_at (waits_cancelable set a.device) start m)
+                  (gone_place set s a.device n gone) (waiting.starts a.device m start there)
+                  (omega (arith, started_most (waits_cancelable set a.device) start n m))
+            ]);
         words = waiting.words;
       }
   waiting_queued i h (takes_out r label n start there slot) =
@@ -388,18 +449,47 @@ module _ (set : Set) (states : States) (s : Shared) (a : Activation)
         queues = waiting.queues;
         starts = start_put_room set s waiting a.device start (with_slot start (Some n)) there
             (λ m some.
-            given_place n m (times_at start m)
+            given_place n m (times_at (waits_cancelable set a.device) start m)
             (owned_place r n (inserts_right (kind_of (state_of states a) r)
             (first_none _ _ h.obeys)) reads)
             (waiting.starts a.device m start there) (omega arith));
         words = waiting.words;
       }
-  waiting_queued i h (starts_next start there) =
+  waiting_queued i h (starts_next start there none) =
       record {
         queues = waiting.queues;
         starts = start_put_room set s waiting a.device start (next_started start) there
             (λ m some.
-            let same : times_at (next_started start) m ≡ times_at start m = times_next start m in
+            let same : times_at (waits_cancelable set a.device) (next_started start) m
+            ≡ times_at (waits_cancelable set a.device) start m =
+            times_next set a.device a.driver start m (served_waits set states s a Next h) none in
             waiting.starts a.device m start there (omega arith));
+        words = waiting.words;
+      }
+  waiting_queued i h (starts_gone n start there first gone) =
+      record {
+        queues = waiting.queues;
+        starts = start_put_room set s waiting a.device start (next_started start) there
+            (λ m some.
+            given_place n m (times_at (waits_cancelable set a.device) start m)
+            (gone_place set s a.device n gone) (waiting.starts a.device m start there)
+            (let both : (has_cancel set a.driver DeviceQueue ≡ true)
+            × (head_of start.device_queue ≡ Some n) =
+            first_both (has_cancel set a.driver DeviceQueue) (head_of start.device_queue) n first in
+            let may : waits_cancelable set a.device ≡ true =
+            served_waits set states s a Next h ∙ both.0 in
+            let won : times_at (waits_cancelable set a.device) (next_started start) m
+            ≡ times_at (waits_cancelable set a.device) start m + (if nat_eq n m then 1 else 0) =
+            rw may (times_disarmed start n m both.1) in
+            omega arith));
+        words = waiting.words;
+      }
+  waiting_queued i h (dequeues_packet r n start reads there) =
+      record {
+        queues = waiting.queues;
+        starts = start_put_room set s waiting a.device start (dequeued start n) there
+            (λ m some.
+            waiting.starts a.device m start there
+            (omega (arith, dequeued_less (waits_cancelable set a.device) start n m)));
         words = waiting.words;
       }

@@ -4,6 +4,7 @@
 use Rattle.run_laws.proofs.Claims.Tops.{named_some, top_there}
 use Rattle.std.proofs.Common.{◌≡◌, ℕ, ◌+◌, ◌≤◌, true, List, Some, refl, ◌∙◌, arith, length}
 use Rattle.std.proofs.lemmas.Bool.{eq-eqb}
+use Rattle.model.specs.declared.set.QueueName.{QueueName}
 use Rattle.model.specs.declared.abs.Kind.{Kind}
 use Rattle.model.specs.declared.abs.Kind.TheVariants.{Armed, Taken}
 use Rattle.model.specs.declared.set.QueueName.TheVariants.{Declared}
@@ -28,15 +29,16 @@ use Rattle.run_laws.proofs.States.Frames.{IsGood, state_of}
 use Rattle.run_laws.specs.ArrivingStates.{States}
 use Rattle.run_laws.proofs.States.Standing.{Standing}
 use Rattle.run_laws.proofs.Steps.Comes.{Reads}
+use Rattle.run_laws.proofs.Claims.Balance.{name_same}
 
 module _ (set : Set) (states : States) (w : World) (past : List Entry) (good : IsGood set states)
     (stands : Standing set states w past) (held : Held set states w)
     (claimed : Claimed set states w)
   where
-    backed_device : (d q n : ℕ) (p : Packet) (armer : Armer) → find w.shared.packets n ≡ Some p
+    backed_device : (d : ℕ) (q : QueueName) (n : ℕ) (p : Packet) (armer : Armer) → find w.shared.packets n ≡ Some p
         → p.armer ≡ Some armer
-        → 1 ≤ names_on states (is_armed (Declared q)) d n w.threads
-        + names_on states (is_taken (Declared q)) d n w.threads
+        → 1 ≤ names_on states (is_armed q) d n w.threads
+        + names_on states (is_taken q) d n w.threads
         → armer.device ≡ d
     backed_device d q n p armer there is some =
         (word_names set states w held claimed d q n p armer (find_place w.shared.packets n ∙ there)
@@ -46,17 +48,17 @@ module _ (set : Set) (states : States) (w : World) (past : List Entry) (good : I
       exchanged_device : (k : Kind) (r n : ℕ) (p : Packet) (armer : Armer)
           → kind_of (state_of states a) r ≡ k → is_exchanged k ≡ true → Reads w.shared a r n
           → find w.shared.packets n ≡ Some p → p.armer ≡ Some armer → armer.device ≡ a.device
-      exchanged_device (Armed (Declared q)) r n p armer kind is reads there word =
-          let some : 1 ≤ names_on states (is_armed (Declared q)) a.device n w.threads =
+      exchanged_device (Armed q) r n p armer kind is reads there word =
+          let some : 1 ≤ names_on states (is_armed q) a.device n w.threads =
           named_some states w t (length h.below) a (top_there set w t h a top)
-          (is_armed (Declared q)) refl r n
-          (rw kind (eq-eqb q q refl)) (reads_ref w.shared (register a r) n reads) in
+          (is_armed q) refl r n
+          (rw kind (name_same q)) (reads_ref w.shared (register a r) n reads) in
           backed_device a.device q n p armer there word (omega arith)
-      exchanged_device (Taken (Declared q)) r n p armer kind is reads there word =
-          let some : 1 ≤ names_on states (is_taken (Declared q)) a.device n w.threads =
+      exchanged_device (Taken q) r n p armer kind is reads there word =
+          let some : 1 ≤ names_on states (is_taken q) a.device n w.threads =
           named_some states w t (length h.below) a (top_there set w t h a top)
-          (is_taken (Declared q)) refl r n
-          (rw kind (eq-eqb q q refl)) (reads_ref w.shared (register a r) n reads) in
+          (is_taken q) refl r n
+          (rw kind (name_same q)) (reads_ref w.shared (register a r) n reads) in
           backed_device a.device q n p armer there word (omega arith)
       exchanged_device _ r n p armer kind is reads there word = cc
 

@@ -1,6 +1,8 @@
 -- Routines that begin: those that serve a request of a device, its DPC and StartIo routines, and
 -- those that completion calls.
 use Rattle.run_laws.proofs.States.Listed.{named_only}
+use Rattle.model.specs.Sound.{WaitingFits}
+use Rattle.model.specs.declared.set.QueueName.TheVariants.{DeviceQueue}
 use Rattle.model.specs.declared.set.QueueName.TheVariants.{Declared}
 use Rattle.model.specs.declared.set.Queue.{Queue}
 use Rattle.std.proofs.Common.{◌≡◌, ℕ, zero, suc, ◌+◌, ◌-◌, ◌<◌, ◌≤◌, Bool, true, false, List, [], ◌∷◌, length, Option, None, Some, refl, ap, sym, ◌∙◌, subst, arith, nat_eq, is_some}
@@ -156,9 +158,27 @@ module _ (set : Set) (sound : IsSound set) (driver number : ℕ) where
   cancel_in q None there h = cc
   cancel_in q (Some d) there h = cancel_of d q (slice_get d.queues q) there refl h
 
+  waiting_by : (d : Driver) (startio o : Option ℕ) → slice_get set.drivers driver ≡ Some d
+      → DriverFits d → d.startio_cancel ≡ o → WaitingFits d.routines startio o
+      → o ≡ Some number → CancelThere set driver number
+  waiting_by d None (Some cancel) there fits is waiting h = absurd waiting
+  waiting_by d (Some startio) (Some cancel) there fits is waiting h =
+      let same : cancel ≡ number = cc in
+      cancel_found d (slice_get d.routines number) there fits.few refl
+      (subst (λ (k : ℕ). HasSort IsCancel (slice_get d.routines k)) same waiting)
+  waiting_by d startio None there fits is waiting h = cc
+
+  waiting_in : (o : Option Driver) → slice_get set.drivers driver ≡ o
+      → option_and_then (λ d. d.startio_cancel) o ≡ Some number → CancelThere set driver number
+  waiting_in None there h = cc
+  waiting_in (Some d) there h =
+      let fits : DriverFits d = all_at DriverFits set.drivers driver d sound.drivers there in
+      waiting_by d d.startio d.startio_cancel there fits refl fits.waiting h
+
   cancel_named : (name : QueueName) → cancel_routine_named set driver name ≡ Some number
       → CancelThere set driver number
   cancel_named (Declared q) h = cancel_in q (slice_get set.drivers driver) refl h
+  cancel_named DeviceQueue h = waiting_in (slice_get set.drivers driver) refl h
 
 -- a routine begins in the state of its sort; a cancel routine in that of the queue that names it,
 -- and one that no queue names not at all

@@ -58,6 +58,12 @@ use Rattle.run_laws.proofs.Tests.{or_left}
 use Rattle.model.specs.declared.limits.TheConstants.{MAX_LIVE_PACKETS}
 use Rattle.run_laws.proofs.Steps.Queues.{queued_touches}
 use Rattle.run_laws.proofs.States.Queueing.{queue_moves, MovedOn}
+use Rattle.run_laws.proofs.Steps.Comes.{Waits, arms_waiting, disarms_next, works_on_waiting}
+use Rattle.run_laws.proofs.States.Queueing.{waits_move}
+use Rattle.model.specs.declared.set.QueueName.TheVariants.{DeviceQueue}
+use Rattle.model.specs.Set.{has_cancel, cancel_routine_named}
+use Rattle.model.specs.Queues.{StartState}
+use Rattle.std.specs.Prelude.{◌&&◌}
 
 abbrev pub is_wrong : Action → Bool
 is_wrong GoesWrong = true
@@ -192,6 +198,30 @@ exchanged_leads set a p i jumped armer served (arms_for r q routine named) = (
   routine,
   ap (λ (driver : ℕ). cancel_routine_of set driver q) served.2 ∙ named,
 )
+
+and_first : (one other : Bool) → (one && other) ≡ true → one ≡ true
+and_first true other h = refl
+and_first false other h = cc
+
+-- and so does the one that IoStartPacket sets
+cancel_leads : (set : Set) (device driver : ℕ) (o : Option ℕ) → Serves set device driver
+    → cancel_routine_named set driver DeviceQueue ≡ o → is_some o ≡ true
+    → ArmerLeads set (Some (record { device = device; queue = DeviceQueue }))
+cancel_leads set device driver None served named is = cc
+cancel_leads set device driver (Some routine) served named is = (
+  served.0,
+  served.1,
+  routine,
+  ap (λ (d : ℕ). cancel_routine_named set d DeviceQueue) served.2 ∙ named,
+)
+
+waits_leads : (set : Set) (s : Shared) (a : Activation) (i : Instr) → Serves set a.device a.driver
+    → {starts : List StartState} {n : ℕ} {armer : Option Armer} {full : Bool}
+    → Waits set s a i starts n armer full → ArmerLeads set armer
+waits_leads set s a i served (disarms_next n start there first) = tt
+waits_leads set s a i served (arms_waiting r n start reads there armed) =
+    cancel_leads set a.device a.driver (cancel_routine_named set a.driver DeviceQueue) served refl
+    (and_first (has_cancel set a.driver DeviceQueue) start.busy armed)
 
 told_operand : (i : Instr) → work_of i ≡ Forwarding → told_in i ≡ packet_operand i
 told_operand (Pass r) is = refl
@@ -472,6 +502,24 @@ module _ (set : Set) (states : States) (s : Shared) (past : List Entry) (actor :
           refl,
           on.moved.ready,
           λ g below. same_above set states s.issued a b g on.moved.driver on.moved.routine below,
+        );
+      }
+  leaves_fine under f o h quiet (works_on_waiting a i starts n p armer full at there waits) =
+      let run : Runs set states s a i = runs set states s a i h at in
+      let on : MovedOn set states s a i (next a) s.queues starts = waits_move set states s a i run waits
+      in
+      record {
+        fits = with_queues_fits set (with_packet s n (with_armer p armer))
+            (with_packet_fits set s h.fits n (with_armer p armer)
+            (packet_leads set s h.fits n p there)
+            (waits_leads set s a i run.stays.serves waits))
+            s.queues starts on.fits on.starts;
+        issued = refl;
+        stands = (
+          refl,
+          on.moved.ready,
+          λ g below. same_above set states s.issued a (next a) g on.moved.driver on.moved.routine
+              below,
         );
       }
   leaves_fine under f o h quiet (completes_packet a r status n p at reads there) =

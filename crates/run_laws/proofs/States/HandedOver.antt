@@ -1,6 +1,6 @@
 -- What holds of the values in registers of kinds that no instruction makes: packets that a routine
 -- was handed, and packets on their way up.
-use Rattle.std.proofs.Common.{◌≡◌, ℕ, zero, suc, Bool, true, false, List, [], ◌∷◌, sym, subst, ◌∙◌, refl}
+use Rattle.std.proofs.Common.{◌≡◌, ℕ, zero, suc, Bool, true, false, List, [], ◌∷◌, sym, subst, ◌∙◌, refl, Option}
 use Rattle.std.specs.Prelude.{⊤, slice_index_or, slice_set}
 use Rattle.std.specs.List.{list_any}
 use Rattle.std.proofs.lemmas.Bool.{cond_both}
@@ -8,7 +8,7 @@ use Rattle.model.specs.declared.abs.Abs.{Abs}
 use Rattle.model.specs.declared.abs.Kind.{Kind}
 use Rattle.model.specs.declared.abs.Kind.TheVariants.{Blank as BlankKind, Num as NumKind, Lower, New, Own, Listed, Armed, Taken}
 use Rattle.model.specs.declared.instr.Instr.{Instr}
-use Rattle.model.specs.declared.instr.Instr.TheVariants.{Const, Move, Clear, Load, LoadPaged, Get, Mark, Release, Insert, Remove, Unlink, Arm, Disarm, Start, Take, Begin, Next, Pass, Call, Complete, ReleaseCancel}
+use Rattle.model.specs.declared.instr.Instr.TheVariants.{Const, Move, Clear, Load, LoadPaged, Get, Mark, Release, Insert, Remove, Unlink, Arm, Disarm, Start, Take, Begin, Next, Pass, Call, Complete, ReleaseCancel, Dequeue}
 use Rattle.model.specs.declared.set.Guard.{Guard}
 use Rattle.model.specs.declared.set.Guard.TheVariants.{DeviceLock, CancelLock}
 use Rattle.model.specs.declared.set.QueueName.TheVariants.{Declared}
@@ -29,6 +29,8 @@ use Rattle.run_laws.specs.ArrivingStates.{States}
 use Rattle.run_laws.proofs.Steps.Comes.{GoesTo, Queued, Written, inserts, jumping, keeps_all, makes_blank, makes_number, moves_over, onward, puts_in, removes, removes_none, starts_next, starts_packet, takes_none, takes_out, unlinks}
 use Rattle.run_laws.proofs.Steps.Words.{is_touching, keeps_registers, work_of}
 use Rattle.run_laws.proofs.Tests.{or_left, or_right}
+use Rattle.run_laws.proofs.Steps.Comes.{Waits, arms_waiting, disarms_next, starts_gone, dequeues_packet}
+use Rattle.model.specs.declared.world.Armer.{Armer}
 
 abbrev pub HoldOf : (Kind → Bool) → (Value → Type 0) → List Kind → List Value → Type 0
 HoldOf f P [] values = ⊤
@@ -173,6 +175,8 @@ module _ (f : Kind → Bool) (given : IsHanded f) (P : Value → Type 0) where
       (handed_removed f given (cancel_routine_of set driver q) (Declared q)) h
   handed_hold set driver s (Unlink r q) values plain h =
       hold_turn s.kinds values r Own given.own h
+  handed_hold set driver s (Dequeue r) values plain h =
+      hold_turn s.kinds values r Own given.own h
   handed_hold set driver s (Arm r q) values plain h =
       hold_turn s.kinds values r (Armed (Declared q)) (given.armed (Declared q)) h
   handed_hold set driver s (Disarm r label) values plain h =
@@ -245,7 +249,7 @@ module _ (f : Kind → Bool) (given : IsHanded f) (P : Value → Type 0) where
       → P Blank
       → Runs set states s a i
       → {b : Activation} {queues : List (List (List ℕ))} {lists : List StartState}
-      {actions : List Action} {full : Bool} → Queued s a i b queues lists actions full
+      {actions : List Action} {full : Bool} → Queued set s a i b queues lists actions full
       → HoldOf f P (state_of states a).kinds a.registers
       → HoldOf f P (state_of states b).kinds b.registers
   queued_hold set states s a i empty h (inserts r q n entries reads there) held =
@@ -261,7 +265,7 @@ module _ (f : Kind → Bool) (given : IsHanded f) (P : Value → Type 0) where
       goes_hold set states s a empty (Remove r q label) _ true h (jumping label refl) held
   queued_hold set states s a i empty h (unlinks r q n entries reads there) held =
       next_hold set states s a empty (Unlink r q) h refl refl held
-  queued_hold set states s a i empty h (starts_packet r n start reads there) held =
+  queued_hold set states s a i empty h (starts_packet r n start reads there plain) held =
       next_hold set states s a empty (Start r) h refl refl held
   queued_hold set states s a i empty h (takes_out r label n start there slot) held =
       subst (λ (state : Abs). HoldOf f P state.kinds (slice_set a.registers r (Ref n)))
@@ -272,5 +276,20 @@ module _ (f : Kind → Bool) (given : IsHanded f) (P : Value → Type 0) where
       goes_hold set states s a empty (Take r label) _ true h (jumping label refl) held
   queued_hold set states s a i empty h (puts_in r n start reads there) held =
       next_hold set states s a empty (Begin r) h refl refl held
-  queued_hold set states s a i empty h (starts_next start there) held =
+  queued_hold set states s a i empty h (starts_next start there none) held =
+      next_hold set states s a empty Next h refl refl held
+  queued_hold set states s a i empty h (starts_gone n start there first gone) held =
+      next_hold set states s a empty Next h refl refl held
+  queued_hold set states s a i empty h (dequeues_packet r n start reads there) held =
+      next_hold set states s a empty (Dequeue r) h refl refl held
+
+  pub waits_hold : (set : Set) (states : States) (s : Shared) (a : Activation) (i : Instr)
+      → P Blank → Runs set states s a i
+      → {starts : List StartState} {n : ℕ} {armer : Option Armer} {full : Bool}
+      → Waits set s a i starts n armer full
+      → HoldOf f P (state_of states a).kinds a.registers
+      → HoldOf f P (state_of states (next a)).kinds a.registers
+  waits_hold set states s a i empty h (arms_waiting r n start reads there armed) held =
+      next_hold set states s a empty (Start r) h refl refl held
+  waits_hold set states s a i empty h (disarms_next n start there first) held =
       next_hold set states s a empty Next h refl refl held

@@ -5,12 +5,13 @@ use Rattle.std.proofs.Common.{◌≡◌, ◌⊎◌, ℕ, zero, suc, ◌<◌, ◌
 use Rattle.std.specs.Prelude.{◌||◌, ⊤, slice_set, slice_index_or, nat_lt}
 use Rattle.std.proofs.lemmas.Bool.{cond_both, lt-ltb}
 use Rattle.std.proofs.lemmas.List.{length-set, set-get_or}
+use Rattle.model.specs.declared.set.QueueName.TheVariants.{DeviceQueue}
 use Rattle.model.specs.declared.set.QueueName.{QueueName}
 use Rattle.model.specs.declared.abs.Abs.{Abs}
 use Rattle.model.specs.declared.abs.Kind.{Kind}
 use Rattle.model.specs.declared.abs.Kind.TheVariants.{Blank as BlankKind, Num as NumKind, Lower, New, Own, Listed, Armed, Taken, Cancelling, View}
 use Rattle.model.specs.declared.instr.Instr.{Instr}
-use Rattle.model.specs.declared.instr.Instr.TheVariants.{Const, Move, Clear, Add, Subtract, JumpIfZero, JumpIfLess, Load, Store, LoadPaged, StorePaged, Get, Put, Mark, Acquire, Release, Pass, Call, Complete, IfPending, Insert, Remove, Unlink, Arm, Disarm, IfCancel, Start, Take, Begin, ReleaseCancel}
+use Rattle.model.specs.declared.instr.Instr.TheVariants.{Const, Move, Clear, Add, Subtract, JumpIfZero, JumpIfLess, Load, Store, LoadPaged, StorePaged, Get, Put, Mark, Acquire, Release, Pass, Call, Complete, IfPending, Insert, Remove, Unlink, Arm, Disarm, IfCancel, Start, Take, Begin, ReleaseCancel, Dequeue}
 use Rattle.model.specs.declared.set.Guard.{Guard}
 use Rattle.model.specs.declared.set.Guard.TheVariants.{DeviceLock, CancelLock}
 use Rattle.model.specs.declared.set.QueueName.TheVariants.{Declared}
@@ -245,6 +246,10 @@ module _ (s : Abs) (sort : Sort) (set : Set) (driver : ℕ) where
       let one : q ≡ r = cc in
       subst IsPacketAt one (queued_packet (is_exchanged (kind_of s q)) (kind_of s q) h)
   packet_wanted (IfCancel q label) r h is = demands any_packet q r h is
+  packet_wanted (Dequeue q) r h is =
+      let one : q ≡ r = cc in
+      subst IsPacketAt one
+      (queued_packet (is_cancelling DeviceQueue (kind_of s q)) (kind_of s q) (first_none _ _ h))
   packet_wanted (IfPending q label) r h is = demands one_to_look_at q r (first_none _ _ h) is
   packet_wanted _ r h is = cc
 
@@ -332,6 +337,9 @@ module _ (s : Abs) (sort : Sort) (set : Set) (driver : ℕ) where
   same_kinds issued values (Unlink r q) keeps same on stays h =
       kinds_turn issued s.kinds values r Own h
       (packet_there issued values (Unlink r q) r keeps refl h)
+  same_kinds issued values (Dequeue r) keeps same on stays h =
+      kinds_turn issued s.kinds values r Own h
+      (packet_there issued values (Dequeue r) r keeps refl h)
   same_kinds issued values (Arm r q) keeps same on stays h =
       kinds_turn issued s.kinds values r (Armed (Declared q)) h
       (packet_there issued values (Arm r q) r keeps refl h)
@@ -403,6 +411,7 @@ handed_long set driver s (Insert r q) =
 handed_long set driver s (Remove r q label) =
     length-set s.kinds r (kind_removed (cancel_routine_of set driver q) (Declared q))
 handed_long set driver s (Unlink r q) = length-set s.kinds r Own
+handed_long set driver s (Dequeue r) = length-set s.kinds r Own
 handed_long set driver s (Arm r q) = length-set s.kinds r (Armed (Declared q))
 handed_long set driver s (Disarm r label) = length-set s.kinds r (kind_disarmed (kind_of s r))
 handed_long set driver s (Release lock) = go_long set driver (DeviceLock lock) s.kinds

@@ -1,6 +1,7 @@
 -- What the state at a position says of registers with packets of queues with a cancel routine: the
 -- queue has one, and the thread holds its guard while it has a packet that stands in the queue, or
--- was taken off it.
+-- was taken off it, or while it has one that IoCancelIrp handed to the cancel routine of the device
+-- queue.
 use Rattle.model.specs.declared.set.Sort.TheVariants.{Dispatch, StartIo, Dpc, Propagate, Hold, Cancel}
 use Rattle.model.specs.declared.abs.Settled.TheVariants.{Settled as SettledMark, Open}
 use Rattle.model.specs.declared.limits.TheConstants.{REGISTERS, SPIN_LOCKS}
@@ -19,12 +20,12 @@ use Rattle.model.specs.declared.abs.Kind.{Kind}
 use Rattle.model.specs.declared.abs.Kind.TheVariants.{Blank, Num, Lower, New, Own, Listed, Armed, Taken, Cancelling, View}
 use Rattle.model.specs.declared.abs.Rule.TheVariants.{CancelState, Guard as GuardRule}
 use Rattle.model.specs.declared.instr.Instr.{Instr}
-use Rattle.model.specs.declared.instr.Instr.TheVariants.{Const, Move, Clear, Load, LoadPaged, Get, Mark, Acquire, Release, AcquireCancel, ReleaseCancel, Insert, Remove, Unlink, Arm, Disarm, Start, Take, Begin, Pass, Call, Complete}
+use Rattle.model.specs.declared.instr.Instr.TheVariants.{Const, Move, Clear, Load, LoadPaged, Get, Mark, Acquire, Release, AcquireCancel, ReleaseCancel, Insert, Remove, Unlink, Arm, Disarm, Start, Take, Begin, Pass, Call, Complete, Dequeue}
 use Rattle.model.specs.declared.set.Guard.{Guard}
 use Rattle.model.specs.declared.set.Guard.TheVariants.{DeviceLock, CancelLock}
 use Rattle.model.specs.declared.set.Queue.{Queue}
 use Rattle.model.specs.declared.set.QueueName.{QueueName}
-use Rattle.model.specs.declared.set.QueueName.TheVariants.{Declared}
+use Rattle.model.specs.declared.set.QueueName.TheVariants.{Declared, DeviceQueue}
 use Rattle.model.specs.declared.set.Sort.{Sort}
 use Rattle.model.specs.Kinds.{all_let_go, is_guard, is_listed, is_name, kind_disarmed, kind_inserted, kind_removed, left_behind, let_go, needs_guard}
 use Rattle.model.specs.LocalRule.{given_down, guard_fault, handed, handed_at_label, is_guarded, kind_of, marked, queued_kind, refuses, release_fault, with_held, entry_of_sort, entry_of_cancel, entered_with}
@@ -55,7 +56,9 @@ KindFits set driver locks cancel (Armed name) =
     HasCancel set driver name × Guarded set driver locks cancel name
 KindFits set driver locks cancel (Taken name) =
     HasCancel set driver name × Guarded set driver locks cancel name
-KindFits set driver locks cancel (Cancelling name) = HasCancel set driver name
+KindFits set driver locks cancel (Cancelling (Declared q)) = HasCancel set driver (Declared q)
+KindFits set driver locks cancel (Cancelling DeviceQueue) =
+    HasCancel set driver DeviceQueue × Guarded set driver locks cancel DeviceQueue
 KindFits set driver locks cancel Blank = ⊤
 KindFits set driver locks cancel Num = ⊤
 KindFits set driver locks cancel Lower = ⊤
@@ -116,6 +119,9 @@ other_guard s CancelLock (Some CancelLock) other h = cc
 
 pub named_same : (one other : QueueName) → is_name one other ≡ true → one ≡ other
 named_same (Declared p) (Declared q) h = ap (λ (x : ℕ). Declared x) (eqb-true p q h)
+named_same (Declared p) DeviceQueue h = cc
+named_same DeviceQueue (Declared q) h = cc
+named_same DeviceQueue DeviceQueue h = refl
 
 module _ (set : Set) (driver : ℕ) where
   -- one register
@@ -139,7 +145,9 @@ module _ (set : Set) (driver : ℕ) where
       (h.0, acquired_guards s lock (guard_named set driver name) h.1)
   acquired_fits s lock (Taken name) h =
       (h.0, acquired_guards s lock (guard_named set driver name) h.1)
-  acquired_fits s lock (Cancelling name) h = h
+  acquired_fits s lock (Cancelling (Declared q)) h = h
+  acquired_fits s lock (Cancelling DeviceQueue) h =
+      (h.0, acquired_guards s lock (guard_named set driver DeviceQueue) h.1)
   acquired_fits s lock _ h = tt
 
   pub all_acquired : (s : Abs) (lock : Guard) → (with_held s lock true).kinds ≡ s.kinds
@@ -169,7 +177,9 @@ module _ (set : Set) (driver : ℕ) where
       armed_goes s lock name (is_guard (guard_named set driver name) lock) refl h.0 h.1
   freed_fits s lock (Taken name) free h =
       (h.0, other_guard s lock (guard_named set driver name) free h.1)
-  freed_fits s lock (Cancelling name) free h = h
+  freed_fits s lock (Cancelling (Declared q)) free h = h
+  freed_fits s lock (Cancelling DeviceQueue) free h =
+      (h.0, other_guard s lock (guard_named set driver DeviceQueue) free h.1)
   freed_fits s lock _ free h = tt
 
   all_freed : (s : Abs) (lock : Guard) (kinds : List Kind)
@@ -286,6 +296,7 @@ module _ (set : Set) (driver : ℕ) where
       (removed_fits s.locks s.cancel (Declared q) (cancel_routine_of set driver q) refl
       (guard_held s (Declared q) (first_none _ _ keeps))) h
   handed_fits s (Unlink r q) sort keeps h = set_fits s r Own tt h
+  handed_fits s (Dequeue r) sort keeps h = set_fits s r Own tt h
   handed_fits s (Arm r q) sort keeps h =
       set_fits s r (Armed (Declared q))
       (armed_fits s.locks s.cancel (Declared q) (kind_of s r) (first_none _ _ keeps) (kind_fits_at s r h)) h
@@ -339,6 +350,22 @@ named_in_from (queue ∷ queues) start number q names h =
           (suc later.0, omega arith, later.2)
     ]
 
+-- these are queues, and never the device queue
+declared_from : (queues : List Queue) (start number : ℕ) (names : List QueueName)
+    → cancelled_from queues start number ≡ DeviceQueue ∷ names → ⊥
+declared_from [] start number names h = cc
+declared_from (queue ∷ queues) start number names h =
+    elim (cases_Bool (is_named queue.cancel number)) [
+      | inl is ↦
+          let no : Declared start ∷ cancelled_from queues (start + 1) number
+          ≡ DeviceQueue ∷ names = rw is at h in
+          cc
+      | inr isnt ↦
+          let later : cancelled_from queues (start + 1) number ≡ DeviceQueue ∷ names =
+          rw isnt at h in
+          declared_from queues (start + 1) number names later
+    ]
+
 -- and a queue that has a routine for its cancel routine names it
 member_from : (queues : List Queue) (start number k : ℕ)
     → option_and_then (λ queue. queue.cancel) (slice_get queues k) ≡ Some number
@@ -370,6 +397,16 @@ single : (name x : QueueName) (i : ℕ) → slice_get (name ∷ []) i ≡ Some x
 single name x zero h = cc
 single name x (suc i) h = cc
 
+-- the device queue comes before the queues
+behind_waiting : (d : Driver) (number : ℕ) (name : QueueName)
+    → (i : ℕ) × (slice_get (cancelled_from d.queues 0 number) i ≡ Some name)
+    → (i : ℕ) × (slice_get (cancelled_in (Some d) number) i ≡ Some name)
+behind_waiting d number name (i, there) =
+    elim (cases_Bool (is_named d.startio_cancel number)) [
+      | inl is ↦ (suc i, rw is there)
+      | inr isnt ↦ (i, rw isnt there)
+    ]
+
 -- so the list that a cancel routine is entered for is the one that names it
 pub named_only : (set : Set) (driver number : ℕ) (list name : QueueName)
     → cancel_routine_named set driver list ≡ Some number
@@ -383,15 +420,51 @@ named_only set driver number (Declared q) name named only =
         → only_one (cancelled_in o number) ≡ Some name → name ≡ Declared q
     named_by None there named only = cc
     named_by (Some d) there named only =
-        let list : cancelled_from d.queues 0 number ≡ name ∷ [] =
-        only_is (cancelled_from d.queues 0 number) name only in
+        let list : cancelled_in (Some d) number ≡ name ∷ [] =
+        only_is (cancelled_in (Some d) number) name only in
         let same : Some (Declared (0 + q)) ≡ Some (Declared q) =
         (let place : 0 + q ≡ q = omega arith in ap (λ (x : ℕ). Some (Declared x)) place) in
         let member : (i : ℕ) ×
         (slice_get (cancelled_from d.queues 0 number) i ≡ Some (Declared (0 + q))) =
         member_from d.queues 0 number q named in
-        single name (Declared q) member.0
-        (ap (λ (names : List QueueName). slice_get names member.0) (sym list) ∙ member.1 ∙ same)
+        let among : (i : ℕ) × (slice_get (cancelled_in (Some d) number) i ≡ Some (Declared (0 + q))) =
+        behind_waiting d number (Declared (0 + q)) member in
+        single name (Declared q) among.0
+        (ap (λ (names : List QueueName). slice_get names among.0) (sym list) ∙ among.1 ∙ same)
+named_only set driver number DeviceQueue name named only =
+    named_by (slice_get set.drivers driver) refl named only
+  where
+    named_by : (o : Option Driver) → slice_get set.drivers driver ≡ o
+        → option_and_then (λ d. d.startio_cancel) o ≡ Some number
+        → only_one (cancelled_in o number) ≡ Some name → name ≡ DeviceQueue
+    named_by None there named only = cc
+    named_by (Some d) there named only =
+        let list : cancelled_in (Some d) number ≡ name ∷ [] =
+        only_is (cancelled_in (Some d) number) name only in
+        let first : slice_get (cancelled_in (Some d) number) 0 ≡ Some DeviceQueue =
+        rw (named, eq-eqb number number refl) refl in
+        single name DeviceQueue 0
+        (ap (λ (names : List QueueName). slice_get names 0) (sym list) ∙ first)
+
+not_waiting : (d : Driver) (number q : ℕ) → cancelled_in (Some d) number ≡ Declared q ∷ []
+    → cancelled_from d.queues 0 number ≡ Declared q ∷ []
+not_waiting d number q list =
+    elim (cases_Bool (is_named d.startio_cancel number)) [
+      | inl is ↦
+          let no : DeviceQueue ∷ cancelled_from d.queues 0 number ≡ Declared q ∷ [] = rw is at list in
+          cc
+      | inr isnt ↦ rw isnt at list
+    ]
+
+waiting_named : (d : Driver) (number : ℕ) → cancelled_in (Some d) number ≡ DeviceQueue ∷ []
+    → (routine : ℕ) × (d.startio_cancel ≡ Some routine)
+waiting_named d number list =
+    elim (cases_Bool (is_named d.startio_cancel number)) [
+      | inl is ↦ (number, named_some d.startio_cancel number is)
+      | inr isnt ↦
+          let no : cancelled_from d.queues 0 number ≡ DeviceQueue ∷ [] = rw isnt at list in
+          absurd (declared_from d.queues 0 number [] no)
+    ]
 
 -- in the state of entry
 named_fits : (set : Set) (driver number : ℕ) (name : QueueName)
@@ -404,17 +477,25 @@ named_fits set driver number (Declared q) only = named_by (slice_get set.drivers
         (option_and_then (λ d. slice_get d.queues q) o) ≡ Some routine)
     named_by None there only = cc
     named_by (Some d) there only =
-        let list : cancelled_from d.queues 0 number ≡ Declared q ∷ [] =
-        only_is (cancelled_from d.queues 0 number) (Declared q) only in
+        let list : cancelled_in (Some d) number ≡ Declared q ∷ [] =
+        only_is (cancelled_in (Some d) number) (Declared q) only in
         let found : (k : ℕ) × (q ≡ 0 + k)
         × (option_and_then (λ queue. queue.cancel) (slice_get d.queues k) ≡ Some number) =
-        named_in_from d.queues 0 number q [] list in
+        named_in_from d.queues 0 number q [] (not_waiting d number q list) in
         let start : q ≡ 0 + found.0 = found.1 in
         let place : found.0 ≡ q = omega arith in (
           number,
           subst (λ (k : ℕ). option_and_then (λ queue. queue.cancel) (slice_get d.queues k)
               ≡ Some number) place found.2,
         )
+named_fits set driver number DeviceQueue only = named_by (slice_get set.drivers driver) refl only
+  where
+    named_by : (o : Option Driver) → slice_get set.drivers driver ≡ o
+        → only_one (cancelled_in o number) ≡ Some DeviceQueue
+        → (routine : ℕ) × (option_and_then (λ d. d.startio_cancel) o ≡ Some routine)
+    named_by None there only = cc
+    named_by (Some d) there only =
+        waiting_named d number (only_is (cancelled_in (Some d) number) DeviceQueue only)
 
 entered_fits : (set : Set) (driver : ℕ) (k : Kind) (duty : Duty) (carried : Settled) (token : Bool)
     → KindFits set driver (replicate SPIN_LOCKS false) false k
@@ -426,11 +507,18 @@ module _ (set : Set) (driver number : ℕ) where
   cancel_fits : (name : Option QueueName) (s : Abs) → cancels_for set driver number ≡ name
       → entry_of_cancel name ≡ Some s → AllFit set driver s
   cancel_fits None s is h = cc
-  cancel_fits (Some name) s is h =
-      let same : record (entered_with (Cancelling name) NoDuty SettledMark false) { cancel = true }
-      ≡ s = cc in
+  cancel_fits (Some (Declared q)) s is h =
+      let same : record (entered_with (Cancelling (Declared q)) NoDuty SettledMark false)
+      { cancel = true } ≡ s = cc in
       subst (AllFit set driver) same (
-        named_fits set driver number name is,
+        named_fits set driver number (Declared q) is,
+        blank_fit set driver (replicate SPIN_LOCKS false) true (REGISTERS - 1),
+      )
+  cancel_fits (Some DeviceQueue) s is h =
+      let same : record (entered_with (Cancelling DeviceQueue) NoDuty SettledMark false)
+      { cancel = true } ≡ s = cc in
+      subst (AllFit set driver) same (
+        (named_fits set driver number DeviceQueue is, refl),
         blank_fit set driver (replicate SPIN_LOCKS false) true (REGISTERS - 1),
       )
 

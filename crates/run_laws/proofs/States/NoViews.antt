@@ -13,7 +13,7 @@ use Rattle.model.specs.declared.abs.Kind.{Kind}
 use Rattle.model.specs.declared.abs.Kind.TheVariants.{Blank, Num, Lower, New, Own, Listed, Armed, Taken, Cancelling, View}
 use Rattle.model.specs.declared.abs.Settled.TheVariants.{Settled as SettledMark}
 use Rattle.model.specs.declared.instr.Instr.{Instr}
-use Rattle.model.specs.declared.instr.Instr.TheVariants.{Const, Move, Clear, Load, LoadPaged, Get, Mark, Pass, Call, Complete, Release, Insert, Remove, Unlink, Arm, Disarm, Start, Take, Begin, ReleaseCancel}
+use Rattle.model.specs.declared.instr.Instr.TheVariants.{Const, Move, Clear, Load, LoadPaged, Get, Mark, Pass, Call, Complete, Release, Insert, Remove, Unlink, Arm, Disarm, Start, Take, Begin, ReleaseCancel, Dequeue}
 use Rattle.model.specs.declared.set.Guard.{Guard}
 use Rattle.model.specs.declared.set.Guard.TheVariants.{DeviceLock, CancelLock}
 use Rattle.model.specs.declared.set.QueueName.{QueueName}
@@ -191,6 +191,7 @@ module _ (set : Set) (driver : ℕ) (f : Kind → Bool) (never : NeverMade set d
   handed_none s (Remove r q label) sort keeps h =
       none_set f s.kinds r (kind_removed (cancel_routine_of set driver q) (Declared q)) (never.removed q) h
   handed_none s (Unlink r q) sort keeps h = none_set f s.kinds r Own never.own h
+  handed_none s (Dequeue r) sort keeps h = none_set f s.kinds r Own never.own h
   handed_none s (Arm r q) sort keeps h =
       none_set f s.kinds r (Armed (Declared q))
       (never.armed q (kind_of s r) (first_none _ _ keeps) (none_blank f never.blank s.kinds r h)) h

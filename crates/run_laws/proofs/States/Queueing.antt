@@ -1,20 +1,20 @@
 -- What the instructions about queues do to a routine's frame: it goes on to the next position, with
 -- the first packet of a queue or the one in the current slot in a register where one was taken, or
 -- to a label where there was none.
-use Rattle.std.proofs.Common.{◌<◌, ℕ, Bool, true, false, List, [], ◌∷◌, None, Some, refl, subst}
+use Rattle.std.proofs.Common.{◌<◌, ℕ, Bool, true, false, List, [], ◌∷◌, None, Some, refl, subst, Option}
 use Rattle.std.specs.Prelude.{nat_eq, slice_set}
 use Rattle.std.proofs.lemmas.Bool.{cond_both}
 use Rattle.model.specs.declared.set.QueueName.TheVariants.{Declared}
 use Rattle.model.specs.declared.abs.Kind.TheVariants.{Own}
 use Rattle.model.specs.declared.instr.Instr.{Instr}
-use Rattle.model.specs.declared.instr.Instr.TheVariants.{Begin, Insert, Next, Remove, Start, Take, Unlink}
+use Rattle.model.specs.declared.instr.Instr.TheVariants.{Begin, Insert, Next, Remove, Start, Take, Unlink, Dequeue}
 use Rattle.model.specs.declared.world.Activation.{Activation}
 use Rattle.model.specs.declared.world.Value.TheVariants.{Ref}
 use Rattle.model.specs.Action.{Action}
 use Rattle.model.specs.Kinds.{kind_removed}
 use Rattle.model.specs.Queues.{StartState, inserted, next_started, started, unlinked, with_slot}
 use Rattle.model.specs.Set.{Set, cancel_routine_of}
-use Rattle.model.specs.World.{Shared}
+use Rattle.model.specs.World.{Shared, next}
 use Rattle.run_laws.proofs.Lists.{Each, each_push}
 use Rattle.run_laws.proofs.Past.Packets.{named}
 use Rattle.run_laws.proofs.States.Fits.{AllQueuesFit, queue_issued, queue_put_fits}
@@ -24,6 +24,10 @@ use Rattle.run_laws.proofs.States.Moves.{moved_label, moved_next, moved_on, onto
 use Rattle.run_laws.specs.ArrivingStates.{States}
 use Rattle.run_laws.proofs.States.StartsFit.{AllStartsFit, SlotFits, StartFits, WereIssued, next_started_fits, slot_put_fits, start_issued, start_put_fits, started_fits}
 use Rattle.run_laws.proofs.Steps.Comes.{Queued, inserts, removes, removes_none, puts_in, starts_next, starts_packet, takes_none, takes_out, unlinks}
+use Rattle.run_laws.proofs.States.StartsFit.{each_without, dequeued_fits}
+use Rattle.run_laws.proofs.Steps.Comes.{Waits, arms_waiting, disarms_next, starts_gone, dequeues_packet}
+use Rattle.model.specs.declared.world.Armer.{Armer}
+use Rattle.model.specs.Queues.{dequeued}
 
 -- where the frame goes on
 pub record MovedOn (set : Set) (states : States) (s : Shared) (a : Activation) (i : Instr)
@@ -34,18 +38,10 @@ pub record MovedOn (set : Set) (states : States) (s : Shared) (a : Activation) (
   pub fits : AllQueuesFit set queues s.issued
   pub starts : AllStartsFit set lists s.issued
 
--- what a packet is taken out of names no others
-each_unlinked : (P : ℕ → Type 0) (entries : List ℕ) (n : ℕ) → Each P entries
-    → Each P (unlinked entries n)
-each_unlinked P [] n all = tt
-each_unlinked P (entry ∷ entries) n all =
-    cond_both (nat_eq entry n) entries (entry ∷ unlinked entries n) (λ left. Each P left)
-    (λ same. all.1) (λ other. (all.0, each_unlinked P entries n all.1))
-
 pub queue_moves : (set : Set) (states : States) (s : Shared) (a : Activation) (i : Instr)
     → Runs set states s a i
     → {b : Activation} {queues : List (List (List ℕ))} {lists : List StartState}
-    {actions : List Action} {full : Bool} → Queued s a i b queues lists actions full
+    {actions : List Action} {full : Bool} → Queued set s a i b queues lists actions full
     → MovedOn set states s a i b queues lists
 queue_moves set states s a i h (inserts r q n entries reads there) =
     record {
@@ -81,12 +77,12 @@ queue_moves set states s a i h (unlinks r q n entries reads there) =
       jumped = false;
       moved = moved_on set states s a (Unlink r q) h refl refl refl;
       fits = queue_put_fits set s a.device q entries (unlinked entries n) there
-          (each_unlinked (λ (m : ℕ). m < s.issued) entries n
+          (each_without (λ (m : ℕ). m < s.issued) entries n
           (queue_issued set s a.device q entries there h.fits.queued))
           h.fits.queued;
       starts = h.fits.starts;
     }
-queue_moves set states s a i h (starts_packet r n start reads there) =
+queue_moves set states s a i h (starts_packet r n start reads there plain) =
     record {
       jumped = false;
       moved = moved_on set states s a (Start r) h refl refl refl;
@@ -126,7 +122,50 @@ queue_moves set states s a i h (puts_in r n start reads there) =
           (named s _ n reads))
           h.fits.starts;
     }
-queue_moves set states s a i h (starts_next start there) =
+queue_moves set states s a i h (starts_next start there none) =
+    record {
+      jumped = false;
+      moved = moved_on set states s a Next h refl refl refl;
+      fits = h.fits.queued;
+      starts = start_put_fits set s a.device (next_started start)
+          (next_started_fits s.issued start (start_issued set s a.device start there h.fits.starts))
+          h.fits.starts;
+    }
+queue_moves set states s a i h (starts_gone n start there first gone) =
+    record {
+      jumped = false;
+      moved = moved_on set states s a Next h refl refl refl;
+      fits = h.fits.queued;
+      starts = start_put_fits set s a.device (next_started start)
+          (next_started_fits s.issued start (start_issued set s a.device start there h.fits.starts))
+          h.fits.starts;
+    }
+queue_moves set states s a i h (dequeues_packet r n start reads there) =
+    record {
+      jumped = false;
+      moved = moved_on set states s a (Dequeue r) h refl refl refl;
+      fits = h.fits.queued;
+      starts = start_put_fits set s a.device (dequeued start n)
+          (dequeued_fits s.issued start (start_issued set s a.device start there h.fits.starts) n)
+          h.fits.starts;
+    }
+
+-- where the cancel routine of a packet in the device queue is exchanged too
+pub waits_move : (set : Set) (states : States) (s : Shared) (a : Activation) (i : Instr)
+    → Runs set states s a i
+    → {starts : List StartState} {n : ℕ} {armer : Option Armer} {full : Bool}
+    → Waits set s a i starts n armer full → MovedOn set states s a i (next a) s.queues starts
+waits_move set states s a i h (arms_waiting r n start reads there armed) =
+    record {
+      jumped = false;
+      moved = moved_on set states s a (Start r) h refl refl refl;
+      fits = h.fits.queued;
+      starts = start_put_fits set s a.device (started start n)
+          (started_fits s.issued start (start_issued set s a.device start there h.fits.starts) n
+          (named s _ n reads))
+          h.fits.starts;
+    }
+waits_move set states s a i h (disarms_next n start there first) =
     record {
       jumped = false;
       moved = moved_on set states s a Next h refl refl refl;

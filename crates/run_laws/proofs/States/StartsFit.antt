@@ -9,6 +9,8 @@ use Rattle.model.specs.Queues.{StartState, head_of, idle, inserted, next_of, nex
 use Rattle.model.specs.Set.{Set}
 use Rattle.model.specs.World.{Shared, start_of, with_start}
 use Rattle.run_laws.proofs.Lists.{Each, each_at, each_map, each_push, each_same, each_set}
+use Rattle.model.specs.Queues.{unlinked, dequeued}
+use Rattle.std.specs.Prelude.{nat_eq}
 
 abbrev pub WereIssued : ℕ → List ℕ → Type 0
 WereIssued issued entries = Each (λ (n : ℕ). n < issued) entries
@@ -87,6 +89,14 @@ start_there set s d h within none =
     let no : None ≡ Some (slice_index_or s.starts d idle) = sym none ∙ there in
     cc
 
+-- what a packet is taken out of names no others
+pub each_without : (P : ℕ → Type 0) (entries : List ℕ) (n : ℕ) → Each P entries
+    → Each P (unlinked entries n)
+each_without P [] n all = tt
+each_without P (entry ∷ entries) n all =
+    cond_both (nat_eq entry n) entries (entry ∷ unlinked entries n) (λ left. Each P left)
+    (λ same. all.1) (λ other. (all.0, each_without P entries n all.1))
+
 -- IoStartPacket, IoStartNextPacket, and StartIo that begins
 module _ (issued : ℕ) (start : StartState) (h : StartFits issued start) where
   pub started_fits : (n : ℕ) → n < issued → StartFits issued (started start n)
@@ -123,7 +133,15 @@ module _ (issued : ℕ) (start : StartState) (h : StartFits issued start) where
   slot_put_fits slot fits =
       record { start_list = h.start_list; device_queue = h.device_queue; slot = fits }
 
-  head_low : (entries : List ℕ) (n : ℕ) → WereIssued issued entries → head_of entries ≡ Some n
+  pub dequeued_fits : (n : ℕ) → StartFits issued (dequeued start n)
+  dequeued_fits n =
+      record {
+        start_list = h.start_list;
+        device_queue = each_without (λ (m : ℕ). m < issued) start.device_queue n h.device_queue;
+        slot = h.slot;
+      }
+
+  pub head_low : (entries : List ℕ) (n : ℕ) → WereIssued issued entries → head_of entries ≡ Some n
       → n < issued
   head_low [] n all first = cc
   head_low (m ∷ entries) n all first =

@@ -1,13 +1,14 @@
 -- The shapes of a step: a thread's top frame, over another frame or none, leaves one of these
 -- outcomes. Each shape has the instruction, and all that decided it. What a step does to a law is
 -- then said once a shape, and an instruction of a known shape costs a law nothing.
-use Rattle.std.specs.Prelude.{ℕ, ◌≡◌, ◌⊎◌, ◌+◌, ◌∷◌, ◌++◌, not, Bool, true, false, List, [], length, Option, None, Some, is_none, is_some, nat_eq, nat_lt, slice_get, slice_set}
+use Rattle.std.specs.Prelude.{ℕ, ◌≡◌, ◌⊎◌, ◌+◌, ◌∷◌, ◌++◌, ◌&&◌, not, Bool, true, false, List, [], length, Option, None, Some, is_none, is_some, nat_eq, nat_lt, slice_get, slice_set}
+use Rattle.model.specs.declared.set.QueueName.TheVariants.{DeviceQueue}
 use Rattle.model.specs.declared.event.Lock.{Lock}
 use Rattle.model.specs.declared.event.Lock.TheVariants.{SystemCancel}
 use Rattle.model.specs.declared.event.OfDevice.{OfDevice}
 use Rattle.model.specs.declared.event.Reply.TheVariants.{Topped, Waited}
 use Rattle.model.specs.declared.instr.Instr.{Instr}
-use Rattle.model.specs.declared.instr.Instr.TheVariants.{Move, Clear, Loop, End, Put, Mark, Insert, Remove, Unlink, Arm, Disarm, Start, Take, Begin, Next, Pass, Call, Complete, Ret}
+use Rattle.model.specs.declared.instr.Instr.TheVariants.{Move, Clear, Loop, End, Put, Mark, Insert, Remove, Unlink, Arm, Disarm, Start, Take, Begin, Next, Dequeue, Pass, Call, Complete, Ret}
 use Rattle.model.specs.declared.instr.Return.{Return}
 use Rattle.model.specs.declared.instr.Return.TheVariants.{Continue, Stop, Void}
 use Rattle.model.specs.declared.limits.TheConstants.{MAX_LOOPS}
@@ -26,10 +27,10 @@ use Rattle.model.specs.declared.world.Packet.{Packet}
 use Rattle.model.specs.declared.world.Value.{Value}
 use Rattle.model.specs.declared.world.Value.TheVariants.{Blank, Num, Ref}
 use Rattle.model.specs.Action.{Action, Executes, Acquires, Releases, TouchesPaged, Touches, Calls, Ups, Completes, Continues, Lends, Exchanges, Marks, Leaves, TopsOut}
-use Rattle.model.specs.Effect.{Outcome, leaves, goes_wrong, goes_on, waits, turned, asks, set_by, returned, is_walk, routine_of_device, completes_with, sort_of_completion, armer_of, goes_on_cancelling, cancel_ends}
+use Rattle.model.specs.Effect.{Outcome, leaves, goes_wrong, goes_on, waits, turned, asks, set_by, returned, is_walk, routine_of_device, completes_with, sort_of_completion, armer_of, armer_waiting, next_disarmed, goes_on_cancelling, cancel_ends}
 use Rattle.model.specs.LocalRule.{is_completion, is_hold}
-use Rattle.model.specs.Queues.{StartState, has_room_for_next, has_room_to_start, inserted, is_full, next_started, started, unlinked, with_slot}
-use Rattle.model.specs.Set.{Set, cancel_routine_named, cancel_routine_of, instruction_at, sort_of, lower_of, label_of}
+use Rattle.model.specs.Queues.{StartState, dequeued, has_room_for_next, has_room_to_start, inserted, is_full, next_started, started, unlinked, with_slot}
+use Rattle.model.specs.Set.{Set, has_cancel, cancel_routine_named, cancel_routine_of, instruction_at, sort_of, lower_of, label_of}
 use Rattle.model.specs.Sound.{queue_named}
 use Rattle.model.specs.World.{Shared, entered, queue_of, with_queue, start_of, with_start, with_register, owner_of, with_owner, with_locks, packet_of, with_packet, without_packet, packet_in, number_in, register, next, at_label, innermost, with_loops, with_info, mark_current, cancelled, with_armer, current_location, sent_down, shared_with, left_location, moved_up, is_marked, completion_of, completed}
 use Rattle.run_laws.proofs.Steps.Words.{Computing, Paging, Looking, Exchanging, Forwarding, work_of, starts_packets, is_touching, goes_next, packet_operand, number_operand, second_operand, keeps_registers, numbered_by, is_of_cells, lock_taken, lock_freed, jumps_on, status_returned, is_form_of}
@@ -93,49 +94,86 @@ pub data GoesTo (a : Activation) (i : Instr) : Activation → Bool → Type 0 wh
       → GoesTo a i (record a { position = a.position + 1; registers = registers }) false
   jumping : (label : ℕ) → label_of i ≡ Some label → GoesTo a i (at_label a label) true
 
+-- IoStartPacket puts its packet into the device queue, and sets the cancel routine of packets there
+abbrev pub waits_armed : Set → Activation → StartState → Bool
+waits_armed set a start = has_cancel set a.driver DeviceQueue && start.busy
+
 -- what an instruction about queues comes to: a packet is put into a queue of the device or taken
 -- off one, from its front or wherever it stands, given to the device for StartIo, taken out of its
--- current slot or put into it, or the next one is started; or there is none to take off or out, and
--- it jumps. How the activation goes on, the queues and what the devices have for StartIo after it,
--- the packet that it touches, if any, and whether a list has no room
-pub data Queued (s : Shared) (a : Activation) : Instr → Activation → List (List (List ℕ))
+-- current slot or put into it, or the next one is started, or it is taken off the device queue
+-- wherever it stands; or there is none to take off or out, and it jumps. How the activation goes on,
+-- the queues and what the devices have for StartIo after it, the packet that it touches, if any, and
+-- whether a list has no room
+pub data Queued (set : Set) (s : Shared) (a : Activation) : Instr → Activation → List (List (List ℕ))
     → List StartState → List Action → Bool → Type 0 where
   inserts : (r q n : ℕ) (entries : List ℕ) → Reads s a r n → queue_of s a.device q ≡ Some entries
-      → Queued s a (Insert r q) (next a) (with_queue s a.device q (inserted entries n)).queues
+      → Queued set s a (Insert r q) (next a) (with_queue s a.device q (inserted entries n)).queues
       s.starts
       (Touches n ∷ []) (is_full entries)
   removes : (r q label n : ℕ) (entries : List ℕ) → queue_of s a.device q ≡ Some (n ∷ entries)
-      → Queued s a (Remove r q label) (next (with_register a r (Ref n)))
+      → Queued set s a (Remove r q label) (next (with_register a r (Ref n)))
       (with_queue s a.device q entries).queues s.starts (Touches n ∷ []) false
   removes_none : (r q label : ℕ) → queue_of s a.device q ≡ Some []
-      → Queued s a (Remove r q label) (at_label a label) s.queues s.starts [] false
+      → Queued set s a (Remove r q label) (at_label a label) s.queues s.starts [] false
   unlinks : (r q n : ℕ) (entries : List ℕ) → Reads s a r n → queue_of s a.device q ≡ Some entries
-      → Queued s a (Unlink r q) (next a) (with_queue s a.device q (unlinked entries n)).queues
+      → Queued set s a (Unlink r q) (next a) (with_queue s a.device q (unlinked entries n)).queues
       s.starts
       (Touches n ∷ []) false
   starts_packet : (r n : ℕ) (start : StartState) → Reads s a r n → start_of s a.device ≡ Some start
-      → Queued s a (Start r) (next a) s.queues (with_start s a.device (started start n)).starts
+      → (waits_armed set a start ≡ false) ⊎ (packet_of s n ≡ None)
+      → Queued set s a (Start r) (next a) s.queues (with_start s a.device (started start n)).starts
       (Touches n ∷ []) (not (has_room_to_start start))
   takes_out : (r label n : ℕ) (start : StartState) → start_of s a.device ≡ Some start
       → start.slot ≡ Some n
-      → Queued s a (Take r label) (next (with_register a r (Ref n))) s.queues
+      → Queued set s a (Take r label) (next (with_register a r (Ref n))) s.queues
       (with_start s a.device (with_slot start None)).starts [] false
   takes_none : (r label : ℕ) (start : StartState) → start_of s a.device ≡ Some start
       → start.slot ≡ None
-      → Queued s a (Take r label) (at_label a label) s.queues s.starts [] false
+      → Queued set s a (Take r label) (at_label a label) s.queues s.starts [] false
   puts_in : (r n : ℕ) (start : StartState) → Reads s a r n → start_of s a.device ≡ Some start
-      → Queued s a (Begin r) (next a) s.queues (with_start s a.device
+      → Queued set s a (Begin r) (next a) s.queues (with_start s a.device
       (with_slot start (Some n))).starts
       (Touches n ∷ []) false
   starts_next : (start : StartState) → start_of s a.device ≡ Some start
-      → Queued s a Next (next a) s.queues (with_start s a.device (next_started start)).starts []
+      → next_disarmed set a start ≡ None
+      → Queued set s a Next (next a) s.queues (with_start s a.device (next_started start)).starts []
       (not (has_room_for_next start))
+  starts_gone : (n : ℕ) (start : StartState) → start_of s a.device ≡ Some start
+      → next_disarmed set a start ≡ Some n → packet_of s n ≡ None
+      → Queued set s a Next (next a) s.queues (with_start s a.device (next_started start)).starts
+      (Touches n ∷ []) (not (has_room_for_next start))
+  dequeues_packet : (r n : ℕ) (start : StartState) → Reads s a r n
+      → start_of s a.device ≡ Some start
+      → Queued set s a (Dequeue r) (next a) s.queues
+      (with_start s a.device (dequeued start n)).starts (Touches n ∷ []) false
 
 -- the outcome
 abbrev pub queued_to : Shared → Activation → List (List (List ℕ)) → List StartState → List Action
     → Bool → Outcome
 queued_to s b queues starts actions full =
     record (goes_on (record s { queues = queues; starts = starts }) b actions) { full = full }
+
+-- what an instruction about the device queue comes to that exchanges the cancel routine of a packet
+-- too: one that has to wait there gets its cancel routine, the next one that is started loses it.
+-- What the devices have for StartIo after it, the packet with its cancel word after it, and whether
+-- a list has no room
+pub data Waits (set : Set) (s : Shared) (a : Activation) : Instr → List StartState → ℕ
+    → Option Armer → Bool → Type 0 where
+  arms_waiting : (r n : ℕ) (start : StartState) → Reads s a r n → start_of s a.device ≡ Some start
+      → waits_armed set a start ≡ true
+      → Waits set s a (Start r) (with_start s a.device (started start n)).starts n
+      (Some (armer_waiting a)) (not (has_room_to_start start))
+  disarms_next : (n : ℕ) (start : StartState) → start_of s a.device ≡ Some start
+      → next_disarmed set a start ≡ Some n
+      → Waits set s a Next (with_start s a.device (next_started start)).starts n None
+      (not (has_room_for_next start))
+
+-- the outcome
+abbrev pub waited_to : Shared → Activation → List StartState → ℕ → Packet → Option Armer → Bool
+    → Outcome
+waited_to s a starts n p armer full =
+    record (goes_on (record (with_packet s n (with_armer p armer)) { starts = starts }) (next a)
+    (Touches n ∷ Exchanges n (is_some armer) ∷ [])) { full = full }
 
 -- what an instruction puts into a packet's cancel word, and whether it jumps: the cancel routine of
 -- a queue, or none, where it jumps if there was none before
@@ -269,8 +307,12 @@ pub data Comes (set : Set) (s : Shared) (t : ℕ) : Option Frame → Frame → O
   works_on_queues : {under : Option Frame} (a : Activation) (i : Instr) (b : Activation)
       (queues : List (List (List ℕ))) (starts : List StartState) (actions : List Action)
       (full : Bool)
-      → Executing set a i → Queued s a i b queues starts actions full
+      → Executing set a i → Queued set s a i b queues starts actions full
       → Comes set s t under (Routine a) (queued_to s b queues starts actions full)
+  works_on_waiting : {under : Option Frame} (a : Activation) (i : Instr) (starts : List StartState)
+      (n : ℕ) (p : Packet) (armer : Option Armer) (full : Bool)
+      → Executing set a i → packet_of s n ≡ Some p → Waits set s a i starts n armer full
+      → Comes set s t under (Routine a) (waited_to s a starts n p armer full)
   completes_packet : {under : Option Frame} (a : Activation) (r : ℕ) (status : Status) (n : ℕ)
       (p : Packet)
       → Executing set a (Complete r status) → Reads s a r n → packet_of s n ≡ Some p

@@ -1,5 +1,5 @@
 -- Every step has one of the shapes: the one walk over the instructions and the I/O manager's steps.
-use Rattle.std.proofs.Common.{◌≡◌, ℕ, ◌+◌, List, [], ◌∷◌, length, Option, None, Some, Bool, true, false, inl, inr, refl, ap, sym, ◌∙◌}
+use Rattle.std.proofs.Common.{◌≡◌, ℕ, ◌+◌, List, [], ◌∷◌, length, Option, None, Some, Bool, true, false, inl, inr, refl, ap, sym, ◌∙◌, not}
 use Rattle.std.specs.Prelude.{is_none, option_map, nat_eq, nat_lt, slice_get, slice_set, if◌then◌else◌}
 use Rattle.std.proofs.lemmas.Bool.{cond_both}
 use Rattle.std.proofs.lemmas.Bool.Decides.{eqb_tells}
@@ -9,7 +9,7 @@ use Rattle.model.specs.declared.event.Lock.TheVariants.{SystemCancel}
 use Rattle.model.specs.declared.event.Reply.TheVariants.{Waited}
 use Rattle.model.specs.declared.instr.Field.{Field}
 use Rattle.model.specs.declared.instr.Instr.{Instr}
-use Rattle.model.specs.declared.instr.Instr.TheVariants.{Const, Move, Clear, Add, Subtract, JumpIfZero, JumpIfLess, Jump, Loop, End, Load, Store, LoadPaged, StorePaged, Get, Put, Mark, Acquire, Release, AcquireCancel, ReleaseCancel, Insert, Remove, Unlink, Arm, Disarm, IfCancel, Start, Take, Begin, Next, Pass, Call, Complete, IfPending, Ret}
+use Rattle.model.specs.declared.instr.Instr.TheVariants.{Const, Move, Clear, Add, Subtract, JumpIfZero, JumpIfLess, Jump, Loop, End, Load, Store, LoadPaged, StorePaged, Get, Put, Mark, Acquire, Release, AcquireCancel, ReleaseCancel, Insert, Remove, Unlink, Arm, Disarm, IfCancel, Start, Take, Begin, Next, Dequeue, Pass, Call, Complete, IfPending, Ret}
 use Rattle.model.specs.declared.instr.Return.{Return}
 use Rattle.model.specs.declared.instr.Return.TheVariants.{WithStatus, Lower, Continue, Stop, Void}
 use Rattle.model.specs.declared.limits.TheConstants.{MAX_LOOPS}
@@ -28,13 +28,13 @@ use Rattle.model.specs.declared.world.OpenLoop.{OpenLoop}
 use Rattle.model.specs.declared.world.Packet.{Packet}
 use Rattle.model.specs.declared.world.Value.{Value}
 use Rattle.model.specs.Action.{Acquires, Continues, Exchanges, Executes, Touches, Ups, Marks, Leaves}
-use Rattle.model.specs.Effect.{Outcome, leaves, goes_wrong, goes_on, number_effect, of_both, sum_of, difference_of, jump_effect, is_zero_at, is_less_at, loop_effect, end_effect, cell_of, load_effect, load_paged_effect, stored, stored_paged, store_effect, store_paged_effect, get_packet, get_effect, put_packet, put_effect, waits, acquire_owned, acquire_effect, release_effect, spin_lock, insert_effect, remove_from, remove_effect, unlink_effect, arm_packet, arm_effect, disarm_packet, disarm_effect, ask_packet, ask_effect, start_effect, take_from, take_effect, begin_effect, next_effect, mark_packet, mark_effect, complete_packet, complete_effect, pass_packet, pass_effect, call_packet, call_effect, look_packet, look_effect, return_lower, continued, given_back, let_on, stopped, routine_of_device, sort_of_completion, lent_to, lending, completes_with, goes_on_cancelling, cancel_acquires, cancel_flags, cancel_calls, cancel_armed, cancel_exchanges, cancel_step, return_effect, instruction_effect, routine_effect, walk_up, walk_out, walk_from, walk_packet, frame_effect}
+use Rattle.model.specs.Effect.{Outcome, leaves, goes_wrong, goes_on, number_effect, of_both, sum_of, difference_of, jump_effect, is_zero_at, is_less_at, loop_effect, end_effect, cell_of, load_effect, load_paged_effect, stored, stored_paged, store_effect, store_paged_effect, get_packet, get_effect, put_packet, put_effect, waits, acquire_owned, acquire_effect, release_effect, spin_lock, insert_effect, remove_from, remove_effect, unlink_effect, arm_packet, arm_effect, disarm_packet, disarm_effect, ask_packet, ask_effect, start_effect, take_from, take_effect, begin_effect, next_effect, mark_packet, mark_effect, complete_packet, complete_effect, pass_packet, pass_effect, call_packet, call_effect, look_packet, look_effect, return_lower, continued, given_back, let_on, stopped, routine_of_device, sort_of_completion, lent_to, lending, completes_with, goes_on_cancelling, cancel_acquires, cancel_flags, cancel_calls, cancel_armed, cancel_exchanges, cancel_step, return_effect, instruction_effect, routine_effect, walk_up, walk_out, walk_from, walk_packet, frame_effect, next_disarmed, dequeue_effect, start_waiting, start_packet, next_packet, next_waiting}
 use Rattle.model.specs.LocalRule.{is_completion}
-use Rattle.model.specs.Queues.{StartState}
+use Rattle.model.specs.Queues.{StartState, has_room_to_start, has_room_for_next}
 use Rattle.model.specs.Set.{Set, cancel_routine_named, cancel_routine_of, instruction_at, sort_of, lower_of, label_of}
 use Rattle.model.specs.World.{Shared, queue_of, start_of, owner_of, packet_of, with_packet, packet_in, number_in, status_in, register, next, at_label, innermost, mark_current, current_location, left_location, moved_up, is_marked, completion_of, with_armer}
 use Rattle.run_laws.proofs.Steps.Words.{Computing, work_of, goes_next, number_operand, second_operand, keeps_registers, numbered_by, lock_taken, lock_freed}
-use Rattle.run_laws.proofs.Steps.Comes.{Executing, Exchanged, Reads, Lacks, no_instruction, no_number, no_packet, no_room, no_loop, no_cells, none_taken, none_freed, no_queue, no_start, no_cancel, no_lower, no_status, no_form, Written, keeps_all, makes_number, moves_over, makes_blank, onward, jumping, inserts, removes, removes_none, unlinks, starts_packet, takes_out, takes_none, puts_in, starts_next, arms_for, disarms, Cancels, takes_cancel, retakes_cancel, awaits_cancel, flags_gone, sets_flag, exchanges_gone, finds_empty, finds_none, calls_cancel, Comes, errs, awaits_lock, computes, opens_loop, turns_loop, pages, touches_gone, looks_at, writes_info, marks_packet, exchanges, takes_lock, retakes_lock, frees_lock, works_on_queues, completes_packet, completes_gone, passes_down, calls_down, returns_status, lets_go, lets_walk, resumes_walk, resumes_gone, resumes_none, stops_walk, stops_none, ends_startio, ends_dpc, ends_cancel, walks_gone, walks_to, lends_to, walks_up, carries_up, tops_out, cancels}
+use Rattle.run_laws.proofs.Steps.Comes.{Executing, Exchanged, Reads, Lacks, no_instruction, no_number, no_packet, no_room, no_loop, no_cells, none_taken, none_freed, no_queue, no_start, no_cancel, no_lower, no_status, no_form, Written, keeps_all, makes_number, moves_over, makes_blank, onward, jumping, inserts, removes, removes_none, unlinks, starts_packet, takes_out, takes_none, puts_in, starts_next, arms_for, disarms, Cancels, takes_cancel, retakes_cancel, awaits_cancel, flags_gone, sets_flag, exchanges_gone, finds_empty, finds_none, calls_cancel, Comes, errs, awaits_lock, computes, opens_loop, turns_loop, pages, touches_gone, looks_at, writes_info, marks_packet, exchanges, takes_lock, retakes_lock, frees_lock, works_on_queues, completes_packet, completes_gone, passes_down, calls_down, returns_status, lets_go, lets_walk, resumes_walk, resumes_gone, resumes_none, stops_walk, stops_none, ends_startio, ends_dpc, ends_cancel, walks_gone, walks_to, lends_to, walks_up, carries_up, tops_out, cancels, waits_armed, dequeues_packet, works_on_waiting, starts_gone, arms_waiting, disarms_next}
 
 module _ (set : Set) (s : Shared) (t : ℕ) (under : Option Frame) (a : Activation) where
   abbrev ComesTo : Outcome → Type 0
@@ -280,13 +280,30 @@ module _ (set : Set) (s : Shared) (t : ℕ) (under : Option Frame) (a : Activati
   asks_flag r label None at reads = errs a (no_packet (IfCancel r label) r at refl reads)
   asks_flag r label (Some n) at reads = asks_in r label n (packet_of s n) at reads refl
 
+  started_armed : (r n : ℕ) (start : StartState) (p : Option Packet) → Executing set a (Start r)
+      → Reads s a r n → start_of s a.device ≡ Some start → waits_armed set a start ≡ true
+      → packet_of s n ≡ p
+      → ComesTo (record (start_waiting s a n start p) { full = not (has_room_to_start start) })
+  started_armed r n start None at reads there armed here =
+      works_on_queues a (Start r) _ _ _ _ _ at (starts_packet r n start reads there (inr here))
+  started_armed r n start (Some p) at reads there armed here =
+      works_on_waiting a (Start r) _ n p _ _ at here (arms_waiting r n start reads there armed)
+
+  started_by : (r n : ℕ) (start : StartState) (b : Bool) → Executing set a (Start r)
+      → Reads s a r n → start_of s a.device ≡ Some start → waits_armed set a start ≡ b
+      → ComesTo (record (start_packet s a n start b) { full = not (has_room_to_start start) })
+  started_by r n start false at reads there is =
+      works_on_queues a (Start r) _ _ _ _ _ at (starts_packet r n start reads there (inl is))
+  started_by r n start true at reads there is =
+      started_armed r n start (packet_of s n) at reads there is refl
+
   started_in : (r : ℕ) (o : Option ℕ) (start : Option StartState) → Executing set a (Start r)
       → packet_in s (register a r) ≡ o → start_of s a.device ≡ start
-      → ComesTo (start_effect s a o start)
+      → ComesTo (start_effect set s a o start)
   started_in r None start at reads there = errs a (no_packet (Start r) r at refl reads)
   started_in r (Some n) None at reads there = errs a (no_start (Start r) at refl there)
   started_in r (Some n) (Some start) at reads there =
-      works_on_queues a (Start r) _ _ _ _ _ at (starts_packet r n start reads there)
+      started_by r n start (waits_armed set a start) at reads there refl
 
   taken_from : (r label : ℕ) (start : StartState) (slot : Option ℕ) → Executing set a (Take r label)
       → start_of s a.device ≡ Some start → start.slot ≡ slot
@@ -309,10 +326,33 @@ module _ (set : Set) (s : Shared) (t : ℕ) (under : Option Frame) (a : Activati
   begun_in r (Some n) (Some start) at reads there =
       works_on_queues a (Begin r) _ _ _ _ _ at (puts_in r n start reads there)
 
+  next_armed : (start : StartState) (n : ℕ) (p : Option Packet) → Executing set a Next
+      → start_of s a.device ≡ Some start → next_disarmed set a start ≡ Some n → packet_of s n ≡ p
+      → ComesTo (record (next_packet s a start n p) { full = not (has_room_for_next start) })
+  next_armed start n None at there first here =
+      works_on_queues a Next _ _ _ _ _ at (starts_gone n start there first here)
+  next_armed start n (Some p) at there first here =
+      works_on_waiting a Next _ n p _ _ at here (disarms_next n start there first)
+
+  next_by : (start : StartState) (o : Option ℕ) → Executing set a Next
+      → start_of s a.device ≡ Some start → next_disarmed set a start ≡ o
+      → ComesTo (record (next_waiting s a start o) { full = not (has_room_for_next start) })
+  next_by start None at there is =
+      works_on_queues a Next _ _ _ _ _ at (starts_next start there is)
+  next_by start (Some n) at there is = next_armed start n (packet_of s n) at there is refl
+
   next_in : (start : Option StartState) → Executing set a Next → start_of s a.device ≡ start
-      → ComesTo (next_effect s a start)
+      → ComesTo (next_effect set s a start)
   next_in None at there = errs a (no_start Next at refl there)
-  next_in (Some start) at there = works_on_queues a Next _ _ _ _ _ at (starts_next start there)
+  next_in (Some start) at there = next_by start (next_disarmed set a start) at there refl
+
+  dequeued_in : (r : ℕ) (o : Option ℕ) (start : Option StartState) → Executing set a (Dequeue r)
+      → packet_in s (register a r) ≡ o → start_of s a.device ≡ start
+      → ComesTo (dequeue_effect s a o start)
+  dequeued_in r None start at reads there = errs a (no_packet (Dequeue r) r at refl reads)
+  dequeued_in r (Some n) None at reads there = errs a (no_start (Dequeue r) at refl there)
+  dequeued_in r (Some n) (Some start) at reads there =
+      works_on_queues a (Dequeue r) _ _ _ _ _ at (dequeues_packet r n start reads there)
 
   completes_in : (r : ℕ) (status : Status) (n : ℕ) (o : Option Packet)
       → Executing set a (Complete r status)
@@ -527,6 +567,8 @@ executes set s t under a (Take r label) at =
 executes set s t under a (Begin r) at =
     begun_in set s t under a r (packet_in s (register a r)) (start_of s a.device) at refl refl
 executes set s t under a Next at = next_in set s t under a (start_of s a.device) at refl
+executes set s t under a (Dequeue r) at =
+    dequeued_in set s t under a r (packet_in s (register a r)) (start_of s a.device) at refl refl
 executes set s t under a (Pass r) at =
     passes set s t under a r (packet_in s (register a r)) (lower_of set a.device) at refl refl
 executes set s t under a (Call r f) at =

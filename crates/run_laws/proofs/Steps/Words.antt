@@ -4,7 +4,7 @@ use Rattle.std.specs.Prelude.{ℕ, Bool, true, false, Option, None, Some}
 use Rattle.model.specs.declared.event.Lock.{Lock}
 use Rattle.model.specs.declared.event.Lock.TheVariants.{SystemCancel}
 use Rattle.model.specs.declared.instr.Instr.{Instr}
-use Rattle.model.specs.declared.instr.Instr.TheVariants.{Const, Move, Clear, Add, Subtract, JumpIfZero, JumpIfLess, Jump, Loop, End, Load, Store, LoadPaged, StorePaged, Get, Put, Mark, Acquire, Release, AcquireCancel, ReleaseCancel, Insert, Remove, Unlink, Arm, Disarm, IfCancel, Start, Take, Begin, Next, Pass, Call, Complete, IfPending, Ret}
+use Rattle.model.specs.declared.instr.Instr.TheVariants.{Const, Move, Clear, Add, Subtract, JumpIfZero, JumpIfLess, Jump, Loop, End, Load, Store, LoadPaged, StorePaged, Get, Put, Mark, Acquire, Release, AcquireCancel, ReleaseCancel, Insert, Remove, Unlink, Arm, Disarm, IfCancel, Start, Take, Begin, Next, Dequeue, Pass, Call, Complete, IfPending, Ret}
 use Rattle.model.specs.declared.instr.Return.{Return}
 use Rattle.model.specs.declared.instr.Return.TheVariants.{WithStatus, Lower, Continue, Stop, Void}
 use Rattle.model.specs.declared.set.Sort.{Sort}
@@ -66,6 +66,7 @@ work_of (Start r) = Queueing
 work_of (Take r label) = Queueing
 work_of (Begin r) = Queueing
 work_of Next = Queueing
+work_of (Dequeue r) = Queueing
 work_of (Pass r) = Forwarding
 work_of (Call r f) = Forwarding
 work_of (Complete r status) = Completing
@@ -119,6 +120,7 @@ packet_operand (Disarm r label) = Some r
 packet_operand (IfCancel r label) = Some r
 packet_operand (Start r) = Some r
 packet_operand (Begin r) = Some r
+packet_operand (Dequeue r) = Some r
 packet_operand (Pass r) = Some r
 packet_operand (Call r f) = Some r
 packet_operand (Complete r status) = Some r
@@ -179,6 +181,7 @@ starts_packets (Start r) = true
 starts_packets (Take r label) = true
 starts_packets (Begin r) = true
 starts_packets Next = true
+starts_packets (Dequeue r) = true
 starts_packets _ = false
 
 -- the lock that an activation takes, and the one that it frees

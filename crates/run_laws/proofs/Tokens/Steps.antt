@@ -9,7 +9,7 @@ use Rattle.model.specs.declared.abs.Kind.{Kind}
 use Rattle.model.specs.declared.abs.Kind.TheVariants.{New}
 use Rattle.model.specs.declared.abs.Rule.TheVariants.{CancelSpinLock, SpinLock, Token}
 use Rattle.model.specs.declared.instr.Instr.{Instr}
-use Rattle.model.specs.declared.instr.Instr.TheVariants.{Begin, Call, Complete, End, Insert, Loop, Mark, Next, Pass, Put, Remove, Ret, Start, Take, Unlink}
+use Rattle.model.specs.declared.instr.Instr.TheVariants.{Begin, Call, Complete, End, Insert, Loop, Mark, Next, Pass, Put, Remove, Ret, Start, Take, Unlink, Dequeue}
 use Rattle.model.specs.declared.instr.Return.{Return}
 use Rattle.model.specs.declared.instr.Return.TheVariants.{Continue, Stop, Void}
 use Rattle.model.specs.declared.set.Sort.{Sort}
@@ -24,7 +24,7 @@ use Rattle.model.specs.Effect.{Outcome, answered_in, completes_with, dispatched,
 use Rattle.model.specs.LocalRule.{broken_if, form_fault, given_down, gives_back, handed, handed_at_label, holds_spin_lock, kept_fault, kind_of, least_of, left_packet, marked, refuses, settled_fault}
 use Rattle.model.specs.Queues.{StartState, next_of, started, with_slot}
 use Rattle.model.specs.Set.{Set, flow_of, instruction_at, lower_of, sort_of, cancels_for}
-use Rattle.model.specs.World.{Shared, asked_of, current_location, next, register, start_of, entered}
+use Rattle.model.specs.World.{Shared, asked_of, current_location, next, register, start_of, entered, with_start}
 use Rattle.run_laws.specs.Holder.{stack_sum}
 use Rattle.run_laws.specs.OneToken.{frame_tokens, slot_tokens, start_tokens}
 use Rattle.run_laws.proofs.Lists.{set_other, set_same}
@@ -48,6 +48,9 @@ use Rattle.model.specs.declared.set.Sort.TheVariants.{Cancel}
 use Rattle.model.specs.declared.world.CancelStep.{CancelStep}
 use Rattle.run_laws.proofs.States.Cancelled.{begins_called}
 use Rattle.model.specs.declared.world.Value.TheVariants.{Ref}
+use Rattle.run_laws.proofs.Steps.Comes.{Waits, arms_waiting, disarms_next, starts_gone, dequeues_packet, works_on_waiting}
+use Rattle.model.specs.declared.world.Armer.{Armer}
+use Rattle.model.specs.Queues.{dequeued, next_started}
 
 -- the tokens of a device with a frame and in what it has for StartIo, before and after a step, and
 -- whether it is busy
@@ -155,7 +158,7 @@ module _ (s : Abs) (sort : Sort) (set : Set) (driver : ℕ) where
   begin_token r h = granted s.token _ (second_none _ _ h)
 
   pub next_token : refuses s Next sort set driver ≡ None → s.token ≡ true
-  next_token h = granted s.token _ h
+  next_token h = granted s.token _ (second_none _ _ h)
 
   pub take_token : (r label : ℕ) → refuses s (Take r label) sort set driver ≡ None → s.token ≡ false
   take_token r label h = unbroken s.token _ (first_none _ _ (first_none _ _ h))
@@ -201,6 +204,10 @@ next_idle : (start : StartState) (waiting : List ℕ) → start.device_queue ≡
     → (next_of start waiting).device_queue ≡ []
 next_idle start [] is busy free = is
 next_idle start (n ∷ waiting) is busy free = let no : true ≡ false = sym busy ∙ free in cc
+
+dequeued_idle : (start : StartState) (n : ℕ) → start.device_queue ≡ []
+    → (dequeued start n).device_queue ≡ []
+dequeued_idle start n empty = rw empty refl
 
 is_busy : (b : Bool) → 1 ≤ (if b then 1 else 0) → b ≡ true
 is_busy true h = refl
@@ -353,10 +360,39 @@ module _ (set : Set) (states : States) (s : Shared) where
         same_tokens states a d b device token in
         record { start = after; has = there; even = omega arith; idle = λ kept free. kept free }
 
+    next_starts_tokens : Runs set states s a Next → (start : StartState) → start_of s a.device ≡ Some start
+        → (d : ℕ) (after : StartState)
+        → slice_get (with_start s a.device (next_started start)).starts d ≡ Some after
+        → EvenFor states s (Routine a) (Routine (next a) ∷ []) d after
+    next_starts_tokens h start there =
+        let has : (state_of states a).token ≡ true =
+        next_token (state_of states a) (sort_of set a.driver a.routine) set a.driver h.obeys in
+        let none : (states a.driver a.routine (a.position + 1)).token ≡ false =
+        state_next a Next h refl in
+        let busy : start.busy ≡ true = busy_with start there has in
+        let even : start_tokens (next_of start start.device_queue) + (if start.busy then 1 else 0)
+        ≡ 1 + start_tokens start + (if (next_of start start.device_queue).busy then 1 else 0) =
+        next_even start start.device_queue busy in
+        put_starts a (next a) start (next_of start start.device_queue) there refl
+        (rw (none, has) (omega arith))
+        (λ kept. next_idle start start.device_queue refl busy)
+
+    start_tokens_given : (r n : ℕ) → Runs set states s a (Start r) → (start : StartState)
+        → start_of s a.device ≡ Some start → (d : ℕ) (after : StartState)
+        → slice_get (with_start s a.device (started start n)).starts d ≡ Some after
+        → EvenFor states s (Routine a) (Routine (next a) ∷ []) d after
+    start_tokens_given r n h start there =
+        let same : (state_of states (next a)).token ≡ (state_of states a).token =
+        state_next a (Start r) h refl in
+        let even : start_tokens (started start n) + (if start.busy then 1 else 0)
+        ≡ start_tokens start + (if (started start n).busy then 1 else 0) = started_even start n in
+        put_starts a (next a) start (started start n) there refl (rw same (omega arith))
+        (λ kept. started_idle start n)
+
     queued_tokens : (i : Instr) → Runs set states s a i → {b : Activation}
         {queues : List (List (List ℕ))} {lists : List StartState} {actions : List Action}
         {full : Bool}
-        → Queued s a i b queues lists actions full → (d : ℕ) (after : StartState)
+        → Queued set s a i b queues lists actions full → (d : ℕ) (after : StartState)
         → slice_get lists d ≡ Some after → EvenFor states s (Routine a) (Routine b ∷ []) d after
     queued_tokens i h (inserts r q n entries reads there) =
         leaves_starts (next a) refl (state_next a (Insert r q) h refl)
@@ -372,13 +408,8 @@ module _ (set : Set) (states : States) (s : Shared) where
         (arrives set states s a (Take r label) h _ true (jumping label refl)))
     queued_tokens i h (unlinks r q n entries reads there) =
         leaves_starts (next a) refl (state_next a (Unlink r q) h refl)
-    queued_tokens i h (starts_packet r n start reads there) =
-        let same : (state_of states (next a)).token ≡ (state_of states a).token =
-        state_next a (Start r) h refl in
-        let even : start_tokens (started start n) + (if start.busy then 1 else 0)
-        ≡ start_tokens start + (if (started start n).busy then 1 else 0) = started_even start n in
-        put_starts a (next a) start (started start n) there refl (rw same (omega arith))
-        (λ kept. started_idle start n)
+    queued_tokens i h (starts_packet r n start reads there plain) =
+        start_tokens_given r n h start there
     queued_tokens i h (takes_out r label n start there slot) =
         let none : (state_of states a).token ≡ false =
         take_token (state_of states a) (sort_of set a.driver a.routine) set a.driver r label
@@ -396,18 +427,20 @@ module _ (set : Set) (states : States) (s : Shared) where
         let empty : slot_tokens start.slot ≡ 0 = slot_empty start there has in
         put_starts a (next a) start (with_slot start (Some n)) there refl
         (rw (none, has) (omega arith)) (λ kept. kept)
-    queued_tokens i h (starts_next start there) =
-        let has : (state_of states a).token ≡ true =
-        next_token (state_of states a) (sort_of set a.driver a.routine) set a.driver h.obeys in
-        let none : (states a.driver a.routine (a.position + 1)).token ≡ false =
-        state_next a Next h refl in
-        let busy : start.busy ≡ true = busy_with start there has in
-        let even : start_tokens (next_of start start.device_queue) + (if start.busy then 1 else 0)
-        ≡ 1 + start_tokens start + (if (next_of start start.device_queue).busy then 1 else 0) =
-        next_even start start.device_queue busy in
-        put_starts a (next a) start (next_of start start.device_queue) there refl
-        (rw (none, has) (omega arith))
-        (λ kept. next_idle start start.device_queue refl busy)
+    queued_tokens i h (starts_next start there none) = next_starts_tokens h start there
+    queued_tokens i h (starts_gone n start there first gone) = next_starts_tokens h start there
+    queued_tokens i h (dequeues_packet r n start reads there) =
+        let same : (state_of states (next a)).token ≡ (state_of states a).token =
+        state_next a (Dequeue r) h refl in
+        put_starts a (next a) start (dequeued start n) there refl (rw same (omega arith))
+        (λ kept free. dequeued_idle start n (kept free))
+
+    waits_tokens : (i : Instr) → Runs set states s a i
+        → {starts : List StartState} {n : ℕ} {armer : Option Armer} {full : Bool}
+        → Waits set s a i starts n armer full → (d : ℕ) (after : StartState)
+        → slice_get starts d ≡ Some after → EvenFor states s (Routine a) (Routine (next a) ∷ []) d after
+    waits_tokens i h (arms_waiting r n start reads there armed) = start_tokens_given r n h start there
+    waits_tokens i h (disarms_next n start there first) = next_starts_tokens h start there
 
   -- a packet is sent down to a routine that begins
   sends : (t : ℕ) (a : Activation) (i : Instr) (o : Outcome) (r n lower : ℕ) (p : Packet)
@@ -481,6 +514,8 @@ module _ (set : Set) (states : States) (s : Shared) where
       lock_tokens a i o (runs set states s a i top at) (freed_word a i lock frees) refl refl
   token_step t under f o top few (works_on_queues a i b queues starts actions full at queued) =
       queued_tokens a few i (runs set states s a i top at) queued
+  token_step t under f o top few (works_on_waiting a i starts n p armer full at there waits) =
+      waits_tokens a few i (runs set states s a i top at) waits
   token_step t under f o top few (completes_packet a r status n p at reads there) =
       goes_below a (next a) (Walk n) o refl refl refl
       (next_token_same a (Complete r status) (runs set states s a (Complete r status) top at)

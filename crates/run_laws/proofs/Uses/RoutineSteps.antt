@@ -59,6 +59,10 @@ use Rattle.run_laws.proofs.Uses.Steps.{UseStep, apart_at, becomes_at, found_othe
 use Rattle.model.specs.Queues.{StartState}
 use Rattle.run_laws.proofs.Steps.Queues.{queued_work, queued_touches}
 use Rattle.run_laws.proofs.States.Queueing.{queue_moves, MovedOn}
+use Rattle.run_laws.proofs.Steps.Comes.{Waits, works_on_waiting}
+use Rattle.run_laws.proofs.States.Queueing.{waits_move}
+use Rattle.run_laws.proofs.Steps.Queues.{waits_work}
+use Rattle.model.specs.declared.world.Armer.{Armer}
 
 -- a routine that goes on has as much to carry up as before, and what stands on one carries nothing
 pub late_still : (states : States) (returned : Bool) (n : ℕ) (under : Option Frame)
@@ -251,7 +255,7 @@ module _ (set : Set) (states : States) (s : Shared) (past : List Entry) (actor :
 
   queued_settled : (i : Instr) (b : Activation) (queues : List (List (List ℕ)))
       (lists : List StartState) (actions : List Action) (full : Bool) → Executing set a i
-      → Queued s a i b queues lists actions full
+      → Queued set s a i b queues lists actions full
       → (state_of states b).settled ≡ (state_of states a).settled
   queued_settled i b queues lists actions full at queued =
       let on : MovedOn set states s a i b queues lists = queue_moves set states s a i (h.runs i at)
@@ -259,6 +263,16 @@ module _ (set : Set) (states : States) (s : Shared) (past : List Entry) (actor :
       ap (λ (state : Abs). state.settled) on.moved.arrives
       ∙ onto_settled set a.driver (state_of states a) i on.jumped
       (quiet_work i (ap keeps_settled (queued_work queued)))
+
+  waits_settled : (i : Instr) → Executing set a i → {starts : List StartState} {n : ℕ}
+      {armer : Option Armer} {full : Bool} → Waits set s a i starts n armer full
+      → (state_of states (next a)).settled ≡ (state_of states a).settled
+  waits_settled i at waits =
+      let on : MovedOn set states s a i (next a) s.queues _ = waits_move set states s a i (h.runs i at)
+      waits in
+      ap (λ (state : Abs). state.settled) on.moved.arrives
+      ∙ onto_settled set a.driver (state_of states a) i on.jumped
+      (quiet_work i (ap keeps_settled (waits_work waits)))
 
   settled_word : (i : Instr) → Executing set a i → LockWord i
       → (states a.driver a.routine (a.position + 1)).settled ≡ (state_of states a).settled
@@ -525,6 +539,12 @@ module _ (set : Set) (states : States) (s : Shared) (past : List Entry) (actor :
       refl refl (λ done. done) (λ m. refl)
       (λ returned m. one_late states returned m under a c
       (settled_on i c jumped at goes (quiet_work i (ap keeps_settled work))))
+  routine_used below o (works_on_waiting b i starts n p armer full at there waits) quiet =
+      written_step states s past actor under (Routine a) n p (with_armer p armer)
+      (Routine (next a) ∷ [])
+      (Executes ∷ Touches n ∷ Exchanges n (is_some armer) ∷ []) there refl refl (λ k. refl) refl
+      refl refl (λ done. done) (λ m. refl)
+      (λ returned m. one_late states returned m under a (next a) (waits_settled i at waits))
   routine_used below o (takes_lock b i lock at taken free) quiet =
       on_used (with_locks s (with_owner s.locks lock (Some t))) (next a)
       (Executes ∷ Acquires lock ∷ []) Stepped
