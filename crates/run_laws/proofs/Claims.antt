@@ -17,3 +17,5 @@ pub mod WordSteps
 pub mod CancelSteps
 pub mod Shapes
 pub mod Runs
+pub mod Next
+pub mod WaitSteps

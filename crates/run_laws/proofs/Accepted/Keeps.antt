@@ -33,6 +33,7 @@ use Rattle.run_laws.proofs.States.Standing.{Standing, standing_begun, right_even
 use Rattle.run_laws.proofs.Steps.Faults.{NoFaults, no_fault}
 use Rattle.run_laws.proofs.Tokens.Runs.{tokens_begun, tokens_kept, tokens_queued}
 use Rattle.run_laws.proofs.Tokens.Sums.{OneTokenEach}
+use Rattle.run_laws.proofs.Claims.Next.{next_armed}
 
 pub record Keeps (set : Set) (states : States) (threads : ℕ) (w : World) (past : List Entry) : Type
     0 where
@@ -123,14 +124,17 @@ module _ (set : Set) (states : States) (threads : ℕ) (w : World) (past : List 
             on.within;
         locks = locks_kept set states w past good keeps.stands keeps.locks actor c on;
         held = held_kept set states w past good keeps.stands keeps.held keeps.tokens actor c
-            (top_lent set states w keeps.sees actor.thread) on;
+            (top_lent set states w keeps.sees actor.thread)
+            (next_armed set states w past good keeps.stands keeps.locks keeps.told.locks keeps.claims
+            actor.thread) on;
         claims = claimed_kept set states w past good keeps.stands keeps.claims keeps.locks
             keeps.told.locks keeps.held actor c on;
         tokens = tokens_kept set states w past good keeps.stands keeps.tokens actor c on;
         sees = sees_event set states w past good keeps.stands keeps.sees actor.thread c on.happens;
         room = roomy_kept set states w past good keeps.stands keeps.held keeps.room keeps.claims
             actor c
-            on;
+            (next_armed set states w past good keeps.stands keeps.locks keeps.told.locks keeps.claims
+            actor.thread) on;
         falls = falls_event set states w actor.thread keeps.falls past c good keeps.stands
             on.happens;
         «uses» = uses_event set states w past actor c known_world keeps.«uses» on.happens on.quiet;

@@ -1,9 +1,8 @@
 -- A queue, a start list and a device queue have room for a packet that a routine has the right to,
 -- and the start list for the first one of the device queue: the packet and the entries are
 -- different live packets, and there are no more of these than a list takes.
-use Rattle.std.proofs.Common.{true, ◌≡◌, ◌≤◌, ◌+◌, ℕ, Bool, false, List, [], ◌∷◌, length, Option, None, Some, refl, ap, arith, subst, is_some, ◌∙◌, ◌++◌, inl, inr}
+use Rattle.std.proofs.Common.{true, ◌≡◌, ◌≤◌, ◌+◌, ℕ, Bool, false, List, [], ◌∷◌, length, Option, None, Some, refl, ap, arith, subst, ◌∙◌, ◌++◌, inl, inr}
 use Rattle.std.specs.Prelude.{nat_eq, not, if◌then◌else◌, ⊤, ◌&&◌}
-use Rattle.std.proofs.lemmas.Bool.{cond_both}
 use Rattle.std.proofs.lemmas.List.{length-append}
 use Rattle.model.specs.declared.abs.Kind.{Kind}
 use Rattle.model.specs.declared.abs.Kind.TheVariants.{Blank as BlankKind, Own}
@@ -26,7 +25,7 @@ use Rattle.model.specs.Trace.{Entry}
 use Rattle.model.specs.World.{Shared, start_of, queue_of, register, World}
 use Rattle.run_laws.specs.Holder.{times_at, times_in, times_waiting, named_in, named_as}
 use Rattle.run_laws.proofs.Claims.Held.{is_own, owns_in, rights_cover, word_holds}
-use Rattle.run_laws.proofs.Claims.Sums.{Claimed, frame_names, is_cancelable, times_of, is_declared}
+use Rattle.run_laws.proofs.Claims.Sums.{Claimed, frame_names, is_cancelable, times_of}
 use Rattle.run_laws.proofs.Holders.Counts.{Holding, reads_ref}
 use Rattle.run_laws.proofs.Holders.Plain.{plain_le}
 use Rattle.run_laws.proofs.Holders.Queued.{entries_few, times_pushed}

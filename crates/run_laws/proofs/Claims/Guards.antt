@@ -44,7 +44,6 @@ use Rattle.run_laws.proofs.States.Listed.{AllFit, Guarded, KindFits, arrives_fit
 use Rattle.run_laws.specs.ArrivingStates.{States}
 use Rattle.run_laws.proofs.States.Stacks.{Stacked, Stands}
 use Rattle.run_laws.proofs.States.Standing.{Standing, stands_there}
-use Rattle.run_laws.proofs.Tests.{not_and}
 use Rattle.model.specs.declared.set.QueueName.TheVariants.{DeviceQueue}
 use Rattle.model.specs.declared.abs.Kind.TheVariants.{Cancelling}
 use Rattle.model.specs.Kinds.{is_cancelling}

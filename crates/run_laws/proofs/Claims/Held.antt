@@ -15,7 +15,7 @@ use Rattle.model.specs.declared.world.Thread.{Thread}
 use Rattle.model.specs.declared.world.Value.{Value}
 use Rattle.model.specs.Kinds.{is_armed, is_cancelling, is_listed, is_right}
 use Rattle.model.specs.Set.{Set}
-use Rattle.model.specs.World.{World, packet_of, queue_of}
+use Rattle.model.specs.World.{World, packet_of}
 use Rattle.run_laws.specs.Holder.{frame_rights, named_as, named_in, names as value_names, stack_sum, thread_sum, times_listed, times_named, times_queued, times_waiting, times_to_start}
 use Rattle.run_laws.proofs.Claims.Names.{names}
 use Rattle.run_laws.proofs.Claims.Queues.{queued_zero, to_start_zero}

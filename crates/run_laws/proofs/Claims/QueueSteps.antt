@@ -3,7 +3,6 @@
 use Rattle.std.proofs.Common.{◌≡◌, ℕ, ◌+◌, ◌≤◌, Bool, true, false, List, [], ◌∷◌, Option, None, Some, refl, ap, ◌∙◌, subst, arith, inl, inr, eq-eqb}
 use Rattle.std.specs.Prelude.{nat_eq, if◌then◌else◌}
 use Rattle.std.specs.List.{list_any}
-use Rattle.std.proofs.lemmas.Bool.{cases_lt}
 use Rattle.model.specs.declared.abs.Kind.{Kind}
 use Rattle.model.specs.declared.abs.Kind.TheVariants.{Blank as BlankKind, Own, Listed, Taken, Cancelling}
 use Rattle.model.specs.declared.abs.Rule.TheVariants.{Guard as GuardRule}
@@ -21,12 +20,12 @@ use Rattle.model.specs.Set.{Set, cancel_routine_of, guard_named}
 use Rattle.model.specs.Sound.{OperandFits}
 use Rattle.model.specs.Trace.{Entry}
 use Rattle.model.specs.World.{World, next, queue_of, register, with_queue, with_register}
-use Rattle.run_laws.specs.Holder.{named_as, named_in, stack_sum, thread_sum, times_in, times_listed, times_queued, times_waiting}
+use Rattle.run_laws.specs.Holder.{named_as, named_in, stack_sum, thread_sum, times_in, times_listed, times_waiting}
 use Rattle.run_laws.proofs.Claims.Balance.{KindTurns, balanced_cancels, balanced_inserts, balanced_joins, balanced_leaves, balanced_removes, balanced_unlinks, hit, once_turned}
 use Rattle.run_laws.proofs.Claims.Guards.{NeedsGuard, armed_needs, excluded, listed_needs, taken_needs}
 use Rattle.run_laws.proofs.Claims.Held.{is_own, one_holder, own_alone, owns_in}
 use Rattle.run_laws.proofs.Claims.Names.{KeepsNames, OfQueues, TurnsNames, names, next_takes, next_turns}
-use Rattle.run_laws.proofs.Claims.Queues.{unlinked_other, unlinked_out, entries_fewer, entries_more, entries_others, unlinked_fewer, unlinked_none}
+use Rattle.run_laws.proofs.Claims.Queues.{unlinked_other, unlinked_out, entries_fewer, entries_more, entries_others, unlinked_fewer}
 use Rattle.run_laws.proofs.Claims.Quiet.{apart_keeps, frame_keeps}
 use Rattle.run_laws.proofs.Claims.Steps.{after, all_apart, apart_here, kind_turns, names_among, same_balance, same_sums}
 use Rattle.run_laws.proofs.Claims.Sums.{Claimed, FrameApart, frame_names, is_taken, names_on, numbers, takes_in, times_of, word_at}
@@ -53,6 +52,51 @@ use Rattle.run_laws.proofs.Claims.Queues.{Puts, puts_queue, unlinked_times}
 use Rattle.run_laws.proofs.Claims.WordSteps.{list_le}
 use Rattle.run_laws.proofs.Claims.Sums.{list_of, is_cancelable}
 use Rattle.run_laws.proofs.Claims.Balance.{name_same}
+
+module _ (set : Set) (states : States) (w : World) (past : List Entry) (good : IsGood set states)
+    (stands : Standing set states w past) (c : Claimed set states w) (t : ℕ)
+    (h : StepsFrame set w t)
+    (leaves : StepLeaves set states w.shared h.frame h.outcome) (kept : Held set states w)
+    (a : Activation) (frame : h.frame ≡ Routine a) where
+  -- a packet of the routine's own stands in no list, and was taken off none
+  pub owned_here : (i : Instr) (r m : ℕ) → Runs set states w.shared a i
+      → kind_of (state_of states a) r ≡ Own → Reads w.shared a r m → 1 ≤ owns_in states m w.threads
+  owned_here i r m run is reads =
+      let refers : register a r ≡ Ref m = reads_ref w.shared (register a r) m reads in
+      let le : named_as is_own (kind_of (state_of states a) r) (register a r) m
+      ≤ named_in is_own (state_of states a).kinds a.registers m =
+      named_le is_own w.shared.issued (state_of states a).kinds a.registers r m run.stays.kinds in
+      let one : named_as is_own (kind_of (state_of states a) r) (register a r) m ≡ 1 =
+      rw (is, refers, eq-eqb m m refl) refl in
+      let top : frame_names states is_own (λ e. true) m h.frame ≤ owns_in states m w.threads =
+      top_le (frame_names states is_own (λ e. true) m) w.threads t h.thread h.below h.frame
+      h.found h.frames in
+      let same : frame_names states is_own (λ e. true) m h.frame
+      ≡ named_in is_own (state_of states a).kinds a.registers m =
+      ap (frame_names states is_own (λ e. true) m) frame in
+      omega arith
+
+  pub own_there : (i : Instr) (r m : ℕ) → Runs set states w.shared a i
+      → kind_of (state_of states a) r ≡ Own → Reads w.shared a r m
+      → takes_in states m w.threads + times_listed w.shared m ≡ 0
+  own_there i r m run is reads =
+      own_alone set states w kept m c.balanced (owned_here i r m run is reads)
+
+  -- one more list, for a packet that stood in none
+  pub once_put : (m : ℕ) → takes_in states m w.threads + times_listed w.shared m ≡ 0
+      → ((n : ℕ) → times_listed h.outcome.shared n
+      ≡ times_listed w.shared n + (if nat_eq m n then 1 else 0))
+      → (n : ℕ) → takes_in states n w.threads + times_listed h.outcome.shared n ≤ 1
+  once_put m none lists =
+      once_more m (λ n. takes_in states n w.threads + times_listed w.shared n)
+      (λ n. takes_in states n w.threads + times_listed h.outcome.shared n)
+      c.balanced.once none
+      (λ n. omega (arith, lists n))
+
+  pub once_less : ((n : ℕ) → times_listed h.outcome.shared n ≤ times_listed w.shared n)
+      → (n : ℕ) → takes_in states n w.threads + times_listed h.outcome.shared n ≤ 1
+  once_less lists n =
+      omega (arith, lists n, c.balanced.once n)
 
 module _ (set : Set) (states : States) (w : World) (past : List Entry) (good : IsGood set states)
     (stands : Standing set states w past) (c : Claimed set states w) (t : ℕ)
@@ -103,41 +147,6 @@ module _ (set : Set) (states : States) (w : World) (past : List Entry) (good : I
   apart_a : FrameApart states (Routine a)
   apart_a = subst (FrameApart states) frame (apart_here set states w past good stands c t h leaves)
 
-  -- a packet of the routine's own stands in no list, and was taken off none
-  pub own_there : (i : Instr) (r m : ℕ) → Runs set states w.shared a i
-      → kind_of (state_of states a) r ≡ Own → Reads w.shared a r m
-      → takes_in states m w.threads + times_listed w.shared m ≡ 0
-  own_there i r m run is reads =
-      let refers : register a r ≡ Ref m = reads_ref w.shared (register a r) m reads in
-      let le : named_as is_own (kind_of (state_of states a) r) (register a r) m
-      ≤ named_in is_own (state_of states a).kinds a.registers m =
-      named_le is_own w.shared.issued (state_of states a).kinds a.registers r m run.stays.kinds in
-      let one : named_as is_own (kind_of (state_of states a) r) (register a r) m ≡ 1 =
-      rw (is, refers, eq-eqb m m refl) refl in
-      let top : frame_names states is_own (λ e. true) m h.frame ≤ owns_in states m w.threads =
-      top_le (frame_names states is_own (λ e. true) m) w.threads t h.thread h.below h.frame
-      h.found h.frames in
-      let same : frame_names states is_own (λ e. true) m h.frame
-      ≡ named_in is_own (state_of states a).kinds a.registers m =
-      ap (frame_names states is_own (λ e. true) m) frame in
-      own_alone set states w kept m c.balanced (omega arith)
-
-  -- one more list, for a packet that stood in none
-  pub once_put : (m : ℕ) → takes_in states m w.threads + times_listed w.shared m ≡ 0
-      → ((n : ℕ) → times_listed h.outcome.shared n
-      ≡ times_listed w.shared n + (if nat_eq m n then 1 else 0))
-      → (n : ℕ) → takes_in states n w.threads + times_listed h.outcome.shared n ≤ 1
-  once_put m none lists =
-      once_more m (λ n. takes_in states n w.threads + times_listed w.shared n)
-      (λ n. takes_in states n w.threads + times_listed h.outcome.shared n)
-      c.balanced.once none
-      (λ n. omega (arith, lists n))
-
-  pub once_less : ((n : ℕ) → times_listed h.outcome.shared n ≤ times_listed w.shared n)
-      → (n : ℕ) → takes_in states n w.threads + times_listed h.outcome.shared n ≤ 1
-  once_less lists n =
-      omega (arith, lists n, c.balanced.once n)
-
   -- a packet is put into a queue
   module _ (r q m : ℕ) (entries : List ℕ) (run : Runs set states w.shared a (Insert r q))
       (reads : Reads w.shared a r m) (there : queue_of w.shared a.device q ≡ Some entries)
@@ -181,7 +190,9 @@ module _ (set : Set) (states : States) (w : World) (past : List Entry) (good : I
           balanced = balanced_joins set (numbers states w) (numbers states to) c.balanced
               (once_turned (numbers states w) (numbers states to) Own BlankKind
               a.device m changes refl
-              (once_put m (own_there (Insert r q) r m run inserted_own reads) inserted_lists))
+              (once_put set states w past good stands c t h leaves kept a frame m
+              (own_there set states w past good stands c t h leaves kept a frame
+              (Insert r q) r m run inserted_own reads) inserted_lists))
               a.device (Declared q) m
               (cancelable_is set a.device a.driver (Declared q) None run.stays.serves none)
               changes
@@ -201,7 +212,9 @@ module _ (set : Set) (states : States) (w : World) (past : List Entry) (good : I
           balanced = balanced_inserts set (numbers states w) (numbers states to) c.balanced
               (once_turned (numbers states w) (numbers states to) Own (Listed (Declared q))
               a.device m changes refl
-              (once_put m (own_there (Insert r q) r m run inserted_own reads) inserted_lists))
+              (once_put set states w past good stands c t h leaves kept a frame m
+              (own_there set states w past good stands c t h leaves kept a frame
+              (Insert r q) r m run inserted_own reads) inserted_lists))
               a.device (Declared q) m
               changes
               words_same inserted_entries;
@@ -319,7 +332,7 @@ module _ (set : Set) (states : States) (w : World) (past : List Entry) (good : I
             balanced = balanced_leaves set (numbers states w) (numbers states to) c.balanced
                 (once_turned (numbers states w) (numbers states to) BlankKind Own
                 a.device m changes refl
-                (once_less (λ n.
+                (once_less set states w past good stands c t h leaves kept a frame (λ n.
                 omega (arith, removed_lists n))))
                 a.device (Declared q) m removed_armed removed_listed
                 changes
@@ -417,7 +430,7 @@ module _ (set : Set) (states : States) (w : World) (past : List Entry) (good : I
             balanced = balanced_cancels set (numbers states w) (numbers states to) c.balanced
                 (once_turned (numbers states w) (numbers states to) (Cancelling name) Own
                 a.device m changes refl
-                (once_less less))
+                (once_less set states w past good stands c t h leaves kept a frame less))
                 a.device name m (omega arith) (omega arith) (omega arith)
                 (unlinked_out w.shared to.shared a.device name m entries put few)
                 (λ d p n none. entries_others w.shared to.shared a.device name m entries
@@ -490,7 +503,7 @@ module _ (set : Set) (states : States) (w : World) (past : List Entry) (good : I
             balanced = balanced_unlinks set (numbers states w) (numbers states to) c.balanced
                 (once_turned (numbers states w) (numbers states to) (Listed (Declared q)) Own
                 a.device m changes refl
-                (once_less unlinked_lists))
+                (once_less set states w past good stands c t h leaves kept a frame unlinked_lists))
                 a.device (Declared q) m
                 changes
                 words_same

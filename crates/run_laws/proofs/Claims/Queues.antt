@@ -9,7 +9,7 @@ use Rattle.model.specs.declared.set.QueueName.{QueueName}
 use Rattle.model.specs.declared.set.QueueName.TheVariants.{Declared, DeviceQueue}
 use Rattle.model.specs.Effect.{routine_of_device}
 use Rattle.model.specs.Queues.{StartState, unlinked}
-use Rattle.model.specs.Set.{Set, cancel_routine_of, is_named}
+use Rattle.model.specs.Set.{Set, cancel_routine_of}
 use Rattle.model.specs.World.{Shared, queue_of, with_queue, start_of, with_start}
 use Rattle.run_laws.specs.Holder.{times_in, times_on, times_plain, times_plain_on, times_queued, times_started, times_to_start, waits_cancelable, times_at}
 use Rattle.run_laws.proofs.Claims.Balance.{hit, hit_elsewhere, name_same}
@@ -17,6 +17,10 @@ use Rattle.run_laws.proofs.Claims.Sums.{is_cancelable, times_of, list_of}
 use Rattle.run_laws.proofs.Lists.{set_other, set_same}
 use Rattle.run_laws.proofs.States.Fits.{queue_row}
 use Rattle.model.specs.Kinds.{is_name}
+use Rattle.run_laws.specs.Holder.{waits_cancelable}
+use Rattle.model.specs.Set.{has_cancel}
+use Rattle.run_laws.proofs.Claims.Sums.{is_cancelable}
+use Rattle.std.proofs.Common.{eqb-true}
 
 -- a list in place of another one: it, or a list that is as it was
 abbrev pub PutOrNot : Shared → Shared → ℕ → QueueName → List ℕ → List ℕ → ℕ → QueueName → Type 0
@@ -116,6 +120,29 @@ puts_waiting s to d before after there queues starts e (Declared p) =
 puts_waiting s to d before after there queues starts e DeviceQueue =
     rw starts (put_waiting s d before after there e DeviceQueue)
 
+-- what a device has for StartIo changes, and a device queue with a cancel routine gains none
+pub waiting_less : (set : Set) (s : Shared) (d driver : ℕ) (before after : StartState)
+    → start_of s d ≡ Some before
+    → waits_cancelable set d ≡ has_cancel set driver DeviceQueue
+    → (has_cancel set driver DeviceQueue ≡ true → (n : ℕ)
+    → times_in after.device_queue n ≤ times_in before.device_queue n)
+    → (e n : ℕ) → is_cancelable set e DeviceQueue ≡ true
+    → times_of (list_of (with_start s d after) e DeviceQueue) n
+    ≤ times_of (list_of s e DeviceQueue) n
+waiting_less set s d driver before after there its less e n may =
+    elim (put_waiting s d before after there e DeviceQueue) [
+      | inl here ↦
+          let is : is_cancelable set d DeviceQueue ≡ true =
+          subst (λ (x : ℕ). is_cancelable set x DeviceQueue ≡ true)
+          (sym (eqb-true d e here.0)) may in
+          rw (here.2, here.3) (less (sym its ∙ is) n)
+      | inr other ↦
+          let same : times_of (list_of (with_start s d after) e DeviceQueue) n
+          ≡ times_of (list_of s e DeviceQueue) n =
+          ap (λ (o : Option (List ℕ)). times_of o n) other.1 in
+          omega arith
+    ]
+
 module _ (s to : Shared) (d : ℕ) (q : QueueName) (m : ℕ) (before after : List ℕ)
     (put : Puts s to d q before after) where
   abbrev now : ℕ → QueueName → ℕ → ℕ
@@ -154,6 +181,17 @@ module _ (s to : Shared) (d : ℕ) (q : QueueName) (m : ℕ) (before after : Lis
       elim (put e p) [
         | inl its ↦ rw (its.2, its.3) (same n)
         | inr other ↦ ap (λ (o : Option (List ℕ)). times_of o n) other.1
+      ]
+
+  pub entries_less : ((n : ℕ) → times_in after n ≤ times_in before n)
+      → (e : ℕ) (p : QueueName) (n : ℕ) → now e p n ≤ was e p n
+  entries_less less e p n =
+      elim (put e p) [
+        | inl its ↦ rw (its.2, its.3) (less n)
+        | inr other ↦
+            let same : now e p n ≡ was e p n =
+            ap (λ (o : Option (List ℕ)). times_of o n) other.1 in
+            omega arith
       ]
 
   pub entries_others : ((n : ℕ) → nat_eq m n ≡ false → times_in after n ≡ times_in before n)

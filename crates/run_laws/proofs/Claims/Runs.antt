@@ -4,7 +4,7 @@ use Rattle.std.specs.Prelude.{nat_eq, slice_get, slice_set, if◌then◌else◌,
 use Rattle.std.proofs.lemmas.Bool.Decides.{eqb_tells}
 use Rattle.model.specs.declared.set.QueueName.{QueueName}
 use Rattle.model.specs.declared.abs.Kind.{Kind}
-use Rattle.model.specs.declared.set.QueueName.TheVariants.{Declared, DeviceQueue}
+use Rattle.model.specs.declared.set.QueueName.TheVariants.{DeviceQueue}
 use Rattle.model.specs.declared.world.Activation.{Activation}
 use Rattle.model.specs.declared.world.Frame.{Frame}
 use Rattle.model.specs.declared.world.Frame.TheVariants.{Routine, Cancel as CancelFrame}
@@ -15,10 +15,9 @@ use Rattle.model.specs.Kinds.{is_armed, is_listed}
 use Rattle.model.specs.Queues.{idle as idle_start, without_first_to_start}
 use Rattle.model.specs.Set.{Set}
 use Rattle.model.specs.Trace.{Entry, Actor}
-use Rattle.model.specs.World.{Shared, World, queue_of, with_start, idle_thread, new_packet, with_dpc}
-use Rattle.run_laws.specs.Holder.{thread_sum, times_listed, times_queued, times_to_start}
+use Rattle.model.specs.World.{Shared, World, with_start, idle_thread, new_packet, with_dpc}
+use Rattle.run_laws.specs.Holder.{thread_sum, times_listed, times_to_start}
 use Rattle.run_laws.proofs.Claims.Names.{OfQueues}
-use Rattle.run_laws.proofs.Claims.Queues.{to_start_zero}
 use Rattle.run_laws.proofs.Claims.Quiet.{BeginsPlain, NamesNone, apart_none, begins_none, frame_none}
 use Rattle.run_laws.proofs.Claims.Steps.{after, same_balance}
 use Rattle.run_laws.proofs.Claims.Sums.{Claimed, FrameApart, frame_names, is_taken, times_of, was_taken, word_at, is_cancelable, list_of}
@@ -37,11 +36,9 @@ use Rattle.run_laws.proofs.States.Standing.{Standing, on_top, startio_enters}
 use Rattle.model.specs.declared.world.Packet.{Packet}
 use Rattle.run_laws.proofs.Past.Packets.{found}
 use Rattle.model.specs.declared.set.Sort.TheVariants.{Dispatch, Dpc, StartIo}
-use Rattle.run_laws.proofs.Claims.WordSteps.{times_of_le}
 use Rattle.run_laws.proofs.States.Entering.{Enters, begins_dpc, begins_request, startio_activation}
 use Rattle.run_laws.proofs.States.OnTop.{OnTop}
 use Rattle.run_laws.proofs.Steps.Faults.{is_touch, quiet_among}
-use Rattle.model.specs.declared.limits.TheConstants.{MAX_QUEUES}
 use Rattle.model.specs.declared.set.Sort.{Sort}
 use Rattle.model.specs.declared.world.CancelStep.TheVariants.{Acquire as AcquireStep}
 use Rattle.model.specs.declared.world.Irql.TheVariants.{Passive, Dispatch as DispatchLevel}
@@ -51,7 +48,6 @@ use Rattle.model.specs.Fault.{first_fault}
 use Rattle.model.specs.Run.{begun}
 use Rattle.run_laws.proofs.Claims.Shapes.{shape_claims}
 use Rattle.run_laws.proofs.Holders.Runs.{idle_sum, top_holding}
-use Rattle.run_laws.proofs.Holders.Started.{none_started}
 use Rattle.run_laws.proofs.Runs.Kept.{GoesOnBy}
 use Rattle.run_laws.proofs.Runs.Threads.{each_frames, idle_frames}
 use Rattle.run_laws.proofs.Claims.Queues.{entries_same, put_waiting}

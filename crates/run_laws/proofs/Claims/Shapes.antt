@@ -1,5 +1,5 @@
 -- Every shape of a step keeps claims.
-use Rattle.std.proofs.Common.{◌≡◌, ℕ, ◌+◌, Bool, true, false, List, [], ◌∷◌, Option, None, Some, refl, ap, sym, ◌∙◌, subst, arith, ◌<◌}
+use Rattle.std.proofs.Common.{◌≡◌, ℕ, ◌+◌, Bool, true, false, List, [], ◌∷◌, Option, None, Some, refl, ap, sym, ◌∙◌, subst, arith, ◌<◌, inl, inr}
 use Rattle.std.specs.Prelude.{◌≤◌, slice_get, is_none}
 use Rattle.model.specs.declared.set.Guard.TheVariants.{DeviceLock, CancelLock}
 use Rattle.model.specs.declared.abs.Kind.TheVariants.{Blank as BlankKind, Own}
@@ -19,12 +19,12 @@ use Rattle.model.specs.Trace.{Entry, Actor}
 use Rattle.model.specs.World.{World, start_of, at_label, next, register, with_register, with_start, packet_of, with_armer, with_packet, cancelled}
 use Rattle.run_laws.specs.Holder.{times_listed, times_queued, times_to_start}
 use Rattle.run_laws.proofs.Claims.Names.{KeepsNames, kinds_names, label_names, next_takes, next_turns, turns_nothing}
-use Rattle.run_laws.proofs.Claims.Quiet.{word_kept, Quiet, on_quiet, quiet_step}
+use Rattle.run_laws.proofs.Claims.Quiet.{word_kept, Quiet, quiet_step}
 use Rattle.run_laws.proofs.Claims.Steps.{after, quiet_claims}
 use Rattle.run_laws.proofs.Claims.Sums.{Claimed, takes_in}
 use Rattle.run_laws.proofs.Claims.Waiting.{to_start_put}
 use Rattle.run_laws.proofs.Holders.Started.{waits_given, waits_in, waits_next}
-use Rattle.run_laws.proofs.Holders.Counts.{reads_ref, Holding}
+use Rattle.run_laws.proofs.Holders.Counts.{reads_ref, Holding, right_lives}
 use Rattle.run_laws.proofs.Holders.Sums.{Held}
 use Rattle.run_laws.proofs.Lists.{all_at}
 use Rattle.run_laws.proofs.Locks.Runs.{LocksAgree}
@@ -47,8 +47,36 @@ use Rattle.run_laws.proofs.Claims.CancelSteps.{cancel_quiet, calls_claims, tops_
 use Rattle.run_laws.proofs.Claims.QueueSteps.{inserts_claims, lists_claims, once_put, own_there, removes_claims, unlinks_claims}
 use Rattle.run_laws.proofs.States.Lacking.{never_lacks}
 use Rattle.run_laws.proofs.States.OnTop.{OnTop, runs}
-use Rattle.run_laws.proofs.Steps.Faults.{fault_among, is_touch}
+use Rattle.run_laws.proofs.Steps.Faults.{fault_among, is_touch, topped_faults}
 use Rattle.run_laws.proofs.Steps.Words.{lock_freed, packet_operand}
+use Rattle.std.specs.Prelude.{option_map}
+use Rattle.model.specs.declared.set.QueueName.TheVariants.{DeviceQueue, Declared}
+use Rattle.model.specs.declared.abs.Kind.{Kind}
+use Rattle.model.specs.declared.abs.Kind.TheVariants.{Cancelling}
+use Rattle.model.specs.declared.instr.Instr.TheVariants.{Dequeue}
+use Rattle.model.specs.Set.{has_cancel}
+use Rattle.model.specs.Kinds.{is_armed, is_cancelling, is_right}
+use Rattle.model.specs.LocalRule.{queued_kind}
+use Rattle.model.specs.Queues.{dequeued, head_of}
+use Rattle.run_laws.specs.Holder.{times_in}
+use Rattle.run_laws.proofs.Claims.Sums.{is_cancelable, is_taken, list_of, names_on, times_of}
+use Rattle.run_laws.proofs.Claims.Guards.{NeedsGuard, armed_needs, taken_needs}
+use Rattle.run_laws.proofs.Claims.Next.{is_waiting, next_word, no_armed, no_taken, none_waits}
+use Rattle.run_laws.proofs.Claims.Queues.{puts_waiting, unlinked_times, waiting_less}
+use Rattle.run_laws.proofs.Claims.QueueSteps.{unlinks_cancelled}
+use Rattle.run_laws.proofs.Claims.WaitSteps.{next_loses, starts_claims, waits_claims}
+use Rattle.run_laws.proofs.Holders.Waits.{and_both, first_both, served_waits}
+use Rattle.run_laws.proofs.Steps.Queues.{is_gone}
+use Rattle.run_laws.proofs.Steps.Comes.{Executing, Waits, arms_waiting, dequeues_packet, disarms_next, starts_gone, waited_to, waits_armed, works_on_waiting}
+use Rattle.run_laws.proofs.States.StartsFit.{head_low, start_issued}
+use Rattle.run_laws.proofs.Past.Packets.{gone_topped}
+use Rattle.run_laws.proofs.Steps.Faults.{topped_faults}
+use Rattle.run_laws.proofs.States.StartsFit.{start_issued}
+use Rattle.run_laws.proofs.Holders.Counts.{right_lives}
+
+-- the entries of a device queue
+abbrev waiting_of : List StartState → ℕ → Option (List ℕ)
+waiting_of starts d = option_map (λ start. start.device_queue) (slice_get starts d)
 
 module _ (set : Set) (states : States) (w : World) (past : List Entry) (good : IsGood set states)
     (stands : Standing set states w past) (agree : LocksAgree states w past)
@@ -176,16 +204,31 @@ module _ (set : Set) (states : States) (w : World) (past : List Entry) (good : I
       (subst (λ (y : ℕ). Reads w.shared a y n) (sym same) reads) there frames shared
 
   -- an instruction leaves the queues as they are, but not what its device has for StartIo
+  waiting_by : {b : Activation} (lists : List StartState) {actions : List Action} {full : Bool}
+      → h.outcome ≡ queued_to w.shared b w.shared.queues lists actions full
+      → ((d n : ℕ) → is_cancelable set d DeviceQueue ≡ true
+      → times_of (waiting_of lists d) n ≤ times_of (list_of w.shared d DeviceQueue) n)
+      → (d n : ℕ) → is_cancelable set d DeviceQueue ≡ true
+      → times_of (list_of to.shared d DeviceQueue) n ≤ times_of (list_of w.shared d DeviceQueue) n
+  waiting_by lists outcome waiting d n may =
+      let now : times_of (list_of h.outcome.shared d DeviceQueue) n
+      ≡ times_of (waiting_of lists d) n =
+      ap (λ (x : Outcome). times_of (list_of x.shared d DeviceQueue) n) outcome in
+      omega (arith, waiting d n may)
+
   lists_by : (a b : Activation) (lists : List StartState) {actions : List Action} {full : Bool}
       → h.frame ≡ Routine a → h.outcome ≡ queued_to w.shared b w.shared.queues lists actions full
       → KeepsNames states a b → b.device ≡ a.device
+      → ((d n : ℕ) → is_cancelable set d DeviceQueue ≡ true
+      → times_of (waiting_of lists d) n ≤ times_of (list_of w.shared d DeviceQueue) n)
       → ((n : ℕ) → takes_in states n w.threads
       + (times_queued w.shared.queues n + times_to_start lists n) ≤ 1)
       → Claimed set states to
-  lists_by a b lists frame outcome names device once =
+  lists_by a b lists frame outcome names device waiting once =
       lists_claims set states w past good stands c t h leaves kept a frame
       (ap (λ (x : Outcome). x.shared.packets) outcome) b names device
       (ap (λ (x : Outcome). x.frames) outcome) (ap (λ (x : Outcome). x.shared.queues) outcome)
+      (waiting_by lists outcome waiting)
       (λ n.
       let now : times_listed h.outcome.shared n
       ≡ times_queued w.shared.queues n + times_to_start lists n =
@@ -196,16 +239,22 @@ module _ (set : Set) (states : States) (w : World) (past : List Entry) (good : I
       → h.outcome ≡ queued_to w.shared b w.shared.queues w.shared.starts actions full
       → KeepsNames states a b → b.device ≡ a.device → Claimed set states to
   same_by a b frame outcome names device =
-      lists_by a b w.shared.starts frame outcome names device c.balanced.once
+      lists_by a b w.shared.starts frame outcome names device (λ d n may. omega arith)
+      c.balanced.once
 
-  start_by : (a b : Activation) (start after : StartState) {actions : List Action} {full : Bool}
+  start_by : (a b : Activation) (i : Instr) (start after : StartState) {actions : List Action} {full : Bool}
       → h.frame ≡ Routine a
+      → Runs set states w.shared a i
       → h.outcome ≡ queued_to w.shared b w.shared.queues
       (with_start w.shared a.device after).starts actions full
       → KeepsNames states a b → b.device ≡ a.device → start_of w.shared a.device ≡ Some start
-      → ((n : ℕ) → waits_in after n ≡ waits_in start n) → Claimed set states to
-  start_by a b start after frame outcome names device there same =
+      → ((n : ℕ) → waits_in after n ≡ waits_in start n)
+      → ((n : ℕ) → times_in after.device_queue n ≤ times_in start.device_queue n)
+      → Claimed set states to
+  start_by a b i start after frame run outcome names device there same loses =
       lists_by a b (with_start w.shared a.device after).starts frame outcome names device
+      (λ d n may. waiting_less set w.shared a.device a.driver start after there
+      (served_waits set states w.shared a i run) (λ has. loses) d n may)
       (λ n.
       omega (
         arith,
@@ -215,34 +264,57 @@ module _ (set : Set) (states : States) (w : World) (past : List Entry) (good : I
       ))
 
   -- an instruction about queues
+  -- the packet of a device that is started waits only where nothing has to hold it then
+  not_waiting : (a : Activation) (start : StartState) (n : ℕ) → waits_armed set a start ≡ false
+      → has_cancel set a.driver DeviceQueue ≡ true → (m : ℕ)
+      → times_in (started start n).device_queue m ≤ times_in start.device_queue m
+  not_waiting a start n plain has m =
+      let idle : start.busy ≡ false = rw has at plain in rw idle (omega arith)
+
+  -- a register's packet was handed to the cancel routine of the device queue
+  dequeued_kind : (k : Kind) → queued_kind (is_cancelling DeviceQueue k) k ≡ None
+      → k ≡ Cancelling DeviceQueue
+  dequeued_kind (Cancelling (Declared q)) h = cc
+  dequeued_kind (Cancelling DeviceQueue) h = refl
+  dequeued_kind _ h = cc
+
   queues_by : (a : Activation) (i : Instr) → h.frame ≡ Routine a → Runs set states w.shared a i
       → {b : Activation} {queues : List (List (List ℕ))} {lists : List StartState}
       {actions : List Action} {full : Bool}
       → h.outcome ≡ queued_to w.shared b queues lists actions full
-      → Queued set w.shared a i b queues lists actions full → Claimed set states to
-  queues_by a i frame run outcome (inserts r q n entries reads there) =
+      → Holding set states w.shared past (Routine a)
+      → (queued : Queued set w.shared a i b queues lists actions full) → is_gone queued ≡ false
+      → Claimed set states to
+  queues_by a i frame run outcome holding (inserts r q n entries reads there) quiet =
       inserts_claims set states w past good stands c t h leaves kept a frame
       (ap (λ (x : Outcome). x.shared.packets) outcome) r q n entries run
       reads there (ap (λ (x : Outcome). x.frames) outcome)
       (ap (λ (x : Outcome). x.shared.queues) outcome)
       (ap (λ (x : Outcome). x.shared.starts) outcome)
-  queues_by a i frame run outcome (removes r q label n entries there) =
+  queues_by a i frame run outcome holding (removes r q label n entries there) quiet =
       removes_claims set states w past good stands c t h leaves kept a frame
       (ap (λ (x : Outcome). x.shared.packets) outcome) agree owned
       r q label n entries run there (ap (λ (x : Outcome). x.frames) outcome)
       (ap (λ (x : Outcome). x.shared.queues) outcome)
       (ap (λ (x : Outcome). x.shared.starts) outcome)
-  queues_by a i frame run outcome (unlinks r q n entries reads there) =
+  queues_by a i frame run outcome holding (unlinks r q n entries reads there) quiet =
       unlinks_claims set states w past good stands c t h leaves kept a frame
       (ap (λ (x : Outcome). x.shared.packets) outcome) agree owned
       r q n entries run reads there (ap (λ (x : Outcome). x.frames) outcome)
       (ap (λ (x : Outcome). x.shared.queues) outcome)
       (ap (λ (x : Outcome). x.shared.starts) outcome)
-  queues_by a i frame run outcome (removes_none r q label there) =
+  queues_by a i frame run outcome holding (removes_none r q label there) quiet =
       same_by a (at_label a label) frame outcome
       (label_names set states w.shared a (Remove r q label) run r label refl refl
       (unbroken _ _ (first_none _ _ (second_none _ _ run.obeys)))) refl
-  queues_by a i frame run outcome (starts_packet r n start reads there plain) =
+  queues_by a i frame run outcome holding (starts_packet r n start reads there plain) quiet =
+      let plainly : waits_armed set a start ≡ false =
+      elim plain [
+        | inl may ↦ may
+        | inr gone ↦ absurd (right_lives set states w.shared past a holding run.stays.kinds r n
+            (ap is_right (inserts_right (kind_of (state_of states a) r) (first_none _ _ run.obeys)))
+            reads gone)
+      ] in
       let own : kind_of (state_of states a) r ≡ Own =
       inserts_right (kind_of (state_of states a) r) (first_none _ _ run.obeys) in
       lists_claims set states w past good stands c t h leaves kept a frame
@@ -251,10 +323,11 @@ module _ (set : Set) (states : States) (w : World) (past : List Entry) (good : I
       (next_turns set states w.shared a (Start r) run r Own BlankKind n refl refl own
       (reads_ref w.shared (register a r) n reads))) refl
       (ap (λ (x : Outcome). x.frames) outcome) (ap (λ (x : Outcome). x.shared.queues) outcome)
-      (once_put set states w past good stands c t h leaves kept a frame
-      (ap (λ (x : Outcome). x.shared.packets) outcome) n
-      (own_there set states w past good stands c t h leaves kept a frame
-      (ap (λ (x : Outcome). x.shared.packets) outcome) (Start r) r n run own
+      (waiting_by (with_start w.shared a.device (started start n)).starts outcome
+      (λ d m may. waiting_less set w.shared a.device a.driver start (started start n) there
+      (served_waits set states w.shared a (Start r) run) (not_waiting a start n plainly) d m may))
+      (once_put set states w past good stands c t h leaves kept a frame n
+      (own_there set states w past good stands c t h leaves kept a frame (Start r) r n run own
       reads)
       (λ m.
       let now : times_listed h.outcome.shared m
@@ -266,27 +339,82 @@ module _ (set : Set) (states : States) (w : World) (past : List Entry) (good : I
         to_start_put w.shared.starts a.device start (started start n) m there,
         waits_given start n m,
       )))
-  queues_by a i frame run outcome (takes_out r label n start there slot) =
-      start_by a (next (with_register a r (Ref n))) start (with_slot start None) frame outcome
+  queues_by a i frame run outcome holding (takes_out r label n start there slot) quiet =
+      start_by a (next (with_register a r (Ref n))) (Take r label) start (with_slot start None) frame
+      run outcome
       (turns_nothing states a (next (with_register a r (Ref n))) BlankKind Own n refl refl
       (next_takes set states w.shared a (Take r label) run r Own n refl refl
       (unbroken _ _ (second_none _ _ run.obeys))
       (all_at OperandFits run.routine.code a.position (Take r label) run.known.operands run.here)))
-      refl there (λ m. refl)
-  queues_by a i frame run outcome (takes_none r label start there slot) =
+      refl there (λ m. refl) (λ m. omega arith)
+  queues_by a i frame run outcome holding (takes_none r label start there slot) quiet =
       same_by a (at_label a label) frame outcome
       (label_names set states w.shared a (Take r label) run r label refl refl
       (unbroken _ _ (second_none _ _ run.obeys))) refl
-  queues_by a i frame run outcome (puts_in r n start reads there) =
+  queues_by a i frame run outcome holding (puts_in r n start reads there) quiet =
       let own : kind_of (state_of states a) r ≡ Own =
       inserts_right (kind_of (state_of states a) r) (first_none _ _ run.obeys) in
-      start_by a (next a) start (with_slot start (Some n)) frame outcome
+      start_by a (next a) (Begin r) start (with_slot start (Some n)) frame run outcome
       (turns_nothing states a (next a) Own BlankKind n refl refl
       (next_turns set states w.shared a (Begin r) run r Own BlankKind n refl refl own
-      (reads_ref w.shared (register a r) n reads))) refl there (λ m. refl)
-  queues_by a i frame run outcome (starts_next start there none) =
-      start_by a (next a) start (next_started start) frame outcome
+      (reads_ref w.shared (register a r) n reads))) refl there (λ m. refl) (λ m. omega arith)
+  queues_by a i frame run outcome holding (starts_next start there none) quiet =
+      start_by a (next a) Next start (next_started start) frame run outcome
       (kinds_names set states w.shared a Next run refl refl) refl there (waits_next start)
+      (next_loses start)
+  queues_by a i frame run outcome holding (starts_gone n start there first gone) quiet = cc
+  queues_by a i frame run outcome holding (dequeues_packet r n start reads there) quiet =
+      let is : kind_of (state_of states a) r ≡ Cancelling DeviceQueue =
+      dequeued_kind (kind_of (state_of states a) r) (first_none _ _ run.obeys) in
+      unlinks_cancelled set states w past good stands c t h leaves kept a frame
+      (ap (λ (x : Outcome). x.shared.packets) outcome) agree owned
+      (Dequeue r) DeviceQueue r n start.device_queue run reads (rw there refl)
+      (ap (λ (x : Outcome). x.frames) outcome)
+      (puts_waiting w.shared to.shared a.device start (dequeued start n) there
+      (ap (λ (x : Outcome). x.shared.queues) outcome)
+      (ap (λ (x : Outcome). x.shared.starts) outcome))
+      (λ m.
+      let now : times_listed h.outcome.shared m
+      ≡ times_queued w.shared.queues m
+      + times_to_start (with_start w.shared a.device (dequeued start n)).starts m =
+      ap (λ (x : Outcome). times_listed x.shared m) outcome in
+      omega (
+        arith,
+        to_start_put w.shared.starts a.device start (dequeued start n) m there,
+        unlinked_times start.device_queue n m,
+      ))
+      (first_none _ _ (second_none _ _ run.obeys)) is
+      (next_turns set states w.shared a (Dequeue r) run r (Cancelling DeviceQueue) Own n refl refl
+      is (reads_ref w.shared (register a r) n reads))
+
+  -- an instruction that exchanges the cancel routine of a packet of the device queue
+  waits_by : (a : Activation) (i : Instr) (starts : List StartState) (n : ℕ) (p : Packet)
+      (armer : Option Armer) (full : Bool) → h.frame ≡ Routine a → Runs set states w.shared a i
+      → Executing set a i → packet_of w.shared n ≡ Some p
+      → h.outcome ≡ waited_to w.shared a starts n p armer full
+      → Waits set w.shared a i starts n armer full → Claimed set states to
+  waits_by a i starts n p armer full frame run at there outcome
+      (arms_waiting r m start reads is armed) =
+      waits_claims set states w past good stands c t h leaves kept a frame r n p start run reads is
+      (and_both (has_cancel set a.driver DeviceQueue) start.busy armed).1 there
+      (ap (λ (x : Outcome). x.frames) outcome) (ap (λ (x : Outcome). x.shared) outcome)
+  waits_by a i starts n p armer full frame run at there outcome (disarms_next m start is first) =
+      let both : (has_cancel set a.driver DeviceQueue ≡ true)
+      × (head_of start.device_queue ≡ Some n) =
+      first_both (has_cancel set a.driver DeviceQueue) (head_of start.device_queue) n first in
+      let word : (armer : Armer) × (p.armer ≡ Some armer) × (armer.device ≡ a.device)
+      × (armer.queue ≡ DeviceQueue) =
+      next_word set states w past good stands agree owned c t h a frame run both.0 n start p is
+      both.1 there in
+      let none : (g : Kind → Bool) → NeedsGuard set a.driver g DeviceQueue
+      → ((k : Kind) → is_waiting k ≡ false → g k ≡ false) → (m : ℕ)
+      → names_on states g a.device m w.threads ≡ 0 =
+      none_waits set states w past good stands agree owned c t h a frame run both.0 in
+      starts_claims set states w past good stands c t h leaves kept a frame n p start run is both.1
+      there word.0 word.1 (word.2, word.3)
+      (none (is_armed DeviceQueue) (armed_needs set a.driver DeviceQueue) no_armed n)
+      (none (is_taken DeviceQueue) (taken_needs set a.driver DeviceQueue) no_taken n)
+      (ap (λ (x : Outcome). x.frames) outcome) (ap (λ (x : Outcome). x.shared) outcome)
 
   -- IoCancelIrp
   never_finds : (p : Packet) (armer : Armer) → p.armer ≡ Some armer → WordLeads set p
@@ -351,8 +479,21 @@ module _ (set : Set) (states : States) (w : World) (past : List Entry) (good : I
       frees_by a i lock o frame outcome (runs set states w.shared a i top at) frees refl refl refl
       refl
   shape_claims under f o frame outcome top holding quiet
+      (works_on_queues a i b queues starts actions full at (starts_gone n start there first gone)) =
+      let low : n < w.shared.issued =
+      head_low w.shared.issued start
+      (start_issued set w.shared a.device start there top.fits.starts)
+      start.device_queue n
+      (start_issued set w.shared a.device start there top.fits.starts).device_queue
+      (first_both (has_cancel set a.driver DeviceQueue) (head_of start.device_queue) n first).1 in
+      absurd (topped_faults past n (gone_topped w.shared past n holding.tells low gone) quiet)
+  shape_claims under f o frame outcome top holding quiet
       (works_on_queues a i b queues starts actions full at queued) =
-      queues_by a i frame (runs set states w.shared a i top at) outcome queued
+      queues_by a i frame (runs set states w.shared a i top at) outcome holding queued refl
+  shape_claims under f o frame outcome top holding quiet
+      (works_on_waiting a i starts n p armer full at there waits) =
+      waits_by a i starts n p armer full frame (runs set states w.shared a i top at) at there
+      outcome waits
   shape_claims under f o frame outcome top holding quiet (tops_out n p there none last) =
       quiet_by (Walk n) o frame outcome
       (tops_quiet states w.shared set w past n p o refl kept holding there refl refl)

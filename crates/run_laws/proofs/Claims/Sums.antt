@@ -1,7 +1,7 @@
 -- Claims to packets that may be cancelled. A register of kind Armed or Taken is no right: the
 -- packet's cancel word has it, or the cancel routine that IoCancelIrp called. Counted over all
 -- frames, for a queue of a device and a packet.
-use Rattle.std.specs.Prelude.{ℕ, ◌≡◌, ◌≤◌, ◌+◌, ◌&&◌, Bool, true, false, List, Option, None, Some, is_some, nat_eq, if◌then◌else◌, slice_get, ⊤, option_map}
+use Rattle.std.specs.Prelude.{ℕ, ◌≡◌, ◌≤◌, ◌+◌, ◌&&◌, Bool, true, false, List, Option, None, Some, nat_eq, if◌then◌else◌, slice_get, ⊤, option_map}
 use Rattle.model.specs.declared.abs.Kind.{Kind}
 use Rattle.model.specs.declared.abs.Kind.TheVariants.{Taken}
 use Rattle.model.specs.declared.set.QueueName.{QueueName}
@@ -14,7 +14,7 @@ use Rattle.model.specs.declared.world.Thread.{Thread}
 use Rattle.model.specs.Effect.{routine_of_device}
 use Rattle.model.specs.Kinds.{is_armed, is_cancelling, is_listed, is_name}
 use Rattle.model.specs.Run.{frames_on}
-use Rattle.model.specs.Set.{Set, cancel_routine_of, has_cancel}
+use Rattle.model.specs.Set.{Set, has_cancel}
 use Rattle.model.specs.World.{World, queue_of, Shared, start_of}
 use Rattle.run_laws.specs.Holder.{named_in, thread_sum, times_in, times_listed}
 use Rattle.run_laws.proofs.Lists.{Each}

@@ -1,13 +1,13 @@
 -- An exchange of a packet's cancel word keeps claims, and so does the release of a lock: the word
 -- has the right that a register of kind Listed had, and gives it back, or to the cancel routine.
-use Rattle.std.proofs.Common.{◌≡◌, ◌⊎◌, ℕ, ◌+◌, ◌≤◌, Bool, true, false, List, [], ◌∷◌, Option, None, Some, refl, ap, sym, ◌∙◌, subst, arith, inl, inr, eq-eqb, eqb-true, slice_get, option_map, sub-le}
+use Rattle.std.proofs.Common.{◌≡◌, ◌⊎◌, ℕ, ◌+◌, ◌≤◌, Bool, true, false, List, [], ◌∷◌, Option, None, Some, refl, ap, sym, ◌∙◌, subst, arith, inl, inr, eq-eqb, eqb-true, slice_get, option_map}
 use Rattle.std.specs.Prelude.{is_some, nat_eq, slice_set, if◌then◌else◌, ◌&&◌}
 use Rattle.std.proofs.lemmas.Bool.{cases_Bool}
 use Rattle.std.proofs.lemmas.Bool.Decides.{eqb_tells}
 use Rattle.model.specs.declared.abs.Kind.{Kind}
 use Rattle.model.specs.declared.abs.Kind.TheVariants.{Blank as BlankKind, Own, Listed, Armed, Taken}
 use Rattle.model.specs.declared.instr.Instr.{Instr}
-use Rattle.model.specs.declared.instr.Instr.TheVariants.{Arm, Disarm, Release, ReleaseCancel}
+use Rattle.model.specs.declared.instr.Instr.TheVariants.{Arm, Disarm}
 use Rattle.model.specs.declared.set.Guard.{Guard}
 use Rattle.model.specs.declared.set.QueueName.TheVariants.{Declared, DeviceQueue}
 use Rattle.model.specs.declared.world.Activation.{Activation}
@@ -66,7 +66,7 @@ disarmed_kind (Armed q) h = (q, inl refl)
 disarmed_kind (Taken q) h = (q, inr refl)
 disarmed_kind _ h = cc
 
-no_armer : (o : Option Armer) → (if is_some o then 1 else 0) ≤ 0 → o ≡ None
+pub no_armer : (o : Option Armer) → (if is_some o then 1 else 0) ≤ 0 → o ≡ None
 no_armer None h = refl
 no_armer (Some armer) h = absurd (omega arith)
 
@@ -78,7 +78,7 @@ names_both _ _ h = absurd (omega arith)
 abbrev pub IsFor : Armer → ℕ → QueueName → Type 0
 IsFor armer d q = (armer.device ≡ d) × (armer.queue ≡ q)
 
-word_is_for : (armer : Armer) (d : ℕ) (q : QueueName) → 1 ≤ word_for (Some armer) d q → IsFor armer d q
+pub word_is_for : (armer : Armer) (d : ℕ) (q : QueueName) → 1 ≤ word_for (Some armer) d q → IsFor armer d q
 word_is_for armer d q h =
     let both : (nat_eq armer.device d ≡ true) × (is_name armer.queue q ≡ true) =
     names_both (nat_eq armer.device d) (is_name armer.queue q) h in

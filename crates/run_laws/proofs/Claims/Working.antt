@@ -7,7 +7,6 @@ use Rattle.std.proofs.lemmas.Bool.Decides.{eqb_tells}
 use Rattle.model.specs.declared.set.QueueName.{QueueName}
 use Rattle.model.specs.declared.abs.Kind.{Kind}
 use Rattle.model.specs.declared.abs.Kind.TheVariants.{Listed, Taken, Cancelling}
-use Rattle.model.specs.declared.set.QueueName.TheVariants.{Declared}
 use Rattle.model.specs.declared.world.Activation.{Activation}
 use Rattle.model.specs.declared.world.Frame.{Frame}
 use Rattle.model.specs.declared.world.Frame.TheVariants.{Routine}
@@ -16,7 +15,7 @@ use Rattle.model.specs.declared.world.Value.TheVariants.{Ref}
 use Rattle.model.specs.Effect.{routine_of_device}
 use Rattle.model.specs.Kinds.{is_armed, is_cancelling, is_name}
 use Rattle.model.specs.LocalRule.{unlink_kind}
-use Rattle.model.specs.Set.{Set, cancel_routine_of, cancel_routine_named}
+use Rattle.model.specs.Set.{Set, cancel_routine_named}
 use Rattle.model.specs.World.{World}
 use Rattle.run_laws.specs.Holder.{named_as, named_in}
 use Rattle.run_laws.proofs.Claims.Held.{thread_most}

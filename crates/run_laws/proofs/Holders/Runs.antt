@@ -50,6 +50,7 @@ use Rattle.run_laws.proofs.Steps.Below.{cancel_takes, stood}
 use Rattle.run_laws.proofs.Steps.Comes.{stops_walk, Comes, errs, cancels}
 use Rattle.run_laws.proofs.Steps.Faults.{is_completion, is_touch, fault_among, quiet_among}
 use Rattle.run_laws.proofs.Tokens.Sums.{OneTokenEach, token_slot}
+use Rattle.run_laws.proofs.Holders.Waits.{NextArmed}
 
 -- a frame that is told a status has the same rights, and is the I/O manager's where it was
 module _ (set : Set) (states : States) (issued n : ℕ) where
@@ -280,10 +281,11 @@ module _ (set : Set) (states : States) (w : World) (past : List Entry) (good : I
 
   held_happens : OneTokenEach states w → (actor : Actor) (c : Change)
       → ((h : StepsFrame set w actor.thread) → IsLent set states (top_of h.below) h.frame)
+      → ((h : StepsFrame set w actor.thread) → NextArmed set w.shared h.frame)
       → Happens set w actor.thread c
       → first_fault past actor c.actions ≡ None → Held set states c.world
-  held_happens tokens actor c lent (nothing reply right) quiet = kept
-  held_happens tokens actor c lent (steps h) quiet =
+  held_happens tokens actor c lent next (nothing reply right) quiet = kept
+  held_happens tokens actor c lent next (steps h) quiet =
       let o : Outcome = h.outcome in
       let t : ℕ = actor.thread in
       let on : OnTop set states w.shared h.frame = on_top set states w past good stands t h in
@@ -293,7 +295,7 @@ module _ (set : Set) (states : States) (w : World) (past : List Entry) (good : I
       let step : HoldStep set states w.shared (top_of h.below) h.frame o =
       hold set states w.shared past actor (top_of h.below) h.frame o on
       (top_holding set states w past stands kept t h) (frees_slot set states w tokens t h) (lent h)
-      h.comes
+      (next h) h.comes
       (quiet_among is_touch past actor o.actions quiet) in
       let after : Thread = with_stack h.thread (standing set h.below o) in
       record {
@@ -310,7 +312,7 @@ module _ (set : Set) (states : States) (w : World) (past : List Entry) (good : I
               walks_after set states w.shared t h.below h.frame o on h.comes step n,
             );
       }
-  held_happens tokens actor c lent (issues h) quiet =
+  held_happens tokens actor c lent next (issues h) quiet =
       let m : ℕ = w.shared.issued in
       let a : Activation = serves_request set h.d h.device h.major m in
       let p : Packet = new_packet m h.d h.major h.argument h.device.stack in
@@ -327,7 +329,7 @@ module _ (set : Set) (states : States) (w : World) (past : List Entry) (good : I
       new_waits w.shared p stands.tells.rises refl refl set c.world.shared refl refl refl refl n in
       omega arith)
       (λ n. new_held w.shared p stands.tells.rises refl refl n)
-  held_happens tokens actor c lent (begins h) quiet =
+  held_happens tokens actor c lent next (begins h) quiet =
       let a : Activation = dpc_activation set h.d h.routine in
       begun_held actor.thread c.world.shared h.thread (rooted h.thread DispatchLevel a) (Routine a)
       h.found h.idle refl (λ n. refl)
@@ -337,7 +339,7 @@ module _ (set : Set) (states : States) (w : World) (past : List Entry) (good : I
         dpc_rights set states w.shared.issued a n (begins_dpc set states good w.shared.issued h.d h.routine h.there),
       ))
       (λ n. refl)
-  held_happens tokens actor c lent (begins_startio h) quiet =
+  held_happens tokens actor c lent next (begins_startio h) quiet =
       let a : Activation = startio_activation set h.d h.routine h.n in
       let start : StartState = without_first_to_start h.start in
       begun_held actor.thread c.world.shared h.thread (rooted h.thread DispatchLevel a) (Routine a)
@@ -351,16 +353,18 @@ module _ (set : Set) (states : States) (w : World) (past : List Entry) (good : I
       ))
       (λ n. refl)
   -- IoCancelIrp begins: its frame has no packet
-  held_happens tokens actor c lent (begins_cancel h) quiet =
+  held_happens tokens actor c lent next (begins_cancel h) quiet =
       begun_held actor.thread w.shared h.thread (cancelling h.thread h.level h.n)
       (CancelFrame (record { packet = h.n; next = AcquireStep })) h.found h.idle refl (λ n. refl)
       (λ n. omega arith) (λ n. refl)
 
   pub held_kept : OneTokenEach states w → (actor : Actor) (c : Change)
       → ((h : StepsFrame set w actor.thread) → IsLent set states (top_of h.below) h.frame)
+      → ((h : StepsFrame set w actor.thread) → NextArmed set w.shared h.frame)
       → GoesOnBy set w past actor c
       → Held set states c.world
-  held_kept tokens actor c lent on = held_happens tokens actor c lent on.happens on.quiet
+  held_kept tokens actor c lent next on =
+      held_happens tokens actor c lent next on.happens on.quiet
 
   pub completion_faults_none : (actor : Actor) (c : Change)
       → Happens set w actor.thread c → fault_among is_completion past actor c.actions ≡ None

@@ -7,7 +7,7 @@ use Rattle.model.specs.Queues.{StartState, head_of, idle, inserted, next_of, nex
 use Rattle.model.specs.World.{Shared, start_of, with_start}
 use Rattle.run_laws.specs.Holder.{times_at, times_in, times_in_slot, times_started, waits_cancelable}
 use Rattle.run_laws.proofs.Holders.Queued.{times_pushed}
-use Rattle.run_laws.proofs.Lists.{set_other, set_same, sum_le, sum_put}
+use Rattle.run_laws.proofs.Lists.{set_other, set_same}
 use Rattle.model.specs.Set.{Set, has_cancel}
 use Rattle.model.specs.declared.set.QueueName.TheVariants.{DeviceQueue}
 

@@ -240,10 +240,12 @@ module _ (set : Set) (states : States) (s : Shared) (past : List Entry) (actor :
         (armer : Option Armer) (full : Bool) → packet_of s n ≡ Some p
         → Waits set s a i starts n armer full → Executing set a i → NextArmed set s (Routine a)
         → is_some armer ≡ false → is_some p.armer ≡ true
-    held_word a i starts n p armer full there (arms_waiting r m start reads is armed) at next free =
+    held_word a i starts n p armer full there (arms_waiting r m start reads is armed) at ready free =
         cc
-    held_word a i starts n p armer full there (disarms_next m start is first) at next free =
-        ap is_some (next n start p at is first there).1.0
+    held_word a i starts n p armer full there (disarms_next m start is first) at ready free =
+        let word : (armer : Armer) × (p.armer ≡ Some armer) × (armer.device ≡ a.device)
+        × (armer.queue ≡ DeviceQueue) = ready n start p at is first there in
+        ap is_some word.1
 
     -- it waits in a device queue with its cancel word, or is started from there without one
     waiting_hold : (a : Activation) (i : Instr) (starts : List StartState) (n : ℕ) (p : Packet)
@@ -251,7 +253,7 @@ module _ (set : Set) (states : States) (s : Shared) (past : List Entry) (actor :
         → Holding set states s past (Routine a) → packet_of s n ≡ Some p
         → Waits set s a i starts n armer full → Executing set a i → NextArmed set s (Routine a)
         → HoldStep set states s under (Routine a) (waited_to s a starts n p armer full)
-    waiting_hold a i starts n p armer full h holding there waits at_next next =
+    waiting_hold a i starts n p armer full h holding there waits at_next ready =
         let at : find s.packets n ≡ Some p = found s n (Some p) there in
         let its : p.number ≡ n = numbered s n p there in
         let q : Packet = with_armer p armer in
@@ -261,7 +263,7 @@ module _ (set : Set) (states : States) (s : Shared) (past : List Entry) (actor :
               ≡ unheld (find s.packets m) = unheld_set s n p at q its refl m in
               omega (
                 arith,
-                waited_rights set states s a i h waits p (λ r own reads. right_unarmed set states s past a holding h.stays.kinds r n own reads p there) (λ free. held_word a i starts n p armer full there waits at_next next free) (λ k. times_named (packet_of (with_packet s n q) k)) (λ k was now. omega (arith, waits_won s n p at q its set was now k)) (λ k was now. omega (arith, waits_lost s n p at q its set was now k)) m,
+                waited_rights set states s a i h waits p (λ r own reads. right_unarmed set states s past a holding h.stays.kinds r n own reads p there) (λ free. held_word a i starts n p armer full there waits at_next ready free) (λ k. times_named (packet_of (with_packet s n q) k)) (λ k was now. omega (arith, waits_won s n p at q its set was now k)) (λ k was now. omega (arith, waits_lost s n p at q its set was now k)) m,
               );
           walks = λ stays m.
               let packets : held (find (with_packet s n q).packets m) ≡ held (find s.packets m) =
@@ -478,22 +480,22 @@ module _ (set : Set) (states : States) (s : Shared) (past : List Entry) (actor :
       → NextArmed set s f
       → Comes set s actor.thread under f o → fault_among is_touch past actor o.actions ≡ None
       → HoldStep set states s under f o
-  hold under f o top holding slot lent next (errs a lacks) quiet =
+  hold under f o top holding slot lent ready (errs a lacks) quiet =
       kept under a a o (λ n. refl) refl refl (λ n. refl) (λ n. refl) (λ n. refl)
-  hold under f o top holding slot lent next (awaits_lock a i lock owner at takes owned other) quiet =
+  hold under f o top holding slot lent ready (awaits_lock a i lock owner at takes owned other) quiet =
       kept under a a o (λ n. refl) refl refl (λ n. refl) (λ n. refl) (λ n. refl)
-  hold under f o top holding slot lent next (computes a i b jumped cells at is goes long) quiet =
+  hold under f o top holding slot lent ready (computes a i b jumped cells at is goes long) quiet =
       kept under a b o (λ n. refl) refl (lent_same set a b (goes_same a i b jumped goes))
       (goes_rights set states s a i (runs set states s a i top at) b jumped (rw is refl) goes)
       (λ n. refl) (λ n. refl)
-  hold under f o top holding slot lent next (opens_loop a turns at room) quiet =
+  hold under f o top holding slot lent ready (opens_loop a turns at room) quiet =
       kept under a (next (with_loops a
       (a.loops.items ++ record { start = a.position + 1; turns = turns } ∷ []))) o (λ n. refl) refl
       refl
       (still_rights set states s a (Loop turns) (runs set states s a (Loop turns) top at) refl refl
       refl)
       (λ n. refl) (λ n. refl)
-  hold under f o top holding slot lent next (turns_loop a loop at there) quiet =
+  hold under f o top holding slot lent ready (turns_loop a loop at there) quiet =
       let ends : Moved set states s.issued a (turned a loop) (state_of states a) =
       moved_end set states s a (runs set states s a End top at) loop there in
       kept under a (turned a loop) o (λ n. refl) refl
@@ -502,45 +504,45 @@ module _ (set : Set) (states : States) (s : Shared) (past : List Entry) (actor :
       ∙ ap (λ (values : List Value). rights (state_of states a).kinds values n)
       (turned_registers a loop))
       (λ n. refl) (λ n. refl)
-  hold under f o top holding slot lent next (pages a i b cell cells at is goes long) quiet =
+  hold under f o top holding slot lent ready (pages a i b cell cells at is goes long) quiet =
       kept under a b o (λ n. refl) refl (lent_same set a b (goes_same a i b false goes))
       (goes_rights set states s a i (runs set states s a i top at) b false (rw is refl) goes)
       (λ n. refl) (λ n. refl)
-  hold under f o top holding slot lent next (touches_gone a i r n at is on operand reads gone) quiet =
+  hold under f o top holding slot lent ready (touches_gone a i r n at is on operand reads gone) quiet =
       absurd (topped_faults past n
       (gone_topped s past n holding.tells (named s (register a r) n reads) gone) quiet)
-  hold under f o top holding slot lent next
+  hold under f o top holding slot lent ready
       (looks_at a i b jumped r n p at is goes operand reads there jumps) quiet =
       kept under a b o (λ n. refl) refl (lent_same set a b (goes_same a i b jumped goes))
       (goes_rights set states s a i (runs set states s a i top at) b jumped (rw is refl) goes)
       (λ m. refl) (λ m. refl)
-  hold under f o top holding slot lent next (writes_info a q r n p info at reads there number) quiet =
+  hold under f o top holding slot lent ready (writes_info a q r n p info at reads there number) quiet =
       works_on under a (next a) n p (with_info p info) o there refl refl refl refl refl refl
       (still_rights set states s a (Put q r) (runs set states s a (Put q r) top at) refl refl refl)
-  hold under f o top holding slot lent next (marks_packet a r n p at reads there) quiet =
+  hold under f o top holding slot lent ready (marks_packet a r n p at reads there) quiet =
       let h : Runs set states s a (Mark r) = runs set states s a (Mark r) top at in
       works_on under a (next a) n p (mark_current p) o there refl refl refl refl refl refl
       (λ m. next_state_rights set states s a (Mark r) h refl m
       ∙ mark_rights s.issued (state_of states a) a.registers r (kind_of (state_of states a) r) m
       h.stays.kinds refl)
-  hold under f o top holding slot lent next
+  hold under f o top holding slot lent ready
       (exchanges a i b jumped r n p armer at is goes operand reads there how) quiet =
       exchanges_hold under a i b jumped r n p armer o (runs set states s a i top at) holding goes
       operand
       reads there how refl refl
-  hold under f o top holding slot lent next (takes_lock a i lock at takes free) quiet =
+  hold under f o top holding slot lent ready (takes_lock a i lock at takes free) quiet =
       kept under a (next a) o (λ n. refl) refl refl
       (lock_rights set states s a i (runs set states s a i top at) (taken_word a i lock takes))
       (λ n. refl) (λ n. refl)
-  hold under f o top holding slot lent next (retakes_lock a i lock at takes its) quiet =
+  hold under f o top holding slot lent ready (retakes_lock a i lock at takes its) quiet =
       kept under a (next a) o (λ n. refl) refl refl
       (lock_rights set states s a i (runs set states s a i top at) (taken_word a i lock takes))
       (λ n. refl) (λ n. refl)
-  hold under f o top holding slot lent next (frees_lock a i lock owner at frees there) quiet =
+  hold under f o top holding slot lent ready (frees_lock a i lock owner at frees there) quiet =
       kept under a (next a) o (λ n. refl) refl refl
       (lock_rights set states s a i (runs set states s a i top at) (freed_word a i lock frees))
       (λ n. refl) (λ n. refl)
-  hold under f o top holding slot lent next
+  hold under f o top holding slot lent ready
       (works_on_queues a i b queues starts actions full at (starts_gone n start there first gone))
       quiet =
       let low : n < s.issued =
@@ -549,50 +551,50 @@ module _ (set : Set) (states : States) (s : Shared) (past : List Entry) (actor :
       (start_issued set s a.device start there top.fits.starts).device_queue
       (first_both (has_cancel set a.driver DeviceQueue) (head_of start.device_queue) n first).1 in
       absurd (topped_faults past n (gone_topped s past n holding.tells low gone) quiet)
-  hold under f o top holding slot lent next
+  hold under f o top holding slot lent ready
       (works_on_queues a i b queues starts actions full at queued) quiet =
       queues_hold under a i b queues starts actions full (runs set states s a i top at) slot
       (λ r n own reads gone. right_lives set states s past a holding
       (runs set states s a i top at).stays.kinds r n own reads gone) queued refl
-  hold under f o top holding slot lent next
+  hold under f o top holding slot lent ready
       (works_on_waiting a i starts n p armer full at there waits) quiet =
       waiting_hold under a i starts n p armer full (runs set states s a i top at) holding there waits
-      at next
-  hold under f o top holding slot lent next (completes_packet a r status n p at reads there) quiet =
+      at ready
+  hold under f o top holding slot lent ready (completes_packet a r status n p at reads there) quiet =
       completes under a r status n p o (runs set states s a (Complete r status) top at) holding
       reads
       there refl refl
-  hold under f o top holding slot lent next (completes_gone a r status n at reads gone) quiet =
+  hold under f o top holding slot lent ready (completes_gone a r status n at reads gone) quiet =
       let h : Runs set states s a (Complete r status) = runs set states s a (Complete r status) top
       at in
       absurd (right_lives set states s past a holding h.stays.kinds r n
       (completes_one (state_of states a) (sort_of set a.driver a.routine) set a.driver r status
       h.obeys).right reads gone)
-  hold under f o top holding slot lent next (passes_down a r n p lower at reads there below) quiet =
+  hold under f o top holding slot lent ready (passes_down a r n p lower at reads there below) quiet =
       sends under a (Pass r) (runs set states s a (Pass r) top at) r lower n p (shared_with p lower)
       o
       refl refl refl
       reads there below refl refl refl refl refl
-  hold under f o top holding slot lent next (calls_down a r g n p lower at reads there below) quiet =
+  hold under f o top holding slot lent ready (calls_down a r g n p lower at reads there below) quiet =
       sends under a (Call r g) (runs set states s a (Call r g) top at) r lower n p
       (sent_down p lower (set_by a g)) o
       refl refl refl reads there below refl refl refl refl refl
-  hold under f o top holding slot lent next (returns_status a form status at is told) quiet =
+  hold under f o top holding slot lent ready (returns_status a form status at is told) quiet =
       returns under a form o (ap is_hold is) (runs set states s a (Ret form) top at) refl refl
-  hold under f o top holding slot lent next (lets_go a at is walk) quiet =
+  hold under f o top holding slot lent ready (lets_go a at is walk) quiet =
       returns under a Continue o (ap is_hold is) (runs set states s a (Ret Continue) top at) refl
       refl
-  hold under f o top holding slot lent next (lets_walk a n at is) quiet =
+  hold under f o top holding slot lent ready (lets_walk a n at is) quiet =
       returns under a Continue o (ap is_hold is) (runs set states s a (Ret Continue) top at) refl
       refl
-  hold under f o top holding slot lent next (resumes_walk a n p at is there) quiet =
+  hold under f o top holding slot lent ready (resumes_walk a n p at is there) quiet =
       let to : (k : ℕ) × (Some (Walk n) ≡ Some (Walk k))
       × ((r j : ℕ) → is_new (kind_of (state_of states a) r) ≡ true → register a r ≡ Ref j → j ≡ k) =
       lent is in
       let same : to.0 ≡ n = walk_same to.0 n to.1 in
       gives under a n p o holding (runs set states s a (Ret Continue) top at) is
       (λ r j new refers. to.2 r j new refers ∙ same) refl there refl refl
-  hold under f o top holding slot lent next (resumes_gone a n at is gone) quiet =
+  hold under f o top holding slot lent ready (resumes_gone a n at is gone) quiet =
       let to : (k : ℕ) × (Some (Walk n) ≡ Some (Walk k))
       × ((r j : ℕ) → is_new (kind_of (state_of states a) r) ≡ true → register a r ≡ Ref j → j ≡ k) =
       lent is in
@@ -602,18 +604,18 @@ module _ (set : Set) (states : States) (s : Shared) (past : List Entry) (actor :
       (λ r j new refers. to.2 r j new refers ∙ same) in
       let none : unheld (find s.packets n) ≡ 0 = ap unheld (found s n None gone) in
       absurd (omega arith)
-  hold under f o top holding slot lent next (resumes_none a at is walk) quiet =
+  hold under f o top holding slot lent ready (resumes_none a at is walk) quiet =
       let to : (k : ℕ) × (under ≡ Some (Walk k))
       × ((r j : ℕ) → is_new (kind_of (state_of states a) r) ≡ true → register a r ≡ Ref j → j ≡ k) =
       lent is in
       let no : true ≡ false = ap is_walk (sym to.1) ∙ walk in
       cc
-  hold under f o top holding slot lent next (stops_walk a n at is) quiet =
+  hold under f o top holding slot lent ready (stops_walk a n at is) quiet =
       let none : (m : ℕ) → frame_rights states (Routine a) m ≡ 0 =
       returned_rights under a Stop (stop_keeps (sort_of set a.driver a.routine))
       (runs set states s a (Ret Stop) top at) in
       record { rights = λ m. rw (none m) refl; walks = λ stays m. cc }
-  hold under f o top holding slot lent next (stops_none a at is walk) quiet =
+  hold under f o top holding slot lent ready (stops_none a at is walk) quiet =
       let h : Runs set states s a (Ret Stop) = runs set states s a (Ret Stop) top at in
       let to : (k : ℕ) × (under ≡ Some (Walk k))
       × ((r j : ℕ) → is_new (kind_of (state_of states a) r) ≡ true → register a r ≡ Ref j → j ≡ k) =
@@ -623,15 +625,15 @@ module _ (set : Set) (states : States) (s : Shared) (past : List Entry) (actor :
       h.obeys).of_form)) in
       let no : true ≡ false = ap is_walk (sym to.1) ∙ walk in
       cc
-  hold under f o top holding slot lent next (ends_cancel a at is) quiet =
+  hold under f o top holding slot lent ready (ends_cancel a at is) quiet =
       returns under a Void o (ap is_hold is) (runs set states s a (Ret Void) top at) refl refl
-  hold under f o top holding slot lent next (ends_startio a at is) quiet =
+  hold under f o top holding slot lent ready (ends_startio a at is) quiet =
       returns under a Void o (ap is_hold is) (runs set states s a (Ret Void) top at) refl refl
-  hold under f o top holding slot lent next (ends_dpc a at is) quiet =
+  hold under f o top holding slot lent ready (ends_dpc a at is) quiet =
       returns under a Void o (ap is_hold is) (runs set states s a (Ret Void) top at) refl refl
-  hold under f o top holding slot lent next (walks_gone n gone) quiet =
+  hold under f o top holding slot lent ready (walks_gone n gone) quiet =
       absurd (walk_lives set states s past n holding gone)
-  hold under f o top holding slot lent next (walks_to n p c there set_there free) quiet =
+  hold under f o top holding slot lent ready (walks_to n p c there set_there free) quiet =
       let b : Activation = completes_with set c n in
       let begins : Begins set states s.issued b Propagate n =
       begins_back set states s top.good top.fits n p c top.stands there set_there free in
@@ -640,20 +642,20 @@ module _ (set : Set) (states : States) (s : Shared) (past : List Entry) (actor :
       (ap is_hold begins.of_sort)
       (λ m. omega (arith, begun_rights set states s.issued b Propagate n m begins))
       (λ m. refl)
-  hold under f o top holding slot lent next (lends_to n p c there set_there its) quiet =
+  hold under f o top holding slot lent ready (lends_to n p c there set_there its) quiet =
       lends under n p (record (moved_up (left_location p)) { completing = false })
       (completes_with set c n) o holding there refl refl refl
       (begins_lent set states s top.good top.fits n p c top.stands there set_there its) refl refl
-  hold under f o top holding slot lent next (cancels n step o_after moves) quiet =
+  hold under f o top holding slot lent ready (cancels n step o_after moves) quiet =
       cancels_hold under n step o_after top.good top.fits top.stands moves
-  hold under f o top holding slot lent next (walks_up n p there without deep unmarked) quiet =
+  hold under f o top holding slot lent ready (walks_up n p there without deep unmarked) quiet =
       goes_up under n p (moved_up (left_location p)) [] o there refl refl refl refl refl refl
       (λ m. refl) (λ m. refl)
-  hold under f o top holding slot lent next (carries_up n p there without deep marked) quiet =
+  hold under f o top holding slot lent ready (carries_up n p there without deep marked) quiet =
       goes_up under n p (mark_current (moved_up (left_location p))) [] o there refl refl refl refl
       refl
       refl (λ m. refl) (λ m. refl)
-  hold under f o top holding slot lent next (tops_out n p there without first) quiet =
+  hold under f o top holding slot lent ready (tops_out n p there without first) quiet =
       let at : find s.packets n ≡ Some p = found s n (Some p) there in
       let done : p.completing ≡ true = walk_taken set states s past n holding p there in
       let free : is_some p.armer ≡ false = walk_unarmed set states s past n holding p there in

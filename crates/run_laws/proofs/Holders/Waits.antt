@@ -1,10 +1,10 @@
 -- What the instructions about queues do to the rights of a routine's frame: a packet goes from a
 -- register to a list or to the current slot, or from one of these to a register.
-use Rattle.std.proofs.Common.{◌≡◌, ℕ, ◌+◌, ◌<◌, List, ◌∷◌, length, Option, None, Some, Bool, true, false, refl, ap, ◌∙◌, arith, eqb-true, slice_get, subst, sym, inl, inr, find, is_some}
+use Rattle.std.proofs.Common.{◌≡◌, ℕ, ◌+◌, ◌<◌, List, ◌∷◌, length, Option, None, Some, Bool, true, false, refl, ap, ◌∙◌, arith, slice_get, subst, sym, inl, inr, is_some}
 use Rattle.std.specs.Prelude.{⊤, nat_eq, slice_set, if◌then◌else◌, ◌||◌, ◌&&◌}
 use Rattle.model.specs.declared.abs.Abs.{Abs}
 use Rattle.model.specs.declared.abs.Kind.{Kind}
-use Rattle.model.specs.declared.abs.Kind.TheVariants.{Blank as BlankKind, Own, Listed, Taken, Cancelling, Armed}
+use Rattle.model.specs.declared.abs.Kind.TheVariants.{Blank as BlankKind, Own, Listed, Taken, Cancelling}
 use Rattle.model.specs.declared.abs.Rule.{Rule}
 use Rattle.model.specs.declared.abs.Rule.TheVariants.{Dropped, Token, CancelState}
 use Rattle.model.specs.declared.instr.Instr.{Instr}
@@ -438,7 +438,7 @@ queued_rights set states s a i h frees live (starts_packet r m start reads there
         times_given set a.device a.driver start m n (served_waits set states s a i h) may,
       )
       | inr gone ↦ absurd (live r m (gives_right (kind_of (state_of states a) r) _ h.obeys) reads
-      gone)
+          gone)
     ]
 queued_rights set states s a i h frees live (takes_out r label m start there slot) stays n =
     let won : frame_rights states (Routine (next (with_register a r (Ref m)))) n

@@ -8,7 +8,6 @@ use Rattle.run_laws.proofs.Claims.Held.{holder_lives}
 use Rattle.run_laws.proofs.Live.Steps.{ClaimsLive, EntriesLive}
 use Rattle.std.proofs.Common.{◌≡◌, ℕ, ◌+◌, ◌≤◌, Bool, true, false, List, Some, refl, ap, arith, Option, is_some, None}
 use Rattle.std.specs.Prelude.{length, slice_get}
-use Rattle.std.proofs.lemmas.Bool.{eq-eqb}
 use Rattle.model.specs.declared.abs.Kind.{Kind}
 use Rattle.model.specs.declared.abs.Kind.TheVariants.{Armed, Taken}
 use Rattle.model.specs.declared.set.QueueName.TheVariants.{Declared}
@@ -20,7 +19,7 @@ use Rattle.model.specs.LocalRule.{kind_of}
 use Rattle.model.specs.Run.{frames_on}
 use Rattle.model.specs.Set.{Set}
 use Rattle.model.specs.Trace.{Entry}
-use Rattle.model.specs.World.{World, register, queue_of}
+use Rattle.model.specs.World.{World, register}
 use Rattle.run_laws.specs.Holder.{times_in}
 use Rattle.run_laws.proofs.Claims.Sums.{Claimed, is_taken, names_on, word_at, is_cancelable, times_of}
 use Rattle.run_laws.proofs.Holders.Sums.{Held, unheld}

@@ -30,7 +30,7 @@ use Rattle.model.specs.Kinds.{is_packet, is_right, is_view, is_new, is_exchanged
 use Rattle.model.specs.Paths.{Arrives}
 use Rattle.model.specs.Set.{flow_of, Set, lower_of, member, routine_of, sort_of}
 use Rattle.model.specs.Trace.{Entry, Actor}
-use Rattle.model.specs.World.{Shared, asked_of, current_location, next, packet_of, packet_in, register, queue_of, entered}
+use Rattle.model.specs.World.{Shared, asked_of, current_location, next, packet_of, packet_in, register, entered}
 use Rattle.run_laws.proofs.Holders.Counts.{Holding, right_lives, walk_lives}
 use Rattle.run_laws.proofs.Live.Sees.{view_refers, Views, RefersTo, Seen, AllSeen, IsDeferred, News, propagate_sees, hold_sees, lent_refers, deferred_sort}
 use Rattle.run_laws.proofs.States.NoViews.{deferred_no_view, handed_views, HasNoView, no_view_at, dispatch_no_view, handed_news, hold_no_view}

@@ -355,8 +355,8 @@ module _ (set : Set) (states : States) (s : Shared) (past : List Entry) (actor :
       turns_as i r BlankKind (at_label a label) true at (jumping label labelled) refl kinds duty
       (λ x. tt)
 
-  next_as : Executing set a Next → GoesOnAs states a (next a)
-  next_as at =
+  started_as : Executing set a Next → GoesOnAs states a (next a)
+  started_as at =
       let run : Runs set states s a Next = h.routine.runs Next at in
       let on : state_of states (next a) ≡ handed set a.driver now Next =
       arrives_next set states s a Next run refl in
@@ -374,7 +374,7 @@ module _ (set : Set) (states : States) (s : Shared) (past : List Entry) (actor :
       → GoesOnAs states a (next a)
   waits_as i at (arms_waiting r n start reads there armed) =
       next_turns (Start r) r BlankKind at refl refl refl refl (λ x. tt)
-  waits_as i at (disarms_next n start there first) = next_as at
+  waits_as i at (disarms_next n start there first) = started_as at
 
   queued_as : (i : Instr) (b : Activation) (queues : List (List (List ℕ)))
       (lists : List StartState) (actions : List Action) (full : Bool) → Executing set a i
@@ -397,8 +397,8 @@ module _ (set : Set) (states : States) (s : Shared) (past : List Entry) (actor :
       takes_nothing (Take r label) r label at refl refl refl
   queued_as i b queues lists actions full at (puts_in r n start reads there) =
       next_turns (Begin r) r BlankKind at refl refl refl refl (λ x. tt)
-  queued_as i b queues lists actions full at (starts_next start there none) = next_as at
-  queued_as i b queues lists actions full at (starts_gone n start there first gone) = next_as at
+  queued_as i b queues lists actions full at (starts_next start there none) = started_as at
+  queued_as i b queues lists actions full at (starts_gone n start there first gone) = started_as at
   queued_as i b queues lists actions full at (dequeues_packet r n start reads there) =
       next_turns (Dequeue r) r Own at refl refl refl refl (λ x. tt)
 

@@ -27,7 +27,7 @@ use Rattle.run_laws.proofs.Room.Calls.{LeavesRoom, asked_room, call_room, lower_
 use Rattle.run_laws.proofs.Room.Changes.{AllKeep, AllWays, all_keep, changed, keeps_set, ways_kept, words_set}
 use Rattle.run_laws.proofs.Room.Frames.{GainsPlace, goes_room, next_room, no_gain, room_on, room_same}
 use Rattle.run_laws.proofs.Room.Locations.{marked_here}
-use Rattle.run_laws.proofs.Room.Registers.{gained_operand, is_owned, keeps_brings, mark_gains, nothing_gained, touching_brings}
+use Rattle.run_laws.proofs.Room.Registers.{gained_operand, is_owned, keeps_brings, mark_gains, nothing_gained, touching_brings, claims_right, claims_owned}
 use Rattle.run_laws.proofs.Room.Sizes.{stack_at}
 use Rattle.run_laws.proofs.Room.Waiting.{FrameRoom, HasRoom, Place, RoomAt, SameWaiting, WaitingRoom, own_place, place_kept, queued_room, room_kept, waiting_kept, waiting_queued}
 use Rattle.run_laws.proofs.Room.Ways.{Stays, stays_marked, stays_same, stays_shared}
@@ -42,6 +42,13 @@ use Rattle.run_laws.proofs.Steps.Comes.{Comes, Exchanged, Executing, Reads, arms
 use Rattle.run_laws.proofs.Steps.Locking.{LockWord, freed_word, taken_word}
 use Rattle.run_laws.proofs.Steps.Onward.{turned_device, turned_registers}
 use Rattle.run_laws.proofs.Steps.Words.{is_giving, packet_operand, work_of, is_touching, goes_next}
+use Rattle.run_laws.proofs.Holders.Waits.{NextArmed}
+use Rattle.run_laws.proofs.Room.Waiting.{waits_claims, waiting_waits, RoomFor, MarkedIn}
+use Rattle.run_laws.proofs.Steps.Comes.{Waits, arms_waiting, disarms_next, works_on_waiting, waited_to}
+use Rattle.model.specs.Effect.{armer_waiting}
+use Rattle.model.specs.declared.set.QueueName.TheVariants.{DeviceQueue}
+use Rattle.model.specs.Queues.{StartState}
+use Rattle.run_laws.proofs.States.Obeyed.{inserts_right}
 
 -- a cancel word that a routine finds set while it has a packet that may be cancelled names its
 -- device
@@ -141,7 +148,7 @@ module _ (set : Set) (states : States) (s : Shared) where
     module _ (a : Activation) (h : OnTop set states s (Routine a))
         (holding : Holding set states s past (Routine a)) (room : FrameRoom set states s a)
         (waiting : WaitingRoom set s) (ways : AllWays set s)
-        (names : NamesDevice states s (Routine a)) where
+        (names : NamesDevice states s (Routine a)) (armed : NextArmed set s (Routine a)) where
       abbrev Leaves : Outcome → Type 0
       Leaves o = LeavesRoom set states s (Routine a) o
 
@@ -204,18 +211,13 @@ module _ (set : Set) (states : States) (s : Shared) where
           (λ on. no_gain set states after a i (nothing_gained i quiet))
 
       -- a packet whose cancel word is set may be cancelled by a routine of its device
-      arm_words : (r q n : ℕ) (p : Packet) → Runs set states s a (Arm r q) → Reads s a r n
-          → packet_of s n ≡ Some p
-          → WaitingRoom set (with_packet s n (with_armer p (Some (armer_of a q))))
-      arm_words r q n p run reads there =
-          let after : Packet = with_armer p (Some (armer_of a q)) in
+      word_set : (n : ℕ) (p : Packet) (word : Armer) → packet_of s n ≡ Some p
+          → word.device ≡ a.device → Place set a.device p
+          → WaitingRoom set (with_packet s n (with_armer p (Some word)))
+      word_set n p word there its place =
+          let after : Packet = with_armer p (Some word) in
           let keeps : AllKeep s (with_packet s n after) =
           keeps_set s n p after there refl (stays_same p after refl refl) in
-          let place : Place set a.device p =
-          own_place set states s a room r n
-          (listed_owned (Declared q) (kind_of (state_of states a) r) (first_none _ _ run.obeys))
-          reads p
-          (found s n (Some p) there) in
           record {
             queues = λ d k m entries is plain some.
                 place_kept set s (with_packet s n after) d m (keeps m)
@@ -226,15 +228,78 @@ module _ (set : Set) (states : States) (s : Shared) where
             words = λ m x armer is named.
                 elim (changed s n p after there refl m x is) [
                   | inl g ↦
-                      let word : x.armer ≡ Some (armer_of a q) =
-                      ap (λ (y : Packet). y.armer) g.1 in
-                      let both : Some armer ≡ Some (armer_of a q) = sym named ∙ word in
-                      let one : armer ≡ armer_of a q = cc in
+                      let both : Some armer ≡ Some word =
+                      sym named ∙ ap (λ (y : Packet). y.armer) g.1 in
+                      let one : armer ≡ word = cc in
                       let device : armer.device ≡ a.device =
-                      ap (λ (y : Armer). y.device) one in
+                      ap (λ (y : Armer). y.device) one ∙ its in
                       rw (device, g.1) (record { room = place.room; marked = place.marked })
                   | inr g ↦ waiting.words m x armer g.1 named
                 ];
+          }
+
+      arm_words : (r q n : ℕ) (p : Packet) → Runs set states s a (Arm r q) → Reads s a r n
+          → packet_of s n ≡ Some p
+          → WaitingRoom set (with_packet s n (with_armer p (Some (armer_of a q))))
+      arm_words r q n p run reads there =
+          word_set n p (armer_of a q) there refl
+          (own_place set states s a room r n
+          (listed_owned (Declared q) (kind_of (state_of states a) r) (first_none _ _ run.obeys))
+          reads p (found s n (Some p) there))
+
+      -- the word of a packet in the device queue is set or emptied
+      words_waited : (i : Instr) → Runs set states s a i → Executing set a i
+          → {starts : List StartState} {n : ℕ} {armer : Option Armer} {full : Bool}
+          → Waits set s a i starts n armer full → (p : Packet) → packet_of s n ≡ Some p
+          → WaitingRoom set (with_packet s n (with_armer p armer)) × Place set a.device p
+      words_waited i run at (arms_waiting r n start reads is waits) p there =
+          let place : Place set a.device p =
+          own_place set states s a room r n
+          (ap is_owned (inserts_right (kind_of (state_of states a) r) (first_none _ _ run.obeys)))
+          reads p (found s n (Some p) there) in
+          (word_set n p (armer_waiting a) there refl place, place)
+      words_waited i run at (disarms_next n start is first) p there =
+          let word : (armer : Armer) × (p.armer ≡ Some armer) × (armer.device ≡ a.device)
+          × (armer.queue ≡ DeviceQueue) = armed n start p at is first there in (
+            waiting_kept set s (with_packet s n (with_armer p None)) waiting
+                (words_set s n p (with_armer p None) there refl (λ armer no. cc))
+                (λ m some. keeps_set s n p (with_armer p None) there refl
+                (stays_same p (with_armer p None) refl refl) m),
+            subst (λ (d : ℕ). Place set d p) word.2
+                (waiting.words n p word.0 (found s n (Some p) there) word.1),
+          )
+
+      waits_room : (i : Instr) (starts : List StartState) (n : ℕ) (p : Packet)
+          (armer : Option Armer) (full : Bool) → Executing set a i → packet_of s n ≡ Some p
+          → Waits set s a i starts n armer full → Leaves (waited_to s a starts n p armer full)
+      waits_room i starts n p armer full at there waits =
+          let run : Runs set states s a i = runs set states s a i h at in
+          let q : Packet = with_armer p armer in
+          let keeps : AllKeep s (with_packet s n q) =
+          keeps_set s n p q there refl (stays_same p q refl refl) in
+          let now : FrameRoom set states (with_packet s n q) a =
+          after_room (with_packet s n q) keeps in
+          let both : WaitingRoom set (with_packet s n q) × Place set a.device p =
+          words_waited i run at waits p there in
+          record {
+            frames = (
+              record {
+                rooms = waits_claims set states s a is_right claims_right
+                    (RoomFor set (with_packet s n q) a.device) i run waits now.rooms;
+                marks = waits_claims set states s a is_owned claims_owned
+                    (MarkedIn (with_packet s n q)) i run waits now.marks;
+              },
+              tt,
+            );
+            others = λ m free walk. keeps m;
+            waiting = waiting_waits set states s a (with_packet s n q) both.0 refl refl i run waits
+                (λ x is. elim (changed s n p q there refl n x is) [
+                  | inl g ↦
+                      subst (λ (y : Packet). Place set a.device y) (sym g.1)
+                      (record { room = both.1.room; marked = both.1.marked })
+                  | inr g ↦ absurd (g.0 refl)
+                ]);
+            ways = ways_kept set s (with_packet s n q) keeps ways;
           }
 
       -- a packet that is touched is gone
@@ -394,6 +459,8 @@ module _ (set : Set) (states : States) (s : Shared) where
             waiting = waiting_queued set states s a room waiting i run queued;
             ways = ways;
           }
+      routine_room under o (works_on_waiting b i starts n p armer full at there waits) =
+          waits_room i starts n p armer full at there waits
       routine_room under o (completes_packet b r status n p at reads there) =
           changes o n p (completed p status) there refl refl
           (stays_same p (completed p status) refl refl) refl

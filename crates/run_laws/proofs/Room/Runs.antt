@@ -52,6 +52,7 @@ use Rattle.run_laws.proofs.States.Told.{told_last, told_is}
 use Rattle.run_laws.proofs.Steps.Below.{stood}
 use Rattle.run_laws.proofs.Steps.Faults.{is_call, fault_among}
 use Rattle.run_laws.specs.Holder.{waits_cancelable}
+use Rattle.run_laws.proofs.Holders.Waits.{NextArmed}
 
 -- every frame that has the right to a live packet has room for its device, and so has each packet
 -- that waits; and the way up of each live packet
@@ -246,18 +247,18 @@ module _ (set : Set) (states : States) (w : World) (past : List Entry) (good : I
           ]
 
     step_room : (actor : Actor) (h : StepsFrame set w actor.thread)
-        → NamesDevice states w.shared h.frame
+        → NamesDevice states w.shared h.frame → NextArmed set w.shared h.frame
         → Roomy set states
         (with_thread w actor.thread h.outcome.shared
         (with_stack h.thread (standing set h.below h.outcome)))
-    step_room actor h names =
+    step_room actor h names armed =
         let t : ℕ = actor.thread in
         let o : Outcome = h.outcome in
         let room : LeavesRoom set states w.shared h.frame o =
         room_step set states w.shared past actor (top_of h.below) h.frame o
         (on_top set states w past good stands t h)
         (top_holding set states w past stands holds t h) (top_room t h) roomy.waiting roomy.ways
-        names
+        names armed
         h.comes in
         let below : Each (HasRoom set states o.shared) h.below =
         others_room set states w.shared o.shared h.below
@@ -300,15 +301,16 @@ module _ (set : Set) (states : States) (w : World) (past : List Entry) (good : I
         (roomy.waiting.starts h.d h.n h.start h.has (omega arith))
 
     pub roomy_kept : Claimed set states w → (actor : Actor) (c : Change)
+        → ((h : StepsFrame set w actor.thread) → NextArmed set w.shared h.frame)
         → GoesOnBy set w past actor c
         → Roomy set states c.world
-    roomy_kept claimed actor c on = kept c on.happens
+    roomy_kept claimed actor c armed on = kept c on.happens
       where
         kept : (c : Change) → Happens set w actor.thread c → Roomy set states c.world
         kept c (nothing reply right) = roomy
         kept c (steps h) =
             step_room actor h
-            (names_device set states w past good stands holds claimed actor.thread h)
+            (names_device set states w past good stands holds claimed actor.thread h) (armed h)
         kept c (issues h) =
             threads_room actor.thread (with_new_packet w.shared h.d h.device h.major h.argument)
             h.thread

@@ -31,6 +31,7 @@ use Rattle.run_laws.specs.ArrivingStates.{States}
 use Rattle.run_laws.proofs.Steps.Comes.{Cancels, Comes, awaits_cancel, calls_cancel, calls_down, cancels, carries_up, exchanges_gone, finds_empty, finds_none, flags_gone, lends_to, retakes_cancel, sets_flag, takes_cancel, tops_out, walks_gone, walks_to, walks_up, works_on_queues}
 use Rattle.run_laws.proofs.Steps.Faults.{fault_among, is_call}
 use Rattle.run_laws.proofs.Steps.Queues.{queued_touches}
+use Rattle.run_laws.proofs.Holders.Waits.{NextArmed}
 
 apart_of : (n m : ℕ) → frame_walks (Walk n) m ≡ 0 → n ≢ m
 apart_of n m walk same =
@@ -249,12 +250,12 @@ module _ (set : Set) (states : States) (s : Shared) where
 
     pub room_step : (under : Option Frame) (f : Frame) (o : Outcome) → OnTop set states s f
         → Holding set states s past f → HasRoom set states s f → WaitingRoom set s → AllWays set s
-        → NamesDevice states s f
+        → NamesDevice states s f → NextArmed set s f
         → Comes set s actor.thread under f o → LeavesRoom set states s f o
-    room_step under (Routine a) o h holding room waiting ways names c =
-        routine_room set states s past actor a h holding room waiting ways names under o c
-    room_step under (Walk m) o h holding room waiting ways names c =
+    room_step under (Routine a) o h holding room waiting ways names armed c =
+        routine_room set states s past actor a h holding room waiting ways names armed under o c
+    room_step under (Walk m) o h holding room waiting ways names armed c =
         walk_room m under o h holding waiting ways c
-    room_step under (CancelFrame c) o h holding room waiting ways names
+    room_step under (CancelFrame c) o h holding room waiting ways names armed
         (cancels n step made moves) =
         cancel_room n step o h holding waiting ways moves

@@ -51,6 +51,9 @@ use Rattle.model.specs.Set.{has_cancel}
 use Rattle.model.specs.declared.set.QueueName.TheVariants.{Declared, DeviceQueue}
 use Rattle.std.proofs.lemmas.Bool.{cond_both}
 use Rattle.model.specs.declared.instr.Instr.TheVariants.{Dequeue}
+use Rattle.run_laws.proofs.Holders.Waits.{and_both}
+use Rattle.run_laws.proofs.Holders.Started.{times_waited}
+use Rattle.std.specs.Prelude.{slice_get, slice_set}
 
 -- the locations that a packet has left, its current one among them, are as many as a device's stack
 -- size
@@ -232,6 +235,16 @@ started_most b start n m =
     queue_most true more some one listed slot h = omega arith
     queue_most false more some one listed slot h = omega arith
 
+-- a packet that comes to those that wait
+pub given_place : (set : Set) (s : Shared) (d n m before : ℕ) → HasPlace set s d n
+    → (1 ≤ before → HasPlace set s d m) → 1 ≤ before + (if nat_eq n m then 1 else 0)
+    → HasPlace set s d m
+given_place set s d n m before place others some =
+    elim (eqb_tells n m) [
+      | inl same ↦ subst (λ (k : ℕ). HasPlace set s d k) same.1 place
+      | inr apart ↦ let one : 1 ≤ before + 0 = rw apart.0 at some in others (omega arith)
+    ]
+
 -- what is taken off a queue is one of those that stood there before
 unlinked_some : (entries : List ℕ) (n m : ℕ) → times_in (unlinked entries n) m ≤ times_in entries m
 unlinked_some [] n m = omega arith
@@ -339,15 +352,6 @@ module _ (set : Set) (states : States) (s : Shared) (a : Activation)
     queued_claims i h (dequeues_packet r n start reads there) held =
         next_claims f claim M set states s a (Dequeue r) h refl refl (λ k is. cc) held
 
-    waits_claims : (i : Instr) → Runs set states s a i → {starts : List StartState} {n : ℕ}
-        {armer : Option Armer} {full : Bool} → Waits set s a i starts n armer full
-        → HoldOf f (Refers M) (state_of states a).kinds a.registers
-        → HoldOf f (Refers M) (state_of states (next a)).kinds a.registers
-    waits_claims i h (arms_waiting r n start reads there armed) held =
-        next_claims f claim M set states s a (Start r) h refl refl (λ k is. cc) held
-    waits_claims i h (disarms_next n start there first) held =
-        next_claims f claim M set states s a Next h refl refl (λ k is. cc) held
-
   pub queued_room : (i : Instr) → Runs set states s a i → {b : Activation}
       {queues : List (List (List ℕ))} {lists : List StartState} {actions : List Action}
       {full : Bool}
@@ -361,16 +365,6 @@ module _ (set : Set) (states : States) (s : Shared) (a : Activation)
         marks = queued_claims is_owned claims_owned (MarkedIn s)
             (λ n place p there. (place p there).marked) i h queued room.marks;
       }
-
-  -- a packet that the frame owned comes to those that wait
-  given_place : (n m before : ℕ) → HasPlace set s a.device n
-      → (1 ≤ before → HasPlace set s a.device m) → 1 ≤ before + (if nat_eq n m then 1 else 0)
-      → HasPlace set s a.device m
-  given_place n m before place others some =
-      elim (eqb_tells n m) [
-        | inl same ↦ subst (λ (k : ℕ). HasPlace set s a.device k) same.1 place
-        | inr apart ↦ let one : 1 ≤ before + 0 = rw apart.0 at some in others (omega arith)
-      ]
 
   owned_place : (r n : ℕ) → kind_of (state_of states a) r ≡ Own → Reads s a r n
       → HasPlace set s a.device n
@@ -387,7 +381,7 @@ module _ (set : Set) (states : States) (s : Shared) (a : Activation)
             (λ plain m some.
             let pushed : times_in (inserted entries n) m
             ≡ times_in entries m + (if nat_eq n m then 1 else 0) = times_pushed entries n m in
-            given_place n m (times_in entries m)
+            given_place set s a.device n m (times_in entries m)
             (owned_place r n (inserts_right (kind_of (state_of states a) r)
             (first_none _ _ h.obeys)) reads)
             (waiting.queues a.device q m entries there plain) (omega arith));
@@ -424,12 +418,12 @@ module _ (set : Set) (states : States) (s : Shared) (a : Activation)
                   + (if nat_eq n m then 1 else 0) =
                   times_given set a.device a.driver start n m
                   (served_waits set states s a (Start r) h) may in
-                  given_place n m (times_at (waits_cancelable set a.device) start m)
+                  given_place set s a.device n m (times_at (waits_cancelable set a.device) start m)
                   (owned_place r n (inserts_right (kind_of (state_of states a) r)
                   (first_none _ _ h.obeys)) reads)
                   (waiting.starts a.device m start there) (omega arith)
               | inr gone ↦
-                  given_place n m (times_at (waits_cancelable set a.device) start m)
+                  given_place set s a.device n m (times_at (waits_cancelable set a.device) start m)
                   (gone_place set s a.device n gone) (waiting.starts a.device m start there)
                   (omega (arith, started_most (waits_cancelable set a.device) start n m))
             ]);
@@ -449,7 +443,7 @@ module _ (set : Set) (states : States) (s : Shared) (a : Activation)
         queues = waiting.queues;
         starts = start_put_room set s waiting a.device start (with_slot start (Some n)) there
             (λ m some.
-            given_place n m (times_at (waits_cancelable set a.device) start m)
+            given_place set s a.device n m (times_at (waits_cancelable set a.device) start m)
             (owned_place r n (inserts_right (kind_of (state_of states a) r)
             (first_none _ _ h.obeys)) reads)
             (waiting.starts a.device m start there) (omega arith));
@@ -471,7 +465,7 @@ module _ (set : Set) (states : States) (s : Shared) (a : Activation)
         queues = waiting.queues;
         starts = start_put_room set s waiting a.device start (next_started start) there
             (λ m some.
-            given_place n m (times_at (waits_cancelable set a.device) start m)
+            given_place set s a.device n m (times_at (waits_cancelable set a.device) start m)
             (gone_place set s a.device n gone) (waiting.starts a.device m start there)
             (let both : (has_cancel set a.driver DeviceQueue ≡ true)
             × (head_of start.device_queue ≡ Some n) =
@@ -491,5 +485,65 @@ module _ (set : Set) (states : States) (s : Shared) (a : Activation)
             (λ m some.
             waiting.starts a.device m start there
             (omega (arith, dequeued_less (waits_cancelable set a.device) start n m)));
+        words = waiting.words;
+      }
+
+-- a routine goes on where a packet in the device queue has its cancel routine exchanged
+module _ (set : Set) (states : States) (s : Shared) (a : Activation) (f : Kind → Bool)
+    (claim : IsClaim f) (M : ℕ → Type 0) where
+  pub waits_claims : (i : Instr) → Runs set states s a i → {starts : List StartState} {n : ℕ}
+      {armer : Option Armer} {full : Bool} → Waits set s a i starts n armer full
+      → HoldOf f (Refers M) (state_of states a).kinds a.registers
+      → HoldOf f (Refers M) (state_of states (next a)).kinds a.registers
+  waits_claims i h (arms_waiting r n start reads there armed) held =
+      next_claims f claim M set states s a (Start r) h refl refl (λ k is. cc) held
+  waits_claims i h (disarms_next n start there first) held =
+      next_claims f claim M set states s a Next h refl refl (λ k is. cc) held
+
+-- and the packet has its place, in the device queue or in the start list
+module _ (set : Set) (states : States) (s : Shared) (a : Activation) (after : Shared)
+    (waiting : WaitingRoom set after) (same : after.starts ≡ s.starts)
+    (queues : after.queues ≡ s.queues) where
+  pub waiting_waits : (i : Instr) → Runs set states s a i → {starts : List StartState} {n : ℕ}
+      {armer : Option Armer} {full : Bool} → Waits set s a i starts n armer full
+      → HasPlace set after a.device n
+      → WaitingRoom set (record after { starts = starts })
+  waiting_waits i h {starts = starts} (arms_waiting r n start reads there armed) place =
+      let both : (has_cancel set a.driver DeviceQueue ≡ true) × (start.busy ≡ true) =
+      and_both (has_cancel set a.driver DeviceQueue) start.busy armed in
+      let may : waits_cancelable set a.device ≡ true = served_waits set states s a (Start r) h ∙ both.0
+      in
+      let here : start_of after a.device ≡ Some start =
+      ap (λ (xs : List StartState). slice_get xs a.device) same ∙ there in
+      record {
+        queues = waiting.queues;
+        starts = subst (λ (xs : List StartState). StartsRoom set (record after { starts = xs }))
+            (ap (λ (xs : List StartState). slice_set xs a.device (started start n)) same)
+            (start_put_room set after waiting a.device start (started start n) here
+            (λ m some.
+            let even : times_at (waits_cancelable set a.device) (started start n) m
+            ≡ times_at (waits_cancelable set a.device) start m =
+            rw may (times_waited start n m both.1) in
+            waiting.starts a.device m start here (omega arith)));
+        words = waiting.words;
+      }
+  waiting_waits i h {starts = starts} (disarms_next n start there first) place =
+      let both : (has_cancel set a.driver DeviceQueue ≡ true)
+      × (head_of start.device_queue ≡ Some n) =
+      first_both (has_cancel set a.driver DeviceQueue) (head_of start.device_queue) n first in
+      let may : waits_cancelable set a.device ≡ true = served_waits set states s a Next h ∙ both.0 in
+      let here : start_of after a.device ≡ Some start =
+      ap (λ (xs : List StartState). slice_get xs a.device) same ∙ there in
+      record {
+        queues = waiting.queues;
+        starts = subst (λ (xs : List StartState). StartsRoom set (record after { starts = xs }))
+            (ap (λ (xs : List StartState). slice_set xs a.device (next_started start)) same)
+            (start_put_room set after waiting a.device start (next_started start) here
+            (λ m some.
+            let won : times_at (waits_cancelable set a.device) (next_started start) m
+            ≡ times_at (waits_cancelable set a.device) start m + (if nat_eq n m then 1 else 0) =
+            rw may (times_disarmed start n m both.1) in
+            given_place set after a.device n m (times_at (waits_cancelable set a.device) start m)
+            place (waiting.starts a.device m start here) (omega arith)));
         words = waiting.words;
       }

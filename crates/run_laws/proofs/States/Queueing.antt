@@ -1,9 +1,8 @@
 -- What the instructions about queues do to a routine's frame: it goes on to the next position, with
 -- the first packet of a queue or the one in the current slot in a register where one was taken, or
 -- to a label where there was none.
-use Rattle.std.proofs.Common.{◌<◌, ℕ, Bool, true, false, List, [], ◌∷◌, None, Some, refl, subst, Option}
-use Rattle.std.specs.Prelude.{nat_eq, slice_set}
-use Rattle.std.proofs.lemmas.Bool.{cond_both}
+use Rattle.std.proofs.Common.{◌<◌, ℕ, Bool, true, false, List, ◌∷◌, None, Some, refl, subst, Option}
+use Rattle.std.specs.Prelude.{slice_set}
 use Rattle.model.specs.declared.set.QueueName.TheVariants.{Declared}
 use Rattle.model.specs.declared.abs.Kind.TheVariants.{Own}
 use Rattle.model.specs.declared.instr.Instr.{Instr}
@@ -15,7 +14,7 @@ use Rattle.model.specs.Kinds.{kind_removed}
 use Rattle.model.specs.Queues.{StartState, inserted, next_started, started, unlinked, with_slot}
 use Rattle.model.specs.Set.{Set, cancel_routine_of}
 use Rattle.model.specs.World.{Shared, next}
-use Rattle.run_laws.proofs.Lists.{Each, each_push}
+use Rattle.run_laws.proofs.Lists.{each_push}
 use Rattle.run_laws.proofs.Past.Packets.{named}
 use Rattle.run_laws.proofs.States.Fits.{AllQueuesFit, queue_issued, queue_put_fits}
 use Rattle.run_laws.proofs.States.Frames.{Moved, Runs, state_of}
