@@ -11,8 +11,8 @@ use model::set::{Driver, Routine};
 impl DriverSet {
     ghost use Rattle.model.specs.Edition.{edition_of};
 
-    /// The edition of the set: 2 where a driver names a cancel routine for its device queue or takes
-    /// a packet off it by name, otherwise 1.
+    /// The edition of the set: 2 where a driver names a cancel routine for its device queue, or
+    /// takes a packet off it by name; otherwise 1.
     pub fn edition(&self) -> u8
         ensures { result ≡ edition_of self.now }
     {

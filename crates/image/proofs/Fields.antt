@@ -7,7 +7,8 @@ use Rattle.model.specs.declared.set.Driver.{Driver}
 use Rattle.model.specs.declared.set.Sort.{Sort}
 use Rattle.model.specs.Set.{Set}
 
-pub routine_is : (edition : Edition) (routines queues : ℕ) (bytes : List ℕ) (sort : Sort) (behind_sort : List ℕ)
+pub routine_is : (edition : Edition) (routines queues : ℕ) (bytes : List ℕ) (sort : Sort)
+    (behind_sort : List ℕ)
     (blank : ℕ) (behind_zero : List ℕ) (count : ℕ) (behind_count : List ℕ) (code : List Instr)
     (rest : List ℕ)
     → byte_at sort_in bytes ≡ Ok (sort, behind_sort)

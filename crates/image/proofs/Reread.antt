@@ -150,7 +150,9 @@ code_fits edition routines queues positions (i ∷ code) e o l q c = (
   code_fits edition routines queues positions code e.1 o.1 l.1 q.1 c.1,
 )
 
-record RoutineSpells (edition : Edition) (routines : List Routine) (queues : ℕ) (routine : Routine) : Type 0 where
+-- a routine that fits, and is one of the edition
+record RoutineSpells (edition : Edition) (routines : List Routine) (queues : ℕ)
+    (routine : Routine) : Type 0 where
   had : Has edition (dequeues routine)
   fits : RoutineFits routine
   calls : CallsFit routines routine
@@ -237,7 +239,8 @@ driver_again : (edition : Edition)
 unfolding driver_at
 driver_again edition number d rest spells =
     let h = spells.fits in
-    let had = has_both edition (is_some d.startio_cancel) (list_any dequeues d.routines) spells.had in
+    let had = has_both edition (is_some d.startio_cancel) (list_any dequeues d.routines)
+    spells.had in
     let few : length d.routines ≤ 255 = omega (arith, h.few) in
     let listed = all_again (λ _. queue_at (length d.routines)) queue_bytes
     (λ _ queue. GuardFits queue × CancelFits d.routines queue)

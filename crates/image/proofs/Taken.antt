@@ -200,7 +200,8 @@ routine_rest : (edition : Edition) (routines queues : ℕ) (sort : Sort) (bytes 
     (x : Routine × List ℕ)
     → bytes ≡ sort_number sort ∷ 0 ∷ behind → IsBytes behind
     → (count_at behind >>= λ count.
-    all_at (λ _. instruction_at (scoped edition routines queues count.0)) 0 count.0 count.1 >>= λ code.
+    all_at (λ _. instruction_at (scoped edition routines queues count.0)) 0 count.0 count.1
+    >>= λ code.
     Ok (record { sort = sort; code = code.0 }, code.1)) ≡ Ok x
     → Takes bytes (routine_bytes x.0) x.1
 routine_rest edition routines queues sort bytes behind x front fits e =
@@ -249,7 +250,8 @@ lists_are bytes head first second middle rest front back =
 
 -- the lists of a driver behind its first eight fields
 driver_rest : (edition : Edition) (routines queues : ℕ)
-    (read write control startio dpc waiting : Option ℕ) (bytes behind : List ℕ) (x : Driver × List ℕ)
+    (read write control startio dpc waiting : Option ℕ) (bytes behind : List ℕ)
+    (x : Driver × List ℕ)
     → bytes ≡ (routines ∷ queues ∷ or_none read ∷ or_none write ∷ or_none control
     ∷ or_none startio ∷ or_none dpc ∷ waiting_byte edition waiting ∷ []) ++ behind
     → IsBytes behind
@@ -306,7 +308,8 @@ letters_take bytes x fits e =
 
 -- the lists of a set behind its first eight fields
 set_rest : (edition : Edition) (drivers devices : ℕ) (bytes behind : List ℕ) (x : Set × List ℕ)
-    → bytes ≡ (0x44 ∷ 0x56 ∷ 0x42 ∷ edition_digit edition ∷ drivers ∷ devices ∷ 0 ∷ 0 ∷ []) ++ behind
+    → bytes ≡ (0x44 ∷ 0x56 ∷ 0x42 ∷ edition_digit edition ∷ drivers ∷ devices ∷ 0 ∷ 0 ∷ [])
+    ++ behind
     → IsBytes behind
     → set_lists edition drivers devices behind ≡ Ok x
     → Takes bytes (spelling edition x.0) x.1

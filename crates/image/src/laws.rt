@@ -9,7 +9,8 @@ pub fn bytes_spell_one()
     ensures { BytesSpellOne }
 {}
 
-/// A set has one image of the second edition, and one of the first exactly if it is of that edition.
+/// A set has one image of the second edition, and one of the first exactly if it is of that
+/// edition.
 pub fn editions_of_images()
     ensures { EditionsOfImages }
 {}

@@ -45,7 +45,8 @@ fn spelled(alloc: Global, set: &DriverSet) -> Result<Vec<u8>, AllocError>
 
 fn put_drivers(out: &mut Vec<u8>, drivers: &[Driver]) -> Result<(), AllocError>
     requires { All DriverFits drivers.now }
-    ensures { OnOk result (out.new.items ≡ out.old.items ++ flat_map (driver_bytes Current) drivers.now) }
+    ensures { OnOk result
+        (out.new.items ≡ out.old.items ++ flat_map (driver_bytes Current) drivers.now) }
 {
     for driver in drivers {
         put_driver(out, driver)?;
