@@ -1,8 +1,10 @@
 pub mod Fields
 pub mod InOrder
 pub mod Numbers
+pub mod Editions
 pub mod Words
 pub mod Again
+pub mod OfEdition
 pub mod Taken
 pub mod Reread
 pub mod Decoded

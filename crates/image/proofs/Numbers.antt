@@ -2,10 +2,12 @@
 use Rattle.std.proofs.Common.{◌≡◌, ℕ, ◌<◌, ◌≤◌, Bool, true, false, cond, eqb, ltb, leb, Option, Some, None, Result, Ok, Err, refl, subst, arith}
 use Rattle.std.specs.Prelude.{IfSome}
 use Rattle.std.proofs.lemmas.Bool.{eqb-true, le-leb, lt-ltb, ne_eqb}
+use Rattle.image.specs.declared.edition.Edition.{Edition}
+use Rattle.image.specs.declared.edition.Edition.TheVariants.{Former, Current}
 use Rattle.image.specs.declared.fault.ImageFault.{ImageFault}
 use Rattle.image.specs.declared.fault.ImageFault.TheVariants.{BadOpcode, OverLimit, Magic}
-use Rattle.image.specs.Reading.{◌>>=◌, one, at_most, below, field_in, letter, none_or_below, ranged, sort_in, stack_in, status_in, turns_in, unused}
-use Rattle.image.specs.Spelling.{field_number, or_none, sort_number, status_number}
+use Rattle.image.specs.Reading.{◌>>=◌, one, at_most, below, edition_in, field_in, letter, none_or_below, ranged, sort_in, stack_in, status_in, turns_in, unused, waiting_in}
+use Rattle.image.specs.Spelling.{edition_digit, field_number, or_none, sort_number, status_number, waiting_byte}
 use Rattle.model.specs.declared.instr.Field.{Field}
 use Rattle.model.specs.declared.instr.Field.TheVariants.{Major, Argument, Info}
 use Rattle.model.specs.declared.limits.TheConstants.{MAX_STACK, MAX_TURNS}
@@ -80,6 +82,21 @@ none_or_below_inverse count n a e =
     (λ said.
     let some = one_ok (λ m. Some m) (below count n) a said in
     subst (λ x. n ≡ or_none x) some.2 (below_inverse count n some.0 some.1))
+
+pub waiting_inverse : (edition : Edition) (routines : ℕ)
+    → IsInverse (waiting_in edition routines) (waiting_byte edition)
+waiting_inverse Former routines n a e = eqb-true n 0 (passed (eqb n 0) BadOpcode None a e).0
+waiting_inverse Current routines n a e = none_or_below_inverse routines n a e
+
+pub edition_inverse : IsInverse edition_in edition_digit
+edition_inverse n a e =
+    row_is n 0x31 _ _ a e
+    (λ is said. subst (λ x. n ≡ edition_digit x) (ok_is Former a said) is)
+    (λ e1.
+    row_is n 0x32 _ _ a e1
+    (λ is said. subst (λ x. n ≡ edition_digit x) (ok_is Current a said) is)
+    (λ e2.
+    absurd cc))
 
 pub field_inverse : IsInverse field_in field_number
 field_inverse n a e =
@@ -164,6 +181,10 @@ pub none_or_below_again : (count : ℕ) → count ≤ 255 → (o : Option ℕ) �
 none_or_below_again count few None h = refl
 none_or_below_again count few (Some n) h =
     rw (ne_eqb n 0xFF (λ e. omega arith), below_again count n h) refl
+
+pub edition_again : (edition : Edition) → edition_in (edition_digit edition) ≡ Ok edition
+edition_again Former = refl
+edition_again Current = refl
 
 pub field_again : (field : Field) → field_in (field_number field) ≡ Ok field
 field_again Major = refl

@@ -1,30 +1,35 @@
 -- What is spelled is read again, whatever stands behind it.
-use Rattle.std.proofs.Common.{◌≡◌, ℕ, suc, ◌+◌, ◌<◌, ◌≤◌, ◌^◌, List, [], ◌∷◌, ◌++◌, length, All, Option, Some, None, Ok, refl, sym, ap, ◌∙◌, append_assoc, arith}
-use Rattle.std.specs.Prelude.{⊤, IfSome, slice_get}
+use Rattle.std.proofs.Common.{◌≡◌, ℕ, suc, ◌+◌, ◌<◌, ◌≤◌, ◌^◌, List, [], ◌∷◌, ◌++◌, length, All, Option, Some, None, Ok, inl, inr, refl, sym, ap, ◌∙◌, append_assoc, arith}
+use Rattle.std.specs.Prelude.{⊤, IfSome, is_some, slice_get}
 use Rattle.std.specs.Int.{w16, to_le_bytes}
-use Rattle.std.specs.List.{flat_map, AllByRecursion}
+use Rattle.std.specs.List.{flat_map, list_any, AllByRecursion}
 use Rattle.std.proofs.lemmas.Bool.{le-ltb}
 use Rattle.std.proofs.lemmas.List.{append-nil, drop_at, length-append, take_at}
 use Rattle.std.proofs.lemmas.List.Concat.{flat_map-cons}
 use Rattle.std.proofs.lemmas.List.Elements.{recursion_from_All}
 use Rattle.std.proofs.lemmas.Nat.{from_le_bytes-to_le_bytes_2, from_le_bytes-to_le_bytes_4}
 use Rattle.std.proofs.lemmas.Option.{slice_get_within}
-use Rattle.image.specs.declared.reading.Counts.{Counts}
+use Rattle.image.specs.declared.edition.Edition.{Edition}
+use Rattle.image.specs.declared.edition.Edition.TheVariants.{Former, Current}
+use Rattle.image.specs.declared.reading.Scope.{Scope}
 use Rattle.image.specs.declared.word.Word.{Word}
-use Rattle.image.specs.Reading.{all_at, count_at, counted, device_at, driver_at, field_at, instruction_at, letters_at, queue_at, routine_at, set_at, set_in, word_at, Read}
-use Rattle.image.specs.Spelling.{device_bytes, driver_bytes, instruction_bytes, or_none, queue_bytes, routine_bytes, sort_number, spelling, word_bytes, word_of}
+use Rattle.image.specs.Reading.{all_at, count_at, scoped, device_at, driver_at, field_at, instruction_at, letters_at, queue_at, routine_at, set_at, set_in, waiting_in, word_at, Read}
+use Rattle.image.specs.Spelling.{device_bytes, driver_bytes, edition_digit, instruction_bytes, or_none, queue_bytes, routine_bytes, sort_number, spelling, waiting_byte, word_bytes, word_of, HasSpelling, Spells}
 use Rattle.image.proofs.Again.{InRange, instruction_again}
-use Rattle.image.proofs.Numbers.{at_most_again, below_again, none_or_below_again, sort_again, stack_again}
+use Rattle.image.proofs.Editions.{Has, has_both, has_each, has_set}
+use Rattle.image.proofs.Numbers.{at_most_again, below_again, edition_again, none_or_below_again, sort_again, stack_again}
 use Rattle.model.specs.declared.instr.Instr.{Instr}
 use Rattle.model.specs.declared.instr.Instr.TheVariants.{Const, JumpIfZero, JumpIfLess, Jump, Loop, Remove, Disarm, IfCancel, Take, IfPending, Ret}
 use Rattle.model.specs.declared.instr.Return.TheVariants.{WithStatus, Lower, Continue, Stop, Void}
 use Rattle.model.specs.declared.limits.TheConstants.{MAX_DEVICES, MAX_DRIVERS, MAX_INSTRUCTIONS, MAX_QUEUES, MAX_ROUTINES, SPIN_LOCKS}
 use Rattle.model.specs.declared.set.Device.{Device}
+use Rattle.model.specs.declared.set.Driver.{Driver}
 use Rattle.model.specs.declared.set.Queue.{Queue}
 use Rattle.model.specs.declared.set.Routine.{Routine}
 use Rattle.model.specs.declared.set.Sort.{Sort}
+use Rattle.model.specs.Edition.{dequeues, is_dequeue, is_of_second}
 use Rattle.model.specs.Set.{Set}
-use Rattle.model.specs.Sound.{CallFits, CallsFit, CancelFits, DeviceFits, DevicesFit, DriverFits, GuardFits, HasSort, IsCancel, IsCompletion, IsDispatch, IsDpc, IsSound, IsStartIo, LabelFits, OperandFits, QueueFits, QueuesFit, RoutineFits, completion_named}
+use Rattle.model.specs.Sound.{CallFits, CallsFit, CancelFits, DeviceFits, DevicesFit, DriverFits, GuardFits, HasSort, IsCancel, IsCompletion, IsDispatch, IsDpc, IsSound, IsStartIo, LabelFits, OperandFits, QueueFits, QueuesFit, RoutineFits, WaitingFits, completion_named}
 
 field_again : (size : ℕ) (front rest : List ℕ) → length front ≡ size
     → field_at size (front ++ rest) ≡ Ok (front, rest)
@@ -50,24 +55,24 @@ word_again : (w : Word) (rest : List ℕ) → w.last < 2 ^ 32
 word_again w rest lt =
     rw (field_again 8 (word_bytes w) rest refl) (rw (from_le_bytes-to_le_bytes_4 w.last lt) refl)
 
-last_fits : (counts : Counts) → counts.positions ≤ MAX_INSTRUCTIONS → (i : Instr)
-    → InRange counts i → (word_of i).last < 2 ^ 32
-last_fits counts few (Const r n) h = h.operands.1
-last_fits counts few (JumpIfZero r label) h = omega (arith, few, h.label)
-last_fits counts few (JumpIfLess r q label) h = omega (arith, few, h.label)
-last_fits counts few (Jump label) h = omega (arith, few, h.label)
-last_fits counts few (Loop turns) h = omega (arith, h.operands.1)
-last_fits counts few (Remove r q label) h = omega (arith, few, h.label)
-last_fits counts few (Disarm r label) h = omega (arith, few, h.label)
-last_fits counts few (IfCancel r label) h = omega (arith, few, h.label)
-last_fits counts few (Take r label) h = omega (arith, few, h.label)
-last_fits counts few (IfPending r label) h = omega (arith, few, h.label)
-last_fits counts few (Ret (WithStatus status)) h = omega arith
-last_fits counts few (Ret (Lower r)) h = omega arith
-last_fits counts few (Ret Continue) h = omega arith
-last_fits counts few (Ret Stop) h = omega arith
-last_fits counts few (Ret Void) h = omega arith
-last_fits counts few _ h = omega arith
+last_fits : (scope : Scope) → scope.positions ≤ MAX_INSTRUCTIONS → (i : Instr)
+    → InRange scope i → (word_of i).last < 2 ^ 32
+last_fits scope few (Const r n) h = h.operands.1
+last_fits scope few (JumpIfZero r label) h = omega (arith, few, h.label)
+last_fits scope few (JumpIfLess r q label) h = omega (arith, few, h.label)
+last_fits scope few (Jump label) h = omega (arith, few, h.label)
+last_fits scope few (Loop turns) h = omega (arith, h.operands.1)
+last_fits scope few (Remove r q label) h = omega (arith, few, h.label)
+last_fits scope few (Disarm r label) h = omega (arith, few, h.label)
+last_fits scope few (IfCancel r label) h = omega (arith, few, h.label)
+last_fits scope few (Take r label) h = omega (arith, few, h.label)
+last_fits scope few (IfPending r label) h = omega (arith, few, h.label)
+last_fits scope few (Ret (WithStatus status)) h = omega arith
+last_fits scope few (Ret (Lower r)) h = omega arith
+last_fits scope few (Ret Continue) h = omega arith
+last_fits scope few (Ret Stop) h = omega arith
+last_fits scope few (Ret Void) h = omega arith
+last_fits scope few _ h = omega arith
 
 -- everything of a list fits, each thing by its number
 abbrev From : {A : Type 0} → (ℕ → A → Type 0) → ℕ → List A → Type 0
@@ -113,34 +118,55 @@ named_below : (P : Sort → Type 0) (routines : List Routine) (named : Option �
 named_below P routines None h = tt
 named_below P routines (Some n) h = present P routines n (slice_get routines n) refl h
 
-code_fits : (routines : List Routine) (queues positions : ℕ) (code : List Instr)
+-- the cancel routine of a device queue
+waiting_below : (routines : List Routine) (startio cancel : Option ℕ)
+    → WaitingFits routines startio cancel → IfSome cancel (λ n. n < length routines)
+waiting_below routines startio None h = tt
+waiting_below routines None (Some n) h = absurd h
+waiting_below routines (Some first) (Some n) h =
+    present IsCancel routines n (slice_get routines n) refl h
+
+waiting_again : (edition : Edition) (routines : ℕ) → routines ≤ 255 → (cancel : Option ℕ)
+    → IfSome cancel (λ n. n < routines) → Has edition (is_some cancel)
+    → waiting_in edition routines (waiting_byte edition cancel) ≡ Ok cancel
+waiting_again Former routines few None h had = refl
+waiting_again Former routines few (Some n) h had = absurd cc
+waiting_again Current routines few cancel h had = none_or_below_again routines few cancel h
+
+code_fits : (edition : Edition) (routines : List Routine) (queues positions : ℕ)
+    (code : List Instr) → AllByRecursion (λ i. Has edition (is_dequeue i)) code
     → AllByRecursion OperandFits code → AllByRecursion (LabelFits positions) code
     → AllByRecursion (QueueFits queues) code → AllByRecursion (CallFits routines) code
-    → AllByRecursion (InRange (counted (length routines) queues positions)) code
-code_fits routines queues positions [] o l q c = tt
-code_fits routines queues positions (i ∷ code) o l q c = (
+    → AllByRecursion (InRange (scoped edition (length routines) queues positions)) code
+code_fits edition routines queues positions [] e o l q c = tt
+code_fits edition routines queues positions (i ∷ code) e o l q c = (
   record {
     operands = o.0;
     label = l.0;
     queue = q.0;
     called = named_below IsCompletion routines (completion_named i) c.0;
+    had = e.0;
   },
-  code_fits routines queues positions code o.1 l.1 q.1 c.1,
+  code_fits edition routines queues positions code e.1 o.1 l.1 q.1 c.1,
 )
 
-record RoutineSpells (routines : List Routine) (queues : ℕ) (routine : Routine) : Type 0 where
+-- a routine that fits, and is one of the edition
+record RoutineSpells (edition : Edition) (routines : List Routine) (queues : ℕ)
+    (routine : Routine) : Type 0 where
+  had : Has edition (dequeues routine)
   fits : RoutineFits routine
   calls : CallsFit routines routine
   entries : QueuesFit queues routine
 
-routines_fit : (all : List Routine) (queues : ℕ) (routines : List Routine)
+routines_fit : (edition : Edition) (all : List Routine) (queues : ℕ) (routines : List Routine)
+    → AllByRecursion (λ routine. Has edition (dequeues routine)) routines
     → AllByRecursion RoutineFits routines → AllByRecursion (CallsFit all) routines
     → AllByRecursion (QueuesFit queues) routines
-    → AllByRecursion (RoutineSpells all queues) routines
-routines_fit all queues [] f c q = tt
-routines_fit all queues (routine ∷ routines) f c q = (
-  record { fits = f.0; calls = c.0; entries = q.0 },
-  routines_fit all queues routines f.1 c.1 q.1,
+    → AllByRecursion (RoutineSpells edition all queues) routines
+routines_fit edition all queues [] e f c q = tt
+routines_fit edition all queues (routine ∷ routines) e f c q = (
+  record { had = e.0; fits = f.0; calls = c.0; entries = q.0 },
+  routines_fit edition all queues routines e.1 f.1 c.1 q.1,
 )
 
 both_fit : (routines : List Routine) (queues : List Queue) → AllByRecursion GuardFits queues
@@ -151,12 +177,12 @@ both_fit routines (queue ∷ queues) g c = ((g.0, c.0), both_fit routines queues
 
 -- ---- each thing is read again
 
-read_again : (counts : Counts) → counts.routines ≤ MAX_ROUTINES
-    → counts.positions ≤ MAX_INSTRUCTIONS
-    → EachAgain (λ _. instruction_at counts) instruction_bytes (λ _. InRange counts)
-read_again counts few short number i rest h =
-    rw (word_again (word_of i) rest (last_fits counts short i h))
-    (rw (instruction_again counts (omega (arith, few)) i h) refl)
+read_again : (scope : Scope) → scope.routines ≤ MAX_ROUTINES
+    → scope.positions ≤ MAX_INSTRUCTIONS
+    → EachAgain (λ _. instruction_at scope) instruction_bytes (λ _. InRange scope)
+read_again scope few short number i rest h =
+    rw (word_again (word_of i) rest (last_fits scope short i h))
+    (rw (instruction_again scope (omega (arith, few)) i h) refl)
 
 queue_again : (routines : List Routine) → length routines ≤ MAX_ROUTINES
     → EachAgain (λ _. queue_at (length routines)) queue_bytes
@@ -169,34 +195,52 @@ queue_again routines few number queue rest h =
           (named_below IsCancel routines queue.cancel h.1),
     ) refl
 
-routine_again : (routines : List Routine) → length routines ≤ MAX_ROUTINES → (queues : ℕ)
-    → EachAgain (λ _. routine_at (length routines) queues) routine_bytes
-    (λ _. RoutineSpells routines queues)
+routine_again : (edition : Edition) (routines : List Routine) → length routines ≤ MAX_ROUTINES
+    → (queues : ℕ)
+    → EachAgain (λ _. routine_at edition (length routines) queues) routine_bytes
+    (λ _. RoutineSpells edition routines queues)
 unfolding routine_at
-routine_again routines few queues number routine rest h =
-    let counts = counted (length routines) queues (length routine.code) in
-    let code = code_fits routines queues (length routine.code) routine.code
+routine_again edition routines few queues number routine rest h =
+    let scope = scoped edition (length routines) queues (length routine.code) in
+    let code = code_fits edition routines queues (length routine.code) routine.code
+    (has_each edition is_dequeue routine.code h.had)
     (recursion_from_All _ routine.code h.fits.operands)
     (recursion_from_All _ routine.code h.fits.labels)
     (recursion_from_All _ routine.code h.entries)
     (recursion_from_All _ routine.code h.calls) in
-    let again = all_again (λ _. instruction_at counts) instruction_bytes (λ _. InRange counts)
-    (read_again counts few h.fits.few) 0 routine.code rest
-    (from_recursion (InRange counts) 0 routine.code code) in
+    let again = all_again (λ _. instruction_at scope) instruction_bytes (λ _. InRange scope)
+    (read_again scope few h.fits.few) 0 routine.code rest
+    (from_recursion (InRange scope) 0 routine.code code) in
     let regrouped : routine_bytes routine ++ rest
     ≡ sort_number routine.sort ∷ 0 ∷ (to_le_bytes w16 (length routine.code)
     ++ (flat_map instruction_bytes routine.code ++ rest)) =
     ap (λ t. sort_number routine.sort ∷ 0 ∷ t)
     (append_assoc (to_le_bytes w16 (length routine.code))
     (flat_map instruction_bytes routine.code) rest) in
-    ap (routine_at (length routines) queues) regrouped
+    ap (routine_at edition (length routines) queues) regrouped
     ∙ rw (sort_again routine.sort)
     (rw (count_again (length routine.code) (flat_map instruction_bytes routine.code ++ rest)
     h.fits.few) (rw again refl))
 
-driver_again : EachAgain (λ _. driver_at) driver_bytes (λ _. DriverFits)
+-- a driver that fits, and is one of the edition
+record DriverSpells (edition : Edition) (d : Driver) : Type 0 where
+  had : Has edition (is_of_second d)
+  fits : DriverFits d
+
+drivers_fit : (edition : Edition) (drivers : List Driver)
+    → AllByRecursion (λ d. Has edition (is_of_second d)) drivers
+    → AllByRecursion DriverFits drivers → AllByRecursion (DriverSpells edition) drivers
+drivers_fit edition [] e f = tt
+drivers_fit edition (d ∷ drivers) e f =
+    (record { had = e.0; fits = f.0 }, drivers_fit edition drivers e.1 f.1)
+
+driver_again : (edition : Edition)
+    → EachAgain (λ _. driver_at edition) (driver_bytes edition) (λ _. DriverSpells edition)
 unfolding driver_at
-driver_again number d rest h =
+driver_again edition number d rest spells =
+    let h = spells.fits in
+    let had = has_both edition (is_some d.startio_cancel) (list_any dequeues d.routines)
+    spells.had in
     let few : length d.routines ≤ 255 = omega (arith, h.few) in
     let listed = all_again (λ _. queue_at (length d.routines)) queue_bytes
     (λ _ queue. GuardFits queue × CancelFits d.routines queue)
@@ -204,21 +248,23 @@ driver_again number d rest h =
     (from_recursion (λ queue. GuardFits queue × CancelFits d.routines queue) 0 d.queues
     (both_fit d.routines d.queues (recursion_from_All _ d.queues h.guards)
     (recursion_from_All _ d.queues h.cancels))) in
-    let coded = all_again (λ _. routine_at (length d.routines) (length d.queues)) routine_bytes
-    (λ _. RoutineSpells d.routines (length d.queues))
-    (routine_again d.routines h.few (length d.queues)) 0 d.routines rest
-    (from_recursion (RoutineSpells d.routines (length d.queues)) 0 d.routines
-    (routines_fit d.routines (length d.queues) d.routines
+    let coded = all_again (λ _. routine_at edition (length d.routines) (length d.queues))
+    routine_bytes (λ _. RoutineSpells edition d.routines (length d.queues))
+    (routine_again edition d.routines h.few (length d.queues)) 0 d.routines rest
+    (from_recursion (RoutineSpells edition d.routines (length d.queues)) 0 d.routines
+    (routines_fit edition d.routines (length d.queues) d.routines
+    (has_each edition dequeues d.routines had.1)
     (recursion_from_All _ d.routines h.routines) (recursion_from_All _ d.routines h.calls)
     (recursion_from_All _ d.routines h.queues))) in
-    let regrouped : driver_bytes d ++ rest
+    let regrouped : driver_bytes edition d ++ rest
     ≡ length d.routines ∷ length d.queues ∷ or_none d.read ∷ or_none d.write
-    ∷ or_none d.control ∷ or_none d.startio ∷ or_none d.dpc ∷ 0
+    ∷ or_none d.control ∷ or_none d.startio ∷ or_none d.dpc ∷ waiting_byte edition d.startio_cancel
     ∷ (flat_map queue_bytes d.queues ++ (flat_map routine_bytes d.routines ++ rest)) =
     ap (λ t. length d.routines ∷ length d.queues ∷ or_none d.read ∷ or_none d.write
-    ∷ or_none d.control ∷ or_none d.startio ∷ or_none d.dpc ∷ 0 ∷ t)
+    ∷ or_none d.control ∷ or_none d.startio ∷ or_none d.dpc
+    ∷ waiting_byte edition d.startio_cancel ∷ t)
     (append_assoc (flat_map queue_bytes d.queues) (flat_map routine_bytes d.routines) rest) in
-    ap driver_at regrouped
+    ap (driver_at edition) regrouped
     ∙ rw (
       at_most_again MAX_ROUTINES (length d.routines) h.few,
       at_most_again MAX_QUEUES (length d.queues) h.few_queues,
@@ -235,7 +281,9 @@ driver_again number d rest h =
       none_or_below_again (length d.routines) few d.dpc
           (named_below IsDpc d.routines d.dpc h.dpc),
     )
-    (rw listed (rw coded refl)))
+    (rw (waiting_again edition (length d.routines) few d.startio_cancel
+    (waiting_below d.routines d.startio d.startio_cancel h.waiting) had.0)
+    (rw listed (rw coded refl))))
 
 device_again : (drivers : ℕ)
     → EachAgain (device_at drivers) device_bytes
@@ -255,32 +303,48 @@ devices_fit drivers number [] few h = tt
 devices_fit drivers number (device ∷ devices) few h =
     ((h.0, omega (arith, few)), devices_fit drivers (suc number) devices (omega (arith, few)) h.1)
 
--- a set that is sound is read of its spelling, whatever stands behind it
-pub set_again : (set : Set) (rest : List ℕ) → IsSound set
-    → set_at (spelling set ++ rest) ≡ Ok (set, rest)
+-- a set that is sound is read of its spellings, whatever stands behind them
+spelling_again : (edition : Edition) (set : Set) (rest : List ℕ) → HasSpelling edition set
+    → IsSound set → set_at (spelling edition set ++ rest) ≡ Ok (set, rest)
 unfolding set_at letters_at
-set_again set rest h =
-    let first = all_again (λ _. driver_at) driver_bytes (λ _. DriverFits) driver_again 0 set.drivers
-    (flat_map device_bytes set.devices ++ rest) (from_all DriverFits 0 set.drivers h.drivers) in
+spelling_again edition set rest spells h =
+    let fits = drivers_fit edition set.drivers
+    (has_each edition is_of_second set.drivers (has_set edition set spells))
+    (recursion_from_All _ set.drivers h.drivers) in
+    let first = all_again (λ _. driver_at edition) (driver_bytes edition)
+    (λ _. DriverSpells edition) (driver_again edition) 0 set.drivers
+    (flat_map device_bytes set.devices ++ rest)
+    (from_recursion (DriverSpells edition) 0 set.drivers fits) in
     let second = all_again (device_at (length set.drivers)) device_bytes
     (λ number device. DeviceFits (length set.drivers) number device × (number ≤ 255))
     (device_again (length set.drivers)) 0 set.devices rest
     (devices_fit (length set.drivers) 0 set.devices (omega (arith, h.few_devices)) h.devices) in
-    let regrouped : spelling set ++ rest
-    ≡ 0x44 ∷ 0x56 ∷ 0x42 ∷ 0x31 ∷ length set.drivers ∷ length set.devices ∷ 0 ∷ 0
-    ∷ (flat_map driver_bytes set.drivers ++ (flat_map device_bytes set.devices ++ rest)) =
-    ap (λ t. 0x44 ∷ 0x56 ∷ 0x42 ∷ 0x31 ∷ length set.drivers ∷ length set.devices ∷ 0 ∷ 0 ∷ t)
-    (append_assoc (flat_map driver_bytes set.drivers) (flat_map device_bytes set.devices) rest) in
+    let drivers = flat_map (driver_bytes edition) set.drivers in
+    let devices = flat_map device_bytes set.devices in
+    let regrouped : spelling edition set ++ rest
+    ≡ 0x44 ∷ 0x56 ∷ 0x42 ∷ edition_digit edition
+    ∷ length set.drivers ∷ length set.devices ∷ 0 ∷ 0 ∷ (drivers ++ (devices ++ rest)) =
+    ap (λ t. 0x44 ∷ 0x56 ∷ 0x42 ∷ edition_digit edition
+    ∷ length set.drivers ∷ length set.devices ∷ 0 ∷ 0 ∷ t) (append_assoc drivers devices rest) in
     ap set_at regrouped
     ∙ rw (
+      edition_again edition,
       at_most_again MAX_DRIVERS (length set.drivers) h.few_drivers,
       at_most_again MAX_DEVICES (length set.devices) h.few_devices,
     )
     (rw first (rw second refl))
 
--- and of its spelling alone
-pub read_of_spelling : (set : Set) → IsSound set → set_in (spelling set) ≡ Ok set
-read_of_spelling set h =
-    let again : set_at (spelling set) ≡ Ok (set, []) =
-    ap set_at (sym (append-nil (spelling set))) ∙ set_again set [] h in
+pub set_again : (bytes : List ℕ) (set : Set) (rest : List ℕ) → IsSound set → Spells bytes set
+    → set_at (bytes ++ rest) ≡ Ok (set, rest)
+set_again bytes set rest h (inl spells) =
+    ap (λ text. set_at (text ++ rest)) spells.1 ∙ spelling_again Former set rest spells.0 h
+set_again bytes set rest h (inr spells) =
+    ap (λ text. set_at (text ++ rest)) spells.1 ∙ spelling_again Current set rest spells.0 h
+
+-- and of a spelling alone
+pub read_of_spelling : (bytes : List ℕ) (set : Set) → IsSound set → Spells bytes set
+    → set_in bytes ≡ Ok set
+read_of_spelling bytes set h spells =
+    let again : set_at bytes ≡ Ok (set, []) =
+    ap set_at (sym (append-nil bytes)) ∙ set_again bytes set [] h spells in
     rw again refl

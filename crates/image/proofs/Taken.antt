@@ -6,13 +6,17 @@ use Rattle.std.proofs.lemmas.Bool.{cases_lt, eqb-true, ltb-false}
 use Rattle.std.proofs.lemmas.List.{append-nil, nil_from_length, take-append-drop, length-take, get_or-drop, get_or-take, get_or_past}
 use Rattle.std.proofs.lemmas.List.Concat.{flat_map-cons}
 use Rattle.std.proofs.lemmas.Nat.{le_bytes_2, le_bytes_4}
+use Rattle.image.specs.declared.edition.Edition.{Edition}
+use Rattle.image.specs.declared.edition.Edition.TheVariants.{Former, Current}
 use Rattle.image.specs.declared.fault.ImageFault.{ImageFault}
 use Rattle.image.specs.declared.fault.ImageFault.TheVariants.{Trailing, Truncated}
-use Rattle.image.specs.declared.reading.Counts.{Counts}
+use Rattle.image.specs.declared.reading.Scope.{Scope}
 use Rattle.image.specs.declared.word.Word.{Word}
-use Rattle.image.specs.Reading.{◌>>=◌, all_at, at_most, byte_at, count_at, counted, device_at, driver_at, field_at, instruction_at, instruction_in, letter, letters_at, lock_in, none_or_below, queue_at, routine_at, set_at, set_in, word_at, word_in, Read}
-use Rattle.image.specs.Spelling.{device_bytes, driver_bytes, instruction_bytes, or_none, queue_bytes, routine_bytes, sort_number, spelling, word_bytes}
-use Rattle.image.proofs.Numbers.{IsInverse, at_most_inverse, below_inverse, bind_ok, letter_inverse, none_or_below_inverse, ok_is, one_ok, passed, sort_inverse, stack_inverse, unused_inverse}
+use Rattle.image.specs.Reading.{◌>>=◌, all_at, at_most, byte_at, count_at, scoped, device_at, driver_at, field_at, instruction_at, instruction_in, letter, letters_at, lock_in, none_or_below, queue_at, routine_at, set_at, set_in, word_at, word_in, Read}
+use Rattle.image.specs.Spelling.{device_bytes, driver_bytes, edition_digit, instruction_bytes, or_none, queue_bytes, routine_bytes, sort_number, spelling, waiting_byte, word_bytes, HasSpelling, Spells, SpellsIn}
+use Rattle.image.proofs.Numbers.{IsInverse, at_most_inverse, below_inverse, bind_ok, edition_inverse, letter_inverse, none_or_below_inverse, ok_is, one_ok, passed, sort_inverse, stack_inverse, unused_inverse, waiting_inverse}
+use Rattle.image.proofs.Fields.{driver_lists, set_lists}
+use Rattle.image.proofs.OfEdition.{set_lists_had}
 use Rattle.image.proofs.Words.{instruction_takes}
 use Rattle.model.specs.declared.instr.Instr.{Instr}
 use Rattle.model.specs.declared.limits.TheConstants.{MAX_DEVICES, MAX_DRIVERS, MAX_INSTRUCTIONS, MAX_QUEUES, MAX_ROUTINES, SPIN_LOCKS}
@@ -124,15 +128,15 @@ word_takes bytes x fits e =
       behind = field.behind;
     })
 
-read_takes : (counts : Counts) (bytes : List ℕ) (x : Instr × List ℕ) → IsBytes bytes
-    → instruction_at counts bytes ≡ Ok x → Takes bytes (instruction_bytes x.0) x.1
-read_takes counts bytes x fits e =
+read_takes : (scope : Scope) (bytes : List ℕ) (x : Instr × List ℕ) → IsBytes bytes
+    → instruction_at scope bytes ≡ Ok x → Takes bytes (instruction_bytes x.0) x.1
+read_takes scope bytes x fits e =
     let a = bind_ok (word_at bytes) _ x e in
-    let i = one_ok (λ i. (i, a.0.1)) (instruction_in counts a.0.0) x a.2 in
+    let i = one_ok (λ i. (i, a.0.1)) (instruction_in scope a.0.0) x a.2 in
     let taken = word_takes bytes a.0 fits a.1 in
     subst (λ y. Takes bytes (instruction_bytes y.0) y.1) i.2
     (subst (λ w. Takes bytes (word_bytes w) a.0.1)
-    (sym (instruction_takes counts a.0.0 i.0 i.1)) taken)
+    (sym (instruction_takes scope a.0.0 i.0 i.1)) taken)
 
 -- so many things of one kind
 abbrev EachTakes : {A : Type 0} → (ℕ → List ℕ → Read A) → (A → List ℕ) → Type 0
@@ -192,18 +196,19 @@ all_then item by each number count bytes f x fits e next =
     next a.0.0 a.0.1 taken.0.parts taken.1 taken.0.behind a.2
 
 -- the code of a routine behind its sort and a zero
-routine_rest : (routines queues : ℕ) (sort : Sort) (bytes behind : List ℕ)
+routine_rest : (edition : Edition) (routines queues : ℕ) (sort : Sort) (bytes behind : List ℕ)
     (x : Routine × List ℕ)
     → bytes ≡ sort_number sort ∷ 0 ∷ behind → IsBytes behind
     → (count_at behind >>= λ count.
-    all_at (λ _. instruction_at (counted routines queues count.0)) 0 count.0 count.1 >>= λ code.
+    all_at (λ _. instruction_at (scoped edition routines queues count.0)) 0 count.0 count.1
+    >>= λ code.
     Ok (record { sort = sort; code = code.0 }, code.1)) ≡ Ok x
     → Takes bytes (routine_bytes x.0) x.1
-routine_rest routines queues sort bytes behind x front fits e =
+routine_rest edition routines queues sort bytes behind x front fits e =
     let c = bind_ok (count_at behind) _ x e in
-    let counts = counted routines queues c.0.0 in
+    let scope = scoped edition routines queues c.0.0 in
     let taken = count_takes behind c.0 fits c.1 in
-    all_then (λ _. instruction_at counts) instruction_bytes (λ n. read_takes counts) 0 c.0.0 c.0.1 _
+    all_then (λ _. instruction_at scope) instruction_bytes (λ n. read_takes scope) 0 c.0.0 c.0.1 _
     x taken.behind c.2
     (λ code rest parts long last e_last.
     let back : behind ≡ to_le_bytes w16 c.0.0 ++ (flat_map instruction_bytes code ++ rest) =
@@ -216,13 +221,14 @@ routine_rest routines queues sort bytes behind x front fits e =
       behind = last;
     }))
 
-routine_takes : (routines queues : ℕ) → EachTakes (λ _. routine_at routines queues) routine_bytes
+routine_takes : (edition : Edition) (routines queues : ℕ)
+    → EachTakes (λ _. routine_at edition routines queues) routine_bytes
 unfolding routine_at
-routine_takes routines queues number bytes x fits e =
+routine_takes edition routines queues number bytes x fits e =
     byte_then sort_inverse bytes _ x fits e (λ sort r0 p0 f0 e0.
     byte_then unused_inverse r0 _ x f0 e0 (λ blank r1 p1 f1 e1.
     let front : bytes ≡ sort_number sort ∷ 0 ∷ r1 = cc in
-    routine_rest routines queues sort bytes r1 x front f1 e1))
+    routine_rest edition routines queues sort bytes r1 x front f1 e1))
 
 device_takes : (drivers : ℕ) → EachTakes (device_at drivers) device_bytes
 unfolding device_at
@@ -243,46 +249,35 @@ lists_are bytes head first second middle rest front back =
     ∙ sym (append_assoc head (first ++ second) rest)
 
 -- the lists of a driver behind its first eight fields
-driver_rest : (routines queues : ℕ) (read write control startio dpc : Option ℕ)
-    (bytes behind : List ℕ) (x : Driver × List ℕ)
+driver_rest : (edition : Edition) (routines queues : ℕ)
+    (read write control startio dpc waiting : Option ℕ) (bytes behind : List ℕ)
+    (x : Driver × List ℕ)
     → bytes ≡ (routines ∷ queues ∷ or_none read ∷ or_none write ∷ or_none control
-    ∷ or_none startio ∷ or_none dpc ∷ 0 ∷ []) ++ behind
+    ∷ or_none startio ∷ or_none dpc ∷ waiting_byte edition waiting ∷ []) ++ behind
     → IsBytes behind
-    → (all_at (λ _. queue_at routines) 0 queues behind >>= λ listed.
-    all_at (λ _. routine_at routines queues) 0 routines listed.1 >>= λ coded.
-    Ok (
-      record {
-        routines = coded.0;
-        queues = listed.0;
-        read = read;
-        write = write;
-        control = control;
-        startio = startio;
-        dpc = dpc;
-      },
-      coded.1,
-    )) ≡ Ok x
-    → Takes bytes (driver_bytes x.0) x.1
-driver_rest routines queues read write control startio dpc bytes behind x front fits e =
+    → driver_lists edition routines queues read write control startio dpc waiting behind ≡ Ok x
+    → Takes bytes (driver_bytes edition x.0) x.1
+driver_rest edition routines queues read write control startio dpc waiting bytes behind x front fits
+    e =
     all_then (λ _. queue_at routines) queue_bytes (queue_takes routines) 0 queues behind _ x fits e
     (λ listed r0 p0 l0 f0 e0.
-    all_then (λ _. routine_at routines queues) routine_bytes (routine_takes routines queues) 0
-    routines r0 _ x f0 e0
+    all_then (λ _. routine_at edition routines queues) routine_bytes
+    (routine_takes edition routines queues) 0 routines r0 _ x f0 e0
     (λ coded r1 p1 l1 f1 e1.
     let back : behind ≡ flat_map queue_bytes listed ++ (flat_map routine_bytes coded ++ r1) =
     p0 ∙ ap (λ t. flat_map queue_bytes listed ++ t) p1 in
-    subst (λ y. Takes bytes (driver_bytes y.0) y.1) (ok_is _ x e1)
+    subst (λ y. Takes bytes (driver_bytes edition y.0) y.1) (ok_is _ x e1)
     (record {
       parts = rw (l0, l1) (lists_are bytes
           (routines ∷ queues ∷ or_none read ∷ or_none write ∷ or_none control ∷ or_none startio
-          ∷ or_none dpc ∷ 0 ∷ [])
+          ∷ or_none dpc ∷ waiting_byte edition waiting ∷ [])
           (flat_map queue_bytes listed) (flat_map routine_bytes coded) behind r1 front back);
       behind = f1;
     })))
 
-driver_takes : EachTakes (λ _. driver_at) driver_bytes
+driver_takes : (edition : Edition) → EachTakes (λ _. driver_at edition) (driver_bytes edition)
 unfolding driver_at
-driver_takes number bytes x fits e =
+driver_takes edition number bytes x fits e =
     byte_then (at_most_inverse MAX_ROUTINES) bytes _ x fits e (λ n r0 p0 f0 e0.
     byte_then (at_most_inverse MAX_QUEUES) r0 _ x f0 e0 (λ m r1 p1 f1 e1.
     byte_then (none_or_below_inverse n) r1 _ x f1 e1 (λ read r2 p2 f2 e2.
@@ -290,13 +285,13 @@ driver_takes number bytes x fits e =
     byte_then (none_or_below_inverse n) r3 _ x f3 e3 (λ control r4 p4 f4 e4.
     byte_then (none_or_below_inverse n) r4 _ x f4 e4 (λ startio r5 p5 f5 e5.
     byte_then (none_or_below_inverse n) r5 _ x f5 e5 (λ dpc r6 p6 f6 e6.
-    byte_then unused_inverse r6 _ x f6 e6 (λ blank r7 p7 f7 e7.
+    byte_then (waiting_inverse edition n) r6 _ x f6 e6 (λ waiting r7 p7 f7 e7.
     let front : bytes ≡ n ∷ m ∷ or_none read ∷ or_none write ∷ or_none control ∷ or_none startio
-    ∷ or_none dpc ∷ 0 ∷ r7 = cc in
-    driver_rest n m read write control startio dpc bytes r7 x front f7 e7))))))))
+    ∷ or_none dpc ∷ waiting_byte edition waiting ∷ r7 = cc in
+    driver_rest edition n m read write control startio dpc waiting bytes r7 x front f7 e7))))))))
 
-letters_take : (bytes : List ℕ) (x : ℕ × List ℕ) → IsBytes bytes → letters_at bytes ≡ Ok x
-    → Takes bytes (0x44 ∷ 0x56 ∷ 0x42 ∷ 0x31 ∷ []) x.1
+letters_take : (bytes : List ℕ) (x : Edition × List ℕ) → IsBytes bytes → letters_at bytes ≡ Ok x
+    → Takes bytes (0x44 ∷ 0x56 ∷ 0x42 ∷ edition_digit x.0 ∷ []) x.1
 unfolding letters_at
 letters_take bytes x fits e =
     let a0 = bind_ok (byte_at (letter 0x44) bytes) _ x e in
@@ -305,55 +300,70 @@ letters_take bytes x fits e =
     let t0 = byte_takes (letter_inverse 0x44) bytes a0.0 fits a0.1 in
     let t1 = byte_takes (letter_inverse 0x56) a0.0.1 a1.0 t0.behind a1.1 in
     let t2 = byte_takes (letter_inverse 0x42) a1.0.1 a2.0 t1.behind a2.1 in
-    let t3 = byte_takes (letter_inverse 0x31) a2.0.1 x t2.behind a2.2 in
-    let u2 = then_takes a1.0.1 (0x42 ∷ []) a2.0.1 (0x31 ∷ []) x.1 t2 t3 in
-    let u1 = then_takes a0.0.1 (0x56 ∷ []) a1.0.1 (0x42 ∷ 0x31 ∷ []) x.1 t1 u2 in
-    then_takes bytes (0x44 ∷ []) a0.0.1 (0x56 ∷ 0x42 ∷ 0x31 ∷ []) x.1 t0 u1
+    let digit = edition_digit x.0 in
+    let t3 = byte_takes edition_inverse a2.0.1 x t2.behind a2.2 in
+    let u2 = then_takes a1.0.1 (0x42 ∷ []) a2.0.1 (digit ∷ []) x.1 t2 t3 in
+    let u1 = then_takes a0.0.1 (0x56 ∷ []) a1.0.1 (0x42 ∷ digit ∷ []) x.1 t1 u2 in
+    then_takes bytes (0x44 ∷ []) a0.0.1 (0x56 ∷ 0x42 ∷ digit ∷ []) x.1 t0 u1
 
 -- the lists of a set behind its first eight fields
-set_rest : (drivers devices : ℕ) (bytes behind : List ℕ) (x : Set × List ℕ)
-    → bytes ≡ (0x44 ∷ 0x56 ∷ 0x42 ∷ 0x31 ∷ drivers ∷ devices ∷ 0 ∷ 0 ∷ []) ++ behind
+set_rest : (edition : Edition) (drivers devices : ℕ) (bytes behind : List ℕ) (x : Set × List ℕ)
+    → bytes ≡ (0x44 ∷ 0x56 ∷ 0x42 ∷ edition_digit edition ∷ drivers ∷ devices ∷ 0 ∷ 0 ∷ [])
+    ++ behind
     → IsBytes behind
-    → (all_at (λ _. driver_at) 0 drivers behind >>= λ first.
-    all_at (device_at drivers) 0 devices first.1 >>= λ second.
-    Ok (record { drivers = first.0; devices = second.0 }, second.1)) ≡ Ok x
-    → Takes bytes (spelling x.0) x.1
-set_rest drivers devices bytes behind x front fits e =
-    all_then (λ _. driver_at) driver_bytes driver_takes 0 drivers behind _ x fits e
+    → set_lists edition drivers devices behind ≡ Ok x
+    → Takes bytes (spelling edition x.0) x.1
+set_rest edition drivers devices bytes behind x front fits e =
+    all_then (λ _. driver_at edition) (driver_bytes edition) (driver_takes edition) 0 drivers behind
+    _ x fits e
     (λ first r0 p0 l0 f0 e0.
     all_then (device_at drivers) device_bytes (device_takes drivers) 0 devices r0 _ x f0 e0
     (λ second r1 p1 l1 f1 e1.
-    let back : behind ≡ flat_map driver_bytes first ++ (flat_map device_bytes second ++ r1) =
-    p0 ∙ ap (λ t. flat_map driver_bytes first ++ t) p1 in
-    subst (λ y. Takes bytes (spelling y.0) y.1) (ok_is _ x e1)
+    let back : behind ≡ flat_map (driver_bytes edition) first
+    ++ (flat_map device_bytes second ++ r1) =
+    p0 ∙ ap (λ t. flat_map (driver_bytes edition) first ++ t) p1 in
+    subst (λ y. Takes bytes (spelling edition y.0) y.1) (ok_is _ x e1)
     (record {
       parts = rw (l0, l1) (lists_are bytes
-          (0x44 ∷ 0x56 ∷ 0x42 ∷ 0x31 ∷ drivers ∷ devices ∷ 0 ∷ 0 ∷ [])
-          (flat_map driver_bytes first) (flat_map device_bytes second) behind r1 front back);
+          (0x44 ∷ 0x56 ∷ 0x42 ∷ edition_digit edition ∷ drivers ∷ devices ∷ 0 ∷ 0 ∷ [])
+          (flat_map (driver_bytes edition) first) (flat_map device_bytes second) behind r1 front
+          back);
       behind = f1;
     })))
 
 set_takes : (bytes : List ℕ) (x : Set × List ℕ) → IsBytes bytes → set_at bytes ≡ Ok x
-    → Takes bytes (spelling x.0) x.1
+    → (edition : Edition) × HasSpelling edition x.0 × Takes bytes (spelling edition x.0) x.1
 unfolding set_at
 set_takes bytes x fits e =
     let a = bind_ok (letters_at bytes) _ x e in
     let letters = letters_take bytes a.0 fits a.1 in
+    let edition = a.0.0 in
     byte_then (at_most_inverse MAX_DRIVERS) a.0.1 _ x letters.behind a.2 (λ n r0 p0 f0 e0.
     byte_then (at_most_inverse MAX_DEVICES) r0 _ x f0 e0 (λ m r1 p1 f1 e1.
     byte_then unused_inverse r1 _ x f1 e1 (λ blank r2 p2 f2 e2.
     byte_then unused_inverse r2 _ x f2 e2 (λ blank_too r3 p3 f3 e3.
-    let front : a.0.1 ≡ n ∷ m ∷ 0 ∷ 0 ∷ r3 = cc in
-    set_rest n m bytes r3 x
-    (letters.parts ∙ ap (λ t. (0x44 ∷ 0x56 ∷ 0x42 ∷ 0x31 ∷ []) ++ t) front) f3 e3))))
+    let front : a.0.1 ≡ n ∷ m ∷ 0 ∷ 0 ∷ r3 = cc in (
+      edition,
+      set_lists_had edition n m r3 x e3,
+      set_rest edition n m bytes r3 x
+          (letters.parts ∙ ap (λ t. (0x44 ∷ 0x56 ∷ 0x42 ∷ edition_digit edition ∷ []) ++ t) front)
+          f3 e3,
+    )))))
+
+spells_in : (edition : Edition) (bytes : List ℕ) (set : Set) → SpellsIn edition bytes set
+    → Spells bytes set
+spells_in Former bytes set h = inl h
+spells_in Current bytes set h = inr h
 
 -- bytes whose fields name a set spell it
 pub spelled : (bytes : List ℕ) (set : Set) → IsBytes bytes → set_in bytes ≡ Ok set
-    → bytes ≡ spelling set
+    → Spells bytes set
 spelled bytes set fits e =
     let a = bind_ok (set_at bytes) _ set e in
     let none = passed (eqb (length a.0.1) 0) Trailing a.0.0 set a.2 in
     let empty : a.0.1 ≡ [] = nil_from_length a.0.1 (eqb-true _ _ none.0) in
-    let taken = (set_takes bytes a.0 fits a.1).parts in
-    subst (λ y. bytes ≡ spelling y) none.1
-    (taken ∙ ap (λ rest. spelling a.0.0 ++ rest) empty ∙ append-nil (spelling a.0.0))
+    let taken = set_takes bytes a.0 fits a.1 in
+    let text = spelling taken.0 a.0.0 in
+    subst (Spells bytes) none.1
+    (spells_in taken.0 bytes a.0.0
+    (taken.1, taken.2.parts ∙ ap (λ rest. text ++ rest) empty ∙ append-nil text))

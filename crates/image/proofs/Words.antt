@@ -1,16 +1,20 @@
 -- The instruction that is read of a word is spelled by that word.
-use Rattle.std.proofs.Common.{◌≡◌, ℕ, ◌&&◌, ◌||◌, Bool, true, false, cond, nat_eq, Result, Ok, Err, refl, subst, ◌∙◌}
+use Rattle.std.proofs.Common.{◌≡◌, ℕ, ◌&&◌, ◌||◌, Bool, true, false, cond, nat_eq, Result, Ok, Err, refl, ap, subst, ◌∙◌}
 use Rattle.std.proofs.lemmas.Bool.{and_parts}
+use Rattle.image.specs.declared.edition.Edition.{Edition}
+use Rattle.image.specs.declared.edition.Edition.TheVariants.{Former, Current}
 use Rattle.image.specs.declared.fault.ImageFault.{ImageFault}
 use Rattle.image.specs.declared.fault.ImageFault.TheVariants.{BadOpcode}
-use Rattle.image.specs.declared.reading.Counts.{Counts}
+use Rattle.image.specs.declared.reading.Scope.{Scope}
 use Rattle.image.specs.declared.word.Word.{Word}
-use Rattle.image.specs.Reading.{one, two, three, instruction_in, is_zero_from, leaves, on_cells, on_packets, on_queues, register_in, returned, using}
+use Rattle.image.specs.Reading.{one, two, three, dequeue_in, instruction_in, is_zero_from, leaves, on_cells, on_packets, on_queues, register_in, returned, using}
 use Rattle.image.specs.Spelling.{word, word_of}
+use Rattle.image.proofs.Editions.{Has}
 use Rattle.image.proofs.Numbers.{IsInverse, below_inverse, field_inverse, none_or_below_inverse, status_inverse, turns_inverse, bind_ok, ok_is, one_ok, row_is, zero_test}
 use Rattle.model.specs.declared.instr.Instr.{Instr}
-use Rattle.model.specs.declared.instr.Instr.TheVariants.{Const, Move, Clear, Add, Subtract, JumpIfZero, JumpIfLess, Jump, Loop, End, Load, Store, LoadPaged, StorePaged, Get, Put, Mark, Acquire, Release, AcquireCancel, ReleaseCancel, Insert, Remove, Unlink, Arm, Disarm, IfCancel, Start, Take, Begin, Next, Pass, Call, Complete, IfPending, Ret}
+use Rattle.model.specs.declared.instr.Instr.TheVariants.{Const, Move, Clear, Add, Subtract, JumpIfZero, JumpIfLess, Jump, Loop, End, Load, Store, LoadPaged, StorePaged, Get, Put, Mark, Acquire, Release, AcquireCancel, ReleaseCancel, Insert, Remove, Unlink, Arm, Disarm, IfCancel, Start, Take, Begin, Next, Dequeue, Pass, Call, Complete, IfPending, Ret}
 use Rattle.model.specs.declared.instr.Return.TheVariants.{WithStatus, Lower, Continue, Stop, Void}
+use Rattle.model.specs.Edition.{is_dequeue}
 use Rattle.model.specs.declared.limits.TheConstants.{CELLS, REGISTERS, SPIN_LOCKS}
 
 word_is : (w : Word) (number first second third last : ℕ) → w.number ≡ number → w.first ≡ first
@@ -235,18 +239,24 @@ returned_takes w i is e =
     row_is w.first 4 _ _ i e4 (λ form said. bare_row (Ret Void) 4 w i refl is form said)
     (λ e5. absurd cc)))))
 
-packets_takes : (counts : Counts) (w : Word) (i : Instr) → on_packets counts w ≡ Ok i
+dequeue_takes : (edition : Edition) (w : Word) (i : Instr) → w.number ≡ 37
+    → dequeue_in edition w ≡ Ok i → word_of i ≡ w
+dequeue_takes Former w i is e = absurd cc
+dequeue_takes Current w i is e =
+    first_row (below_inverse REGISTERS) Dequeue 37 w i (λ a. refl) is e
+
+packets_takes : (scope : Scope) (w : Word) (i : Instr) → on_packets scope w ≡ Ok i
     → word_of i ≡ w
-packets_takes counts w i e =
+packets_takes scope w i e =
     row_is w.number 27 _ _ i e
-    (λ is said. wide_row (below_inverse REGISTERS) (below_inverse counts.positions) IfCancel 27 w i
+    (λ is said. wide_row (below_inverse REGISTERS) (below_inverse scope.positions) IfCancel 27 w i
     (λ a b. refl) is said)
     (λ e27.
     row_is w.number 28 _ _ i e27
     (λ is said. first_row (below_inverse REGISTERS) Start 28 w i (λ a. refl) is said)
     (λ e28.
     row_is w.number 29 _ _ i e28
-    (λ is said. wide_row (below_inverse REGISTERS) (below_inverse counts.positions) Take 29 w i
+    (λ is said. wide_row (below_inverse REGISTERS) (below_inverse scope.positions) Take 29 w i
     (λ a b. refl) is said)
     (λ e29.
     row_is w.number 30 _ _ i e29
@@ -259,7 +269,7 @@ packets_takes counts w i e =
     (λ is said. first_row (below_inverse REGISTERS) Pass 32 w i (λ a. refl) is said)
     (λ e32.
     row_is w.number 33 _ _ i e32
-    (λ is said. two_row (below_inverse REGISTERS) (none_or_below_inverse counts.routines) Call 33 w
+    (λ is said. two_row (below_inverse REGISTERS) (none_or_below_inverse scope.routines) Call 33 w
     i (λ a b. refl) is said)
     (λ e33.
     row_is w.number 34 _ _ i e33
@@ -267,15 +277,18 @@ packets_takes counts w i e =
     (λ a b. refl) is said)
     (λ e34.
     row_is w.number 35 _ _ i e34
-    (λ is said. wide_row (below_inverse REGISTERS) (below_inverse counts.positions) IfPending 35 w
+    (λ is said. wide_row (below_inverse REGISTERS) (below_inverse scope.positions) IfPending 35 w
     i (λ a b. refl) is said)
     (λ e35.
     row_is w.number 36 _ _ i e35
     (λ is said. returned_takes w i is said)
-    (λ e36. absurd cc))))))))))
+    (λ e36.
+    row_is w.number 37 _ _ i e36
+    (λ is said. dequeue_takes scope.edition w i is said)
+    (λ e37. absurd cc)))))))))))
 
-queues_takes : (counts : Counts) (w : Word) (i : Instr) → on_queues counts w ≡ Ok i → word_of i ≡ w
-queues_takes counts w i e =
+queues_takes : (scope : Scope) (w : Word) (i : Instr) → on_queues scope w ≡ Ok i → word_of i ≡ w
+queues_takes scope w i e =
     row_is w.number 18 _ _ i e
     (λ is said. first_row (below_inverse SPIN_LOCKS) Acquire 18 w i (λ a. refl) is said)
     (λ e18.
@@ -289,29 +302,29 @@ queues_takes counts w i e =
     (λ is said. none_row ReleaseCancel 21 w i refl is said)
     (λ e21.
     row_is w.number 22 _ _ i e21
-    (λ is said. two_row (below_inverse REGISTERS) (below_inverse counts.queues) Insert 22 w i
+    (λ is said. two_row (below_inverse REGISTERS) (below_inverse scope.queues) Insert 22 w i
     (λ a b. refl) is said)
     (λ e22.
     row_is w.number 23 _ _ i e22
-    (λ is said. two_wide_row (below_inverse REGISTERS) (below_inverse counts.queues)
-    (below_inverse counts.positions) Remove 23 w i (λ a b c. refl) is said)
+    (λ is said. two_wide_row (below_inverse REGISTERS) (below_inverse scope.queues)
+    (below_inverse scope.positions) Remove 23 w i (λ a b c. refl) is said)
     (λ e23.
     row_is w.number 24 _ _ i e23
-    (λ is said. two_row (below_inverse REGISTERS) (below_inverse counts.queues) Unlink 24 w i
+    (λ is said. two_row (below_inverse REGISTERS) (below_inverse scope.queues) Unlink 24 w i
     (λ a b. refl) is said)
     (λ e24.
     row_is w.number 25 _ _ i e24
-    (λ is said. two_row (below_inverse REGISTERS) (below_inverse counts.queues) Arm 25 w i
+    (λ is said. two_row (below_inverse REGISTERS) (below_inverse scope.queues) Arm 25 w i
     (λ a b. refl) is said)
     (λ e25.
     row_is w.number 26 _ _ i e25
-    (λ is said. wide_row (below_inverse REGISTERS) (below_inverse counts.positions) Disarm 26 w i
+    (λ is said. wide_row (below_inverse REGISTERS) (below_inverse scope.positions) Disarm 26 w i
     (λ a b. refl) is said)
     (λ e26.
-    packets_takes counts w i e26)))))))))
+    packets_takes scope w i e26)))))))))
 
-cells_takes : (counts : Counts) (w : Word) (i : Instr) → on_cells counts w ≡ Ok i → word_of i ≡ w
-cells_takes counts w i e =
+cells_takes : (scope : Scope) (w : Word) (i : Instr) → on_cells scope w ≡ Ok i → word_of i ≡ w
+cells_takes scope w i e =
     row_is w.number 10 _ _ i e
     (λ is said. none_row End 10 w i refl is said)
     (λ e10.
@@ -342,11 +355,11 @@ cells_takes counts w i e =
     row_is w.number 17 _ _ i e16
     (λ is said. first_row (below_inverse REGISTERS) Mark 17 w i (λ a. refl) is said)
     (λ e17.
-    queues_takes counts w i e17))))))))
+    queues_takes scope w i e17))))))))
 
-pub instruction_takes : (counts : Counts) (w : Word) (i : Instr) → instruction_in counts w ≡ Ok i
+pub instruction_takes : (scope : Scope) (w : Word) (i : Instr) → instruction_in scope w ≡ Ok i
     → word_of i ≡ w
-instruction_takes counts w i e =
+instruction_takes scope w i e =
     row_is w.number 1 _ _ i e
     (λ is said. const_row w i is said)
     (λ e1.
@@ -366,17 +379,34 @@ instruction_takes counts w i e =
     (λ a b. refl) is said)
     (λ e5.
     row_is w.number 6 _ _ i e5
-    (λ is said. wide_row (below_inverse REGISTERS) (below_inverse counts.positions) JumpIfZero 6 w
+    (λ is said. wide_row (below_inverse REGISTERS) (below_inverse scope.positions) JumpIfZero 6 w
     i (λ a b. refl) is said)
     (λ e6.
     row_is w.number 7 _ _ i e6
     (λ is said. two_wide_row (below_inverse REGISTERS) (below_inverse REGISTERS)
-    (below_inverse counts.positions) JumpIfLess 7 w i (λ a b c. refl) is said)
+    (below_inverse scope.positions) JumpIfLess 7 w i (λ a b c. refl) is said)
     (λ e7.
     row_is w.number 8 _ _ i e7
-    (λ is said. last_row (below_inverse counts.positions) Jump 8 w i (λ a. refl) is said)
+    (λ is said. last_row (below_inverse scope.positions) Jump 8 w i (λ a. refl) is said)
     (λ e8.
     row_is w.number 9 _ _ i e8
     (λ is said. last_row turns_inverse Loop 9 w i (λ a. refl) is said)
     (λ e9.
-    cells_takes counts w i e9)))))))))
+    cells_takes scope w i e9)))))))))
+
+-- an instruction that is read of a word is one of the edition
+dequeue_had : (edition : Edition) (r : ℕ)
+    → dequeue_in edition (word 37 r 0 0 0) ≡ Ok (Dequeue r) → Has edition true
+dequeue_had Former r e = absurd cc
+dequeue_had Current r e = tt
+
+other_had : (edition : Edition) → Has edition false
+other_had Former = refl
+other_had Current = tt
+
+pub instruction_had : (scope : Scope) (w : Word) (i : Instr) → instruction_in scope w ≡ Ok i
+    → Has scope.edition (is_dequeue i)
+instruction_had scope w (Dequeue r) e =
+    dequeue_had scope.edition r
+    (ap (instruction_in scope) (instruction_takes scope w (Dequeue r) e) ∙ e)
+instruction_had scope w _ e = other_had scope.edition

@@ -1,18 +1,22 @@
--- The fields of an image in order, and the first that is at fault. A field is one byte, the count
+-- The fields of an image of either edition in order, and the first that is at fault. The fourth
+-- byte tells the edition, by which two fields differ: the last of a driver's first eight bytes, and
+-- whether an instruction is `dequeue`. A field is one byte, the count
 -- of a routine's instructions in two, or a whole word of eight. One that isn't whole is Truncated.
 -- In a field that is whole, a number that nothing has and a byte that must be zero and isn't are
 -- BadOpcode; else a number out of its range, or one that names nothing, is OverLimit.
 use Rattle.std.specs.Prelude.{ℕ, zero, suc, ⊤, ◌≡◌, ◌⊎◌, ◌==◌, ◌&&◌, ◌||◌, Bool, true, false, nat_lt, nat_le, List, [], ◌∷◌, length, get_or, take, drop, Option, None, Some, Result, Ok, Err, if◌then◌else◌}
 use Rattle.std.specs.Int.{w16, w32, from_le_bytes}
+use Rattle.image.specs.declared.edition.Edition.{Edition}
+use Rattle.image.specs.declared.edition.Edition.TheVariants.{Former, Current}
 use Rattle.image.specs.declared.fault.ImageFault.{ImageFault}
 use Rattle.image.specs.declared.fault.ImageFault.TheVariants.{Magic, Truncated, Trailing, BadOpcode, OverLimit, Memory}
 use Rattle.image.specs.declared.word.Word.{Word}
-use Rattle.image.specs.declared.reading.Counts.{Counts}
+use Rattle.image.specs.declared.reading.Scope.{Scope}
 use Rattle.image.specs.Spelling.{word}
 use Rattle.model.specs.declared.instr.Field.{Field}
 use Rattle.model.specs.declared.instr.Field.TheVariants.{Major, Argument, Info}
 use Rattle.model.specs.declared.instr.Instr.{Instr}
-use Rattle.model.specs.declared.instr.Instr.TheVariants.{Const, Move, Clear, Add, Subtract, JumpIfZero, JumpIfLess, Jump, Loop, End, Load, Store, LoadPaged, StorePaged, Get, Put, Mark, Acquire, Release, AcquireCancel, ReleaseCancel, Insert, Remove, Unlink, Arm, Disarm, IfCancel, Start, Take, Begin, Next, Pass, Call, Complete, IfPending, Ret}
+use Rattle.model.specs.declared.instr.Instr.TheVariants.{Const, Move, Clear, Add, Subtract, JumpIfZero, JumpIfLess, Jump, Loop, End, Load, Store, LoadPaged, StorePaged, Get, Put, Mark, Acquire, Release, AcquireCancel, ReleaseCancel, Insert, Remove, Unlink, Arm, Disarm, IfCancel, Start, Take, Begin, Next, Dequeue, Pass, Call, Complete, IfPending, Ret}
 use Rattle.model.specs.declared.instr.Return.TheVariants.{WithStatus, Lower, Continue, Stop, Void}
 use Rattle.model.specs.declared.limits.TheConstants.{CELLS, MAX_DEVICES, MAX_DRIVERS, MAX_INSTRUCTIONS, MAX_QUEUES, MAX_ROUTINES, MAX_STACK, MAX_TURNS, REGISTERS, SPIN_LOCKS}
 use Rattle.model.specs.declared.set.Device.{Device}
@@ -79,6 +83,16 @@ unused n = if n == 0 then Ok 0 else Err BadOpcode
 abbrev pub letter : ℕ → ℕ → Result ℕ ImageFault
 letter wanted n = if n == wanted then Ok n else Err Magic
 
+-- the edition, by the last of the first four bytes
+abbrev pub edition_in : ℕ → Result Edition ImageFault
+edition_in n = if n == 0x31 then Ok Former else (if n == 0x32 then Ok Current else Err Magic)
+
+-- the cancel routine of a device queue, or none, of a driver with so many routines; in the first
+-- edition a byte that must be zero
+abbrev pub waiting_in : Edition → ℕ → ℕ → Result (Option ℕ) ImageFault
+waiting_in Former routines n = if n == 0 then Ok None else Err BadOpcode
+waiting_in Current routines n = none_or_below routines n
+
 abbrev pub sort_in : ℕ → Result Sort ImageFault
 sort_in n =
     if n == 0 then Ok Dispatch else
@@ -138,48 +152,54 @@ returned w =
     (if w.first == 3 then using 1 false w (Ok (Ret Stop)) else
     (if w.first == 4 then using 1 false w (Ok (Ret Void)) else Err BadOpcode))))
 
+-- `dequeue`, which the first edition doesn't have
+abbrev pub dequeue_in : Edition → Word → Result Instr ImageFault
+dequeue_in Former w = Err BadOpcode
+dequeue_in Current w = using 1 false w (one Dequeue (register_in w.first))
+
 -- what is done with packets
-abbrev pub on_packets : Counts → Word → Result Instr ImageFault
-on_packets counts w =
+abbrev pub on_packets : Scope → Word → Result Instr ImageFault
+on_packets scope w =
     if w.number == 27 then using 1 true w
-    (two IfCancel (register_in w.first) (below counts.positions w.last)) else
+    (two IfCancel (register_in w.first) (below scope.positions w.last)) else
     (if w.number == 28 then using 1 false w (one Start (register_in w.first)) else
     (if w.number == 29 then using 1 true w
-    (two Take (register_in w.first) (below counts.positions w.last)) else
+    (two Take (register_in w.first) (below scope.positions w.last)) else
     (if w.number == 30 then using 1 false w (one Begin (register_in w.first)) else
     (if w.number == 31 then using 0 false w (Ok Next) else
     (if w.number == 32 then using 1 false w (one Pass (register_in w.first)) else
     (if w.number == 33 then using 2 false w
-    (two Call (register_in w.first) (none_or_below counts.routines w.second)) else
+    (two Call (register_in w.first) (none_or_below scope.routines w.second)) else
     (if w.number == 34 then using 2 false w
     (two Complete (register_in w.first) (status_in w.second)) else
     (if w.number == 35 then using 1 true w
-    (two IfPending (register_in w.first) (below counts.positions w.last)) else
-    (if w.number == 36 then returned w else Err BadOpcode)))))))))
+    (two IfPending (register_in w.first) (below scope.positions w.last)) else
+    (if w.number == 36 then returned w else
+    (if w.number == 37 then dequeue_in scope.edition w else Err BadOpcode))))))))))
 
 -- what is done with the device's locks and queues, or with packets
-abbrev pub on_queues : Counts → Word → Result Instr ImageFault
-on_queues counts w =
+abbrev pub on_queues : Scope → Word → Result Instr ImageFault
+on_queues scope w =
     if w.number == 18 then using 1 false w (one Acquire (lock_in w.first)) else
     (if w.number == 19 then using 1 false w (one Release (lock_in w.first)) else
     (if w.number == 20 then using 0 false w (Ok AcquireCancel) else
     (if w.number == 21 then using 0 false w (Ok ReleaseCancel) else
     (if w.number == 22 then using 2 false w
-    (two Insert (register_in w.first) (below counts.queues w.second)) else
+    (two Insert (register_in w.first) (below scope.queues w.second)) else
     (if w.number == 23 then using 2 true w
-    (three Remove (register_in w.first) (below counts.queues w.second)
-    (below counts.positions w.last)) else
+    (three Remove (register_in w.first) (below scope.queues w.second)
+    (below scope.positions w.last)) else
     (if w.number == 24 then using 2 false w
-    (two Unlink (register_in w.first) (below counts.queues w.second)) else
+    (two Unlink (register_in w.first) (below scope.queues w.second)) else
     (if w.number == 25 then using 2 false w
-    (two Arm (register_in w.first) (below counts.queues w.second)) else
+    (two Arm (register_in w.first) (below scope.queues w.second)) else
     (if w.number == 26 then using 1 true w
-    (two Disarm (register_in w.first) (below counts.positions w.last)) else
-    on_packets counts w))))))))
+    (two Disarm (register_in w.first) (below scope.positions w.last)) else
+    on_packets scope w))))))))
 
 -- what is done with the device's cells and a packet's fields, its locks and queues, or packets
-abbrev pub on_cells : Counts → Word → Result Instr ImageFault
-on_cells counts w =
+abbrev pub on_cells : Scope → Word → Result Instr ImageFault
+on_cells scope w =
     if w.number == 10 then using 0 false w (Ok End) else
     (if w.number == 11 then using 2 false w
     (two Load (register_in w.first) (cell_in w.second)) else
@@ -194,12 +214,12 @@ on_cells counts w =
     (if w.number == 16 then using 2 false w
     (two Put (register_in w.first) (register_in w.second)) else
     (if w.number == 17 then using 1 false w (one Mark (register_in w.first)) else
-    on_queues counts w)))))))
+    on_queues scope w)))))))
 
 -- the instruction that a word spells, in a routine of so many positions, of a driver with so many
 -- routines and queues
-abbrev pub instruction_in : Counts → Word → Result Instr ImageFault
-instruction_in counts w =
+abbrev pub instruction_in : Scope → Word → Result Instr ImageFault
+instruction_in scope w =
     if w.number == 1 then using 1 true w (one (λ r. Const r w.last) (register_in w.first)) else
     (if w.number == 2 then using 2 false w
     (two Move (register_in w.first) (register_in w.second)) else
@@ -209,13 +229,13 @@ instruction_in counts w =
     (if w.number == 5 then using 2 false w
     (two Subtract (register_in w.first) (register_in w.second)) else
     (if w.number == 6 then using 1 true w
-    (two JumpIfZero (register_in w.first) (below counts.positions w.last)) else
+    (two JumpIfZero (register_in w.first) (below scope.positions w.last)) else
     (if w.number == 7 then using 2 true w
     (three JumpIfLess (register_in w.first) (register_in w.second)
-    (below counts.positions w.last)) else
-    (if w.number == 8 then using 0 true w (one Jump (below counts.positions w.last)) else
+    (below scope.positions w.last)) else
+    (if w.number == 8 then using 0 true w (one Jump (below scope.positions w.last)) else
     (if w.number == 9 then using 0 true w (one Loop (turns_in w.last)) else
-    on_cells counts w))))))))
+    on_cells scope w))))))))
 
 -- ---- fields
 
@@ -249,9 +269,9 @@ abbrev pub word_at : List ℕ → Read Word
 word_at bytes = one (λ field. (word_in field.0, field.1)) (field_at 8 bytes)
 
 -- an instruction
-abbrev pub instruction_at : Counts → List ℕ → Read Instr
-instruction_at counts bytes =
-    word_at bytes >>= λ w. one (λ i. (i, w.1)) (instruction_in counts w.0)
+abbrev pub instruction_at : Scope → List ℕ → Read Instr
+instruction_at scope bytes =
+    word_at bytes >>= λ w. one (λ i. (i, w.1)) (instruction_in scope w.0)
 
 -- so many things of one kind, from a number on
 unfoldable pub all_at : {A : Type 0} → (ℕ → List ℕ → Read A) → ℕ → ℕ → List ℕ → Read (List A)
@@ -262,16 +282,16 @@ all_at item number (suc count) bytes = do
   Ok (first.0 ∷ others.0, others.1)
 
 -- a routine of a driver with so many routines and queues
-abbrev pub counted : ℕ → ℕ → ℕ → Counts
-counted routines queues positions =
-    record { routines = routines; queues = queues; positions = positions }
+abbrev pub scoped : Edition → ℕ → ℕ → ℕ → Scope
+scoped edition routines queues positions =
+    record { edition = edition; routines = routines; queues = queues; positions = positions }
 
-unfoldable pub routine_at : ℕ → ℕ → List ℕ → Read Routine
-routine_at routines queues bytes = do
+unfoldable pub routine_at : Edition → ℕ → ℕ → List ℕ → Read Routine
+routine_at edition routines queues bytes = do
   sort ← byte_at sort_in bytes
   zeroed ← byte_at unused sort.1
   count ← count_at zeroed.1
-  code ← all_at (λ _. instruction_at (counted routines queues count.0)) 0 count.0 count.1
+  code ← all_at (λ _. instruction_at (scoped edition routines queues count.0)) 0 count.0 count.1
   Ok (record { sort = sort.0; code = code.0 }, code.1)
 
 -- a queue of a driver with so many routines
@@ -282,8 +302,8 @@ queue_at routines bytes = do
   Ok (record { guard = guard.0; cancel = cancel.0 }, cancel.1)
 
 -- a driver
-unfoldable pub driver_at : List ℕ → Read Driver
-driver_at bytes = do
+unfoldable pub driver_at : Edition → List ℕ → Read Driver
+driver_at edition bytes = do
   routines ← byte_at (at_most MAX_ROUTINES) bytes
   queues ← byte_at (at_most MAX_QUEUES) routines.1
   read ← byte_at (none_or_below routines.0) queues.1
@@ -291,9 +311,9 @@ driver_at bytes = do
   control ← byte_at (none_or_below routines.0) write.1
   startio ← byte_at (none_or_below routines.0) control.1
   dpc ← byte_at (none_or_below routines.0) startio.1
-  zeroed ← byte_at unused dpc.1
-  listed ← all_at (λ _. queue_at routines.0) 0 queues.0 zeroed.1
-  coded ← all_at (λ _. routine_at routines.0 queues.0) 0 routines.0 listed.1
+  waiting ← byte_at (waiting_in edition routines.0) dpc.1
+  listed ← all_at (λ _. queue_at routines.0) 0 queues.0 waiting.1
+  coded ← all_at (λ _. routine_at edition routines.0 queues.0) 0 routines.0 listed.1
   Ok (
     record {
       routines = coded.0;
@@ -302,6 +322,7 @@ driver_at bytes = do
       write = write.0;
       control = control.0;
       startio = startio.0;
+      startio_cancel = waiting.0;
       dpc = dpc.0;
     },
     coded.1,
@@ -317,22 +338,22 @@ device_at drivers number bytes = do
   Ok (record { driver = driver.0; stack = stack.0; lower = lower.0 }, zeroed.1)
 
 -- the first four bytes
-unfoldable pub letters_at : List ℕ → Read ℕ
+unfoldable pub letters_at : List ℕ → Read Edition
 letters_at bytes = do
   first ← byte_at (letter 0x44) bytes
   second ← byte_at (letter 0x56) first.1
   third ← byte_at (letter 0x42) second.1
-  byte_at (letter 0x31) third.1
+  byte_at edition_in third.1
 
--- the set whose fields stand at the front
+-- the set whose fields stand at the front, in the edition that the first four bytes tell
 unfoldable pub set_at : List ℕ → Read Set
 set_at bytes = do
-  letters ← letters_at bytes
-  drivers ← byte_at (at_most MAX_DRIVERS) letters.1
+  edition ← letters_at bytes
+  drivers ← byte_at (at_most MAX_DRIVERS) edition.1
   devices ← byte_at (at_most MAX_DEVICES) drivers.1
   zeroed ← byte_at unused devices.1
   zeroed_too ← byte_at unused zeroed.1
-  first ← all_at (λ _. driver_at) 0 drivers.0 zeroed_too.1
+  first ← all_at (λ _. driver_at edition.0) 0 drivers.0 zeroed_too.1
   second ← all_at (device_at drivers.0) 0 devices.0 first.1
   Ok (record { drivers = first.0; devices = second.0 }, second.1)
 

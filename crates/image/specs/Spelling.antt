@@ -1,13 +1,15 @@
--- The image of a driver set: the bytes that spell it. A number of two or four bytes is little
--- endian, and FF stands for none.
-use Rattle.std.specs.Prelude.{ℕ, ◌≡◌, List, [], ◌∷◌, ◌++◌, length, Option, None, Some}
+-- The images of a driver set: the bytes that spell it, in each edition. A number of two or four
+-- bytes is little endian, and FF stands for none.
+use Rattle.std.specs.Prelude.{ℕ, ⊤, ◌≡◌, ◌⊎◌, List, [], ◌∷◌, ◌++◌, length, Option, None, Some}
 use Rattle.std.specs.Int.{w16, w32, to_le_bytes}
 use Rattle.std.specs.List.{flat_map}
+use Rattle.image.specs.declared.edition.Edition.{Edition}
+use Rattle.image.specs.declared.edition.Edition.TheVariants.{Former, Current}
 use Rattle.image.specs.declared.word.Word.{Word}
 use Rattle.model.specs.declared.instr.Field.{Field}
 use Rattle.model.specs.declared.instr.Field.TheVariants.{Major, Argument, Info}
 use Rattle.model.specs.declared.instr.Instr.{Instr}
-use Rattle.model.specs.declared.instr.Instr.TheVariants.{Const, Move, Clear, Add, Subtract, JumpIfZero, JumpIfLess, Jump, Loop, End, Load, Store, LoadPaged, StorePaged, Get, Put, Mark, Acquire, Release, AcquireCancel, ReleaseCancel, Insert, Remove, Unlink, Arm, Disarm, IfCancel, Start, Take, Begin, Next, Pass, Call, Complete, IfPending, Ret}
+use Rattle.model.specs.declared.instr.Instr.TheVariants.{Const, Move, Clear, Add, Subtract, JumpIfZero, JumpIfLess, Jump, Loop, End, Load, Store, LoadPaged, StorePaged, Get, Put, Mark, Acquire, Release, AcquireCancel, ReleaseCancel, Insert, Remove, Unlink, Arm, Disarm, IfCancel, Start, Take, Begin, Next, Dequeue, Pass, Call, Complete, IfPending, Ret}
 use Rattle.model.specs.declared.instr.Return.TheVariants.{WithStatus, Lower, Continue, Stop, Void}
 use Rattle.model.specs.declared.set.Device.{Device}
 use Rattle.model.specs.declared.set.Driver.{Driver}
@@ -17,6 +19,7 @@ use Rattle.model.specs.declared.set.Sort.{Sort}
 use Rattle.model.specs.declared.set.Sort.TheVariants.{Dispatch, StartIo, Dpc, Cancel, Propagate, Hold}
 use Rattle.model.specs.declared.status.Status.{Status}
 use Rattle.model.specs.declared.status.Status.TheVariants.{Success, Pending, Busy, Unsuccessful, InvalidParameter, InvalidDeviceRequest, Cancelled}
+use Rattle.model.specs.Edition.{edition_of}
 use Rattle.model.specs.Set.{Set}
 
 -- a number, or FF for none
@@ -92,6 +95,7 @@ word_of (Pass r) = word 32 r 0 0 0
 word_of (Call r f) = word 33 r (or_none f) 0 0
 word_of (Complete r status) = word 34 r (status_number status) 0 0
 word_of (IfPending r label) = word 35 r 0 0 label
+word_of (Dequeue r) = word 37 r 0 0 0
 word_of (Ret (WithStatus status)) = word 36 0 (status_number status) 0 0
 word_of (Ret (Lower r)) = word 36 1 r 0 0
 word_of (Ret Continue) = word 36 2 0 0 0
@@ -115,26 +119,47 @@ routine_bytes routine =
 abbrev pub queue_bytes : Queue → List ℕ
 queue_bytes queue = queue.guard ∷ or_none queue.cancel ∷ []
 
+-- the cancel routine of a driver's device queue, or none; a zero in the first edition
+abbrev pub waiting_byte : Edition → Option ℕ → ℕ
+waiting_byte Former cancel = 0
+waiting_byte Current cancel = or_none cancel
+
 -- a driver: how many routines and queues it has, the routines that serve reads, writes and control
--- requests, its StartIo and its DPC routine, or none, a zero, its queues, and its routines
-abbrev pub driver_bytes : Driver → List ℕ
-driver_bytes d =
+-- requests, its StartIo and its DPC routine, or none, the cancel routine of its device queue, its
+-- queues, and its routines
+abbrev pub driver_bytes : Edition → Driver → List ℕ
+driver_bytes edition d =
     (length d.routines ∷ length d.queues
     ∷ or_none d.read ∷ or_none d.write ∷ or_none d.control ∷ or_none d.startio ∷ or_none d.dpc
-    ∷ 0 ∷ [])
+    ∷ waiting_byte edition d.startio_cancel ∷ [])
     ++ (flat_map queue_bytes d.queues ++ flat_map routine_bytes d.routines)
 
 -- a device: its driver, its stack size, the device under it or none, and a zero
 abbrev pub device_bytes : Device → List ℕ
 device_bytes device = device.driver ∷ device.stack ∷ or_none device.lower ∷ 0 ∷ []
 
--- a set: the letters `DVB1`, how many drivers and devices it has, two zeros, its drivers, and its
--- devices
-abbrev pub spelling : Set → List ℕ
-spelling set =
-    (0x44 ∷ 0x56 ∷ 0x42 ∷ 0x31 ∷ length set.drivers ∷ length set.devices ∷ 0 ∷ 0 ∷ [])
-    ++ (flat_map driver_bytes set.drivers ++ flat_map device_bytes set.devices)
+-- the digit of an edition, `1` or `2`
+abbrev pub edition_digit : Edition → ℕ
+edition_digit Former = 0x31
+edition_digit Current = 0x32
 
--- the bytes spell the set
+-- a set: the letters `DVB` and the digit, how many drivers and devices it has, two zeros, its
+-- drivers, and its devices
+abbrev pub spelling : Edition → Set → List ℕ
+spelling edition set =
+    (0x44 ∷ 0x56 ∷ 0x42 ∷ edition_digit edition
+    ∷ length set.drivers ∷ length set.devices ∷ 0 ∷ 0 ∷ [])
+    ++ (flat_map (driver_bytes edition) set.drivers ++ flat_map device_bytes set.devices)
+
+-- the first edition has spellings for sets of that edition alone
+abbrev pub HasSpelling : Edition → Set → Type 0
+HasSpelling Former set = edition_of set ≡ 1
+HasSpelling Current set = ⊤
+
+-- the bytes spell the set in an edition
+abbrev pub SpellsIn : Edition → List ℕ → Set → Type 0
+SpellsIn edition bytes set = HasSpelling edition set × (bytes ≡ spelling edition set)
+
+-- the bytes spell the set in either edition
 abbrev pub Spells : List ℕ → Set → Type 0
-Spells bytes set = bytes ≡ spelling set
+Spells bytes set = SpellsIn Former bytes set ⊎ SpellsIn Current bytes set

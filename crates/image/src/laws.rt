@@ -1,17 +1,21 @@
 //! Laws of images, in the words of their format. Nothing runs here: each law is the contract of a
 //! function that does nothing.
 
-ghost use Rattle.image.specs.Laws.{BytesSpellOne, FaultIsOne, ImagesAreFaultless};
-ghost use Rattle.image.specs.Laws.{NoImageBeginsAnother};
+ghost use Rattle.image.specs.Laws.{BytesSpellOne, EditionsOfImages, FaultIsOne};
+ghost use Rattle.image.specs.Laws.{ImagesAreFaultless, NoImageBeginsAnother};
 
 /// Bytes spell at most one set.
-#[tactic(auto, using(crate::proofs::Decoded::bytes_spell_one))]
 pub fn bytes_spell_one()
     ensures { BytesSpellOne }
 {}
 
+/// A set has one image of the second edition, and one of the first exactly if it is of that
+/// edition.
+pub fn editions_of_images()
+    ensures { EditionsOfImages }
+{}
+
 /// No image begins another: what follows one in the same bytes is nothing.
-#[tactic(auto, using(crate::proofs::Decoded::no_image_begins_another))]
 pub fn no_image_begins_another()
     ensures { NoImageBeginsAnother }
 {}

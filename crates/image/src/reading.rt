@@ -2,16 +2,18 @@
 
 ghost use Rattle.std.specs.Prelude.{◌≡◌, ◌⊎◌, IfErr, IfOk, MatchResult, Ok};
 ghost use Rattle.image.specs.Reading.{all_at, at_most, below, byte_at, cell_in, count_at};
-ghost use Rattle.image.specs.Reading.{device_at, driver_at, field_in, instruction_at};
-ghost use Rattle.image.specs.Reading.{instruction_in, leaves, letter, letters_at, lock_in};
-ghost use Rattle.image.specs.Reading.{none_or_below, on_cells, on_packets, on_queues, queue_at};
+ghost use Rattle.image.specs.Reading.{dequeue_in, device_at, driver_at, edition_in, field_in};
+ghost use Rattle.image.specs.Reading.{instruction_at, instruction_in, leaves, letter, letters_at};
+ghost use Rattle.image.specs.Reading.{lock_in, none_or_below, on_cells, on_packets, on_queues, queue_at};
 ghost use Rattle.image.specs.Reading.{register_in, returned, routine_at, set_in, sort_in, stack_in};
-ghost use Rattle.image.specs.Reading.{status_in, turns_in, unused, word_at, Gives, IsFaultOf};
+ghost use Rattle.image.specs.Reading.{status_in, turns_in, unused, waiting_in, word_at};
+ghost use Rattle.image.specs.Reading.{Gives, IsFaultOf};
 ghost use Rattle.image.specs.Spelling.{Spells};
 ghost use Rattle.image.specs.declared.fault.ImageFault.TheVariants.{Memory};
 ghost use Rattle.model.specs.Set.{Set};
 ghost use Rattle.model.specs.Sound.{IsSound};
 
+use crate::edition::Edition;
 use crate::fault::ImageFault;
 use crate::word::{NONE, Word};
 use driver_set::DriverSet;
@@ -24,10 +26,11 @@ use model::set::{Device, Driver, Queue, Routine, Sort};
 use model::status::Status;
 use std::alloc::Global;
 
-/// How many things an instruction may name: the routines and queues of its driver, and the
-/// positions of its routine.
+/// What an instruction may be and may name: the edition of the image, and how many routines and
+/// queues its driver has, and positions its routine.
 #[derive(Clone, Copy)]
-pub struct Counts {
+pub struct Scope {
+    pub edition: Edition,
     pub routines: u8,
     pub queues: u8,
     pub positions: u16,
@@ -94,6 +97,28 @@ fn none_or_below(count: u8, number: u8) -> Result<Option<u8>, ImageFault>
         return Ok(None);
     }
     Ok(Some(below(count, number)?))
+}
+
+/// The edition of the last of the first four bytes.
+fn edition(digit: u8) -> Result<Edition, ImageFault>
+    ensures { result ≡ edition_in digit }
+{
+    match digit {
+        0x31 => Ok(Edition::Former),
+        0x32 => Ok(Edition::Current),
+        _ => Err(ImageFault::Magic),
+    }
+}
+
+/// The cancel routine of a device queue, or none; in the first edition a byte that must be zero.
+fn waiting(edition: Edition, routines: u8, number: u8) -> Result<Option<u8>, ImageFault>
+    ensures { result ≡ waiting_in edition routines number }
+{
+    match edition {
+        Edition::Former if number == 0 => Ok(None),
+        Edition::Former => Err(ImageFault::BadOpcode),
+        Edition::Current => none_or_below(routines, number),
+    }
 }
 
 /// The sort of a number.
@@ -174,8 +199,8 @@ impl Word {
 }
 
 /// The instruction that a word spells.
-fn instruction(counts: &Counts, word: &Word) -> Result<Instr, ImageFault>
-    ensures { result ≡ instruction_in counts.now word.now }
+fn instruction(scope: &Scope, word: &Word) -> Result<Instr, ImageFault>
+    ensures { result ≡ instruction_in scope.now word.now }
 {
     match word.number {
         1 if word.leaves(1, true) => Ok(Instr::Const(register(word.first)?, word.last)),
@@ -191,23 +216,23 @@ fn instruction(counts: &Counts, word: &Word) -> Result<Instr, ImageFault>
         )),
         6 if word.leaves(1, true) => Ok(Instr::JumpIfZero(
             register(word.first)?,
-            label(counts.positions, word.last)?,
+            label(scope.positions, word.last)?,
         )),
         7 if word.leaves(2, true) => Ok(Instr::JumpIfLess(
             register(word.first)?,
             register(word.second)?,
-            label(counts.positions, word.last)?,
+            label(scope.positions, word.last)?,
         )),
-        8 if word.leaves(0, true) => Ok(Instr::Jump(label(counts.positions, word.last)?)),
+        8 if word.leaves(0, true) => Ok(Instr::Jump(label(scope.positions, word.last)?)),
         9 if word.leaves(0, true) => Ok(Instr::Loop(turns(word.last)?)),
         1..=9 => Err(ImageFault::BadOpcode),
-        _ => on_cells(counts, word),
+        _ => on_cells(scope, word),
     }
 }
 
 /// What is done with the device's cells and a packet's fields, its locks and queues, or packets.
-fn on_cells(counts: &Counts, word: &Word) -> Result<Instr, ImageFault>
-    ensures { result ≡ on_cells counts.now word.now }
+fn on_cells(scope: &Scope, word: &Word) -> Result<Instr, ImageFault>
+    ensures { result ≡ on_cells scope.now word.now }
 {
     match word.number {
         10 if word.leaves(0, false) => Ok(Instr::End),
@@ -232,13 +257,13 @@ fn on_cells(counts: &Counts, word: &Word) -> Result<Instr, ImageFault>
         )),
         17 if word.leaves(1, false) => Ok(Instr::Mark(register(word.first)?)),
         10..=17 => Err(ImageFault::BadOpcode),
-        _ => on_queues(counts, word),
+        _ => on_queues(scope, word),
     }
 }
 
 /// What is done with the device's locks and queues, or with packets.
-fn on_queues(counts: &Counts, word: &Word) -> Result<Instr, ImageFault>
-    ensures { result ≡ on_queues counts.now word.now }
+fn on_queues(scope: &Scope, word: &Word) -> Result<Instr, ImageFault>
+    ensures { result ≡ on_queues scope.now word.now }
 {
     match word.number {
         18 if word.leaves(1, false) => Ok(Instr::Acquire(lock(word.first)?)),
@@ -247,50 +272,60 @@ fn on_queues(counts: &Counts, word: &Word) -> Result<Instr, ImageFault>
         21 if word.leaves(0, false) => Ok(Instr::ReleaseCancel),
         22 if word.leaves(2, false) => Ok(Instr::Insert(
             register(word.first)?,
-            below(counts.queues, word.second)?,
+            below(scope.queues, word.second)?,
         )),
         23 if word.leaves(2, true) => Ok(Instr::Remove(
             register(word.first)?,
-            below(counts.queues, word.second)?,
-            label(counts.positions, word.last)?,
+            below(scope.queues, word.second)?,
+            label(scope.positions, word.last)?,
         )),
         24 if word.leaves(2, false) => Ok(Instr::Unlink(
             register(word.first)?,
-            below(counts.queues, word.second)?,
+            below(scope.queues, word.second)?,
         )),
         25 if word.leaves(2, false) => Ok(Instr::Arm(
             register(word.first)?,
-            below(counts.queues, word.second)?,
+            below(scope.queues, word.second)?,
         )),
         26 if word.leaves(1, true) => Ok(Instr::Disarm(
             register(word.first)?,
-            label(counts.positions, word.last)?,
+            label(scope.positions, word.last)?,
         )),
         18..=26 => Err(ImageFault::BadOpcode),
-        _ => on_packets(counts, word),
+        _ => on_packets(scope, word),
+    }
+}
+
+/// `dequeue`, which the first edition doesn't have.
+fn dequeue(edition: Edition, word: &Word) -> Result<Instr, ImageFault>
+    ensures { result ≡ dequeue_in edition word.now }
+{
+    match edition {
+        Edition::Current if word.leaves(1, false) => Ok(Instr::Dequeue(register(word.first)?)),
+        _ => Err(ImageFault::BadOpcode),
     }
 }
 
 /// What is done with packets.
-fn on_packets(counts: &Counts, word: &Word) -> Result<Instr, ImageFault>
-    ensures { result ≡ on_packets counts.now word.now }
+fn on_packets(scope: &Scope, word: &Word) -> Result<Instr, ImageFault>
+    ensures { result ≡ on_packets scope.now word.now }
 {
     match word.number {
         27 if word.leaves(1, true) => Ok(Instr::IfCancel(
             register(word.first)?,
-            label(counts.positions, word.last)?,
+            label(scope.positions, word.last)?,
         )),
         28 if word.leaves(1, false) => Ok(Instr::Start(register(word.first)?)),
         29 if word.leaves(1, true) => Ok(Instr::Take(
             register(word.first)?,
-            label(counts.positions, word.last)?,
+            label(scope.positions, word.last)?,
         )),
         30 if word.leaves(1, false) => Ok(Instr::Begin(register(word.first)?)),
         31 if word.leaves(0, false) => Ok(Instr::Next),
         32 if word.leaves(1, false) => Ok(Instr::Pass(register(word.first)?)),
         33 if word.leaves(2, false) => Ok(Instr::Call(
             register(word.first)?,
-            none_or_below(counts.routines, word.second)?,
+            none_or_below(scope.routines, word.second)?,
         )),
         34 if word.leaves(2, false) => Ok(Instr::Complete(
             register(word.first)?,
@@ -298,9 +333,10 @@ fn on_packets(counts: &Counts, word: &Word) -> Result<Instr, ImageFault>
         )),
         35 if word.leaves(1, true) => Ok(Instr::IfPending(
             register(word.first)?,
-            label(counts.positions, word.last)?,
+            label(scope.positions, word.last)?,
         )),
         36 => word.returned(),
+        37 => dequeue(scope.edition, word),
         _ => Err(ImageFault::BadOpcode),
     }
 }
@@ -359,6 +395,27 @@ fn zero_of(bytes: &[u8]) -> Result<&[u8], ImageFault>
         (0, rest) => Ok(rest),
         _ => Err(ImageFault::BadOpcode),
     }
+}
+
+/// The cancel routine of the device queue of a driver with so many routines, or none.
+fn waiting_of(
+    edition: Edition,
+    routines: u8,
+    bytes: &[u8],
+) -> Result<(Option<u8>, &[u8]), ImageFault>
+    ensures { Gives (λ x. (x.0, x.1.now)) result
+        (byte_at (waiting_in edition routines) bytes.now) }
+{
+    let (number, rest) = byte(bytes)?;
+    Ok((waiting(edition, routines, number)?, rest))
+}
+
+/// The edition.
+fn edition_of(bytes: &[u8]) -> Result<(Edition, &[u8]), ImageFault>
+    ensures { Gives (λ x. (x.0, x.1.now)) result (byte_at edition_in bytes.now) }
+{
+    let (digit, rest) = byte(bytes)?;
+    Ok((edition(digit)?, rest))
 }
 
 /// A letter of the first four bytes.
@@ -420,11 +477,11 @@ fn word_of(bytes: &[u8]) -> Result<(Word, &[u8]), ImageFault>
 }
 
 /// An instruction.
-fn instruction_of<'a>(counts: &Counts, bytes: &'a [u8]) -> Result<(Instr, &'a [u8]), ImageFault>
-    ensures { Gives (λ x. (x.0, x.1.now)) result (instruction_at counts.now bytes.now) }
+fn instruction_of<'a>(scope: &Scope, bytes: &'a [u8]) -> Result<(Instr, &'a [u8]), ImageFault>
+    ensures { Gives (λ x. (x.0, x.1.now)) result (instruction_at scope.now bytes.now) }
 {
     let (word, rest) = word_of(bytes)?;
-    Ok((instruction(counts, &word)?, rest))
+    Ok((instruction(scope, &word)?, rest))
 }
 
 /// A queue of a driver with so many routines.
@@ -457,30 +514,30 @@ fn device_of(drivers: u8, number: u8, bytes: &[u8]) -> Result<(Device, &[u8]), I
     ))
 }
 
-/// The first four bytes.
+/// The first four bytes, which tell the edition.
 #[tactic(auto, unfolding(crate::specs::Reading::letters_at))]
-fn letters_of(bytes: &[u8]) -> Result<&[u8], ImageFault>
-    ensures { Gives (λ rest. (0x31, rest.now)) result (letters_at bytes.now) }
+fn letters_of(bytes: &[u8]) -> Result<(Edition, &[u8]), ImageFault>
+    ensures { Gives (λ x. (x.0, x.1.now)) result (letters_at bytes.now) }
 {
     let rest = letter_of(0x44, bytes)?;
     let rest = letter_of(0x56, rest)?;
     let rest = letter_of(0x42, rest)?;
-    letter_of(0x31, rest)
+    edition_of(rest)
 }
 
 /// The instructions of a routine.
 fn code_of<'a>(
     alloc: Global,
-    counts: &Counts,
+    scope: &Scope,
     bytes: &'a [u8],
 ) -> Result<(Items<Instr>, &'a [u8]), ImageFault>
     ensures { Gives (λ x. (x.0, x.1.now)) result
-        (all_at (λ _. instruction_at counts.now) 0 counts.now.positions bytes.now) }
+        (all_at (λ _. instruction_at scope.now) 0 scope.now.positions bytes.now) }
 {
     let mut all = Vec::new(alloc);
     let mut rest = bytes;
-    for _ in 0..counts.positions {
-        let (one, after) = match instruction_of(counts, rest) {
+    for _ in 0..scope.positions {
+        let (one, after) = match instruction_of(scope, rest) {
             Ok(found) => found,
             Err(fault) => return Err(fault),
         };
@@ -517,38 +574,41 @@ fn queues_of(
 #[tactic(auto, unfolding(crate::specs::Reading::routine_at))]
 fn routine_of(
     alloc: Global,
+    edition: Edition,
     routines: u8,
     queues: u8,
     bytes: &[u8],
 ) -> Result<(Routine, &[u8]), ImageFault>
-    ensures { Gives (λ x. (x.0, x.1.now)) result (routine_at routines queues bytes.now) }
+    ensures { Gives (λ x. (x.0, x.1.now)) result (routine_at edition routines queues bytes.now) }
 {
     let (sort, rest) = sort_of(bytes)?;
     let rest = zero_of(rest)?;
     let (positions, rest) = code_count(rest)?;
-    let counts = Counts {
+    let scope = Scope {
+        edition,
         routines,
         queues,
         positions,
     };
-    let (code, rest) = code_of(alloc, &counts, rest)?;
+    let (code, rest) = code_of(alloc, &scope, rest)?;
     Ok((Routine { sort, code }, rest))
 }
 
 /// The routines of a driver with so many of them, and so many queues.
 fn routines_of(
     alloc: Global,
+    edition: Edition,
     routines: u8,
     queues: u8,
     bytes: &[u8],
 ) -> Result<(Items<Routine>, &[u8]), ImageFault>
     ensures { Gives (λ x. (x.0, x.1.now)) result
-        (all_at (λ _. routine_at routines queues) 0 routines bytes.now) }
+        (all_at (λ _. routine_at edition routines queues) 0 routines bytes.now) }
 {
     let mut all = Vec::new(alloc);
     let mut rest = bytes;
     for _ in 0..routines {
-        let (one, after) = match routine_of(alloc, routines, queues, rest) {
+        let (one, after) = match routine_of(alloc, edition, routines, queues, rest) {
             Ok(found) => found,
             Err(fault) => return Err(fault),
         };
@@ -560,8 +620,8 @@ fn routines_of(
 
 /// A driver.
 #[tactic(auto, unfolding(crate::specs::Reading::driver_at))]
-fn driver_of(alloc: Global, bytes: &[u8]) -> Result<(Driver, &[u8]), ImageFault>
-    ensures { Gives (λ x. (x.0, x.1.now)) result (driver_at bytes.now) }
+fn driver_of(alloc: Global, edition: Edition, bytes: &[u8]) -> Result<(Driver, &[u8]), ImageFault>
+    ensures { Gives (λ x. (x.0, x.1.now)) result (driver_at edition bytes.now) }
 {
     let (routine_count, rest) = count_of(MAX_ROUTINES, bytes)?;
     let (queue_count, rest) = count_of(MAX_QUEUES, rest)?;
@@ -570,9 +630,9 @@ fn driver_of(alloc: Global, bytes: &[u8]) -> Result<(Driver, &[u8]), ImageFault>
     let (control, rest) = name_of(routine_count, rest)?;
     let (startio, rest) = name_of(routine_count, rest)?;
     let (dpc, rest) = name_of(routine_count, rest)?;
-    let rest = zero_of(rest)?;
+    let (startio_cancel, rest) = waiting_of(edition, routine_count, rest)?;
     let (queues, rest) = queues_of(alloc, routine_count, queue_count, rest)?;
-    let (routines, rest) = routines_of(alloc, routine_count, queue_count, rest)?;
+    let (routines, rest) = routines_of(alloc, edition, routine_count, queue_count, rest)?;
     let driver = Driver {
         routines,
         queues,
@@ -580,19 +640,26 @@ fn driver_of(alloc: Global, bytes: &[u8]) -> Result<(Driver, &[u8]), ImageFault>
         write,
         control,
         startio,
+        startio_cancel,
         dpc,
     };
     Ok((driver, rest))
 }
 
 /// So many drivers.
-fn drivers_of(alloc: Global, count: u8, bytes: &[u8]) -> Result<(Vec<Driver>, &[u8]), ImageFault>
-    ensures { Gives (λ x. (x.0.items, x.1.now)) result (all_at (λ _. driver_at) 0 count bytes.now) }
+fn drivers_of(
+    alloc: Global,
+    edition: Edition,
+    count: u8,
+    bytes: &[u8],
+) -> Result<(Vec<Driver>, &[u8]), ImageFault>
+    ensures { Gives (λ x. (x.0.items, x.1.now)) result
+        (all_at (λ _. driver_at edition) 0 count bytes.now) }
 {
     let mut all = Vec::new(alloc);
     let mut rest = bytes;
     for _ in 0..count {
-        let (one, after) = match driver_of(alloc, rest) {
+        let (one, after) = match driver_of(alloc, edition, rest) {
             Ok(found) => found,
             Err(fault) => return Err(fault),
         };
@@ -631,12 +698,12 @@ fn fields_of(alloc: Global, bytes: &[u8]) -> Result<(Vec<Driver>, Vec<Device>), 
     ensures { Gives (λ x. record { drivers = x.0.items; devices = x.1.items }) result
         (set_in bytes.now) }
 {
-    let rest = letters_of(bytes)?;
+    let (edition, rest) = letters_of(bytes)?;
     let (driver_count, rest) = count_of(MAX_DRIVERS, rest)?;
     let (device_count, rest) = count_of(MAX_DEVICES, rest)?;
     let rest = zero_of(rest)?;
     let rest = zero_of(rest)?;
-    let (drivers, rest) = drivers_of(alloc, driver_count, rest)?;
+    let (drivers, rest) = drivers_of(alloc, edition, driver_count, rest)?;
     let (devices, rest) = devices_of(alloc, driver_count, device_count, rest)?;
     if !rest.is_empty() {
         return Err(ImageFault::Trailing);
@@ -656,7 +723,7 @@ fn read(alloc: Global, bytes: &[u8]) -> Result<DriverSet, ImageFault>
     }
 }
 
-/// The driver set whose image the bytes are.
+/// The driver set whose image the bytes are, of either edition.
 ///
 /// # Errors
 ///

@@ -167,6 +167,7 @@ pub fn word_of(instr: &Instr) -> Word
         Instr::Call(r, f) => Word::of(33, register(r), or_none(f), 0, 0),
         Instr::Complete(r, status) => Word::of(34, register(r), status_number(status), 0, 0),
         Instr::IfPending(r, label) => Word::of(35, register(r), 0, 0, label as u32),
+        Instr::Dequeue(r) => Word::of(37, register(r), 0, 0, 0),
         Instr::Ret(form) => returned(form),
     }
 }

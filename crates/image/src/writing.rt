@@ -1,9 +1,10 @@
-//! Driver sets written as images.
+//! Driver sets written as images of the second edition.
 
 ghost use Rattle.std.specs.Prelude.{◌≡◌, ◌≤◌, ◌++◌, length, All, OnOk, IfOk};
 ghost use Rattle.std.specs.List.{flat_map};
 ghost use Rattle.image.specs.Spelling.{driver_bytes, device_bytes, instruction_bytes};
-ghost use Rattle.image.specs.Spelling.{queue_bytes, routine_bytes, spelling, Spells};
+ghost use Rattle.image.specs.Spelling.{queue_bytes, routine_bytes, spelling, SpellsIn};
+ghost use Rattle.image.specs.declared.edition.Edition.TheVariants.{Current};
 ghost use Rattle.model.specs.declared.limits.TheConstants.{MAX_INSTRUCTIONS};
 ghost use Rattle.model.specs.Sound.{DriverFits};
 
@@ -14,13 +15,13 @@ use model::memory::OutOfMemory;
 use model::set::{Device, Driver, Queue, Routine};
 use std::alloc::{AllocError, Global};
 
-/// The image of a driver set: the one sequence of bytes that spells it.
+/// The image of a driver set: the one sequence of bytes that spells it in the second edition.
 ///
 /// # Errors
 ///
 /// `OutOfMemory` where a growth was refused.
 pub fn encode(alloc: Global, set: &DriverSet) -> Result<Vec<u8>, OutOfMemory>
-    ensures { IfOk result (λ bytes. Spells bytes.items set.now) }
+    ensures { IfOk result (λ bytes. SpellsIn Current bytes.items set.now) }
 {
     match spelled(alloc, set) {
         Ok(bytes) => Ok(bytes),
@@ -30,12 +31,12 @@ pub fn encode(alloc: Global, set: &DriverSet) -> Result<Vec<u8>, OutOfMemory>
 
 /// The bytes that spell a driver set.
 fn spelled(alloc: Global, set: &DriverSet) -> Result<Vec<u8>, AllocError>
-    ensures { IfOk result (λ bytes. bytes.items ≡ spelling set.now) }
+    ensures { IfOk result (λ bytes. bytes.items ≡ spelling Current set.now) }
 {
     let drivers = set.drivers();
     let devices = set.devices();
     let mut out = Vec::new(alloc);
-    out.extend_from_slice(&[0x44, 0x56, 0x42, 0x31])?;
+    out.extend_from_slice(&[0x44, 0x56, 0x42, 0x32])?;
     out.extend_from_slice(&[drivers.len() as u8, devices.len() as u8, 0, 0])?;
     put_drivers(&mut out, drivers)?;
     put_devices(&mut out, devices)?;
@@ -44,7 +45,8 @@ fn spelled(alloc: Global, set: &DriverSet) -> Result<Vec<u8>, AllocError>
 
 fn put_drivers(out: &mut Vec<u8>, drivers: &[Driver]) -> Result<(), AllocError>
     requires { All DriverFits drivers.now }
-    ensures { OnOk result (out.new.items ≡ out.old.items ++ flat_map driver_bytes drivers.now) }
+    ensures { OnOk result
+        (out.new.items ≡ out.old.items ++ flat_map (driver_bytes Current) drivers.now) }
 {
     for driver in drivers {
         put_driver(out, driver)?;
@@ -54,7 +56,7 @@ fn put_drivers(out: &mut Vec<u8>, drivers: &[Driver]) -> Result<(), AllocError>
 
 fn put_driver(out: &mut Vec<u8>, driver: &Driver) -> Result<(), AllocError>
     requires { DriverFits driver.now }
-    ensures { OnOk result (out.new.items ≡ out.old.items ++ driver_bytes driver.now) }
+    ensures { OnOk result (out.new.items ≡ out.old.items ++ driver_bytes Current driver.now) }
 {
     let routines = driver.routines.as_slice();
     let queues = driver.queues.as_slice();
@@ -66,7 +68,7 @@ fn put_driver(out: &mut Vec<u8>, driver: &Driver) -> Result<(), AllocError>
         or_none(driver.control),
         or_none(driver.startio),
         or_none(driver.dpc),
-        0,
+        or_none(driver.startio_cancel),
     ])?;
     put_queues(out, queues)?;
     put_routines(out, routines)?;

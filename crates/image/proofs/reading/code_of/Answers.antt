@@ -4,22 +4,22 @@ use Rattle.image.proofs.reading.code_of.Goals as goal
 
 pub returns-in-Err : goal.returns-in-Err
 returns-in-Err c =
-    ends (λ _. instruction_at c.args.counts.now) c.in-Err.fault c.loop.all.items
-    c.args.counts.now.positions c.loop.counter c.loop.rest.now
-    (all_at (λ _. instruction_at c.args.counts.now) 0 c.args.counts.now.positions c.args.bytes.now)
+    ends (λ _. instruction_at c.args.scope.now) c.in-Err.fault c.loop.all.items
+    c.args.scope.now.positions c.loop.counter c.loop.rest.now
+    (all_at (λ _. instruction_at c.args.scope.now) 0 c.args.scope.now.positions c.args.bytes.now)
     c.loop-test.true c.in-Err.ensures c.loop.invariant
 
 pub loop-preserved : goal.loop-preserved
 loop-preserved c =
     rw c.in_ok-push.ensures.items
-    (goes_on (λ _. instruction_at c.args.counts.now) c.loop.all.items c.args.counts.now.positions
+    (goes_on (λ _. instruction_at c.args.scope.now) c.loop.all.items c.args.scope.now.positions
     c.loop.counter c.loop.rest.now c.in-Ok.found.0 c.in-Ok.found.1.now
-    (all_at (λ _. instruction_at c.args.counts.now) 0 c.args.counts.now.positions c.args.bytes.now)
+    (all_at (λ _. instruction_at c.args.scope.now) 0 c.args.scope.now.positions c.args.bytes.now)
     c.loop-test.true c.in-Ok.ensures c.loop.invariant)
 
 pub returns : goal.returns
 returns c =
-    rw c.of.ensures (is_done (λ _. instruction_at c.args.counts.now) c.loop.all.items
-    c.args.counts.now.positions c.loop.counter c.loop.rest.now
-    (all_at (λ _. instruction_at c.args.counts.now) 0 c.args.counts.now.positions
+    rw c.of.ensures (is_done (λ _. instruction_at c.args.scope.now) c.loop.all.items
+    c.args.scope.now.positions c.loop.counter c.loop.rest.now
+    (all_at (λ _. instruction_at c.args.scope.now) 0 c.args.scope.now.positions
     c.args.bytes.now) c.loop-test.false c.loop.invariant)
