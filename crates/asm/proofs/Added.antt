@@ -2,13 +2,14 @@
 use Rattle.std.proofs.Common.{ℕ, Option, length}
 use Rattle.model.specs.declared.instr.Instr.{Instr}
 use Rattle.asm_line.specs.declared.line.UsedNames.{UsedNames}
+use Rattle.asm.specs.declared.draft.StartIoLine.{StartIoLine}
 use Rattle.asm.specs.declared.draft.Step.{Step}
 use Rattle.asm.specs.declared.draft.Use.{Use}
 use Rattle.asm.specs.Outline.{Outline, use_place, used_at}
 
 -- the outline with these table entries
 abbrev pub with_entries : Outline
-    → Option Use → Option Use → Option Use → Option Use → Option Use → Outline
+    → Option Use → Option Use → Option Use → Option StartIoLine → Option Use → Outline
 with_entries o read write control startio dpc = record o {
   read = read;
   write = write;

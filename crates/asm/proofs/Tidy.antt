@@ -86,9 +86,10 @@ tidy_on o n label (AddQueue name None cancel) stood h = h
 tidy_on o n label (Handle major routine) stood h =
     let inside = never_in Outside o.place (Handle major routine) refl stood in
     handled_tidy o (record { line = n; name = routine }) major inside h
-tidy_on o n label (HandleStartIo routine) stood h =
-    let inside = never_in Outside o.place (HandleStartIo routine) refl stood in
-    tidy_in_driver (startio_handled o (record { line = n; name = routine })) inside h.idle
+tidy_on o n label (HandleStartIo routine cancel) stood h =
+    let inside = never_in Outside o.place (HandleStartIo routine cancel) refl stood in
+    tidy_in_driver (startio_handled o (record { line = n; name = routine }) (used_at n cancel))
+    inside h.idle
 tidy_on o n label (HandleDpc routine) stood h =
     let inside = never_in Outside o.place (HandleDpc routine) refl stood in
     tidy_in_driver (dpc_handled o (record { line = n; name = routine })) inside h.idle

@@ -94,7 +94,7 @@ named_ahead Blank after = after
 named_ahead (OpenDriver name) after = after
 named_ahead (AddQueue name guard cancel) after = after
 named_ahead (Handle major routine) after = after
-named_ahead (HandleStartIo routine) after = after
+named_ahead (HandleStartIo routine cancel) after = after
 named_ahead (HandleDpc routine) after = after
 named_ahead CloseRoutine after = after
 named_ahead (AddDevice name driver stack lower) after = after
@@ -113,7 +113,7 @@ sorted_ahead Blank after = after
 sorted_ahead (OpenDriver name) after = after
 sorted_ahead (AddQueue name guard cancel) after = after
 sorted_ahead (Handle major routine) after = after
-sorted_ahead (HandleStartIo routine) after = after
+sorted_ahead (HandleStartIo routine cancel) after = after
 sorted_ahead (HandleDpc routine) after = after
 sorted_ahead CloseRoutine after = after
 sorted_ahead (AddDevice name driver stack lower) after = after
@@ -131,7 +131,7 @@ queued_ahead (AddQueue name guard cancel) after = name ∷ after
 queued_ahead Blank after = after
 queued_ahead (OpenDriver name) after = after
 queued_ahead (Handle major routine) after = after
-queued_ahead (HandleStartIo routine) after = after
+queued_ahead (HandleStartIo routine cancel) after = after
 queued_ahead (HandleDpc routine) after = after
 queued_ahead (OpenRoutine name sort) after = after
 queued_ahead CloseRoutine after = after
@@ -152,7 +152,7 @@ labelled_ahead label (OpenDriver name) after = after
 labelled_ahead label CloseDriver after = after
 labelled_ahead label (AddQueue name guard cancel) after = after
 labelled_ahead label (Handle major routine) after = after
-labelled_ahead label (HandleStartIo routine) after = after
+labelled_ahead label (HandleStartIo routine cancel) after = after
 labelled_ahead label (HandleDpc routine) after = after
 labelled_ahead label (OpenRoutine name sort) after = after
 labelled_ahead label (AddDevice name driver stack lower) after = after
@@ -191,7 +191,7 @@ drivers_after drivers Blank = drivers
 drivers_after drivers CloseDriver = drivers
 drivers_after drivers (AddQueue name guard cancel) = drivers
 drivers_after drivers (Handle major routine) = drivers
-drivers_after drivers (HandleStartIo routine) = drivers
+drivers_after drivers (HandleStartIo routine cancel) = drivers
 drivers_after drivers (HandleDpc routine) = drivers
 drivers_after drivers (OpenRoutine name sort) = drivers
 drivers_after drivers CloseRoutine = drivers
@@ -206,7 +206,7 @@ devices_after devices (OpenDriver name) = devices
 devices_after devices CloseDriver = devices
 devices_after devices (AddQueue name guard cancel) = devices
 devices_after devices (Handle major routine) = devices
-devices_after devices (HandleStartIo routine) = devices
+devices_after devices (HandleStartIo routine cancel) = devices
 devices_after devices (HandleDpc routine) = devices
 devices_after devices (OpenRoutine name sort) = devices
 devices_after devices CloseRoutine = devices
@@ -219,7 +219,7 @@ routines_around routines Blank next = routines
 routines_around routines CloseDriver next = routines
 routines_around routines (AddQueue name guard cancel) next = routines
 routines_around routines (Handle major routine) next = routines
-routines_around routines (HandleStartIo routine) next = routines
+routines_around routines (HandleStartIo routine cancel) next = routines
 routines_around routines (HandleDpc routine) next = routines
 routines_around routines (OpenRoutine name sort) next = routines
 routines_around routines CloseRoutine next = routines
@@ -233,7 +233,7 @@ sorts_around sorts Blank next = sorts
 sorts_around sorts CloseDriver next = sorts
 sorts_around sorts (AddQueue name guard cancel) next = sorts
 sorts_around sorts (Handle major routine) next = sorts
-sorts_around sorts (HandleStartIo routine) next = sorts
+sorts_around sorts (HandleStartIo routine cancel) next = sorts
 sorts_around sorts (HandleDpc routine) next = sorts
 sorts_around sorts (OpenRoutine name sort) next = sorts
 sorts_around sorts CloseRoutine next = sorts
@@ -247,7 +247,7 @@ queues_around queues Blank next = queues
 queues_around queues CloseDriver next = queues
 queues_around queues (AddQueue name guard cancel) next = queues
 queues_around queues (Handle major routine) next = queues
-queues_around queues (HandleStartIo routine) next = queues
+queues_around queues (HandleStartIo routine cancel) next = queues
 queues_around queues (HandleDpc routine) next = queues
 queues_around queues (OpenRoutine name sort) next = queues
 queues_around queues CloseRoutine next = queues
@@ -262,7 +262,7 @@ labels_around labels (OpenDriver name) next = labels
 labels_around labels CloseDriver next = labels
 labels_around labels (AddQueue name guard cancel) next = labels
 labels_around labels (Handle major routine) next = labels
-labels_around labels (HandleStartIo routine) next = labels
+labels_around labels (HandleStartIo routine cancel) next = labels
 labels_around labels (HandleDpc routine) next = labels
 labels_around labels CloseRoutine next = labels
 labels_around labels (AddDevice name driver stack lower) next = labels
@@ -296,14 +296,15 @@ all_known s used = is_known s.labels used.label
 
 -- the line's own number where it uses a name that nothing has: a routine that isn't in the driver
 -- around it or isn't of the sort that serves a major function, that begins packets, that an
--- interrupt queues, that a call sets or that cancels the packets of a queue; a queue that isn't in
--- the driver around it; a driver or lower device that isn't before it; or a label that isn't in the
--- routine around it; else what comes of the lines after it
+-- interrupt queues, that a call sets or that cancels the packets of a queue or of the device queue;
+-- a queue that isn't in the driver around it; a driver or lower device that isn't before it; or a
+-- label that isn't in the routine around it; else what comes of the lines after it
 abbrev pub unknown_at : Scope → ℕ → Body → Option ℕ → Option ℕ
 unknown_at s n (Handle major routine) after = if has_routine s.routines s.sorts Handler routine
     then after else Some n
-unknown_at s n (HandleStartIo routine) after = if has_routine s.routines s.sorts StartIo routine
-    then after else Some n
+unknown_at s n (HandleStartIo routine cancel) after =
+    if has_routine s.routines s.sorts StartIo routine && is_served s Cancel cancel then after
+    else Some n
 unknown_at s n (HandleDpc routine) after = if has_routine s.routines s.sorts Dpc routine then after
     else Some n
 unknown_at s n (AddDevice name driver stack lower) after =

@@ -2,7 +2,7 @@
 use Rattle.std.specs.Prelude.{ℕ, ⊤, ◌≡◌, ◌<◌, ◌≤◌, All, map, slice_get, unwrap_or, ◌+◌, min, Bool, true, false, not, ◌&&◌, nat_lt, nat_le, bytes_eq, List, [], ◌∷◌, ◌++◌, length, Option, Some, None, is_some, is_none, option_map, option_and_then, option_to_list, position, if◌then◌else◌}
 use Rattle.std.specs.List.{list_any}
 use Rattle.model.specs.declared.instr.Instr.{Instr}
-use Rattle.model.specs.declared.instr.Instr.TheVariants.{Const, Move, Clear, Add, Subtract, JumpIfZero, JumpIfLess, Jump, Loop, End, Load, Store, LoadPaged, StorePaged, Get, Put, Mark, Acquire, Release, AcquireCancel, ReleaseCancel, Insert, Remove, Unlink, Arm, Disarm, IfCancel, Start, Take, Begin, Next, Pass, Call, Complete, IfPending, Ret}
+use Rattle.model.specs.declared.instr.Instr.TheVariants.{Const, Move, Clear, Add, Subtract, JumpIfZero, JumpIfLess, Jump, Loop, End, Load, Store, LoadPaged, StorePaged, Get, Put, Mark, Acquire, Release, AcquireCancel, ReleaseCancel, Insert, Remove, Unlink, Arm, Disarm, IfCancel, Start, Take, Begin, Next, Dequeue, Pass, Call, Complete, IfPending, Ret}
 use Rattle.model.specs.declared.limits.TheConstants.{MAX_DEVICES, MAX_DRIVERS, MAX_INSTRUCTIONS, MAX_QUEUES, MAX_ROUTINES, MAX_STACK}
 use Rattle.model.specs.declared.set.Device.{Device}
 use Rattle.model.specs.declared.set.Driver.{Driver}
@@ -18,6 +18,7 @@ use Rattle.asm.specs.declared.draft.Place.TheVariants.{Outside, InDriver, InRout
 use Rattle.asm.specs.declared.draft.ClosedRoutine.{ClosedRoutine}
 use Rattle.asm.specs.declared.draft.Linked.{Linked}
 use Rattle.asm.specs.declared.draft.QueueLine.{QueueLine}
+use Rattle.asm.specs.declared.draft.StartIoLine.{StartIoLine}
 use Rattle.asm.specs.declared.draft.Step.{Step as StepOf}
 use Rattle.asm.specs.declared.draft.Use.{Use}
 use Rattle.asm.specs.declared.routines.Role.{Role}
@@ -32,7 +33,8 @@ use Rattle.asm_line.specs.declared.line.UsedNames.{UsedNames}
 -- What was read: the drivers that are closed and the devices, with the names of all of them; of the
 -- open driver its routines that are closed, the names and sorts of all of its routines, the uses of
 -- routines by its calls, its queues with the uses of their cancel routines, their names, the uses
--- of queues by its instructions, what serves each major function, its StartIo and its DPC routine;
+-- of queues by its instructions, what serves each major function, its `startio` line and its DPC
+-- routine;
 -- of the open routine its sort, its labels, the position that each of them names, and its
 -- instructions; and the first line that uses a name which nothing has, of those that are weighed
 -- already. What is open is empty where nothing is open.
@@ -52,7 +54,7 @@ pub record Outline : Type 0 where
   pub read : Option Use
   pub write : Option Use
   pub control : Option Use
-  pub startio : Option Use
+  pub startio : Option StartIoLine
   pub dpc : Option Use
   pub sort : Sort
   pub labels : List (List ℕ)
@@ -102,7 +104,7 @@ stands Outside (OpenDriver name) = true
 stands Outside CloseDriver = false
 stands Outside (AddQueue name guard cancel) = false
 stands Outside (Handle major routine) = false
-stands Outside (HandleStartIo routine) = false
+stands Outside (HandleStartIo routine cancel) = false
 stands Outside (HandleDpc routine) = false
 stands Outside (OpenRoutine name sort) = false
 stands Outside CloseRoutine = false
@@ -112,7 +114,7 @@ stands InDriver (OpenDriver name) = false
 stands InDriver CloseDriver = true
 stands InDriver (AddQueue name guard cancel) = true
 stands InDriver (Handle major routine) = true
-stands InDriver (HandleStartIo routine) = true
+stands InDriver (HandleStartIo routine cancel) = true
 stands InDriver (HandleDpc routine) = true
 stands InDriver (OpenRoutine name sort) = true
 stands InDriver CloseRoutine = false
@@ -122,7 +124,7 @@ stands InRoutine (OpenDriver name) = false
 stands InRoutine CloseDriver = false
 stands InRoutine (AddQueue name guard cancel) = false
 stands InRoutine (Handle major routine) = false
-stands InRoutine (HandleStartIo routine) = false
+stands InRoutine (HandleStartIo routine cancel) = false
 stands InRoutine (HandleDpc routine) = false
 stands InRoutine (OpenRoutine name sort) = false
 stands InRoutine CloseRoutine = true
@@ -145,7 +147,7 @@ abbrev pub is_again : Outline → Option (List ℕ) → Body → Bool
 is_again o label (OpenDriver name) = is_among o.driver_names name
 is_again o label (AddQueue name guard cancel) = is_among o.queue_names name
 is_again o label (Handle major routine) = is_some (handler_of o major)
-is_again o label (HandleStartIo routine) = is_some o.startio
+is_again o label (HandleStartIo routine cancel) = is_some o.startio
 is_again o label (HandleDpc routine) = is_some o.dpc
 is_again o label (OpenRoutine name sort) = is_among o.routine_names name
 is_again o label (AddDevice name driver stack lower) = is_among o.device_names name
@@ -167,7 +169,7 @@ is_out_of_range Blank = false
 is_out_of_range (OpenDriver name) = false
 is_out_of_range CloseDriver = false
 is_out_of_range (Handle major routine) = false
-is_out_of_range (HandleStartIo routine) = false
+is_out_of_range (HandleStartIo routine cancel) = false
 is_out_of_range (HandleDpc routine) = false
 is_out_of_range (OpenRoutine name sort) = false
 is_out_of_range CloseRoutine = false
@@ -182,7 +184,7 @@ has_room o (Step instr used) = nat_lt (length o.steps) MAX_INSTRUCTIONS
 has_room o Blank = true
 has_room o CloseDriver = true
 has_room o (Handle major routine) = true
-has_room o (HandleStartIo routine) = true
+has_room o (HandleStartIo routine cancel) = true
 has_room o (HandleDpc routine) = true
 has_room o CloseRoutine = true
 
@@ -309,6 +311,7 @@ with_routine (Start r) routine = Start r
 with_routine (Take r old) routine = Take r old
 with_routine (Begin r) routine = Begin r
 with_routine Next routine = Next
+with_routine (Dequeue r) routine = Dequeue r
 with_routine (Pass r) routine = Pass r
 with_routine (Complete r status) routine = Complete r status
 with_routine (IfPending r old) routine = IfPending r old
@@ -358,6 +361,7 @@ with_queue (Start r) queue = Start r
 with_queue (Take r label) queue = Take r label
 with_queue (Begin r) queue = Begin r
 with_queue Next queue = Next
+with_queue (Dequeue r) queue = Dequeue r
 with_queue (Pass r) queue = Pass r
 with_queue (Complete r status) queue = Complete r status
 with_queue (IfPending r label) queue = IfPending r label
@@ -378,6 +382,15 @@ abbrev pub finished_queue : Outline → QueueLine → Queue
 finished_queue o q =
     record { guard = q.guard; cancel = entry_in o.routine_names o.sorts CancelRole q.cancel }
 
+-- the StartIo routine, as its line names it, and the cancel routine of the packets that wait for it
+abbrev pub startio_named : Option StartIoLine → Option Use
+startio_named None = None
+startio_named (Some l) = Some l.routine
+
+abbrev pub waiting_named : Option StartIoLine → Option Use
+waiting_named None = None
+waiting_named (Some l) = l.cancel
+
 -- the open driver
 abbrev pub finished_driver : Outline → Driver
 finished_driver o = record {
@@ -386,7 +399,8 @@ finished_driver o = record {
   read = entry_in o.routine_names o.sorts Handler o.read;
   write = entry_in o.routine_names o.sorts Handler o.write;
   control = entry_in o.routine_names o.sorts Handler o.control;
-  startio = entry_in o.routine_names o.sorts StartIoRole o.startio;
+  startio = entry_in o.routine_names o.sorts StartIoRole (startio_named o.startio);
+  startio_cancel = entry_in o.routine_names o.sorts CancelRole (waiting_named o.startio);
   dpc = entry_in o.routine_names o.sorts DpcRole o.dpc;
 }
 
@@ -399,13 +413,19 @@ abbrev pub missed_entry : List (List ℕ) → List Sort → Role → Option Use 
 missed_entry names sorts role None = None
 missed_entry names sorts role (Some u) = missed_use names sorts role u
 
+-- the `startio` line, if its StartIo routine is missed, or the cancel routine that it names
+abbrev pub missed_startio : List (List ℕ) → List Sort → Option StartIoLine → Option ℕ
+missed_startio names sorts l =
+    earliest (missed_entry names sorts StartIoRole (startio_named l))
+    (missed_entry names sorts CancelRole (waiting_named l))
+
 -- the first such line of the entries of the open driver
 abbrev pub missed_handler : List (List ℕ) → List Sort → Outline → Option ℕ
 missed_handler names sorts o =
     earliest (missed_entry names sorts Handler o.read)
     (earliest (missed_entry names sorts Handler o.write)
     (earliest (missed_entry names sorts Handler o.control)
-    (earliest (missed_entry names sorts StartIoRole o.startio)
+    (earliest (missed_startio names sorts o.startio)
     (missed_entry names sorts DpcRole o.dpc))))
 
 -- the first such line of these calls, or the one found already if that is earlier
@@ -479,9 +499,10 @@ handled o u Read = record o { read = Some u }
 handled o u Write = record o { write = Some u }
 handled o u Control = record o { control = Some u }
 
--- `startio ROUTINE`
-abbrev pub startio_handled : Outline → Use → Outline
-startio_handled o u = record o { startio = Some u }
+-- `startio ROUTINE` and `startio ROUTINE CANCEL`
+abbrev pub startio_handled : Outline → Use → Option Use → Outline
+startio_handled o u cancel =
+    record o { startio = Some (record { routine = u; cancel = cancel }) }
 
 -- `dpc ROUTINE`
 abbrev pub dpc_handled : Outline → Use → Outline
@@ -540,6 +561,7 @@ with_label (Arm r q) label = Arm r q
 with_label (Start r) label = Start r
 with_label (Begin r) label = Begin r
 with_label Next label = Next
+with_label (Dequeue r) label = Dequeue r
 with_label (Pass r) label = Pass r
 with_label (Call r old) label = Call r old
 with_label (Complete r status) label = Complete r status
@@ -638,7 +660,8 @@ noted o n label (AddQueue name (Some guard) cancel) =
     queue_added o name guard (used_at n cancel)
 noted o n label (AddQueue name None cancel) = o
 noted o n label (Handle major routine) = handled o (record { line = n; name = routine }) major
-noted o n label (HandleStartIo routine) = startio_handled o (record { line = n; name = routine })
+noted o n label (HandleStartIo routine cancel) =
+    startio_handled o (record { line = n; name = routine }) (used_at n cancel)
 noted o n label (HandleDpc routine) = dpc_handled o (record { line = n; name = routine })
 noted o n label (OpenRoutine name sort) = routine_opened o name sort
 noted o n label CloseRoutine = routine_closed o

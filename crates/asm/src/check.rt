@@ -40,7 +40,7 @@ impl<'a> Draft<'a> {
             Body::OpenDriver(name) => is_among(&self.driver_names, name),
             Body::AddQueue(name, _, _) => is_among(&self.queue_names, name),
             Body::Handle(major, _) => self.handler_of(*major).is_some(),
-            Body::HandleStartIo(_) => self.startio.is_some(),
+            Body::HandleStartIo(_, _) => self.startio.is_some(),
             Body::HandleDpc(_) => self.dpc.is_some(),
             Body::OpenRoutine(name, _) => is_among(&self.routine_names, name),
             Body::AddDevice(name, _, _, _) => is_among(&self.device_names, name),
@@ -85,7 +85,7 @@ fn stands(place: Place, body: &Body<'_>) -> bool
         Body::CloseDriver
         | Body::AddQueue(_, _, _)
         | Body::Handle(_, _)
-        | Body::HandleStartIo(_)
+        | Body::HandleStartIo(_, _)
         | Body::HandleDpc(_)
         | Body::OpenRoutine(_, _) => matches!(place, Place::InDriver),
         Body::CloseRoutine | Body::Step(_, _) => matches!(place, Place::InRoutine),

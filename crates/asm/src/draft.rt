@@ -73,6 +73,14 @@ pub struct QueueLine<'a> {
     pub cancel: Option<Use<'a>>,
 }
 
+/// The `startio` line of the open driver: the use of the name of its StartIo routine, and that of
+/// the cancel routine of the packets that wait in the device queue, if they have one.
+#[derive(Drop)]
+pub struct StartIoLine<'a> {
+    pub routine: Use<'a>,
+    pub cancel: Option<Use<'a>>,
+}
+
 /// What was read. Contracts see an `Outline`.
 #[derive(Drop)]
 pub struct Draft<'a> {
@@ -91,7 +99,7 @@ pub struct Draft<'a> {
     pub(crate) read: Option<Use<'a>>,
     pub(crate) write: Option<Use<'a>>,
     pub(crate) control: Option<Use<'a>>,
-    pub(crate) startio: Option<Use<'a>>,
+    pub(crate) startio: Option<StartIoLine<'a>>,
     pub(crate) dpc: Option<Use<'a>>,
     pub(crate) sort: Sort,
     pub(crate) labels: IndexSet<Piece<'a>>,

@@ -4,7 +4,7 @@ ghost use Rattle.std.specs.Prelude.{◌≡◌, ◌≤◌, ◌<◌, false, true, 
 ghost use Rattle.model.specs.declared.limits.TheConstants.{MAX_DEVICES, MAX_DRIVERS, MAX_INSTRUCTIONS, MAX_QUEUES, MAX_ROUTINES};
 ghost use Rattle.asm.specs.Outline.{device_added, device_of, dpc_handled, driver_closed, driver_opened, handled, is_among, is_known_label, is_stack_size, label_added, noted, queue_added, routine_closed, routine_opened, startio_handled, step_added, stepped, IsFitting, IsOrderly};
 
-use crate::draft::{ClosedRoutine, Draft, Place, QueueLine, Step, Use};
+use crate::draft::{ClosedRoutine, Draft, Place, QueueLine, StartIoLine, Step, Use};
 use crate::names::{add, add_use, earliest, missed, number_of, number_used, push_some, used_at};
 use asm_line::{Body, Line, UsedNames};
 use model::instr::{Instr, SpinLock};
@@ -34,7 +34,9 @@ impl<'a> Draft<'a> {
                 None => Ok(()),
             },
             Body::Handle(major, name) => self.handle(*major, Use::of(number, name)),
-            Body::HandleStartIo(name) => self.handle_startio(Use::of(number, name)),
+            Body::HandleStartIo(name, cancel) => {
+                self.handle_startio(Use::of(number, name), used_at(number, cancel))
+            }
             Body::HandleDpc(name) => self.handle_dpc(Use::of(number, name)),
             Body::OpenRoutine(name, sort) => self.open_routine(name.again(), *sort),
             Body::CloseRoutine => self.close_routine(alloc),
@@ -112,11 +114,15 @@ impl<'a> Draft<'a> {
         Ok(())
     }
 
-    /// `startio ROUTINE`.
-    fn handle_startio(&mut self, used: Use<'a>) -> Result<(), AllocError>
-        ensures { OnOk result (self.new ≡ startio_handled self.old used.entry) }
+    /// `startio ROUTINE` and `startio ROUTINE CANCEL`.
+    fn handle_startio(
+        &mut self,
+        routine: Use<'a>,
+        cancel: Option<Use<'a>>,
+    ) -> Result<(), AllocError>
+        ensures { OnOk result (self.new ≡ startio_handled self.old routine.entry cancel.entry) }
     {
-        self.startio = Some(used);
+        self.startio = Some(StartIoLine { routine, cancel });
         Ok(())
     }
 

@@ -2,7 +2,7 @@
 
 ghost use Rattle.std.specs.Prelude.{◌≡◌, ◌≤◌, ◌++◌, length, map, IfOk, None};
 ghost use Rattle.model.specs.declared.limits.TheConstants.{MAX_QUEUES, MAX_ROUTINES};
-ghost use Rattle.asm.specs.Outline.{called, entry_in, finished, missed_calls, missed_cancels, missed_entry, missed_handler, missed_in_driver, missed_routine, missed_server, missed_use, number_for, finished_driver, routine_called, routine_named, serves, with_routine};
+ghost use Rattle.asm.specs.Outline.{called, entry_in, finished, missed_calls, missed_cancels, missed_entry, missed_handler, missed_in_driver, missed_routine, missed_server, missed_startio, missed_use, number_for, finished_driver, routine_called, routine_named, serves, startio_named, waiting_named, with_routine};
 
 use crate::code::{ClosedCode, is_nameless};
 use crate::draft::{ClosedRoutine, Draft, Linked, Use};
@@ -26,7 +26,7 @@ pub enum Role {
     StartIo,
     /// To be queued by an interrupt.
     Dpc,
-    /// To be called for a packet of a queue, which is cancelled.
+    /// To be called for a packet of a queue or of the device queue, which is cancelled.
     Cancel,
 }
 
@@ -133,12 +133,27 @@ impl<'a> Draft<'a> {
         let read = self.missed_entry(Role::Handler, &self.read);
         let write = self.missed_entry(Role::Handler, &self.write);
         let control = self.missed_entry(Role::Handler, &self.control);
-        let startio = self.missed_entry(Role::StartIo, &self.startio);
+        let startio = self.missed_startio();
         let dpc = self.missed_entry(Role::Dpc, &self.dpc);
         earliest(
             read,
             earliest(write, earliest(control, earliest(startio, dpc))),
         )
+    }
+
+    /// The `startio` line, if it names such a routine as one of its two.
+    fn missed_startio(&self) -> Option<u64>
+        requires { length self.now.routine_names ≤ MAX_ROUTINES }
+        ensures { result
+            ≡ missed_startio self.now.routine_names self.now.sorts self.now.startio }
+    {
+        match &self.startio {
+            Some(line) => {
+                let routine = self.missed_use(Role::StartIo, &line.routine);
+                earliest(routine, self.missed_entry(Role::Cancel, &line.cancel))
+            }
+            None => None,
+        }
     }
 
     /// The line of a table entry, or of a queue, that names such a routine.
@@ -193,9 +208,34 @@ impl<'a> Draft<'a> {
             read: self.entry_in(Role::Handler, &self.read),
             write: self.entry_in(Role::Handler, &self.write),
             control: self.entry_in(Role::Handler, &self.control),
-            startio: self.entry_in(Role::StartIo, &self.startio),
+            startio: self.startio_in(),
+            startio_cancel: self.startio_cancel_in(),
             dpc: self.entry_in(Role::Dpc, &self.dpc),
         })
+    }
+
+    /// The number of the StartIo routine.
+    fn startio_in(&self) -> Option<u8>
+        requires { length self.now.routine_names ≤ MAX_ROUTINES }
+        ensures { result ≡ entry_in self.now.routine_names self.now.sorts Role.StartIo
+            (startio_named self.now.startio) }
+    {
+        match &self.startio {
+            Some(line) => self.routine_named(Role::StartIo, &line.routine.name),
+            None => None,
+        }
+    }
+
+    /// The number of the cancel routine of the packets that wait in the device queue.
+    fn startio_cancel_in(&self) -> Option<u8>
+        requires { length self.now.routine_names ≤ MAX_ROUTINES }
+        ensures { result ≡ entry_in self.now.routine_names self.now.sorts Role.Cancel
+            (waiting_named self.now.startio) }
+    {
+        match &self.startio {
+            Some(line) => self.entry_in(Role::Cancel, &line.cancel),
+            None => None,
+        }
     }
 
     /// The number of the routine that is named for a role.

@@ -3,7 +3,7 @@ use Rattle.std.proofs.Common.{◌≡◌, ℕ, List, [], ◌++◌, Some, None, re
 use Rattle.model.specs.declared.instr.Field.{Field}
 use Rattle.model.specs.declared.instr.Return.{Return}
 use Rattle.model.specs.declared.instr.Return.TheVariants.{Lower}
-use Rattle.model.specs.declared.instr.Instr.TheVariants.{Const, Move, Clear, Add, Subtract, JumpIfZero, JumpIfLess, Jump, Loop, End, Load, Store, LoadPaged, StorePaged, Get, Put, Mark, Acquire, Release, AcquireCancel, ReleaseCancel, Insert, Remove, Unlink, Arm, Disarm, IfCancel, Start, Take, Begin, Next, Pass, Call, Complete, IfPending, Ret}
+use Rattle.model.specs.declared.instr.Instr.TheVariants.{Const, Move, Clear, Add, Subtract, JumpIfZero, JumpIfLess, Jump, Loop, End, Load, Store, LoadPaged, StorePaged, Get, Put, Mark, Acquire, Release, AcquireCancel, ReleaseCancel, Insert, Remove, Unlink, Arm, Disarm, IfCancel, Start, Take, Begin, Next, Dequeue, Pass, Call, Complete, IfPending, Ret}
 use Rattle.model.specs.declared.status.Status.{Status}
 use Rattle.asm_line.specs.Cursor.{called, cell, constant, field, label, one, paged_cell, queue, register, returned, so_far, spin_lock, status, three, turns, two}
 use Rattle.asm_line.specs.Usual.{same, unnamed, with_label, with_queue, with_routine, ReadsStep, Takes, TakesStatus}
@@ -90,6 +90,14 @@ disarm_read parts first second done =
     step_read (codes "disarm") (two Disarm register label)
     (plain_word (codes "disarm") refl refl refl) refl
     (λ c. refl) parts (two_read Disarm first second done)
+
+pub dequeue_read : {line a e : List ℕ} {x : ℕ}
+    → line ≡ codes "dequeue" ++ a → Takes register same a x e → e ≡ []
+    → ReadsStep line (Step (Some (Dequeue x)) unnamed)
+dequeue_read parts first done =
+    step_read (codes "dequeue") (one Dequeue register)
+    (plain_word (codes "dequeue") refl refl refl) refl
+    (λ c. refl) parts (one_read Dequeue first done)
 
 pub end_read : {line e : List ℕ}
     → line ≡ codes "end" ++ e → e ≡ [] → ReadsStep line (Step (Some End) unnamed)

@@ -15,7 +15,7 @@ use Rattle.text.specs.Major.{major_of}
 use Rattle.text.specs.Number.{number_in, number_value, numbered_in, sized}
 use Rattle.text.specs.declared.number.Numeral.TheVariants.{Other}
 use Rattle.text.specs.declared.class.TheConstants.{MAX_NAME}
-use Rattle.model.specs.declared.instr.Instr.TheVariants.{Const, Move, Clear, Add, Subtract, JumpIfZero, JumpIfLess, Jump, Loop, Load, Store, LoadPaged, StorePaged, Get, Put, Mark, Acquire, Release, Insert, Remove, Unlink, Arm, Disarm, IfCancel, Start, Take, Begin, Pass, Call, Complete, IfPending, Ret}
+use Rattle.model.specs.declared.instr.Instr.TheVariants.{Const, Move, Clear, Add, Subtract, JumpIfZero, JumpIfLess, Jump, Loop, Load, Store, LoadPaged, StorePaged, Get, Put, Mark, Acquire, Release, Insert, Remove, Unlink, Arm, Disarm, IfCancel, Start, Take, Begin, Dequeue, Pass, Call, Complete, IfPending, Ret}
 use Rattle.model.specs.declared.instr.Return.TheVariants.{WithStatus, Lower}
 use Rattle.asm_line.specs.Cursor.{Reading, beginning, called, capped, cell, cell_of, constant, constant_of, field, label, lock_of, major, name, name_of, name_or_end, next_of, number, numbered, one, optional_name, paged_cell, queue, ranged, register, register_of, returned, returned_by, so_far, sort, spin_lock, status, then_read, three, token, turns, turns_of, two, word}
 use Rattle.asm_line.specs.Instruction.{instruction, on_devices, on_packets, on_queues}
@@ -329,7 +329,9 @@ on_queues_usual t c =
     (pick t (codes "start") c _ _ refl (one_usual Start register_usual)
     (pick t (codes "take") c _ _ refl (two_usual Take register_usual label_usual)
     (pick t (codes "begin") c _ _ refl (one_usual Begin register_usual)
-    (pick t (codes "next") c _ _ refl (kept _) (on_packets_usual t c))))))))
+    (pick t (codes "next") c _ _ refl (kept _)
+    (pick t (codes "dequeue") c _ _ refl (one_usual Dequeue register_usual)
+    (on_packets_usual t c)))))))))
 
 on_devices_usual : (t : List ℕ) (c : Cursor) → Tells (t ∷ c.tokens) (on_devices t c)
 on_devices_usual t c =
@@ -388,7 +390,7 @@ body_usual t c =
     (pick t (codes "endd") c _ _ refl (kept _)
     (pick t (codes "queue") c _ _ refl queue_line_usual
     (pick t (codes "dispatch") c _ _ refl (two_usual Handle major_usual name_usual)
-    (pick t (codes "startio") c _ _ refl (one_usual HandleStartIo name_usual)
+    (pick t (codes "startio") c _ _ refl (two_usual HandleStartIo name_usual optional_name_usual)
     (pick t (codes "dpc") c _ _ refl (one_usual HandleDpc name_usual)
     (pick t (codes "routine") c _ _ refl (two_usual OpenRoutine name_usual sort_usual)
     (pick t (codes "endr") c _ _ refl (kept _)

@@ -1,7 +1,7 @@
 -- The instructions of a driver text, each by its word and what stands behind it.
 use Rattle.std.specs.Prelude.{ℕ, List, bytes_eq, codes, None, if◌then◌else◌}
 use Rattle.model.specs.declared.instr.Instr.{Instr}
-use Rattle.model.specs.declared.instr.Instr.TheVariants.{Const, Move, Clear, Add, Subtract, JumpIfZero, JumpIfLess, Jump, Loop, End, Load, Store, LoadPaged, StorePaged, Get, Put, Mark, Acquire, Release, AcquireCancel, ReleaseCancel, Insert, Remove, Unlink, Arm, Disarm, IfCancel, Start, Take, Begin, Next, Pass, Call, Complete, IfPending, Ret}
+use Rattle.model.specs.declared.instr.Instr.TheVariants.{Const, Move, Clear, Add, Subtract, JumpIfZero, JumpIfLess, Jump, Loop, End, Load, Store, LoadPaged, StorePaged, Get, Put, Mark, Acquire, Release, AcquireCancel, ReleaseCancel, Insert, Remove, Unlink, Arm, Disarm, IfCancel, Start, Take, Begin, Next, Dequeue, Pass, Call, Complete, IfPending, Ret}
 use Rattle.asm_line.specs.Cursor.{Reading, so_far, one, two, three, called, cell, constant, field, label, paged_cell, queue, register, returned, spin_lock, status, turns}
 use Rattle.asm_line.specs.declared.cursor.Cursor.{Cursor}
 
@@ -29,7 +29,8 @@ on_queues t c =
     (if bytes_eq t (codes "start") then one Start register c else
     (if bytes_eq t (codes "take") then two Take register label c else
     (if bytes_eq t (codes "begin") then one Begin register c else
-    (if bytes_eq t (codes "next") then so_far Next c else on_packets t c)))))))
+    (if bytes_eq t (codes "next") then so_far Next c else
+    (if bytes_eq t (codes "dequeue") then one Dequeue register c else on_packets t c))))))))
 
 -- what is done with the device's locks and cells, its queues, or packets
 abbrev pub on_devices : List ℕ → Cursor → Reading Instr

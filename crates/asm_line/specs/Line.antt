@@ -37,14 +37,15 @@ step t c =
     then_read (instruction t c)
     (λ i rest. so_far (Step (if_in_range rest.in_range i) rest.used) rest)
 
--- what the first word of a line and the tokens behind it say
+-- what the first word of a line and the tokens behind it say: `startio ROUTINE` may name a cancel
+-- routine too
 abbrev pub body : List ℕ → Cursor → Reading Body
 body t c =
     if bytes_eq t (codes "driver") then one OpenDriver name c else
     (if bytes_eq t (codes "endd") then so_far CloseDriver c else
     (if bytes_eq t (codes "queue") then queue c else
     (if bytes_eq t (codes "dispatch") then two Handle major name c else
-    (if bytes_eq t (codes "startio") then one HandleStartIo name c else
+    (if bytes_eq t (codes "startio") then two HandleStartIo name optional_name c else
     (if bytes_eq t (codes "dpc") then one HandleDpc name c else
     (if bytes_eq t (codes "routine") then two OpenRoutine name sort c else
     (if bytes_eq t (codes "endr") then so_far CloseRoutine c else
@@ -71,7 +72,7 @@ labelled label (OpenDriver name) = None
 labelled label CloseDriver = None
 labelled label (AddQueue name lock cancel) = None
 labelled label (Handle major routine) = None
-labelled label (HandleStartIo routine) = None
+labelled label (HandleStartIo routine cancel) = None
 labelled label (HandleDpc routine) = None
 labelled label (OpenRoutine name sort) = None
 labelled label CloseRoutine = None
@@ -111,7 +112,7 @@ BodyFits CloseDriver = ⊤
 BodyFits (AddQueue name (Some lock) cancel) = IsSpinLock lock
 BodyFits (AddQueue name None cancel) = ⊤
 BodyFits (Handle major routine) = ⊤
-BodyFits (HandleStartIo routine) = ⊤
+BodyFits (HandleStartIo routine cancel) = ⊤
 BodyFits (HandleDpc routine) = ⊤
 BodyFits (OpenRoutine name sort) = ⊤
 BodyFits CloseRoutine = ⊤

@@ -175,7 +175,7 @@ fn body<'a>(word: &[u8], at: &mut Cursor<'a>) -> Option<Body<'a>>
         return Some(Body::Handle(at.major()?, at.name()?));
     }
     if is(word, b"startio") {
-        return Some(Body::HandleStartIo(at.name()?));
+        return Some(Body::HandleStartIo(at.name()?, at.optional_name()?));
     }
     if is(word, b"dpc") {
         return Some(Body::HandleDpc(at.name()?));

@@ -112,6 +112,9 @@ fn on_queues(word: &[u8], at: &mut Cursor<'_>) -> Option<Instr>
     if is(word, b"next") {
         return Some(Instr::Next);
     }
+    if is(word, b"dequeue") {
+        return Some(Instr::Dequeue(at.register()?));
+    }
     on_packets(word, at)
 }
 

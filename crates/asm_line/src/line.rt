@@ -56,8 +56,9 @@ pub enum Body<'a> {
     AddQueue(Piece<'a>, Option<SpinLock>, Option<Piece<'a>>),
     /// `dispatch MAJOR ROUTINE`.
     Handle(Major, Piece<'a>),
-    /// `startio ROUTINE`.
-    HandleStartIo(Piece<'a>),
+    /// `startio ROUTINE` and `startio ROUTINE CANCEL`: its name, and the name of the cancel routine
+    /// of the packets that wait in the device queue.
+    HandleStartIo(Piece<'a>, Option<Piece<'a>>),
     /// `dpc ROUTINE`.
     HandleDpc(Piece<'a>),
     /// `routine NAME SORT`.

@@ -80,6 +80,7 @@ fn plain(bytes: &[u8]) -> Option<Instr>
         b'a' => plain_a(bytes),
         b'b' => plain_b(bytes),
         b'c' => plain_c(bytes),
+        b'd' => plain_d(bytes),
         b'e' => plain_e(bytes),
         b'g' => plain_g(bytes),
         b'l' => plain_l(bytes),
@@ -172,6 +173,19 @@ fn plain_c(bytes: &[u8]) -> Option<Instr>
         let register = at.register()?;
         at.end()?;
         return Some(Instr::Call(register, None));
+    }
+    None
+}
+
+/// An instruction whose word begins with `d` and that uses no name.
+fn plain_d(bytes: &[u8]) -> Option<Instr>
+    ensures read { IfSome result (λ i. ReadsStep bytes.now (Step (Some i) unnamed)) }
+    ensures fits { IfSome result (λ i. BodyFits (Step (Some i) unnamed)) }
+{
+    if let Some(mut at) = behind(bytes, b"dequeue") {
+        let register = at.register()?;
+        at.end()?;
+        return Some(Instr::Dequeue(register));
     }
     None
 }

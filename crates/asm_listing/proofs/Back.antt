@@ -47,8 +47,10 @@ words_plain (line.Queue n q) fits = (
 )
 words_plain (line.Handler major n) fits =
     (plain_word _ _ refl refl, (major_plain major, (numbered_plain 102 n refl refl fits, tt)))
-words_plain (line.StartIo n) fits =
-    (plain_word _ _ refl refl, (numbered_plain 102 n refl refl fits, tt))
+words_plain (line.StartIo n cancel) fits = (
+  plain_word _ _ refl refl,
+  (numbered_plain 102 n refl refl fits.0, optional_plain 102 cancel refl refl fits.1),
+)
 words_plain (line.Dpc n) fits =
     (plain_word _ _ refl refl, (numbered_plain 102 n refl refl fits, tt))
 words_plain (line.Routine n sort) fits =
@@ -116,9 +118,11 @@ words_back (line.Handler major n) fits =
     (at (major_text major ∷ routine n ∷ []) start) (at (routine n ∷ []) start) start
     major (routine n)
     (major_back major (routine n ∷ []) start) (name_back 102 n [] start refl fits))
-words_back (line.StartIo n) fits =
-    bodied _ _ (one_read (λ n. HandleStartIo n) reads.name (at (routine n ∷ []) start) start
-    (routine n) (name_back 102 n [] start refl fits))
+words_back (line.StartIo n cancel) fits =
+    let behind = optional routine cancel in
+    bodied _ _ (two_read HandleStartIo reads.name reads.optional_name
+    (at (routine n ∷ behind) start) (at behind start) start (routine n) (option_map routine cancel)
+    (name_back 102 n behind start refl fits.0) (optional_back 102 cancel start refl fits.1))
 words_back (line.Dpc n) fits =
     bodied _ _ (one_read (λ n. HandleDpc n) reads.name (at (routine n ∷ []) start) start (routine n)
     (name_back 102 n [] start refl fits))

@@ -3,7 +3,7 @@ use Rattle.std.proofs.Common.{◌≡◌, ℕ, ◌^◌, ◌<◌, true, List, [], 
 use Rattle.std.specs.Prelude.{IfSome, option_map}
 use Rattle.std.specs.Fmt.{decimal}
 use Rattle.model.specs.declared.instr.Instr.{Instr}
-use Rattle.model.specs.declared.instr.Instr.TheVariants.{Const, Move, Clear, Add, Subtract, JumpIfZero, JumpIfLess, Jump, Loop, End, Load, Store, LoadPaged, StorePaged, Get, Put, Mark, Acquire, Release, AcquireCancel, ReleaseCancel, Insert, Remove, Unlink, Arm, Disarm, IfCancel, Start, Take, Begin, Next, Pass, Call, Complete, IfPending, Ret}
+use Rattle.model.specs.declared.instr.Instr.TheVariants.{Const, Move, Clear, Add, Subtract, JumpIfZero, JumpIfLess, Jump, Loop, End, Load, Store, LoadPaged, StorePaged, Get, Put, Mark, Acquire, Release, AcquireCancel, ReleaseCancel, Insert, Remove, Unlink, Arm, Disarm, IfCancel, Start, Take, Begin, Next, Dequeue, Pass, Call, Complete, IfPending, Ret}
 use Rattle.model.specs.Sound.{IsCell, IsRegister, IsSpinLock}
 use Rattle.asm_line.specs.Cursor as reads
 use Rattle.asm_line.specs.Cursor.{Reading, beginning, one, so_far, then_read, three, two}
@@ -219,6 +219,8 @@ instruction_back (Take r to) small =
 instruction_back (Begin r) small =
     taken (Begin r) (one_back Begin (a_register r small.operands []))
 instruction_back Next small = refl
+instruction_back (Dequeue r) small =
+    taken (Dequeue r) (one_back Dequeue (a_register r small.operands []))
 instruction_back (Pass r) small =
     taken (Pass r) (one_back Pass (a_register r small.operands []))
 instruction_back (Call r f) small =

@@ -42,7 +42,8 @@ body_meant (line.Driver number) = OpenDriver (driver number)
 body_meant (line.Queue number q) =
     AddQueue (queue number) (Some q.guard) (option_map routine q.cancel)
 body_meant (line.Handler major number) = Handle major (routine number)
-body_meant (line.StartIo number) = HandleStartIo (routine number)
+body_meant (line.StartIo number cancel) =
+    HandleStartIo (routine number) (option_map routine cancel)
 body_meant (line.Dpc number) = HandleDpc (routine number)
 body_meant (line.Routine number sort) = OpenRoutine (routine number) sort
 body_meant (line.Step position i) = Step (Some (unlinked i)) (names_used i)
@@ -71,7 +72,7 @@ abbrev pub EntryFits : Entry → Type 0
 EntryFits (line.Driver number) = IsSmall number
 EntryFits (line.Queue number q) = IsSmall number × (IsSpinLock q.guard × IfSome q.cancel IsSmall)
 EntryFits (line.Handler major number) = IsSmall number
-EntryFits (line.StartIo number) = IsSmall number
+EntryFits (line.StartIo number cancel) = IsSmall number × IfSome cancel IsSmall
 EntryFits (line.Dpc number) = IsSmall number
 EntryFits (line.Routine number sort) = IsSmall number
 EntryFits (line.Step position i) = IfSome position IsSmall × InstrFits i

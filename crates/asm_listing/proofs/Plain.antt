@@ -11,7 +11,7 @@ use Rattle.text.specs.Class.{is_name, is_name_start, is_number, is_token, is_wor
 use Rattle.model.specs.declared.instr.Field.{Field}
 use Rattle.model.specs.declared.instr.Field.TheVariants.{Major as MajorField, Argument, Info}
 use Rattle.model.specs.declared.instr.Instr.{Instr}
-use Rattle.model.specs.declared.instr.Instr.TheVariants.{Const, Move, Clear, Add, Subtract, JumpIfZero, JumpIfLess, Jump, Loop, End, Load, Store, LoadPaged, StorePaged, Get, Put, Mark, Acquire, Release, AcquireCancel, ReleaseCancel, Insert, Remove, Unlink, Arm, Disarm, IfCancel, Start, Take, Begin, Next, Pass, Call, Complete, IfPending, Ret}
+use Rattle.model.specs.declared.instr.Instr.TheVariants.{Const, Move, Clear, Add, Subtract, JumpIfZero, JumpIfLess, Jump, Loop, End, Load, Store, LoadPaged, StorePaged, Get, Put, Mark, Acquire, Release, AcquireCancel, ReleaseCancel, Insert, Remove, Unlink, Arm, Disarm, IfCancel, Start, Take, Begin, Next, Dequeue, Pass, Call, Complete, IfPending, Ret}
 use Rattle.model.specs.declared.instr.Return.{Return}
 use Rattle.model.specs.declared.instr.Return.TheVariants.{WithStatus, Lower, Continue, Stop, Void}
 use Rattle.model.specs.declared.set.Sort.{Sort}
@@ -252,6 +252,8 @@ instruction_plain (Begin r) small =
     let fits = small.operands in (plain_word _ _ refl refl, (register_plain r fits, tt))
 instruction_plain Next small =
     (plain_word _ _ refl refl, tt)
+instruction_plain (Dequeue r) small =
+    let fits = small.operands in (plain_word _ _ refl refl, (register_plain r fits, tt))
 instruction_plain (Pass r) small =
     let fits = small.operands in (plain_word _ _ refl refl, (register_plain r fits, tt))
 instruction_plain (Call r f) small =

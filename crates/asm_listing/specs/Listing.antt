@@ -48,13 +48,17 @@ abbrev pub naming : (ℕ → Entry) → Option ℕ → List Entry
 naming names None = []
 naming names (Some number) = names number ∷ []
 
+-- the line that names a StartIo routine, and the cancel routine of the packets that wait for it
+abbrev pub starting : Option ℕ → ℕ → Entry
+starting cancel number = line.StartIo number cancel
+
 -- the routines that serve the major functions, begin packets, and are queued by an interrupt
 abbrev pub table_lines : Driver → List Entry
 table_lines d =
     naming (line.Handler Read) d.read
     ++ (naming (line.Handler Write) d.write
     ++ (naming (line.Handler Control) d.control
-    ++ (naming line.StartIo d.startio ++ naming line.Dpc d.dpc)))
+    ++ (naming (starting d.startio_cancel) d.startio ++ naming line.Dpc d.dpc)))
 
 -- a driver
 abbrev pub driver_lines : ℕ → Driver → List Entry

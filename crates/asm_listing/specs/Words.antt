@@ -4,7 +4,7 @@ use Rattle.std.specs.Fmt.{decimal}
 use Rattle.model.specs.declared.instr.Field.{Field}
 use Rattle.model.specs.declared.instr.Field.TheVariants.{Major as MajorField, Argument, Info}
 use Rattle.model.specs.declared.instr.Instr.{Instr}
-use Rattle.model.specs.declared.instr.Instr.TheVariants.{Const, Move, Clear, Add, Subtract, JumpIfZero, JumpIfLess, Jump, Loop, End, Load, Store, LoadPaged, StorePaged, Get, Put, Mark, Acquire, Release, AcquireCancel, ReleaseCancel, Insert, Remove, Unlink, Arm, Disarm, IfCancel, Start, Take, Begin, Next, Pass, Call, Complete, IfPending, Ret}
+use Rattle.model.specs.declared.instr.Instr.TheVariants.{Const, Move, Clear, Add, Subtract, JumpIfZero, JumpIfLess, Jump, Loop, End, Load, Store, LoadPaged, StorePaged, Get, Put, Mark, Acquire, Release, AcquireCancel, ReleaseCancel, Insert, Remove, Unlink, Arm, Disarm, IfCancel, Start, Take, Begin, Next, Dequeue, Pass, Call, Complete, IfPending, Ret}
 use Rattle.model.specs.declared.instr.Return.{Return}
 use Rattle.model.specs.declared.instr.Return.TheVariants.{WithStatus, Lower, Continue, Stop, Void}
 use Rattle.model.specs.declared.set.Sort.{Sort}
@@ -126,6 +126,7 @@ instruction_words (Start r) = codes "start" ∷ register r ∷ []
 instruction_words (Take r to) = codes "take" ∷ register r ∷ label to ∷ []
 instruction_words (Begin r) = codes "begin" ∷ register r ∷ []
 instruction_words Next = codes "next" ∷ []
+instruction_words (Dequeue r) = codes "dequeue" ∷ register r ∷ []
 instruction_words (Pass r) = codes "pass" ∷ register r ∷ []
 instruction_words (Call r f) = codes "call" ∷ register r ∷ optional routine f
 instruction_words (Complete r status) = codes "complete" ∷ register r ∷ status_text status ∷ []
@@ -144,7 +145,8 @@ words_of (line.Queue number q) =
     codes "queue" ∷ queue number ∷ spin_lock q.guard ∷ optional routine q.cancel
 words_of (line.Handler major number) =
     codes "dispatch" ∷ major_text major ∷ routine number ∷ []
-words_of (line.StartIo number) = codes "startio" ∷ routine number ∷ []
+words_of (line.StartIo number cancel) =
+    codes "startio" ∷ routine number ∷ optional routine cancel
 words_of (line.Dpc number) = codes "dpc" ∷ routine number ∷ []
 words_of (line.Routine number sort) =
     codes "routine" ∷ routine number ∷ sort_text sort ∷ []

@@ -2,7 +2,7 @@
 
 ghost use Rattle.std.specs.Prelude.{◌≡◌, ◌++◌, All, OnOk, string_bytes};
 ghost use Rattle.model.specs.Sound.{DriverFits, RoutineFits};
-ghost use Rattle.asm_listing.specs.Listing.{driver_lines, listed, naming, queue_lines, routine_lines, table_lines, text_of};
+ghost use Rattle.asm_listing.specs.Listing.{driver_lines, listed, naming, queue_lines, routine_lines, starting, table_lines, text_of};
 ghost use Rattle.asm_listing.specs.declared.entry.Entry.TheVariants as Line;
 
 use crate::entry::Entry;
@@ -50,7 +50,7 @@ fn write_table(text: &mut String, driver: &Driver) -> Result<(), AllocError>
     write_handler(text, Major::Read, driver.read)?;
     write_handler(text, Major::Write, driver.write)?;
     write_handler(text, Major::Control, driver.control)?;
-    write_startio(text, driver.startio)?;
+    write_startio(text, driver.startio, driver.startio_cancel)?;
     write_dpc(text, driver.dpc)?;
     Ok(())
 }
@@ -66,13 +66,18 @@ fn write_handler(text: &mut String, major: Major, handler: Option<u8>) -> Result
     }
 }
 
-/// Adds the line that names the StartIo routine, if there is one.
-fn write_startio(text: &mut String, startio: Option<u8>) -> Result<(), AllocError>
+/// Adds the line that names the StartIo routine, if there is one, and the cancel routine of the
+/// packets that wait for it.
+fn write_startio(
+    text: &mut String,
+    startio: Option<u8>,
+    cancel: Option<u8>,
+) -> Result<(), AllocError>
     ensures { OnOk result (string_bytes text.new
-        ≡ string_bytes text.old ++ text_of (naming Line.StartIo startio)) }
+        ≡ string_bytes text.old ++ text_of (naming (starting cancel) startio)) }
 {
     match startio {
-        Some(routine) => Entry::StartIo(routine).write(text),
+        Some(routine) => Entry::StartIo(routine, cancel).write(text),
         None => Ok(()),
     }
 }

@@ -20,8 +20,8 @@ pub enum Entry {
     Queue(usize, Queue),
     /// `dispatch MAJOR ROUTINE`.
     Handler(Major, u8),
-    /// `startio ROUTINE`.
-    StartIo(u8),
+    /// `startio ROUTINE` and `startio ROUTINE CANCEL`.
+    StartIo(u8, Option<u8>),
     /// `dpc ROUTINE`.
     Dpc(u8),
     /// `routine NAME SORT`.
@@ -51,7 +51,7 @@ impl Entry {
             Entry::Handler(major, routine) => {
                 write!(text, "dispatch {} f{routine}\n", major_text(major))
             }
-            Entry::StartIo(routine) => write!(text, "startio f{routine}\n"),
+            Entry::StartIo(routine, cancel) => write_startio(text, routine, cancel),
             Entry::Dpc(routine) => write!(text, "dpc f{routine}\n"),
             Entry::Routine(number, sort) => {
                 write!(text, "routine f{number} {}\n", sort_text(sort))
@@ -73,6 +73,17 @@ fn write_queue(text: &mut String, number: usize, queue: Queue) -> Result<(), All
     match queue.cancel {
         Some(routine) => write!(text, "queue q{number} l{guard} f{routine}\n"),
         None => write!(text, "queue q{number} l{guard}\n"),
+    }
+}
+
+/// Adds the line of a StartIo routine.
+fn write_startio(text: &mut String, routine: u8, cancel: Option<u8>) -> Result<(), AllocError>
+    ensures { OnOk result (string_bytes text.new
+        ≡ string_bytes text.old ++ line_text (Line.StartIo routine cancel)) }
+{
+    match cancel {
+        Some(cancel) => write!(text, "startio f{routine} f{cancel}\n"),
+        None => write!(text, "startio f{routine}\n"),
     }
 }
 

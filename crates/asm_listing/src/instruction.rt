@@ -46,6 +46,7 @@ pub(crate) fn write_instruction(text: &mut String, instr: Instr) -> Result<(), A
         Instr::Take(r, to) => write!(text, "take r{} a{to}\n", r.index()),
         Instr::Begin(r) => write!(text, "begin r{}\n", r.index()),
         Instr::Next => text.push_str("next\n"),
+        Instr::Dequeue(r) => write!(text, "dequeue r{}\n", r.index()),
         Instr::Pass(r) => write!(text, "pass r{}\n", r.index()),
         Instr::Call(r, routine) => write_call(text, r, routine),
         Instr::Complete(r, status) => write_complete(text, r, status),

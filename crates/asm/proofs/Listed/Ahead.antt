@@ -62,13 +62,14 @@ naming_each P names None each = tt
 naming_each P names (Some r) each = (each r, tt)
 
 pub table_each : (P : Entry → Type 0) → ((major : Major) (r : ℕ) → P (line.Handler major r))
-    → ((r : ℕ) → P (line.StartIo r)) → ((r : ℕ) → P (line.Dpc r)) → (d : Driver)
+    → ((r : ℕ) (c : Option ℕ) → P (line.StartIo r c)) → ((r : ℕ) → P (line.Dpc r)) → (d : Driver)
     → Each P (table_lines d)
 table_each P handler startio dpc d =
     each_append P (naming _ d.read) _ (naming_each P _ d.read (handler Read))
     (each_append P (naming _ d.write) _ (naming_each P _ d.write (handler Write))
     (each_append P (naming _ d.control) _ (naming_each P _ d.control (handler Control))
-    (each_append P (naming _ d.startio) _ (naming_each P _ d.startio startio)
+    (each_append P (naming _ d.startio) _
+    (naming_each P _ d.startio (λ r. startio r d.startio_cancel))
     (naming_each P _ d.dpc dpc))))
 
 -- a function looks past a line
@@ -95,8 +96,8 @@ queues_past F one d rest =
 
 pub table_past : {X : Type 0} (F : List Line → X)
     → ((major : Major) (r : ℕ) → IsPast F (line.Handler major r))
-    → ((r : ℕ) → IsPast F (line.StartIo r)) → ((r : ℕ) → IsPast F (line.Dpc r)) → (d : Driver)
-    (rest : List Line) → F (before (table_lines d) rest) ≡ F rest
+    → ((r : ℕ) (c : Option ℕ) → IsPast F (line.StartIo r c)) → ((r : ℕ) → IsPast F (line.Dpc r))
+    → (d : Driver) (rest : List Line) → F (before (table_lines d) rest) ≡ F rest
 table_past F handler startio dpc d rest =
     looked_past F (table_lines d) rest (table_each (IsPast F) handler startio dpc d)
 
@@ -169,7 +170,7 @@ routines_there d rest =
     let routines = listed routine_lines 0 d.routines in
     ap (λ ls. routines_ahead ls) (rest_split d rest)
     ∙ queues_past routines_ahead (λ k q ls. refl) d _
-    ∙ table_past routines_ahead (λ major r ls. refl) (λ r ls. refl) (λ r ls. refl) d _
+    ∙ table_past routines_ahead (λ major r ls. refl) (λ r c ls. refl) (λ r ls. refl) d _
     ∙ routine_names 0 d.routines (meant line.EndDriver ∷ rest)
     ∙ append-nil (names_from 102 0 (length d.routines))
 
@@ -179,7 +180,7 @@ sorts_there d rest =
     let routines = listed routine_lines 0 d.routines in
     ap (λ ls. sorts_ahead ls) (rest_split d rest)
     ∙ queues_past sorts_ahead (λ k q ls. refl) d _
-    ∙ table_past sorts_ahead (λ major r ls. refl) (λ r ls. refl) (λ r ls. refl) d _
+    ∙ table_past sorts_ahead (λ major r ls. refl) (λ r c ls. refl) (λ r ls. refl) d _
     ∙ routine_sorts 0 d.routines (meant line.EndDriver ∷ rest)
     ∙ append-nil (sorts_of d.routines)
 
@@ -189,7 +190,7 @@ queues_there d rest =
     ap (λ ls. queues_ahead ls) (rest_split d rest)
     ∙ queue_names 0 d.queues _
     ∙ ap (λ ns. names_from 113 0 (length d.queues) ++ ns)
-    (table_past queues_ahead (λ major r ls. refl) (λ r ls. refl) (λ r ls. refl) d _
+    (table_past queues_ahead (λ major r ls. refl) (λ r c ls. refl) (λ r ls. refl) d _
     ∙ routine_queues 0 d.routines (meant line.EndDriver ∷ rest))
     ∙ append-nil (names_from 113 0 (length d.queues))
 

@@ -15,7 +15,7 @@ use Rattle.asm.specs.declared.draft.QueueLine.{QueueLine}
 use Rattle.asm.specs.declared.draft.Use.{Use}
 use Rattle.asm.specs.declared.routines.Role.{Role}
 use Rattle.asm.specs.declared.routines.Role.TheVariants.{Handler, StartIo, Dpc, Cancel}
-use Rattle.asm.specs.Outline.{Outline, device_of, entry_in, finished, finished_driver, finished_queue, is_stack_size, number_used, serves, used_at}
+use Rattle.asm.specs.Outline.{Outline, device_of, entry_in, finished, finished_driver, finished_queue, is_stack_size, number_used, serves, startio_named, used_at, waiting_named}
 use Rattle.asm_listing.specs.declared.entry.Entry.TheVariants as line
 use Rattle.asm_listing.specs.Words.{device, driver, routine}
 use Rattle.asm_listing.proofs.Digits.{IsSmall}
@@ -38,6 +38,7 @@ pub record ShapeFits (d : Shape) : Type 0 where
   pub write : Served Handler d.sorts d.write
   pub control : Served Handler d.sorts d.control
   pub startio : Served StartIo d.sorts d.startio
+  pub waiting : Served Cancel d.sorts d.startio_cancel
   pub dpc : Served Dpc d.sorts d.dpc
   pub cancels : CancelsServed d.sorts d.queues
 
@@ -84,22 +85,25 @@ same_queues o given (l ∷ ls) (q ∷ qs) named same few h served =
     ap (λ x. x ∷ map (finished_queue o) ls) one ∙ ap (λ xs. q ∷ xs) rest
 
 -- a shape by its parts
-abbrev shape : List Sort → List Queue → Option ℕ → Option ℕ → Option ℕ → Option ℕ → Option ℕ → Shape
-shape sorts queues read write control startio dpc = record {
+abbrev shape : List Sort → List Queue → Option ℕ → Option ℕ → Option ℕ → Option ℕ → Option ℕ
+    → Option ℕ → Shape
+shape sorts queues read write control startio startio_cancel dpc = record {
   sorts = sorts;
   queues = queues;
   read = read;
   write = write;
   control = control;
   startio = startio;
+  startio_cancel = startio_cancel;
   dpc = dpc;
 }
 
 same_shape : (d e : Shape) → d.sorts ≡ e.sorts → d.queues ≡ e.queues → d.read ≡ e.read
-    → d.write ≡ e.write → d.control ≡ e.control → d.startio ≡ e.startio → d.dpc ≡ e.dpc → d ≡ e
-same_shape d e a b c f g h i =
-    let same : shape d.sorts d.queues d.read d.write d.control d.startio d.dpc
-    ≡ shape e.sorts e.queues e.read e.write e.control e.startio e.dpc = cc in
+    → d.write ≡ e.write → d.control ≡ e.control → d.startio ≡ e.startio
+    → d.startio_cancel ≡ e.startio_cancel → d.dpc ≡ e.dpc → d ≡ e
+same_shape d e a b c f g h i j =
+    let same : shape d.sorts d.queues d.read d.write d.control d.startio d.startio_cancel d.dpc
+    ≡ shape e.sorts e.queues e.read e.write e.control e.startio e.startio_cancel e.dpc = cc in
     same
 
 -- the driver that is closed has the shape that was read
@@ -118,8 +122,10 @@ closed_shape o s h closed fits =
     fits.few h.write fits.write)
     (entry_found o.routine_names o.sorts s.current.sorts Handler o.control s.current.control names
     sorts fits.few h.control fits.control)
-    (entry_found o.routine_names o.sorts s.current.sorts StartIo o.startio s.current.startio names
-    sorts fits.few h.startio fits.startio)
+    (entry_found o.routine_names o.sorts s.current.sorts StartIo (startio_named o.startio)
+    s.current.startio names sorts fits.few h.startio fits.startio)
+    (entry_found o.routine_names o.sorts s.current.sorts Cancel (waiting_named o.startio)
+    s.current.startio_cancel names sorts fits.few h.waiting fits.waiting)
     (entry_found o.routine_names o.sorts s.current.sorts Dpc o.dpc s.current.dpc names sorts
     fits.few h.dpc fits.dpc)
 
@@ -157,6 +163,7 @@ end_driver_turn o n s h inside closed fits =
       write = refl;
       control = refl;
       startio = refl;
+      waiting = refl;
       dpc = refl;
       sort = λ is. cc;
       steps = h.steps;
@@ -209,6 +216,7 @@ device_turn o n s d h out few room fits =
       write = h.write;
       control = h.control;
       startio = h.startio;
+      waiting = h.waiting;
       dpc = h.dpc;
       sort = h.sort;
       steps = h.steps;

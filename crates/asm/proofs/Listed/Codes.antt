@@ -235,7 +235,7 @@ driver_code_found d rest fits =
     ap (λ has. routine_codes has (before (driver_rest d) rest)) (has_there d rest)
     ∙ ap (λ ls. routine_codes has ls) (rest_split d rest)
     ∙ queues_past (routine_codes has) (λ k q ls. refl) d _
-    ∙ table_past (routine_codes has) (λ major r ls. refl) (λ r ls. refl) (λ r ls. refl) d _
+    ∙ table_past (routine_codes has) (λ major r ls. refl) (λ r c ls. refl) (λ r ls. refl) d _
     ∙ codes_found d 0 d.routines rest fits.few fits.few_queues fits.routines fits.calls fits.queues
 
 -- lines that open no driver
@@ -257,7 +257,7 @@ rest_within d =
     each_append IsWithin (listed queue_lines 0 d.queues) _
     (queues_each IsWithin (λ k q ls. refl) 0 d.queues)
     (each_append IsWithin (table_lines d) _
-    (table_each IsWithin (λ major r ls. refl) (λ r ls. refl) (λ r ls. refl) d)
+    (table_each IsWithin (λ major r ls. refl) (λ r c ls. refl) (λ r ls. refl) d)
     (each_append IsWithin (listed routine_lines 0 d.routines) _ (routines_within 0 d.routines)
     (λ ls. refl, tt)))
 

@@ -11,7 +11,7 @@ use Rattle.model.specs.declared.set.Sort.{Sort}
 use Rattle.model.specs.declared.status.Major.{Major}
 use Rattle.model.specs.declared.status.Major.TheVariants.{Read, Write, Control}
 use Rattle.model.specs.Set.{label_of, Set}
-use Rattle.model.specs.Sound.{completion_named, queue_named, CallsFit, CancelFits, DevicesFit, DriverFits, HasSort, IsCancel, IsDispatch, IsDpc, IsSound, IsStartIo, QueuesFit, RoutineFits}
+use Rattle.model.specs.Sound.{completion_named, queue_named, CallsFit, CancelFits, DevicesFit, DriverFits, HasSort, IsCancel, IsDispatch, IsDpc, IsSound, IsStartIo, QueuesFit, RoutineFits, WaitingFits}
 use Rattle.asm_line.specs.declared.line.Line.{Line}
 use Rattle.asm.specs.declared.routines.Role.{Role}
 use Rattle.asm.specs.declared.routines.Role.TheVariants.{Handler, Completion, StartIo, Dpc, Cancel}
@@ -20,13 +20,13 @@ use Rattle.asm.specs.Laws.{all_known as names_known, is_known, is_served, labels
 use Rattle.asm_listing.specs.declared.entry.Entry.{Entry}
 use Rattle.asm_listing.specs.declared.entry.Entry.TheVariants as line
 use Rattle.asm_listing.specs.Words.{device, label, numbered, queue, routine}
-use Rattle.asm_listing.specs.Listing.{device_lines, driver_lines, label_at, listed, naming, queue_lines, routine_lines, set_lines, step_lines, table_lines}
+use Rattle.asm_listing.specs.Listing.{device_lines, driver_lines, label_at, listed, naming, queue_lines, routine_lines, set_lines, starting, step_lines, table_lines}
 use Rattle.asm_listing.proofs.Meaning.{body_meant, meant, names_used}
 use Rattle.asm.proofs.Listed.Ahead.{before, before_all, before_append, driver_rest, label_there, queues_there, rest_split, routines_there, sorts_there, IsTarget}
 use Rattle.asm.proofs.Listed.Closing.{Served}
 use Rattle.asm.proofs.Listed.Codes.{all_known, routine_found, InstrKnown}
 use Rattle.asm.proofs.Listed.Names.{is_known_name, names_from, names_more}
-use Rattle.asm.proofs.Listed.Sets.{is_cancel, is_dpc, is_handler, is_startio, served, sorts_of}
+use Rattle.asm.proofs.Listed.Sets.{is_cancel, is_dpc, is_handler, is_startio, served, sorts_of, waiting_cancel}
 
 -- no line uses an unknown name, whatever the number of the first of them
 abbrev IsSilent : Scope → List Line → Type 0
@@ -93,15 +93,19 @@ handler_silent k d labels rest major (Some r) few h silent =
     line_silent (within k d labels) (line.Handler major r) rest (λ m after. rw known refl) silent
 
 startio_silent : (k : ℕ) (d : Driver) (labels : List (List ℕ)) (rest : List Line)
-    (number : Option ℕ)
-    → length d.routines ≤ 32 → IfSome number (λ r. HasSort IsStartIo (slice_get d.routines r))
-    → IsSilent (within k d labels) rest
-    → IsSilent (within k d labels) (before (naming line.StartIo number) rest)
-startio_silent k d labels rest None few h silent = silent
-startio_silent k d labels rest (Some r) few h silent =
+    (number cancel : Option ℕ) → length d.routines ≤ 32
+    → IfSome number (λ r. HasSort IsStartIo (slice_get d.routines r))
+    → WaitingFits d.routines number cancel → IsSilent (within k d labels) rest
+    → IsSilent (within k d labels) (before (naming (starting cancel) number) rest)
+startio_silent k d labels rest None cancel few h waits silent = silent
+startio_silent k d labels rest (Some r) cancel few h waits silent =
     let known = routine_known k d labels StartIo (Some r) few
     (served IsStartIo StartIo is_startio d.routines (Some r) h) in
-    line_silent (within k d labels) (line.StartIo r) rest (λ m after. rw known refl) silent
+    let canceled = routine_known k d labels Cancel cancel few
+    (served IsCancel Cancel is_cancel d.routines cancel
+    (waiting_cancel d.routines (Some r) cancel waits)) in
+    line_silent (within k d labels) (line.StartIo r cancel) rest
+    (λ m after. rw (known, canceled) refl) silent
 
 dpc_silent : (k : ℕ) (d : Driver) (labels : List (List ℕ)) (rest : List Line) (number : Option ℕ)
     → length d.routines ≤ 32 → IfSome number (λ r. HasSort IsDpc (slice_get d.routines r))
@@ -120,11 +124,12 @@ table_silent k d labels rest fits silent =
     let read = naming (line.Handler Read) d.read in
     let write = naming (line.Handler Write) d.write in
     let control = naming (line.Handler Control) d.control in
-    let startio = naming line.StartIo d.startio in
+    let startio = naming (starting d.startio_cancel) d.startio in
     let dpc = naming line.Dpc d.dpc in
     let few = fits.few in
     let five = dpc_silent k d labels rest d.dpc few fits.dpc silent in
-    let four = startio_silent k d labels (before dpc rest) d.startio few fits.startio five in
+    let four = startio_silent k d labels (before dpc rest) d.startio d.startio_cancel few
+    fits.startio fits.waiting five in
     let three = handler_silent k d labels (before startio (before dpc rest)) Control d.control few
     fits.control four in
     let two = handler_silent k d labels (before control (before startio (before dpc rest))) Write

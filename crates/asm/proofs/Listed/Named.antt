@@ -11,7 +11,7 @@ use Rattle.model.specs.declared.set.Queue.{Queue}
 use Rattle.model.specs.declared.set.Routine.{Routine}
 use Rattle.model.specs.declared.set.Sort.{Sort}
 use Rattle.model.specs.Set.{label_of, Set}
-use Rattle.model.specs.Sound.{completion_named, queue_named, CallsFit, CancelFits, DevicesFit, DriverFits, GuardFits, HasSort, IsDispatch, IsDpc, IsSound, IsStartIo, QueuesFit, RoutineFits}
+use Rattle.model.specs.Sound.{completion_named, queue_named, CallsFit, CancelFits, DevicesFit, DriverFits, GuardFits, HasSort, IsCancel, IsDispatch, IsDpc, IsSound, IsStartIo, QueuesFit, RoutineFits}
 use Rattle.asm_line.specs.declared.line.Line.{Line}
 use Rattle.asm.specs.declared.draft.Place.TheVariants.{Outside}
 use Rattle.asm.specs.Outline.{noted, nothing_read, Outline}
@@ -30,7 +30,7 @@ use Rattle.asm.proofs.Unknown.Lines.{unknown_is}
 use Rattle.asm.proofs.Written.Lines.{codes_read}
 use Rattle.asm.proofs.Listed.Codes.{listed_codes}
 use Rattle.asm.proofs.Listed.Known.{none_unknown}
-use Rattle.asm.proofs.Listed.Sets.{set_walk}
+use Rattle.asm.proofs.Listed.Sets.{set_walk, waiting_cancel}
 use Rattle.asm.proofs.Listed.Stage.{passes_read, shape_of, Shape}
 
 -- every number of a set has 64 bits
@@ -70,13 +70,15 @@ naming_fit names (Some r) each h = (each r h, tt)
 
 table_fit : (d : Driver) → DriverFits d → AllFit (table_lines d)
 table_fit d h =
+    let waiting = routine_small IsCancel d.routines d.startio_cancel h.few
+    (waiting_cancel d.routines d.startio d.startio_cancel h.waiting) in
     append_fits (naming _ d.read) _
     (naming_fit _ d.read (λ r s. s) (routine_small IsDispatch d.routines d.read h.few h.read))
     (append_fits (naming _ d.write) _
     (naming_fit _ d.write (λ r s. s) (routine_small IsDispatch d.routines d.write h.few h.write))
     (append_fits (naming _ d.control) _ (naming_fit _ d.control (λ r s. s)
     (routine_small IsDispatch d.routines d.control h.few h.control))
-    (append_fits (naming _ d.startio) _ (naming_fit _ d.startio (λ r s. s)
+    (append_fits (naming _ d.startio) _ (naming_fit _ d.startio (λ r s. (s, waiting))
     (routine_small IsStartIo d.routines d.startio h.few h.startio))
     (naming_fit _ d.dpc (λ r s. s) (routine_small IsDpc d.routines d.dpc h.few h.dpc)))))
 
@@ -197,14 +199,15 @@ abbrev routine_with : Sort → List Instr → Routine
 routine_with sort code = record { sort = sort; code = code }
 
 abbrev driver_of : List Routine → List Queue → Option ℕ → Option ℕ → Option ℕ → Option ℕ
-    → Option ℕ → Driver
-driver_of routines queues read write control startio dpc = record {
+    → Option ℕ → Option ℕ → Driver
+driver_of routines queues read write control startio startio_cancel dpc = record {
   routines = routines;
   queues = queues;
   read = read;
   write = write;
   control = control;
   startio = startio;
+  startio_cancel = startio_cancel;
   dpc = dpc;
 }
 
@@ -235,9 +238,11 @@ same_driver d e h g =
     let write : d.write ≡ e.write = ap (λ (s : Shape). s.write) h in
     let control : d.control ≡ e.control = ap (λ (s : Shape). s.control) h in
     let startio : d.startio ≡ e.startio = ap (λ (s : Shape). s.startio) h in
+    let waiting : d.startio_cancel ≡ e.startio_cancel = ap (λ (s : Shape). s.startio_cancel) h in
     let dpc : d.dpc ≡ e.dpc = ap (λ (s : Shape). s.dpc) h in
-    let same : driver_of d.routines d.queues d.read d.write d.control d.startio d.dpc
-    ≡ driver_of e.routines e.queues e.read e.write e.control e.startio e.dpc = cc in
+    let same : driver_of d.routines d.queues d.read d.write d.control d.startio d.startio_cancel
+    d.dpc ≡ driver_of e.routines e.queues e.read e.write e.control e.startio e.startio_cancel
+    e.dpc = cc in
     same
 
 same_drivers : (ds es : List Driver) → map shape_of ds ≡ map shape_of es

@@ -11,7 +11,7 @@ use Rattle.model.specs.declared.set.Routine.{Routine}
 use Rattle.model.specs.declared.set.Sort.{Sort}
 use Rattle.model.specs.declared.set.Sort.TheVariants as sort
 use Rattle.model.specs.Set.{Set}
-use Rattle.model.specs.Sound.{CancelFits, DevicesFit, DriverFits, HasSort, IsCancel, IsCompletion, IsDispatch, IsDpc, IsSound, IsStartIo, RoutineFits}
+use Rattle.model.specs.Sound.{CancelFits, DevicesFit, DriverFits, HasSort, IsCancel, IsCompletion, IsDispatch, IsDpc, IsSound, IsStartIo, RoutineFits, WaitingFits}
 use Rattle.asm.specs.declared.routines.Role.{Role}
 use Rattle.asm.specs.declared.routines.Role.TheVariants.{Handler, Completion, StartIo, Dpc, Cancel}
 use Rattle.asm.specs.Outline.{nothing_read, serves, Outline}
@@ -62,6 +62,13 @@ served P role each rs (Some n) h = by (slice_get rs n) refl h
       each r.sort h,
     )
 
+-- the cancel routine of the packets that wait is one
+pub waiting_cancel : (rs : List Routine) (startio cancel : Option ℕ)
+    → WaitingFits rs startio cancel → IfSome cancel (λ n. HasSort IsCancel (slice_get rs n))
+waiting_cancel rs startio None h = tt
+waiting_cancel rs None (Some c) h = absurd h
+waiting_cancel rs (Some s) (Some c) h = h
+
 cancels_served : (rs : List Routine) (qs : List Queue) → All (CancelFits rs) qs
     → CancelsServed (sorts_of rs) qs
 cancels_served rs [] h = tt
@@ -78,6 +85,8 @@ shape_fits d h = record {
   write = served IsDispatch Handler is_handler d.routines d.write h.write;
   control = served IsDispatch Handler is_handler d.routines d.control h.control;
   startio = served IsStartIo StartIo is_startio d.routines d.startio h.startio;
+  waiting = served IsCancel Cancel is_cancel d.routines d.startio_cancel
+      (waiting_cancel d.routines d.startio d.startio_cancel h.waiting);
   dpc = served IsDpc Dpc is_dpc d.routines d.dpc h.dpc;
   cancels = cancels_served d.routines d.queues h.cancels;
 }
@@ -126,7 +135,7 @@ driver_walk o n opened ds d h few fits =
     (queues_walk o1 n1 now ds no_shape 0 d.queues d.queues h1 refl
     (let f = fits.few_queues in omega (arith, f)) refl)
     (λ o2 n2 h2. then_reaches o2 n2 (table_lines d) (routines ++ line.EndDriver ∷ [])
-    (inside now ds tabled []) last (table_walk o2 n2 now ds d.queues d h2)
+    (inside now ds tabled []) last (table_walk o2 n2 now ds d.queues d fits.waiting h2)
     (λ o3 n3 h3. then_reaches o3 n3 routines (line.EndDriver ∷ [])
     (inside now ds (shape_of d) (sorts_of d.routines)) last
     (routines_walk o3 n3 now ds tabled [] 0 d.routines (sorts_of d.routines)
@@ -182,6 +191,7 @@ at_first = record {
   write = refl;
   control = refl;
   startio = refl;
+  waiting = refl;
   dpc = refl;
   sort = λ is. cc;
   steps = record { new = λ p small past. refl; many = refl };

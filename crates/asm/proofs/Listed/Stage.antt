@@ -12,7 +12,7 @@ use Rattle.asm.specs.declared.draft.Place.TheVariants.{Outside, InDriver, InRout
 use Rattle.asm.specs.declared.draft.QueueLine.{QueueLine}
 use Rattle.asm.specs.declared.draft.Step.{Step as StepOf}
 use Rattle.asm.specs.declared.draft.Use.{Use}
-use Rattle.asm.specs.Outline.{Outline, has_room, is_again, is_among, is_out_of_range, misfit, noted, stands}
+use Rattle.asm.specs.Outline.{Outline, has_room, is_again, is_among, is_out_of_range, misfit, noted, stands, startio_named, waiting_named}
 use Rattle.asm.specs.Laws.{Reads}
 use Rattle.asm_listing.specs.declared.entry.Entry.{Entry}
 use Rattle.asm_listing.specs.Words.{joined, label, routine, words_of}
@@ -29,6 +29,7 @@ pub record Shape : Type 0 where
   pub write : Option ℕ
   pub control : Option ℕ
   pub startio : Option ℕ
+  pub startio_cancel : Option ℕ
   pub dpc : Option ℕ
 
 abbrev pub shape_of : Driver → Shape
@@ -39,6 +40,7 @@ shape_of d = record {
   write = d.write;
   control = d.control;
   startio = d.startio;
+  startio_cancel = d.startio_cancel;
   dpc = d.dpc;
 }
 
@@ -50,6 +52,7 @@ no_shape = record {
   write = None;
   control = None;
   startio = None;
+  startio_cancel = None;
   dpc = None;
 }
 
@@ -147,7 +150,8 @@ pub record IsAt (s : Stage) (o : Outline) : Type 0 where
   pub read : Names o.read s.current.read
   pub write : Names o.write s.current.write
   pub control : Names o.control s.current.control
-  pub startio : Names o.startio s.current.startio
+  pub startio : Names (startio_named o.startio) s.current.startio
+  pub waiting : Names (waiting_named o.startio) s.current.startio_cancel
   pub dpc : Names o.dpc s.current.dpc
   pub sort : s.place ≡ InRoutine → o.sort ≡ s.sort
   pub steps : StepsAre o.labels o.steps s.position

@@ -11,9 +11,10 @@ use Rattle.model.specs.declared.status.Major.TheVariants.{Read, Write, Control}
 use Rattle.asm.specs.declared.draft.Place.TheVariants.{Outside, InDriver, InRoutine}
 use Rattle.asm.specs.declared.draft.ClosedRoutine.{ClosedRoutine}
 use Rattle.asm.specs.declared.draft.QueueLine.{QueueLine}
+use Rattle.asm.specs.declared.draft.StartIoLine.{StartIoLine}
 use Rattle.asm.specs.declared.draft.Use.{Use}
 use Rattle.model.specs.declared.instr.Instr.{Instr}
-use Rattle.asm.specs.Outline.{Outline, is_among, is_known_label, resolved, used_at}
+use Rattle.asm.specs.Outline.{Outline, is_among, is_known_label, resolved, startio_named, used_at, waiting_named}
 use Rattle.asm_listing.specs.declared.entry.Entry.TheVariants as line
 use Rattle.asm_listing.specs.Words.{label, numbered, routine}
 use Rattle.asm_listing.proofs.Digits.{IsSmall}
@@ -64,6 +65,7 @@ driver_turn o n s h out few =
       write = h.write;
       control = h.control;
       startio = h.startio;
+      waiting = h.waiting;
       dpc = h.dpc;
       sort = λ is. cc;
       steps = h.steps;
@@ -117,6 +119,7 @@ queue_turn o n s q h inside few =
       write = h.write;
       control = h.control;
       startio = h.startio;
+      waiting = h.waiting;
       dpc = h.dpc;
       sort = h.sort;
       steps = h.steps;
@@ -129,14 +132,21 @@ none_named None number h none = refl
 none_named (Some u) number h none =
     let bad : Some u.name ≡ None = h ∙ ap (λ (k : Option ℕ). option_map routine k) none in cc
 
+none_started : (l : Option StartIoLine) (number : Option ℕ) → Names (startio_named l) number
+    → number ≡ None → is_some l ≡ false
+none_started None number h none = refl
+none_started (Some l) number h none = none_named (Some l.routine) number h none
+
 -- only the table of the open driver changes
-entries_at : (s : Stage) (o : Outline) (read write control startio dpc : Option Use)
-    (given : Shape) → IsAt s o → given.sorts ≡ s.current.sorts
-    → given.queues ≡ s.current.queues → Names read given.read
-    → Names write given.write → Names control given.control → Names startio given.startio
-    → Names dpc given.dpc
+entries_at : (s : Stage) (o : Outline) (read write control : Option Use)
+    (startio : Option StartIoLine) (dpc : Option Use) (given : Shape) → IsAt s o
+    → given.sorts ≡ s.current.sorts → given.queues ≡ s.current.queues → Names read given.read
+    → Names write given.write → Names control given.control
+    → Names (startio_named startio) given.startio
+    → Names (waiting_named startio) given.startio_cancel → Names dpc given.dpc
     → IsAt (record s { current = given }) (with_entries o read write control startio dpc)
-entries_at s o read write control startio dpc given h sorts queues first second third fourth last =
+entries_at s o read write control startio dpc given h sorts queues first second third fourth fifth
+    last =
     record {
       place = h.place;
       drivers = h.drivers;
@@ -147,6 +157,7 @@ entries_at s o read write control startio dpc given h sorts queues first second 
       write = second;
       control = third;
       startio = fourth;
+      waiting = fifth;
       dpc = last;
       sort = h.sort;
       steps = h.steps;
@@ -161,7 +172,7 @@ read_turn o n s r h inside none =
     (no_misfit o e (rw (h.place, inside) refl)
     (none_named o.read s.current.read h.read none) refl refl)
     (entries_at s o _ o.write o.control o.startio o.dpc (record s.current { read = Some r }) h
-    refl refl refl h.write h.control h.startio h.dpc)
+    refl refl refl h.write h.control h.startio h.waiting h.dpc)
 
 pub write_turn : (o : Outline) (n : ℕ) (s : Stage) (r : ℕ) → IsAt s o → s.place ≡ InDriver
     → s.current.write ≡ None → Reaches o n (line.Handler Write r ∷ [])
@@ -172,7 +183,7 @@ write_turn o n s r h inside none =
     (no_misfit o e (rw (h.place, inside) refl)
     (none_named o.write s.current.write h.write none) refl refl)
     (entries_at s o o.read _ o.control o.startio o.dpc (record s.current { write = Some r }) h
-    refl refl h.read refl h.control h.startio h.dpc)
+    refl refl h.read refl h.control h.startio h.waiting h.dpc)
 
 pub control_turn : (o : Outline) (n : ℕ) (s : Stage) (r : ℕ) → IsAt s o → s.place ≡ InDriver
     → s.current.control ≡ None → Reaches o n (line.Handler Control r ∷ [])
@@ -183,18 +194,19 @@ control_turn o n s r h inside none =
     (no_misfit o e (rw (h.place, inside) refl)
     (none_named o.control s.current.control h.control none) refl refl)
     (entries_at s o o.read o.write _ o.startio o.dpc (record s.current { control = Some r }) h
-    refl refl h.read h.write refl h.startio h.dpc)
+    refl refl h.read h.write refl h.startio h.waiting h.dpc)
 
-pub startio_turn : (o : Outline) (n : ℕ) (s : Stage) (r : ℕ) → IsAt s o → s.place ≡ InDriver
-    → s.current.startio ≡ None → Reaches o n (line.StartIo r ∷ [])
-    (record s { current = record s.current { startio = Some r } })
-startio_turn o n s r h inside none =
-    let e = line.StartIo r in
-    one_reaches o n e (record s { current = record s.current { startio = Some r } })
+pub startio_turn : (o : Outline) (n : ℕ) (s : Stage) (r : ℕ) (cancel : Option ℕ) → IsAt s o
+    → s.place ≡ InDriver → s.current.startio ≡ None → Reaches o n (line.StartIo r cancel ∷ [])
+    (record s { current = record s.current { startio = Some r; startio_cancel = cancel } })
+startio_turn o n s r cancel h inside none =
+    let e = line.StartIo r cancel in
+    let given = record s.current { startio = Some r; startio_cancel = cancel } in
+    one_reaches o n e (record s { current = given })
     (no_misfit o e (rw (h.place, inside) refl)
-    (none_named o.startio s.current.startio h.startio none) refl refl)
-    (entries_at s o o.read o.write o.control _ o.dpc (record s.current { startio = Some r }) h
-    refl refl h.read h.write h.control refl h.dpc)
+    (none_started o.startio s.current.startio h.startio none) refl refl)
+    (entries_at s o o.read o.write o.control _ o.dpc given h
+    refl refl h.read h.write h.control refl (used_name n (option_map routine cancel)) h.dpc)
 
 pub dpc_turn : (o : Outline) (n : ℕ) (s : Stage) (r : ℕ) → IsAt s o → s.place ≡ InDriver
     → s.current.dpc ≡ None → Reaches o n (line.Dpc r ∷ [])
@@ -205,7 +217,7 @@ dpc_turn o n s r h inside none =
     (no_misfit o e (rw (h.place, inside) refl)
     (none_named o.dpc s.current.dpc h.dpc none) refl refl)
     (entries_at s o o.read o.write o.control o.startio _ (record s.current { dpc = Some r }) h
-    refl refl h.read h.write h.control h.startio refl)
+    refl refl h.read h.write h.control h.startio h.waiting refl)
 
 -- `routine`
 pub routine_turn : (o : Outline) (n : ℕ) (s : Stage) (sort : Sort) → IsAt s o
@@ -242,6 +254,7 @@ routine_turn o n s sort h inside few =
       write = h.write;
       control = h.control;
       startio = h.startio;
+      waiting = h.waiting;
       dpc = h.dpc;
       sort = λ is. refl;
       steps = h.steps;
@@ -295,6 +308,7 @@ step_turn o n s at i h inside few own =
       write = h.write;
       control = h.control;
       startio = h.startio;
+      waiting = h.waiting;
       dpc = h.dpc;
       sort = h.sort;
       steps = record {
@@ -331,6 +345,7 @@ end_routine_turn o n s h inside =
       write = h.write;
       control = h.control;
       startio = h.startio;
+      waiting = h.waiting;
       dpc = h.dpc;
       sort = λ is. cc;
       steps = record { new = λ p small past. refl; many = refl };

@@ -8,11 +8,12 @@ use Rattle.model.specs.declared.set.Queue.{Queue}
 use Rattle.model.specs.declared.set.Routine.{Routine}
 use Rattle.model.specs.declared.set.Sort.{Sort}
 use Rattle.model.specs.declared.status.Major.TheVariants.{Read, Write, Control}
+use Rattle.model.specs.Sound.{WaitingFits}
 use Rattle.asm.specs.declared.draft.Place.TheVariants.{InRoutine}
 use Rattle.asm.specs.Outline.{Outline}
 use Rattle.asm_listing.specs.declared.entry.Entry.{Entry}
 use Rattle.asm_listing.specs.declared.entry.Entry.TheVariants as line
-use Rattle.asm_listing.specs.Listing.{jumps_to, label_at, listed, naming, queue_lines, routine_lines, step_lines, table_lines}
+use Rattle.asm_listing.specs.Listing.{jumps_to, label_at, listed, naming, queue_lines, routine_lines, starting, step_lines, table_lines}
 use Rattle.asm.proofs.Listed.Stage.{inside, no_shape, none_reaches, shape_of, then_reaches, IsAt, Reaches, Shape, Stage}
 use Rattle.asm.proofs.Listed.Turns.{control_turn, dpc_turn, end_routine_turn, longer, queue_turn, read_turn, routine_turn, startio_turn, step_turn, write_turn, OwnLabel}
 
@@ -43,22 +44,32 @@ entry_walk : (o : Outline) (n : ℕ) (names : ℕ → Entry) (stage : Option ℕ
 entry_walk o n names stage None h one = none_reaches o n (stage None) h
 entry_walk o n names stage (Some r) h one = one r
 
+-- the `startio` line; without one nothing waits for a packet's cancel routine
+startio_walk : (o : Outline) (n : ℕ) (stage : Option ℕ → Option ℕ → Stage) (rs : List Routine)
+    (startio cancel : Option ℕ) → WaitingFits rs startio cancel → IsAt (stage None None) o
+    → ((r : ℕ) → Reaches o n (line.StartIo r cancel ∷ []) (stage (Some r) cancel))
+    → Reaches o n (naming (starting cancel) startio) (stage startio cancel)
+startio_walk o n stage rs None None fits h one = none_reaches o n (stage None None) h
+startio_walk o n stage rs None (Some c) fits h one = absurd fits
+startio_walk o n stage rs (Some r) cancel fits h one = one r
+
 pub table_walk : (o : Outline) (n : ℕ) (opened : ℕ) (ds : List Shape) (qs : List Queue) (d : Driver)
+    → WaitingFits d.routines d.startio d.startio_cancel
     → IsAt (inside opened ds (record no_shape { queues = qs }) []) o
     → Reaches o n (table_lines d)
     (inside opened ds (record (shape_of d) { sorts = []; queues = qs }) [])
-table_walk o n opened ds qs d h =
+table_walk o n opened ds qs d fits h =
     let at : Shape → Stage = λ c. inside opened ds c [] in
     let c0 = record no_shape { queues = qs } in
     let c1 = record c0 { read = d.read } in
     let c2 = record c1 { write = d.write } in
     let c3 = record c2 { control = d.control } in
-    let c4 = record c3 { startio = d.startio } in
+    let c4 = record c3 { startio = d.startio; startio_cancel = d.startio_cancel } in
     let c5 = record c4 { dpc = d.dpc } in
     let read = naming (line.Handler Read) d.read in
     let write = naming (line.Handler Write) d.write in
     let control = naming (line.Handler Control) d.control in
-    let startio = naming line.StartIo d.startio in
+    let startio = naming (starting d.startio_cancel) d.startio in
     let dpc = naming line.Dpc d.dpc in
     then_reaches o n read (write ++ (control ++ (startio ++ dpc))) (at c1) (at c5)
     (entry_walk o n (line.Handler Read) (λ x. at (record c0 { read = x })) d.read h
@@ -70,8 +81,9 @@ table_walk o n opened ds qs d h =
     (entry_walk o2 n2 (line.Handler Control) (λ x. at (record c2 { control = x })) d.control h2
     (λ r. control_turn o2 n2 (at c2) r h2 refl refl))
     (λ o3 n3 h3. then_reaches o3 n3 startio dpc (at c4) (at c5)
-    (entry_walk o3 n3 line.StartIo (λ x. at (record c3 { startio = x })) d.startio h3
-    (λ r. startio_turn o3 n3 (at c3) r h3 refl refl))
+    (startio_walk o3 n3 (λ x y. at (record c3 { startio = x; startio_cancel = y })) d.routines
+    d.startio d.startio_cancel fits h3
+    (λ r. startio_turn o3 n3 (at c3) r d.startio_cancel h3 refl refl))
     (λ o4 n4 h4. entry_walk o4 n4 line.Dpc (λ x. at (record c4 { dpc = x })) d.dpc h4
     (λ r. dpc_turn o4 n4 (at c4) r h4 refl refl)))))
 

@@ -1,21 +1,22 @@
 -- A driver fits when it is closed, and then its routines and queues are known.
 use Rattle.std.proofs.Common.{◌≡◌, ℕ, ◌<◌, List, length, Option, Some, None, IfSome, get_or, refl, sym, ◌∙◌, ap, subst, arith}
-use Rattle.std.specs.Prelude.{map, slice_get, option_map, option_and_then}
+use Rattle.std.specs.Prelude.{map, slice_get, is_some, option_map, option_and_then, if◌then◌else◌}
 use Rattle.std.proofs.lemmas.List.Elements.{All-map}
 use Rattle.std.proofs.lemmas.List.{length-map}
 use Rattle.std.proofs.lemmas.Option.{slice_get-map}
 use Rattle.model.specs.declared.set.Routine.{Routine}
-use Rattle.model.specs.Sound.{DriverFits, RoutineFits, LabelFits, OperandFits, CallFits, CallsFit, CancelFits, GuardFits, QueueFits, QueuesFit, queue_named, HasSort, IsDispatch, IsCompletion, IsStartIo, IsDpc, IsCancel}
+use Rattle.model.specs.Sound.{DriverFits, RoutineFits, LabelFits, OperandFits, CallFits, CallsFit, CancelFits, GuardFits, QueueFits, QueuesFit, WaitingFits, queue_named, HasSort, IsDispatch, IsCompletion, IsStartIo, IsDpc, IsCancel}
 use Rattle.model.specs.declared.set.Sort.{Sort}
 use Rattle.model.specs.declared.set.Sort.TheVariants.{Dispatch, StartIo, Dpc, Propagate, Hold, Cancel}
 use Rattle.model.specs.declared.instr.Instr.{Instr}
 use Rattle.model.specs.declared.instr.Instr.TheVariants.{Insert, Remove, Unlink, Arm, Call}
 use Rattle.asm.specs.declared.draft.ClosedRoutine.{ClosedRoutine}
+use Rattle.asm.specs.declared.draft.StartIoLine.{StartIoLine}
 use Rattle.asm.specs.declared.draft.Use.{Use}
 use Rattle.asm.specs.declared.routines.Role.{Role}
 use Rattle.asm.specs.declared.routines.Role.TheVariants.{Handler, Completion, StartIo as StartIoRole, Dpc as DpcRole, Cancel as CancelRole}
-use Rattle.asm.specs.Outline.{Outline, with_queue, with_routine, number_of, number_for, routine_called, entry_in, called, finished, finished_driver, finished_queue, missed_queue, queue_at, ClosedFits, IsOrderly, IsUse}
-use Rattle.asm.proofs.Orderly.Names.{use_known, number_within}
+use Rattle.asm.specs.Outline.{Outline, with_queue, with_routine, number_of, number_for, routine_called, entry_in, called, finished, finished_driver, finished_queue, earliest, missed_calls, missed_cancels, missed_entry, missed_handler, missed_queue, missed_routine, missed_server, missed_startio, missed_use, queue_at, routine_named, startio_named, waiting_named, ClosedFits, IsOrderly, IsUse}
+use Rattle.asm.proofs.Orderly.Names.{neither, use_known, number_within}
 
 -- the sort of a closed routine
 abbrev pub sort_at : ClosedRoutine → Sort
@@ -194,10 +195,52 @@ queues_fit o routine queues count known h =
     (subst (λ (named : Option ℕ). IfSome named (λ old. queue_at o step.queue < queues))
     (sym (queue_still step.instr (routine_called o step.call))) below))
 
+-- no routine is missed, so none of a `startio` line is
+startio_known : (o : Outline) → missed_routine o ≡ None
+    → missed_startio o.routine_names o.sorts o.startio ≡ None
+startio_known o known =
+    let names = o.routine_names in
+    let sorts = o.sorts in
+    let read = missed_entry names sorts Handler o.read in
+    let write = missed_entry names sorts Handler o.write in
+    let control = missed_entry names sorts Handler o.control in
+    let startio = missed_startio names sorts o.startio in
+    let dpc = missed_entry names sorts DpcRole o.dpc in
+    let server = neither (missed_calls names sorts None o.calls) (missed_server names sorts o)
+    known in
+    let table = neither (missed_cancels names sorts None o.queues) (missed_handler names sorts o)
+    server.1 in
+    let first = neither read (earliest write (earliest control (earliest startio dpc))) table.1 in
+    let second = neither write (earliest control (earliest startio dpc)) first.1 in
+    let third = neither control (earliest startio dpc) second.1 in
+    (neither startio dpc third.1).0
+
+-- the cancel routine of the device queue fits, where the StartIo routine isn't missed
+waiting_with : (o : Outline) (line : ℕ) (startio cancel : Option ℕ)
+    → IfSome cancel (λ n. HasSort IsCancel (slice_get (map (finished o) o.routines) n))
+    → (if is_some startio then None else Some line) ≡ None
+    → WaitingFits (map (finished o) o.routines) startio cancel
+waiting_with o line None cancel fits known = cc
+waiting_with o line (Some n) None fits known = tt
+waiting_with o line (Some n) (Some number) fits known = fits
+
+waiting_fits : (o : Outline) (l : Option StartIoLine) → map sort_at o.routines ≡ o.sorts
+    → missed_startio o.routine_names o.sorts l ≡ None
+    → WaitingFits (map (finished o) o.routines)
+    (entry_in o.routine_names o.sorts StartIoRole (startio_named l))
+    (entry_in o.routine_names o.sorts CancelRole (waiting_named l))
+waiting_fits o None sorts known = tt
+waiting_fits o (Some l) sorts known =
+    let names = o.routine_names in
+    let there = neither (missed_use names o.sorts StartIoRole l.routine)
+    (missed_entry names o.sorts CancelRole l.cancel) known in
+    waiting_with o l.routine.line (routine_named names o.sorts StartIoRole l.routine.name)
+    (entry_in names o.sorts CancelRole l.cancel) (entry_fits o CancelRole l.cancel sorts) there.0
+
 pub finished_driver_fits : (o : Outline) → length o.routine_names ≡ length o.routines
-    → map sort_at o.routines ≡ o.sorts → missed_queue o ≡ None → IsOrderly o
-    → DriverFits (finished_driver o)
-finished_driver_fits o same sorts known h =
+    → map sort_at o.routines ≡ o.sorts → missed_queue o ≡ None → missed_routine o ≡ None
+    → IsOrderly o → DriverFits (finished_driver o)
+finished_driver_fits o same sorts known named h =
     let count = length-map o.routines (finished o) in
     let queues = length (map (finished_queue o) o.queues) in
     let all : queues ≡ length o.queue_names =
@@ -210,7 +253,8 @@ finished_driver_fits o same sorts known h =
       read = entry_fits o Handler o.read sorts;
       write = entry_fits o Handler o.write sorts;
       control = entry_fits o Handler o.control sorts;
-      startio = entry_fits o StartIoRole o.startio sorts;
+      startio = entry_fits o StartIoRole (startio_named o.startio) sorts;
+      waiting = waiting_fits o o.startio sorts (startio_known o named);
       dpc = entry_fits o DpcRole o.dpc sorts;
       calls = All-map (CallsFit (map (finished o) o.routines)) (finished o) o.routines
           (λ i d inside. calls_fit o (get_or o.routines i d) sorts);

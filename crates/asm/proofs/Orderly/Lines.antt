@@ -14,6 +14,7 @@ use Rattle.asm.specs.declared.draft.Place.{Place}
 use Rattle.asm.specs.declared.draft.Place.TheVariants.{Outside, InDriver, InRoutine}
 use Rattle.asm.specs.declared.draft.ClosedRoutine.{ClosedRoutine}
 use Rattle.asm.specs.declared.draft.QueueLine.{QueueLine}
+use Rattle.asm.specs.declared.draft.StartIoLine.{StartIoLine}
 use Rattle.asm.specs.declared.draft.Step.{Step}
 use Rattle.asm.specs.declared.draft.Use.{Use}
 use Rattle.asm_line.specs.declared.line.Body.{Body}
@@ -109,9 +110,9 @@ driver_closed_orderly o place h =
       sorts_known = refl;
       drivers_fit = λ known.
           let both = neither o.unknown (missed_in_driver o) known in
-          let missed = (neither (missed_queue o) (missed_routine o) both.1).0 in
+          let missed = neither (missed_queue o) (missed_routine o) both.1 in
           All-push DriverFits o.drivers (finished_driver o) (h.drivers_fit both.0)
-          (finished_driver_fits o same sorts missed h);
+          (finished_driver_fits o same sorts missed.0 missed.1 h);
       devices_known = λ known.
           let devices = h.devices_known (neither o.unknown (missed_in_driver o) known).0 in
           record { count = devices.count; fit = devices.fit };
@@ -119,8 +120,8 @@ driver_closed_orderly o place h =
     }
 
 -- a table entry changes nothing else
-entries_orderly : (o : Outline) (read write control startio dpc : Option Use) → IsOrderly o
-    → IsOrderly (with_entries o read write control startio dpc)
+entries_orderly : (o : Outline) (read write control : Option Use) (startio : Option StartIoLine)
+    (dpc : Option Use) → IsOrderly o → IsOrderly (with_entries o read write control startio dpc)
 entries_orderly o read write control startio dpc h =
     record {
       few_drivers = h.few_drivers;
@@ -358,9 +359,10 @@ orderly_with o n label (AddQueue name (Some guard) cancel) place size room opera
     queue_added_orderly o name guard (used_at n cancel)
     (ltb-true (length o.queue_names) MAX_QUEUES room) operand h
 orderly_with o n label (AddQueue name None cancel) place size room operand h = h
-orderly_with o n label (HandleStartIo routine) place size room operand h =
+orderly_with o n label (HandleStartIo routine cancel) place size room operand h =
     let u : Use = record { line = n; name = routine } in
-    entries_orderly o o.read o.write o.control (Some u) o.dpc h
+    let line : StartIoLine = record { routine = u; cancel = used_at n cancel } in
+    entries_orderly o o.read o.write o.control (Some line) o.dpc h
 orderly_with o n label (HandleDpc routine) place size room operand h =
     let u : Use = record { line = n; name = routine } in
     entries_orderly o o.read o.write o.control o.startio (Some u) h

@@ -176,9 +176,9 @@ turn o n label (AddQueue name (Some guard) cancel) ls here stood fresh range tid
     queue_added_turn o name (Some guard) guard cancel here (ahead_of ls) n ls
     (tidy.idle (never_in InRoutine o.place body refl stood)) h
 turn o n label (AddQueue name None cancel) ls here stood fresh range tidy h = cc
-turn o n label (HandleStartIo name) ls here stood fresh range tidy h =
-    startio_handled_turn o name here (ahead_of ls) n ls fresh
-    (tidy.idle (never_in InRoutine o.place (HandleStartIo name) refl stood)) h
+turn o n label (HandleStartIo name cancel) ls here stood fresh range tidy h =
+    startio_handled_turn o name cancel here (ahead_of ls) n ls fresh
+    (tidy.idle (never_in InRoutine o.place (HandleStartIo name cancel) refl stood)) h
 turn o n label (HandleDpc name) ls here stood fresh range tidy h =
     dpc_handled_turn o name here (ahead_of ls) n ls fresh
     (tidy.idle (never_in InRoutine o.place (HandleDpc name) refl stood)) h

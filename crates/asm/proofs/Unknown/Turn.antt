@@ -19,8 +19,9 @@ line_or_later s n (AddQueue name guard cancel) after h =
     chosen_line (is_served s Cancel cancel) n after h
 line_or_later s n (Handle major routine) after h =
     chosen_line (has_routine s.routines s.sorts Handler routine) n after h
-line_or_later s n (HandleStartIo routine) after h =
-    chosen_line (has_routine s.routines s.sorts StartIo routine) n after h
+line_or_later s n (HandleStartIo routine cancel) after h =
+    chosen_line (has_routine s.routines s.sorts StartIo routine && is_served s Cancel cancel) n
+    after h
 line_or_later s n (HandleDpc routine) after h =
     chosen_line (has_routine s.routines s.sorts Dpc routine) n after h
 line_or_later s n (AddDevice name driver stack lower) after h =

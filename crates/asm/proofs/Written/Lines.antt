@@ -43,9 +43,9 @@ turn o n InDriver label (AddQueue name (Some guard) cancel) ls at stood range h 
     queue_added_turn o name (Some guard) guard cancel (used_at n cancel) label ls at
 turn o n _ label (AddQueue name (Some guard) cancel) ls at stood range h = cc
 turn o n p label (AddQueue name None cancel) ls at stood range h = cc
-turn o n InDriver label (HandleStartIo name) ls at stood range h =
+turn o n InDriver label (HandleStartIo name cancel) ls at stood range h =
     record { place = at; same = refl }
-turn o n _ label (HandleStartIo name) ls at stood range h = cc
+turn o n _ label (HandleStartIo name cancel) ls at stood range h = cc
 turn o n InDriver label (HandleDpc name) ls at stood range h = record { place = at; same = refl }
 turn o n _ label (HandleDpc name) ls at stood range h = cc
 turn o n InDriver label (OpenRoutine name sort) ls at stood range h =

@@ -1,7 +1,7 @@
 use Rattle.std.proofs.Common.{◌++◌}
 use Rattle.model.specs.declared.status.Major.TheVariants.{Read, Write, Control}
 use Rattle.asm_listing.specs.declared.entry.Entry.TheVariants as line
-use Rattle.asm_listing.specs.Listing.{naming}
+use Rattle.asm_listing.specs.Listing.{naming, starting}
 use Rattle.asm_listing.proofs.Written.{then_written}
 use Rattle.asm_listing.proofs.driver.write_table.Goals as goal
 
@@ -11,7 +11,7 @@ returns c =
     let read = naming (line.Handler Read) d.read in
     let write = naming (line.Handler Write) d.write in
     let control = naming (line.Handler Control) d.control in
-    let startio = naming line.StartIo d.startio in
+    let startio = naming (starting d.startio_cancel) d.startio in
     let dpc = naming line.Dpc d.dpc in
     let one = rw c.in_ok-write_handler.was at c.write_handler.ensures in
     let two = rw c.in_ok-write_handler-2.was at c.write_handler-2.ensures in
