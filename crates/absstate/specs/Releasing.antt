@@ -1,4 +1,4 @@
--- The packets that the release of a spin lock may take from the routine.
+-- The packets that the release of a lock may take from the routine.
 use Rattle.std.specs.Prelude.{Bool, true, false}
 use Rattle.model.specs.declared.abs.Kind.{Kind}
 use Rattle.model.specs.declared.abs.Kind.TheVariants.{Armed}
