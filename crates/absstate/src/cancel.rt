@@ -15,14 +15,14 @@ ghost use Rattle.model.specs.Kinds.{kind_inserted, kind_removed, kind_disarmed};
 ghost use Rattle.model.specs.LocalRule.{released};
 ghost use Rattle.model.specs.Kinds.{let_go, all_let_go};
 ghost use Rattle.model.specs.Set.{cancel_routine_of, guard_named, has_cancel};
-ghost use Rattle.absstate.specs.Releasing.{has_routine_set};
 
 use crate::fault::{broken_if, free_fault, least, unless};
 use crate::queues::guard_fault;
-use crate::state::{holds_guard, kind, set_held, set_kind};
+use crate::state::{holds_guard, is_any_named, kind, set_held, set_kind};
 use driver_set::DriverSet;
 use model::abs::{Abs, Kind, Rule};
 use model::instr::Register;
+use model::limits::REGISTERS;
 use model::set::{Guard, QueueName};
 
 /// `remove` wants the guard of the queue, a register for the packet, and no register with a packet
@@ -231,7 +231,14 @@ fn is_name(one: QueueName, other: QueueName) -> bool
     }
 }
 
-fn is_any_in_need(kinds: &[Kind], set: &DriverSet, driver: u8, lock: &Guard) -> bool
+/// Whether a register needs a lock. Most often none names a list, and that is all.
+fn is_any_in_need(kinds: &[Kind; REGISTERS], set: &DriverSet, driver: u8, lock: &Guard) -> bool
+    ensures { result ≡ list_any (needs_guard set.now driver lock.now) kinds.now }
+{
+    is_any_named(kinds) && is_one_in_need(kinds, set, driver, lock)
+}
+
+fn is_one_in_need(kinds: &[Kind], set: &DriverSet, driver: u8, lock: &Guard) -> bool
     ensures { result ≡ list_any (needs_guard set.now driver lock.now) kinds.now }
 {
     kinds
@@ -327,28 +334,15 @@ pub fn release(state: &mut Abs, set: &DriverSet, driver: u8, lock: &Guard)
     set_held(state, lock, false);
 }
 
-/// Lets the registers go, of which most often none has a packet whose cancel routine is set.
+/// Lets the registers go, of which most often none names a list.
 #[tactic(auto, using(crate::proofs::Releasing::none_let_go))]
-fn armed_let_go(kinds: &mut [Kind], set: &DriverSet, driver: u8, lock: &Guard)
+fn armed_let_go(kinds: &mut [Kind; REGISTERS], set: &DriverSet, driver: u8, lock: &Guard)
     ensures { kinds.new ≡ all_let_go set.now driver lock.now kinds.old }
 {
-    if !is_any_armed(kinds) {
+    if !is_any_named(kinds) {
         return;
     }
     all_let_go(kinds, set, driver, lock);
-}
-
-fn is_any_armed(kinds: &[Kind]) -> bool
-    ensures { result ≡ list_any has_routine_set kinds.now }
-{
-    kinds.iter().any(|kind| has_routine_set(*kind))
-}
-
-/// Whether the cancel routine of a packet is set, whatever its list.
-fn has_routine_set(kind: Kind) -> bool
-    ensures { result ≡ has_routine_set kind }
-{
-    matches!(kind, Kind::Armed(_))
 }
 
 fn all_let_go(kinds: &mut [Kind], set: &DriverSet, driver: u8, lock: &Guard)

@@ -117,7 +117,7 @@ fn same_queues(a: &[Kind; REGISTERS], b: &[Kind; REGISTERS]) -> bool
 /// Whether a register names a list.
 #[inline(always)]
 #[tactic(auto, using(crate::proofs::Same::lists_next))]
-fn is_any_named(kinds: &[Kind; REGISTERS]) -> bool
+pub fn is_any_named(kinds: &[Kind; REGISTERS]) -> bool
     ensures { result ≡ list_any has_list kinds.now }
 {
     let mut named = false;
