@@ -5,13 +5,15 @@ use Rattle.std.proofs.Math.Seq.{drop-cons}
 use Rattle.std.proofs.lemmas.List.{take_more_set, drop-set-lt, append_assoc, append-nil, take_all, drop_all}
 use Rattle.std.specs.List.{list_any}
 use Rattle.model.specs.declared.abs.Kind.{Kind}
-use Rattle.model.specs.declared.abs.Kind.TheVariants.{Armed}
-use Rattle.model.specs.Kinds.{let_go, all_let_go}
+use Rattle.model.specs.declared.abs.Kind.TheVariants.{Listed, Armed, Taken, Cancelling}
+use Rattle.model.specs.declared.set.Guard.{Guard}
+use Rattle.model.specs.Kinds.{needs_guard, let_go, all_let_go}
 use Rattle.model.specs.Set.{Set}
-use Rattle.absstate.specs.Releasing.{has_routine_set}
+use Rattle.absstate.specs.Same.{has_list}
 
 -- one register more is let go
-pub let_go_next : (s : Set) (driver lock : ℕ) (kinds first : List Kind) (i : ℕ) (d new : Kind)
+pub let_go_next : (s : Set) (driver : ℕ) (lock : Guard) (kinds first : List Kind) (i : ℕ)
+    (d new : Kind)
     → i < length kinds → new ≡ let_go s driver lock (get_or kinds i d)
     → take i kinds ++ all_let_go s driver lock (drop i kinds) ≡ all_let_go s driver lock first
     → take (i + 1) (set kinds i new) ++ all_let_go s driver lock (drop (i + 1) (set kinds i new))
@@ -31,7 +33,7 @@ let_go_next s driver lock kinds first i d new within right before =
     ∙ before
 
 -- when all are
-pub let_go_over : (s : Set) (driver lock : ℕ) (kinds first : List Kind) (i : ℕ)
+pub let_go_over : (s : Set) (driver : ℕ) (lock : Guard) (kinds first : List Kind) (i : ℕ)
     → length kinds ≤ i
     → take i kinds ++ all_let_go s driver lock (drop i kinds) ≡ all_let_go s driver lock first
     → kinds ≡ all_let_go s driver lock first
@@ -42,10 +44,22 @@ let_go_over s driver lock kinds first i over before =
     ∙ append-nil kinds)
     ∙ before
 
--- where no packet's cancel routine is set, nothing is let go
-pub none_let_go : (s : Set) (driver lock : ℕ) (kinds : List Kind)
-    → list_any has_routine_set kinds ≡ false → kinds ≡ all_let_go s driver lock kinds
+-- where no register names a list, nothing is let go, and none needs a lock
+pub none_let_go : (s : Set) (driver : ℕ) (lock : Guard) (kinds : List Kind)
+    → list_any has_list kinds ≡ false → kinds ≡ all_let_go s driver lock kinds
 none_let_go s driver lock [] none = refl
+none_let_go s driver lock (Listed name ∷ kinds) none = cc
 none_let_go s driver lock (Armed name ∷ kinds) none = cc
+none_let_go s driver lock (Taken name ∷ kinds) none = cc
+none_let_go s driver lock (Cancelling name ∷ kinds) none = cc
 none_let_go s driver lock (kind ∷ kinds) none =
     ap (λ (rest : List Kind). kind ∷ rest) (none_let_go s driver lock kinds none)
+
+pub none_in_need : (s : Set) (driver : ℕ) (lock : Guard) (kinds : List Kind)
+    → list_any has_list kinds ≡ false → false ≡ list_any (needs_guard s driver lock) kinds
+none_in_need s driver lock [] none = refl
+none_in_need s driver lock (Listed name ∷ kinds) none = cc
+none_in_need s driver lock (Armed name ∷ kinds) none = cc
+none_in_need s driver lock (Taken name ∷ kinds) none = cc
+none_in_need s driver lock (Cancelling name ∷ kinds) none = cc
+none_in_need s driver lock (kind ∷ kinds) none = none_in_need s driver lock kinds none

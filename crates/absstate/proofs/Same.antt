@@ -1,13 +1,19 @@
 -- Two numbers tell a kind.
-use Rattle.std.proofs.Common.{◌≡◌, ℕ, suc, ◌<◌, ◌≤◌, Bool, true, false, ◌&&◌, ◌||◌, List, [], ◌∷◌, length, drop, get_or, eq-eqb, eqb-true, refl, sym, subst, ◌∙◌, ap}
+use Rattle.std.proofs.Common.{◌≡◌, ℕ, zero, suc, ◌<◌, ◌≤◌, Bool, true, false, ◌&&◌, ◌||◌, List, [], ◌∷◌, length, drop, get_or, eq-eqb, eqb-true, refl, sym, subst, ◌∙◌, ap}
 use Rattle.std.proofs.Math.Seq.{drop-cons}
 use Rattle.std.proofs.lemmas.List.{drop_all}
 use Rattle.std.specs.List.{list_any}
 use Rattle.std.specs.Prelude.{nat_eq, if◌then◌else◌}
 use Rattle.model.specs.declared.abs.Kind.{Kind}
 use Rattle.model.specs.declared.abs.Kind.TheVariants.{Blank, Num, Lower, New, Own, Listed, Armed, Taken, Cancelling, View}
-use Rattle.model.specs.declared.set.QueueName.TheVariants.{Declared}
+use Rattle.model.specs.declared.set.QueueName.{QueueName}
+use Rattle.model.specs.declared.set.QueueName.TheVariants.{Declared, DeviceQueue}
 use Rattle.absstate.specs.Same.{has_list, queue_number, same_queues, same_shapes, shape}
+
+-- the list of this number
+abbrev name_of_number : ℕ → QueueName
+name_of_number zero = DeviceQueue
+name_of_number (suc queue) = Declared queue
 
 -- the kind of these numbers
 abbrev kind_of_numbers : ℕ → ℕ → Kind
@@ -17,10 +23,10 @@ kind_of_numbers shape queue =
     (if nat_eq shape 2 then Lower else
     (if nat_eq shape 3 then New else
     (if nat_eq shape 4 then Own else
-    (if nat_eq shape 5 then Listed (Declared queue) else
-    (if nat_eq shape 6 then Armed (Declared queue) else
-    (if nat_eq shape 7 then Taken (Declared queue) else
-    (if nat_eq shape 8 then Cancelling (Declared queue) else View))))))))
+    (if nat_eq shape 5 then Listed (name_of_number queue) else
+    (if nat_eq shape 6 then Armed (name_of_number queue) else
+    (if nat_eq shape 7 then Taken (name_of_number queue) else
+    (if nat_eq shape 8 then Cancelling (name_of_number queue) else View))))))))
 
 told : (kind : Kind) → kind_of_numbers (shape kind) (queue_number kind) ≡ kind
 told Blank = refl
@@ -28,9 +34,13 @@ told Num = refl
 told Lower = refl
 told New = refl
 told Own = refl
+told (Listed DeviceQueue) = refl
 told (Listed (Declared queue)) = refl
+told (Armed DeviceQueue) = refl
 told (Armed (Declared queue)) = refl
+told (Taken DeviceQueue) = refl
 told (Taken (Declared queue)) = refl
+told (Cancelling DeviceQueue) = refl
 told (Cancelling (Declared queue)) = refl
 told View = refl
 

@@ -1,8 +1,9 @@
 -- A kind by two numbers, as it is compared.
-use Rattle.std.specs.Prelude.{ℕ, Bool, true, false, nat_eq, ◌&&◌, List, [], ◌∷◌}
+use Rattle.std.specs.Prelude.{ℕ, suc, Bool, true, false, nat_eq, ◌&&◌, List, [], ◌∷◌}
 use Rattle.model.specs.declared.abs.Kind.{Kind}
 use Rattle.model.specs.declared.abs.Kind.TheVariants.{Blank, Num, Lower, New, Own, Listed, Armed, Taken, Cancelling, View}
-use Rattle.model.specs.declared.set.QueueName.TheVariants.{Declared}
+use Rattle.model.specs.declared.set.QueueName.{QueueName}
+use Rattle.model.specs.declared.set.QueueName.TheVariants.{Declared, DeviceQueue}
 
 -- what it says, its list apart
 abbrev pub shape : Kind → ℕ
@@ -17,12 +18,17 @@ shape (Taken name) = 7
 shape (Cancelling name) = 8
 shape View = 9
 
--- the number of the queue that it names
+-- the number of a list: the device queue, and the queues that the driver declares after it
+abbrev pub name_number : QueueName → ℕ
+name_number DeviceQueue = 0
+name_number (Declared queue) = suc queue
+
+-- of the one that it names
 abbrev pub queue_number : Kind → ℕ
-queue_number (Listed (Declared queue)) = queue
-queue_number (Armed (Declared queue)) = queue
-queue_number (Taken (Declared queue)) = queue
-queue_number (Cancelling (Declared queue)) = queue
+queue_number (Listed name) = name_number name
+queue_number (Armed name) = name_number name
+queue_number (Taken name) = name_number name
+queue_number (Cancelling name) = name_number name
 queue_number Blank = 0
 queue_number Num = 0
 queue_number Lower = 0
@@ -45,7 +51,7 @@ same_shapes [] (b ∷ ys) = false
 same_shapes (a ∷ xs) [] = false
 same_shapes (a ∷ xs) (b ∷ ys) = nat_eq (shape a) (shape b) && same_shapes xs ys
 
--- they name queues of the same numbers
+-- they name lists of the same numbers
 abbrev pub same_queues : List Kind → List Kind → Bool
 same_queues [] [] = true
 same_queues [] (b ∷ ys) = false

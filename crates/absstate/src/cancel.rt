@@ -4,25 +4,26 @@
 
 ghost use Rattle.std.specs.Prelude.{◌≡◌};
 ghost use Rattle.std.specs.List.{list_any};
-ghost use Rattle.model.specs.LocalRule.{kind_of, with_kind, least_of, guard_fault, free_kind};
+ghost use Rattle.model.specs.LocalRule.{kind_of, with_kind, least_of, unless, guard_fault};
+ghost use Rattle.model.specs.LocalRule.{free_kind};
 ghost use Rattle.model.specs.Kinds.{is_name, is_listed, is_armed, is_cancelling, is_exchanged};
 ghost use Rattle.model.specs.LocalRule.{queued_kind, unlink_kind, names_fault};
 ghost use Rattle.model.specs.Kinds.{names_list};
-ghost use Rattle.model.specs.LocalRule.{release_fault};
-ghost use Rattle.model.specs.Kinds.{is_guard, needs_guard};
+ghost use Rattle.model.specs.LocalRule.{acquire_fault, release_fault, rule_of_lock};
+ghost use Rattle.model.specs.Kinds.{is_guard, is_same_lock, needs_guard};
 ghost use Rattle.model.specs.Kinds.{kind_inserted, kind_removed, kind_disarmed};
 ghost use Rattle.model.specs.LocalRule.{released};
 ghost use Rattle.model.specs.Kinds.{let_go, all_let_go};
-ghost use Rattle.model.specs.Set.{cancel_routine_of, guard_named};
-ghost use Rattle.absstate.specs.Releasing.{has_routine_set};
+ghost use Rattle.model.specs.Set.{cancel_routine_of, guard_named, has_cancel};
 
 use crate::fault::{broken_if, free_fault, least, unless};
 use crate::queues::guard_fault;
-use crate::state::{is_held, kind, set_kind, set_lock};
+use crate::state::{holds_guard, is_any_named, kind, set_held, set_kind};
 use driver_set::DriverSet;
 use model::abs::{Abs, Kind, Rule};
-use model::instr::{Register, SpinLock};
-use model::set::QueueName;
+use model::instr::Register;
+use model::limits::REGISTERS;
+use model::set::{Guard, QueueName};
 
 /// `remove` wants the guard of the queue, a register for the packet, and no register with a packet
 /// that is or was to be cancelled there: it could be the same.
@@ -34,13 +35,14 @@ pub fn remove_fault(
     queue: u8,
 ) -> Option<Rule>
     ensures { result
-        ≡ least_of (guard_fault state.now set.now driver queue)
+        ≡ least_of (guard_fault state.now set.now driver (QueueName.Declared queue))
         (least_of (free_kind (kind_of state.now to))
         (names_fault state.now (QueueName.Declared queue))) }
 {
-    let named = names_fault(state, QueueName::Declared(queue));
+    let name = QueueName::Declared(queue);
+    let named = names_fault(state, name);
     least(
-        guard_fault(state, set, driver, queue),
+        guard_fault(state, set, driver, name),
         least(free_fault(state, to), named),
     )
 }
@@ -56,11 +58,12 @@ pub fn unlink_fault(
 ) -> Option<Rule>
     ensures { result
         ≡ least_of (unlink_kind (QueueName.Declared queue) (kind_of state.now register))
-        (guard_fault state.now set.now driver queue) }
+        (guard_fault state.now set.now driver (QueueName.Declared queue)) }
 {
+    let name = QueueName::Declared(queue);
     least(
-        unlink_kind(QueueName::Declared(queue), kind(state, register)),
-        guard_fault(state, set, driver, queue),
+        unlink_kind(name, kind(state, register)),
+        guard_fault(state, set, driver, name),
     )
 }
 
@@ -76,12 +79,13 @@ pub fn arm_fault(
         ≡ least_of
         (queued_kind (is_listed (QueueName.Declared queue) (kind_of state.now register))
         (kind_of state.now register))
-        (guard_fault state.now set.now driver queue) }
+        (guard_fault state.now set.now driver (QueueName.Declared queue)) }
 {
     let kind = kind(state, register);
+    let name = QueueName::Declared(queue);
     least(
-        queued_kind(is_listed(QueueName::Declared(queue), kind), kind),
-        guard_fault(state, set, driver, queue),
+        queued_kind(is_listed(name, kind), kind),
+        guard_fault(state, set, driver, name),
     )
 }
 
@@ -93,15 +97,51 @@ pub fn disarm_fault(kind: Kind) -> Option<Rule>
     queued_kind(is_exchanged(kind), kind)
 }
 
-/// A spin lock that is released was held, and no register needs it.
-pub fn release_fault(state: &Abs, set: &DriverSet, driver: u8, lock: SpinLock) -> Option<Rule>
-    ensures { result ≡ release_fault state.now set.now driver lock }
+/// `dequeue` wants a packet of the device queue that IoCancelIrp handed to its cancel routine, the
+/// guard of the device queue, and a driver that has such a routine.
+pub fn dequeue_fault(state: &Abs, register: Register, set: &DriverSet, driver: u8) -> Option<Rule>
+    ensures { result
+        ≡ least_of
+        (queued_kind (is_cancelling QueueName.DeviceQueue (kind_of state.now register))
+        (kind_of state.now register))
+        (least_of (guard_fault state.now set.now driver QueueName.DeviceQueue)
+        (unless (has_cancel set.now driver QueueName.DeviceQueue) Rule.Sort)) }
+{
+    let kind = kind(state, register);
+    let named = QueueName::DeviceQueue;
+    let sorted = unless(set.has_cancel(driver, named), Rule::Sort);
+    least(
+        queued_kind(is_cancelling(named, kind), kind),
+        least(guard_fault(state, set, driver, named), sorted),
+    )
+}
+
+/// A lock is acquired while it isn't held.
+pub fn acquire_fault(state: &Abs, lock: &Guard) -> Option<Rule>
+    ensures { result ≡ acquire_fault state.now lock.now }
+{
+    broken_if(holds_guard(state, lock), rule_of_lock(lock))
+}
+
+/// A lock that is released was held, and no register needs it.
+pub fn release_fault(state: &Abs, set: &DriverSet, driver: u8, lock: &Guard) -> Option<Rule>
+    ensures { result ≡ release_fault state.now set.now driver lock.now }
 {
     let needed = is_any_in_need(&state.kinds, set, driver, lock);
     least(
-        broken_if(!is_held(state, lock), Rule::SpinLock),
+        broken_if(!holds_guard(state, lock), rule_of_lock(lock)),
         broken_if(needed, Rule::Guard),
     )
+}
+
+/// The rule on who holds a lock: the system cancel spin lock has one of its own.
+fn rule_of_lock(lock: &Guard) -> Rule
+    ensures { result ≡ rule_of_lock lock.now }
+{
+    match *lock {
+        Guard::DeviceLock(_) => Rule::SpinLock,
+        Guard::CancelLock => Rule::CancelSpinLock,
+    }
 }
 
 fn unlink_kind(name: QueueName, kind: Kind) -> Option<Rule>
@@ -186,35 +226,60 @@ fn is_name(one: QueueName, other: QueueName) -> bool
 {
     match (one, other) {
         (QueueName::Declared(first), QueueName::Declared(second)) => first == second,
+        (QueueName::DeviceQueue, QueueName::DeviceQueue) => true,
+        _ => false,
     }
 }
 
-fn is_any_in_need(kinds: &[Kind], set: &DriverSet, driver: u8, lock: SpinLock) -> bool
-    ensures { result ≡ list_any (needs_guard set.now driver lock) kinds.now }
+/// Whether a register needs a lock. Most often none names a list, and that is all.
+fn is_any_in_need(kinds: &[Kind; REGISTERS], set: &DriverSet, driver: u8, lock: &Guard) -> bool
+    ensures { result ≡ list_any (needs_guard set.now driver lock.now) kinds.now }
+{
+    is_any_named(kinds) && is_one_in_need(kinds, set, driver, lock)
+}
+
+fn is_one_in_need(kinds: &[Kind], set: &DriverSet, driver: u8, lock: &Guard) -> bool
+    ensures { result ≡ list_any (needs_guard set.now driver lock.now) kinds.now }
 {
     kinds
         .iter()
         .any(|kind| needs_guard(set, driver, lock, *kind))
 }
 
-/// Whether a packet stays where it is as long as the routine holds a spin lock: it stands in a list
-/// that the lock guards, with no cancel routine set, or was taken off it.
-fn needs_guard(set: &DriverSet, driver: u8, lock: SpinLock, kind: Kind) -> bool
-    ensures { result ≡ needs_guard set.now driver lock kind }
+/// Whether a packet stays where it is as long as the routine holds a lock: it stands in a list that
+/// the lock guards, with no cancel routine set, or was taken off it; or it is being cancelled, and
+/// stands in the device queue until it is taken off.
+fn needs_guard(set: &DriverSet, driver: u8, lock: &Guard, kind: Kind) -> bool
+    ensures { result ≡ needs_guard set.now driver lock.now kind }
 {
     match kind {
         Kind::Listed(name) | Kind::Taken(name) => is_guard(set, driver, name, lock),
+        Kind::Cancelling(QueueName::DeviceQueue) => {
+            is_guard(set, driver, QueueName::DeviceQueue, lock)
+        }
         _ => false,
     }
 }
 
-/// Whether a spin lock guards a list.
-fn is_guard(set: &DriverSet, driver: u8, name: QueueName, lock: SpinLock) -> bool
-    ensures { result ≡ is_guard (guard_named set.now driver name) lock }
+/// Whether a lock guards a list.
+fn is_guard(set: &DriverSet, driver: u8, name: QueueName, lock: &Guard) -> bool
+    ensures { result ≡ is_guard (guard_named set.now driver name) lock.now }
 {
     match set.guard_named(driver, name) {
-        Some(guard) => guard.index() == lock.index(),
+        Some(guard) => is_same_lock(&guard, lock),
         None => false,
+    }
+}
+
+fn is_same_lock(one: &Guard, other: &Guard) -> bool
+    ensures { result ≡ is_same_lock one.now other.now }
+{
+    match *one {
+        Guard::DeviceLock(first) => match *other {
+            Guard::DeviceLock(second) => first.index() == second.index(),
+            Guard::CancelLock => false,
+        },
+        Guard::CancelLock => matches!(*other, Guard::CancelLock),
     }
 }
 
@@ -223,7 +288,7 @@ fn is_guard(set: &DriverSet, driver: u8, name: QueueName, lock: SpinLock) -> boo
 pub fn insert(state: &mut Abs, register: Register, set: &DriverSet, driver: u8, queue: u8)
     ensures { state.new
         ≡ with_kind state.old register
-        (kind_inserted (cancel_routine_of set.now driver queue) queue) }
+        (kind_inserted (cancel_routine_of set.now driver queue) (QueueName.Declared queue)) }
 {
     let kind = match set.cancel_routine(driver, queue) {
         Some(_) => Kind::Listed(QueueName::Declared(queue)),
@@ -237,7 +302,7 @@ pub fn insert(state: &mut Abs, register: Register, set: &DriverSet, driver: u8, 
 pub fn remove(state: &mut Abs, register: Register, set: &DriverSet, driver: u8, queue: u8)
     ensures { state.new
         ≡ with_kind state.old register
-        (kind_removed (cancel_routine_of set.now driver queue) queue) }
+        (kind_removed (cancel_routine_of set.now driver queue) (QueueName.Declared queue)) }
 {
     let kind = match set.cancel_routine(driver, queue) {
         Some(_) => Kind::Taken(QueueName::Declared(queue)),
@@ -260,49 +325,36 @@ pub fn disarm(state: &mut Abs, register: Register)
     set_kind(state, register, kind);
 }
 
-/// Releases a spin lock: a packet in a list that it guards, whose cancel routine is set, belongs to
+/// Releases a lock: a packet in a list that it guards, whose cancel routine is set, belongs to
 /// whoever comes first then.
-pub fn release(state: &mut Abs, set: &DriverSet, driver: u8, lock: SpinLock)
-    ensures { state.new ≡ released state.old set.now driver lock }
+pub fn release(state: &mut Abs, set: &DriverSet, driver: u8, lock: &Guard)
+    ensures { state.new ≡ released state.old set.now driver lock.now }
 {
     armed_let_go(&mut state.kinds, set, driver, lock);
-    set_lock(state, lock, false);
+    set_held(state, lock, false);
 }
 
-/// Lets the registers go, of which most often none has a packet whose cancel routine is set.
+/// Lets the registers go, of which most often none names a list.
 #[tactic(auto, using(crate::proofs::Releasing::none_let_go))]
-fn armed_let_go(kinds: &mut [Kind], set: &DriverSet, driver: u8, lock: SpinLock)
-    ensures { kinds.new ≡ all_let_go set.now driver lock kinds.old }
+fn armed_let_go(kinds: &mut [Kind; REGISTERS], set: &DriverSet, driver: u8, lock: &Guard)
+    ensures { kinds.new ≡ all_let_go set.now driver lock.now kinds.old }
 {
-    if !is_any_armed(kinds) {
+    if !is_any_named(kinds) {
         return;
     }
     all_let_go(kinds, set, driver, lock);
 }
 
-fn is_any_armed(kinds: &[Kind]) -> bool
-    ensures { result ≡ list_any has_routine_set kinds.now }
-{
-    kinds.iter().any(|kind| has_routine_set(*kind))
-}
-
-/// Whether the cancel routine of a packet is set, whatever its list.
-fn has_routine_set(kind: Kind) -> bool
-    ensures { result ≡ has_routine_set kind }
-{
-    matches!(kind, Kind::Armed(_))
-}
-
-fn all_let_go(kinds: &mut [Kind], set: &DriverSet, driver: u8, lock: SpinLock)
-    ensures { kinds.new ≡ all_let_go set.now driver lock kinds.old }
+fn all_let_go(kinds: &mut [Kind], set: &DriverSet, driver: u8, lock: &Guard)
+    ensures { kinds.new ≡ all_let_go set.now driver lock.now kinds.old }
 {
     for kind in kinds.iter_mut() {
         *kind = let_go(set, driver, lock, *kind);
     }
 }
 
-fn let_go(set: &DriverSet, driver: u8, lock: SpinLock, kind: Kind) -> Kind
-    ensures { result ≡ let_go set.now driver lock kind }
+fn let_go(set: &DriverSet, driver: u8, lock: &Guard, kind: Kind) -> Kind
+    ensures { result ≡ let_go set.now driver lock.now kind }
 {
     match kind {
         Kind::Armed(name) if is_guard(set, driver, name, lock) => Kind::Blank,

@@ -6,23 +6,21 @@ ghost use Rattle.model.specs.LocalRule.{with_kind};
 ghost use Rattle.model.specs.Set.{label_of};
 
 use crate::cancel::{
-    arm_fault, disarm, disarm_fault, insert, release, release_fault, remove, remove_fault,
-    unlink_fault,
+    acquire_fault, arm_fault, dequeue_fault, disarm, disarm_fault, insert, release, release_fault,
+    remove, remove_fault, unlink_fault,
 };
 use crate::fault::{
-    broken_if, complete_fault, free_fault, least, level_fault, look_fault, mark_fault,
-    number_fault, packet_fault,
+    complete_fault, free_fault, least, level_fault, look_fault, mark_fault, number_fault,
+    packet_fault,
 };
 use crate::forwarding::{call_fault, pass_fault};
 use crate::queues::{begin_fault, insert_fault, next_fault, start_fault, take_fault};
 use crate::returns::return_fault;
-use crate::state::{
-    begin, complete, give_down, is_held, kind, mark, move_kind, set_kind, set_lock, take,
-};
+use crate::state::{begin, complete, give_down, kind, mark, move_kind, set_held, set_kind, take};
 use driver_set::DriverSet;
 use model::abs::{Abs, Kind, Outs, Rule, Settled};
 use model::instr::{Instr, Register};
-use model::set::{QueueName, Sort};
+use model::set::{Guard, QueueName, Sort};
 
 /// The states that an instruction of a routine of a sort, of a driver of a set, hands on from a
 /// state, or the least rule that it breaks in it.
@@ -67,10 +65,10 @@ pub fn broken_rule(
         Instr::Get(to, packet, _) => least(packet_fault(state, packet), free_fault(state, to)),
         Instr::Put(packet, from) => least(packet_fault(state, packet), number_fault(state, from)),
         Instr::Mark(register) => mark_fault(state.settled, kind(state, register)),
-        Instr::Acquire(lock) => broken_if(is_held(state, lock), Rule::SpinLock),
-        Instr::Release(lock) => release_fault(state, set, driver, lock),
-        Instr::AcquireCancel => broken_if(state.cancel, Rule::CancelSpinLock),
-        Instr::ReleaseCancel => broken_if(!state.cancel, Rule::CancelSpinLock),
+        Instr::Acquire(lock) => acquire_fault(state, &Guard::DeviceLock(lock)),
+        Instr::Release(lock) => release_fault(state, set, driver, &Guard::DeviceLock(lock)),
+        Instr::AcquireCancel => acquire_fault(state, &Guard::CancelLock),
+        Instr::ReleaseCancel => release_fault(state, set, driver, &Guard::CancelLock),
         Instr::Insert(register, queue) => insert_fault(state, register, set, driver, queue),
         Instr::Remove(to, queue, _) => remove_fault(state, to, set, driver, queue),
         Instr::Unlink(register, queue) => unlink_fault(state, register, set, driver, queue),
@@ -80,7 +78,8 @@ pub fn broken_rule(
         Instr::Start(register) => start_fault(state, register, set, driver),
         Instr::Take(to, _) => take_fault(state, to, sort),
         Instr::Begin(register) => begin_fault(state, register),
-        Instr::Next => next_fault(state),
+        Instr::Next => next_fault(state, set, driver),
+        Instr::Dequeue(register) => dequeue_fault(state, register, set, driver),
         Instr::Pass(register) => pass_fault(state, register, sort, set, driver),
         Instr::Call(register, completion) => {
             call_fault(state, register, completion, sort, set, driver)
@@ -131,7 +130,9 @@ pub fn advance(state: &mut Abs, instr: &Instr, set: &DriverSet, driver: u8)
         Instr::Clear(register) | Instr::Start(register) => set_kind(state, register, Kind::Blank),
         Instr::Insert(register, queue) => insert(state, register, set, driver, queue),
         Instr::Remove(to, queue, _) => remove(state, to, set, driver, queue),
-        Instr::Unlink(register, _) => set_kind(state, register, Kind::Own),
+        Instr::Unlink(register, _) | Instr::Dequeue(register) => {
+            set_kind(state, register, Kind::Own)
+        }
         Instr::Arm(register, queue) => {
             set_kind(state, register, Kind::Armed(QueueName::Declared(queue)))
         }
@@ -140,10 +141,10 @@ pub fn advance(state: &mut Abs, instr: &Instr, set: &DriverSet, driver: u8)
         Instr::Begin(register) => begin(state, register),
         Instr::Next => state.token = false,
         Instr::Mark(register) => mark(state, register),
-        Instr::Acquire(lock) => set_lock(state, lock, true),
-        Instr::Release(lock) => release(state, set, driver, lock),
-        Instr::AcquireCancel => state.cancel = true,
-        Instr::ReleaseCancel => state.cancel = false,
+        Instr::Acquire(lock) => set_held(state, &Guard::DeviceLock(lock), true),
+        Instr::Release(lock) => release(state, set, driver, &Guard::DeviceLock(lock)),
+        Instr::AcquireCancel => set_held(state, &Guard::CancelLock, true),
+        Instr::ReleaseCancel => release(state, set, driver, &Guard::CancelLock),
         Instr::Pass(register) | Instr::Call(register, _) => give_down(state, register),
         Instr::Complete(register, _) => complete(state, register),
         Instr::IfPending(..) => state.settled = Settled::Settled,

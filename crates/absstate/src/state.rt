@@ -3,17 +3,18 @@
 ghost use Rattle.std.specs.Prelude.{◌≡◌, ◌↔◌, IsTrue, true, false};
 ghost use Rattle.model.specs.LocalRule.{entry_of_sort, entry_of_cancel, entered_with};
 ghost use Rattle.model.specs.LocalRule.{kind_of, with_kind};
-ghost use Rattle.model.specs.LocalRule.{is_held, with_lock, moved};
+ghost use Rattle.model.specs.LocalRule.{holds_guard, with_held, moved};
 ghost use Rattle.model.specs.Kinds.{left_behind};
 ghost use Rattle.model.specs.LocalRule.{marked, given_down};
 ghost use Rattle.model.specs.Kinds.{duty_completed};
 ghost use Rattle.std.specs.List.{list_any};
-ghost use Rattle.absstate.specs.Same.{has_list, queue_number, same_queues, same_shapes, shape};
+ghost use Rattle.absstate.specs.Same.{has_list, name_number, queue_number, shape};
+ghost use Rattle.absstate.specs.Same.{same_queues, same_shapes};
 
 use model::abs::{Abs, Duty, Kind, Settled};
-use model::instr::{Register, SpinLock};
+use model::instr::Register;
 use model::limits::{REGISTERS, SPIN_LOCKS};
-use model::set::{QueueName, Sort};
+use model::set::{Guard, QueueName, Sort};
 
 /// The state in which a routine of a sort is entered, if it may be: it finds its packet in the
 /// first register, but for a DPC routine, which is handed none. A StartIo routine has the token of
@@ -99,7 +100,7 @@ fn same_shapes(a: &[Kind; REGISTERS], b: &[Kind; REGISTERS]) -> bool
     same
 }
 
-/// Whether registers name queues of the same numbers.
+/// Whether registers name lists of the same numbers.
 #[tactic(auto, using(crate::proofs::Same::queues_next))]
 fn same_queues(a: &[Kind; REGISTERS], b: &[Kind; REGISTERS]) -> bool
     ensures { result ≡ same_queues a.now b.now }
@@ -116,7 +117,7 @@ fn same_queues(a: &[Kind; REGISTERS], b: &[Kind; REGISTERS]) -> bool
 /// Whether a register names a list.
 #[inline(always)]
 #[tactic(auto, using(crate::proofs::Same::lists_next))]
-fn is_any_named(kinds: &[Kind; REGISTERS]) -> bool
+pub fn is_any_named(kinds: &[Kind; REGISTERS]) -> bool
     ensures { result ≡ list_any has_list kinds.now }
 {
     let mut named = false;
@@ -157,17 +158,27 @@ fn shape(kind: Kind) -> u8
     }
 }
 
-/// The number of the queue that a kind names, and 0 where it names none.
+/// The number of the list that a kind names, and 0 where it names none.
 #[inline(always)]
-fn queue_number(kind: Kind) -> u8
+fn queue_number(kind: Kind) -> u16
     ensures { result ≡ queue_number kind }
 {
     match kind {
-        Kind::Listed(QueueName::Declared(queue))
-        | Kind::Armed(QueueName::Declared(queue))
-        | Kind::Taken(QueueName::Declared(queue))
-        | Kind::Cancelling(QueueName::Declared(queue)) => queue,
+        Kind::Listed(name) | Kind::Armed(name) | Kind::Taken(name) | Kind::Cancelling(name) => {
+            name_number(name)
+        }
         _ => 0,
+    }
+}
+
+/// A number for a list: 0 for the device queue, and the queues that the driver declares after it.
+#[inline(always)]
+fn name_number(name: QueueName) -> u16
+    ensures { result ≡ name_number name }
+{
+    match name {
+        QueueName::DeviceQueue => 0,
+        QueueName::Declared(queue) => queue as u16 + 1,
     }
 }
 
@@ -196,18 +207,24 @@ pub fn set_kind(state: &mut Abs, register: Register, kind: Kind)
     state.kinds[register.index()] = kind;
 }
 
-/// Whether the thread holds a spin lock of the device.
-pub fn is_held(state: &Abs, lock: SpinLock) -> bool
-    ensures { result ≡ is_held state.now lock }
+/// Whether the thread holds a spin lock of the device, or the system cancel spin lock.
+pub fn holds_guard(state: &Abs, guard: &Guard) -> bool
+    ensures { result ≡ holds_guard state.now guard.now }
 {
-    state.locks[lock.index()]
+    match *guard {
+        Guard::DeviceLock(lock) => state.locks[lock.index()],
+        Guard::CancelLock => state.cancel,
+    }
 }
 
-/// Notes that a spin lock is held, or not.
-pub fn set_lock(state: &mut Abs, lock: SpinLock, held: bool)
-    ensures { state.new ≡ with_lock state.old lock held }
+/// Notes that one of these locks is held, or not.
+pub fn set_held(state: &mut Abs, guard: &Guard, held: bool)
+    ensures { state.new ≡ with_held state.old guard.now held }
 {
-    state.locks[lock.index()] = held;
+    match *guard {
+        Guard::DeviceLock(lock) => state.locks[lock.index()] = held,
+        Guard::CancelLock => state.cancel = held,
+    }
 }
 
 /// Moves what is in a register to another one: a number is there as well then.

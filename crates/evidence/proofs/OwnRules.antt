@@ -8,18 +8,19 @@ use Rattle.model.specs.declared.abs.Duty.TheVariants.{Fresh, Pending, Finished, 
 use Rattle.model.specs.declared.abs.Kind.{Kind}
 use Rattle.model.specs.declared.abs.Kind.TheVariants.{Blank, Num, Lower, New, Own, Listed, Armed, Taken, Cancelling, View}
 use Rattle.model.specs.declared.abs.Rule.{Rule}
-use Rattle.model.specs.declared.abs.Rule.TheVariants.{Malformed, Unreachable, StatesDiffer, WrongKind, DoubleCompletion, MarkIrpPending, CancelSpinLock, SpinLock, LockHeld, Level, Guard, CancelState, Dropped, Token, Sort as SortRule, Completion, StackTooSmall, NoLower, TooLong, Memory}
+use Rattle.model.specs.declared.abs.Rule.TheVariants.{Malformed, Unreachable, StatesDiffer, WrongKind, DoubleCompletion, MarkIrpPending, CancelSpinLock, SpinLock, LockHeld, Level, Guard as GuardRule, CancelState, Dropped, Token, Sort as SortRule, Completion, StackTooSmall, NoLower, TooLong, Memory}
 use Rattle.model.specs.declared.instr.Instr.{Instr}
-use Rattle.model.specs.declared.instr.Instr.TheVariants.{Const, Move, Clear, Add, Subtract, JumpIfZero, JumpIfLess, Jump, Loop, End, Load, Store, LoadPaged, StorePaged, Get, Put, Mark, Acquire, Release, AcquireCancel, ReleaseCancel, Insert, Remove, Unlink, Arm, Disarm, IfCancel, Start, Take, Begin, Next, Pass, Call, Complete, IfPending, Ret}
+use Rattle.model.specs.declared.instr.Instr.TheVariants.{Const, Move, Clear, Add, Subtract, JumpIfZero, JumpIfLess, Jump, Loop, End, Load, Store, LoadPaged, StorePaged, Get, Put, Mark, Acquire, Release, AcquireCancel, ReleaseCancel, Insert, Remove, Unlink, Arm, Disarm, IfCancel, Start, Take, Begin, Next, Dequeue, Pass, Call, Complete, IfPending, Ret}
 use Rattle.model.specs.declared.instr.Return.{Return}
 use Rattle.model.specs.declared.instr.Return.TheVariants.{WithStatus, Lower as LowerStatus, Continue, Stop, Void}
-use Rattle.model.specs.declared.set.QueueName.TheVariants.{Declared}
+use Rattle.model.specs.declared.set.QueueName.{QueueName}
+use Rattle.model.specs.declared.set.QueueName.TheVariants.{Declared, DeviceQueue}
 use Rattle.model.specs.declared.set.Sort.{Sort}
 use Rattle.model.specs.declared.set.Sort.TheVariants.{Dispatch, StartIo, Dpc, Propagate, Hold, Cancel}
 use Rattle.model.specs.declared.status.Status.{Status}
-use Rattle.model.specs.LocalRule.{kind_of, is_held, holds_spin_lock, holds_lock, rule_number, least_of, broken_if, unless, Wanted, demanded, any_packet, a_new_one, one_handed_or_owned, an_owned_one, one_to_mark, one_to_look_at, is_completion, is_pending, free_kind, number_kind, level_fault, complete_kind, completion_sort_fault, forward_sort_fault, forward_fault, hold_fault, status_fault, duty_fault, form_fault, is_settled, is_fresh, is_taken_back, lent_fault, settled_fault, gives_back, left_packet, kept_fault, return_fault, completion_fault, guard_fault, queued_kind, unlink_kind, names_fault, is_dpc, take_fault, refuses}
-use Rattle.model.specs.Kinds.{is_packet, is_blank, is_listed, is_exchanged}
-use Rattle.model.specs.Set.{Set}
+use Rattle.model.specs.LocalRule.{kind_of, is_held, holds_spin_lock, holds_lock, rule_number, least_of, broken_if, unless, Wanted, demanded, any_packet, a_new_one, one_handed_or_owned, an_owned_one, one_to_mark, one_to_look_at, is_completion, is_pending, free_kind, number_kind, level_fault, complete_kind, completion_sort_fault, forward_sort_fault, forward_fault, hold_fault, status_fault, duty_fault, form_fault, is_settled, is_fresh, is_taken_back, lent_fault, settled_fault, gives_back, left_packet, kept_fault, return_fault, completion_fault, guard_fault, waiting_fault, queued_kind, unlink_kind, names_fault, is_dpc, take_fault, refuses}
+use Rattle.model.specs.Kinds.{is_packet, is_blank, is_listed, is_cancelling, is_exchanged}
+use Rattle.model.specs.Set.{Set, has_cancel}
 
 abbrev pub is_own : Rule → Bool
 is_own Malformed = false
@@ -32,7 +33,7 @@ is_own CancelSpinLock = true
 is_own SpinLock = true
 is_own LockHeld = true
 is_own Level = true
-is_own Guard = true
+is_own GuardRule = true
 is_own CancelState = true
 is_own Dropped = true
 is_own Token = true
@@ -200,8 +201,14 @@ completion_own s status sort =
     (least_own (broken_if (holds_lock s) LockHeld) (completion_sort_fault sort)
     (broken_own (holds_lock s) LockHeld refl) (broken_own (is_completion sort) Completion refl))
 
-guard_own : (s : Abs) (set : Set) (driver q : ℕ) → IsOwn (guard_fault s set driver q)
-guard_own s set driver q = unless_own _ Guard refl
+guard_own : (s : Abs) (set : Set) (driver : ℕ) (name : QueueName)
+    → IsOwn (guard_fault s set driver name)
+guard_own s set driver name = unless_own _ GuardRule refl
+
+waiting_own : (s : Abs) (set : Set) (driver : ℕ) → IsOwn (waiting_fault s set driver)
+waiting_own s set driver =
+    either_own (has_cancel set driver DeviceQueue) (guard_fault s set driver DeviceQueue) None
+    (guard_own s set driver DeviceQueue) refl
 
 queued_own : (fits : Bool) (kind : Kind) → IsOwn (queued_kind fits kind)
 queued_own fits Blank = refl
@@ -244,29 +251,32 @@ refuses_own s (Mark r) sort set driver =
     (broken_own _ Completion refl)
 refuses_own s (Acquire lock) sort set driver = broken_own (is_held s lock) SpinLock refl
 refuses_own s (Release lock) sort set driver =
-    least_own (broken_if _ SpinLock) (broken_if _ Guard) (broken_own _ SpinLock refl)
-    (broken_own _ Guard refl)
+    least_own (broken_if _ SpinLock) (broken_if _ GuardRule) (broken_own _ SpinLock refl)
+    (broken_own _ GuardRule refl)
 refuses_own s AcquireCancel sort set driver = broken_own s.cancel CancelSpinLock refl
-refuses_own s ReleaseCancel sort set driver = broken_own (not s.cancel) CancelSpinLock refl
+refuses_own s ReleaseCancel sort set driver =
+    least_own (broken_if _ CancelSpinLock) (broken_if _ GuardRule)
+    (broken_own _ CancelSpinLock refl) (broken_own _ GuardRule refl)
 refuses_own s (Insert r q) sort set driver =
     least_own (demanded an_owned_one (kind_of s r)) _ (demanded_own an_owned_one (kind_of s r))
-    (guard_own s set driver q)
+    (guard_own s set driver (Declared q))
 refuses_own s (Remove r q label) sort set driver =
-    least_own (guard_fault s set driver q) _ (guard_own s set driver q)
+    least_own (guard_fault s set driver (Declared q)) _ (guard_own s set driver (Declared q))
     (least_own (free_kind (kind_of s r)) (names_fault s (Declared q)) (free_own (kind_of s r))
     (broken_own _ CancelState refl))
 refuses_own s (Unlink r q) sort set driver =
     least_own (unlink_kind (Declared q) (kind_of s r)) _ (queued_own _ (kind_of s r))
-    (guard_own s set driver q)
+    (guard_own s set driver (Declared q))
 refuses_own s (Arm r q) sort set driver =
     least_own (queued_kind (is_listed (Declared q) (kind_of s r)) (kind_of s r)) _
-    (queued_own _ (kind_of s r)) (guard_own s set driver q)
+    (queued_own _ (kind_of s r)) (guard_own s set driver (Declared q))
 refuses_own s (Disarm r label) sort set driver =
     queued_own (is_exchanged (kind_of s r)) (kind_of s r)
 refuses_own s (IfCancel r label) sort set driver = demanded_own any_packet (kind_of s r)
 refuses_own s (Start r) sort set driver =
     least_own (demanded an_owned_one (kind_of s r)) _ (demanded_own an_owned_one (kind_of s r))
-    (unless_own _ SortRule refl)
+    (least_own (waiting_fault s set driver) _ (waiting_own s set driver)
+    (unless_own _ SortRule refl))
 refuses_own s (Take r label) sort set driver =
     least_own (take_fault s sort) _
     (least_own (broken_if s.token Token) (unless (is_dpc sort) SortRule)
@@ -275,7 +285,14 @@ refuses_own s (Take r label) sort set driver =
 refuses_own s (Begin r) sort set driver =
     least_own (demanded an_owned_one (kind_of s r)) _ (demanded_own an_owned_one (kind_of s r))
     (unless_own s.token Token refl)
-refuses_own s Next sort set driver = unless_own s.token Token refl
+refuses_own s Next sort set driver =
+    least_own (waiting_fault s set driver) _ (waiting_own s set driver)
+    (unless_own s.token Token refl)
+refuses_own s (Dequeue r) sort set driver =
+    least_own (queued_kind (is_cancelling DeviceQueue (kind_of s r)) (kind_of s r)) _
+    (queued_own _ (kind_of s r))
+    (least_own (guard_fault s set driver DeviceQueue) _ (guard_own s set driver DeviceQueue)
+    (unless_own _ SortRule refl))
 refuses_own s (Pass r) sort set driver =
     least_own (demanded a_new_one (kind_of s r)) _ (demanded_own a_new_one (kind_of s r))
     (forward_own s sort set driver 0)

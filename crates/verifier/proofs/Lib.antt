@@ -13,3 +13,6 @@ pub mod Verdicts
 pub mod Pairs
 pub mod Tables
 pub mod Forming
+pub mod FirstRules
+pub mod FirstPaths
+pub mod FirstVerdicts

@@ -4,3 +4,6 @@ pub mod Pass
 pub mod Certificates
 pub mod Verdict
 pub mod FirstFault
+pub mod FirstEdition
+pub mod FirstVerdict
+pub mod FirstLaw

@@ -1,6 +1,6 @@
 //! Which list of its driver a cancel routine serves.
 
-ghost use Rattle.std.specs.Prelude.{◌≡◌, ◌≤◌, length};
+ghost use Rattle.std.specs.Prelude.{◌≡◌, ◌≤◌, ◌∷◌, length, if◌then◌else◌};
 ghost use Rattle.model.specs.declared.limits.TheConstants.{MAX_QUEUES};
 ghost use Rattle.model.specs.Set.{cancels_for, cancelled_from, only_one, is_named};
 
@@ -12,15 +12,24 @@ pub fn cancels_for(set: &DriverSet, driver: u8, number: u8) -> Option<QueueName>
     ensures { result ≡ cancels_for set.now driver number }
 {
     let driver = set.drivers().get(driver as usize)?;
-    only_named(driver.queues.as_slice(), number)
+    let waiting = is_named(driver.startio_cancel, number);
+    only_named(waiting, driver.queues.as_slice(), number)
 }
 
-/// The one of the queues whose cancel routine has a number.
-fn only_named(queues: &[Queue], number: u8) -> Option<QueueName>
+/// The one list whose cancel routine has a number, of the device queue, if its cancel routine has,
+/// and of the queues.
+fn only_named(waiting: bool, queues: &[Queue], number: u8) -> Option<QueueName>
     requires { length queues.now ≤ MAX_QUEUES }
-    ensures { result ≡ only_one (cancelled_from queues.now 0 number) }
+    ensures { result
+        ≡ only_one
+        (if waiting then QueueName.DeviceQueue ∷ cancelled_from queues.now 0 number
+        else cancelled_from queues.now 0 number) }
 {
-    let mut named = None;
+    let mut named = if waiting {
+        Some(QueueName::DeviceQueue)
+    } else {
+        None
+    };
     for (q, queue) in queues.iter().enumerate() {
         if !is_named(queue.cancel, number) {
             continue;
