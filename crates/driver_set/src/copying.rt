@@ -57,6 +57,7 @@ fn copied_driver(alloc: Global, driver: &Driver) -> Result<Driver, AllocError>
         write: driver.write,
         control: driver.control,
         startio: driver.startio,
+        startio_cancel: driver.startio_cancel,
         dpc: driver.dpc,
     })
 }

@@ -2,10 +2,11 @@
 #![tactic(auto)]
 
 mod copying;
+mod edition;
 pub mod set;
 mod sound;
 
 pub use model::instr::{Cell, Field, Instr, Register, Return, SpinLock, Turns};
 pub use model::items::Items;
-pub use model::set::{Device, Driver, Queue, QueueName, Routine, Sort};
+pub use model::set::{Device, Driver, Guard, Queue, QueueName, Routine, Sort};
 pub use set::DriverSet;

@@ -8,7 +8,7 @@ ghost use Rattle.model.specs.declared.limits.TheConstants.{MAX_INSTRUCTIONS};
 use crate::sound::is_sound;
 use model::instr::{Instr, Register, Return, SpinLock};
 use model::limits::DEFAULT_ROUTINE;
-use model::set::{Device, Driver, QueueName, Routine, Sort};
+use model::set::{Device, Driver, Guard, QueueName, Routine, Sort};
 use model::status::{Major, Status};
 use std::marker::Model;
 
@@ -35,7 +35,7 @@ impl Model for DriverSet {
 impl DriverSet {
     ghost use Rattle.model.specs.Set.{Set, serving, instruction_at, sort_of, lower_of};
     ghost use Rattle.model.specs.Set.{startio_of, dpc_of, guard_of, cancel_routine_of};
-    ghost use Rattle.model.specs.Set.{guard_named, cancel_routine_named};
+    ghost use Rattle.model.specs.Set.{guard_named, cancel_routine_named, has_cancel};
     ghost use Rattle.model.specs.LocalRule.{has_startio};
     ghost use Rattle.model.specs.Sound.{IsSound};
 
@@ -139,12 +139,13 @@ impl DriverSet {
         driver.queues.as_slice().get(queue as usize)?.cancel
     }
 
-    /// The spin lock that guards a list of a driver.
-    pub fn guard_named(&self, driver: u8, name: QueueName) -> Option<SpinLock>
+    /// The lock that guards a list of a driver: the device queue is the system cancel lock's.
+    pub fn guard_named(&self, driver: u8, name: QueueName) -> Option<Guard>
         ensures { result ≡ guard_named self.now driver name }
     {
         match name {
-            QueueName::Declared(queue) => self.guard(driver, queue),
+            QueueName::Declared(queue) => Some(Guard::DeviceLock(self.guard(driver, queue)?)),
+            QueueName::DeviceQueue => Some(Guard::CancelLock),
         }
     }
 
@@ -154,7 +155,15 @@ impl DriverSet {
     {
         match name {
             QueueName::Declared(queue) => self.cancel_routine(driver, queue),
+            QueueName::DeviceQueue => self.drivers().get(driver as usize)?.startio_cancel,
         }
+    }
+
+    /// Whether a list of a driver has a cancel routine.
+    pub fn has_cancel(&self, driver: u8, name: QueueName) -> bool
+        ensures { result ≡ has_cancel self.now driver name }
+    {
+        self.cancel_routine_named(driver, name).is_some()
     }
 
     /// The sort of a routine of a driver, the default routine's among them.

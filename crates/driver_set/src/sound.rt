@@ -4,7 +4,7 @@ ghost use Rattle.std.specs.Prelude.{◌≡◌, ◌≤◌, ◌<◌, ◌↔◌, le
 ghost use Rattle.model.specs.Sound.{IsSound, DeviceFits, DevicesFit, DriverFits, RoutineFits};
 ghost use Rattle.model.specs.Sound.{OperandFits, CallsFit};
 ghost use Rattle.model.specs.Sound.{HandlerFits, HasSort, IsDispatch, IsCompletion};
-ghost use Rattle.model.specs.Sound.{StartIoFits, IsStartIo, DpcFits, IsDpc};
+ghost use Rattle.model.specs.Sound.{StartIoFits, IsStartIo, WaitingFits, DpcFits, IsDpc};
 ghost use Rattle.model.specs.Sound.{QueuesFit, GuardFits, IsCancel, CancelFits};
 ghost use Rattle.driver_set.specs.Standing.{NamesFit, InstrFits, RoutineStands};
 
@@ -34,6 +34,7 @@ fn operand_fits(instr: &Instr) -> bool
         | Instr::Start(register)
         | Instr::Take(register, _)
         | Instr::Begin(register)
+        | Instr::Dequeue(register)
         | Instr::Pass(register)
         | Instr::Call(register, _)
         | Instr::Complete(register, _)
@@ -126,6 +127,17 @@ fn startio_fits(routines: &[Routine], startio: Option<u8>) -> bool
     match startio {
         Some(number) => is_startio(routines, number),
         None => true,
+    }
+}
+
+/// Whether a driver may name this cancel routine for its device queue: it needs a StartIo routine.
+fn waiting_fits(routines: &[Routine], startio: Option<u8>, cancel: Option<u8>) -> bool
+    ensures { IsTrue result ↔ WaitingFits routines.now startio cancel }
+{
+    match (startio, cancel) {
+        (_, None) => true,
+        (None, Some(_)) => false,
+        (Some(_), Some(number)) => is_cancel(routines, number),
     }
 }
 
@@ -241,6 +253,7 @@ fn driver_fits(driver: &Driver) -> bool
         && handler_fits(routines, driver.write)
         && handler_fits(routines, driver.control)
         && startio_fits(routines, driver.startio)
+        && waiting_fits(routines, driver.startio, driver.startio_cancel)
         && dpc_fits(routines, driver.dpc)
         && queues.len() <= MAX_QUEUES
         && cancels_fit(routines, queues)
