@@ -27,7 +27,7 @@ use Rattle.model.specs.Queues.{StartState}
 use Rattle.model.specs.Set.{Set}
 use Rattle.model.specs.Trace.{Actor, Entry}
 use Rattle.model.specs.World.{Shared, packet_of, packet_in, register}
-use Rattle.run_laws.proofs.Steps.Comes.{Cancels, Comes, Queued, inserts, unlinks, removes, removes_none, starts_packet, takes_out, takes_none, puts_in, starts_next, works_on_queues, ends_startio, errs, awaits_lock, computes, opens_loop, turns_loop, pages, touches_gone, looks_at, writes_info, marks_packet, exchanges, takes_lock, retakes_lock, frees_lock, completes_packet, completes_gone, passes_down, calls_down, ends_dpc, returns_status, lets_go, lets_walk, resumes_walk, resumes_gone, resumes_none, stops_walk, stops_none, ends_cancel, walks_gone, walks_to, lends_to, walks_up, carries_up, tops_out, cancels, takes_cancel, retakes_cancel, awaits_cancel, flags_gone, sets_flag, exchanges_gone, finds_empty, finds_none, calls_cancel}
+use Rattle.run_laws.proofs.Steps.Comes.{Cancels, Comes, Queued, inserts, unlinks, removes, removes_none, starts_packet, takes_out, takes_none, puts_in, starts_next, starts_gone, dequeues_packet, works_on_queues, works_on_waiting, ends_startio, errs, awaits_lock, computes, opens_loop, turns_loop, pages, touches_gone, looks_at, writes_info, marks_packet, exchanges, takes_lock, retakes_lock, frees_lock, completes_packet, completes_gone, passes_down, calls_down, ends_dpc, returns_status, lets_go, lets_walk, resumes_walk, resumes_gone, resumes_none, stops_walk, stops_none, ends_cancel, walks_gone, walks_to, lends_to, walks_up, carries_up, tops_out, cancels, takes_cancel, retakes_cancel, awaits_cancel, flags_gone, sets_flag, exchanges_gone, finds_empty, finds_none, calls_cancel}
 use Rattle.run_laws.proofs.Steps.Walk.{comes}
 use Rattle.checked_parts.specs.Left.{first_now}
 use Rattle.checked.proofs.Known.{Known, runs}
@@ -91,18 +91,24 @@ module _ (past : List Entry) (actor : Actor) (s : Shared) (known : Known s past)
       (known.full n p there)
 
   -- an instruction about queues touches one packet or none
-  queued_fine : (a : Activation) (i : Instr) (b : Activation) (queues : List (List (List ℕ)))
-      (starts : List StartState) (actions : List Action) (full : Bool)
-      → Queued s a i b queues starts actions full → Agree (Executes ∷ actions)
-  queued_fine a i b queues starts actions full (inserts r q n entries reads there) = touched n
-  queued_fine a i b queues starts actions full (removes r q label n entries there) = touched n
-  queued_fine a i b queues starts actions full (removes_none r q label there) = refl
-  queued_fine a i b queues starts actions full (unlinks r q n entries reads there) = touched n
-  queued_fine a i b queues starts actions full (starts_packet r n start reads there) = touched n
-  queued_fine a i b queues starts actions full (takes_out r label n start there slot) = refl
-  queued_fine a i b queues starts actions full (takes_none r label start there slot) = refl
-  queued_fine a i b queues starts actions full (puts_in r n start reads there) = touched n
-  queued_fine a i b queues starts actions full (starts_next start there) = refl
+  queued_fine : (set : Set) (a : Activation) (i : Instr) (b : Activation)
+      (queues : List (List (List ℕ))) (starts : List StartState) (actions : List Action)
+      (full : Bool)
+      → Queued set s a i b queues starts actions full → Agree (Executes ∷ actions)
+  queued_fine set a i b queues starts actions full (inserts r q n entries reads there) = touched n
+  queued_fine set a i b queues starts actions full (removes r q label n entries there) = touched n
+  queued_fine set a i b queues starts actions full (removes_none r q label there) = refl
+  queued_fine set a i b queues starts actions full (unlinks r q n entries reads there) = touched n
+  queued_fine set a i b queues starts actions full (starts_packet r n start reads there plain) =
+      touched n
+  queued_fine set a i b queues starts actions full (takes_out r label n start there slot) = refl
+  queued_fine set a i b queues starts actions full (takes_none r label start there slot) = refl
+  queued_fine set a i b queues starts actions full (puts_in r n start reads there) = touched n
+  queued_fine set a i b queues starts actions full (starts_next start there none) = refl
+  queued_fine set a i b queues starts actions full (starts_gone n start there first gone) =
+      touched n
+  queued_fine set a i b queues starts actions full (dequeues_packet r n start reads there) =
+      touched n
 
   -- a step of IoCancelIrp takes the system cancel spin lock, or frees it at its end
   cancel_fine : (set : Set) (n : ℕ) (step : CancelStep) (o : Outcome)
@@ -155,7 +161,9 @@ module _ (past : List Entry) (actor : Actor) (s : Shared) (known : Known s past)
   fine set under f o (ends_startio a runs sort) = (refl, refl)
   fine set under f o (ends_cancel a runs sort) = (refl, refl)
   fine set under f o (works_on_queues a i b queues starts actions full runs queued) =
-      (queued_fine a i b queues starts actions full queued, refl)
+      (queued_fine set a i b queues starts actions full queued, refl)
+  fine set under f o (works_on_waiting a i starts n p armer full runs there waits) =
+      (touched n, refl)
   fine set under f o (walks_gone n there) = (touched n, refl)
   fine set under f o (walks_to n p c there set_there sort) = (touched n, refl)
   fine set under f o (lends_to n p c there set_there sort) = (touched n, refl)

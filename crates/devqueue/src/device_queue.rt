@@ -1,7 +1,7 @@
 //! What a device has for StartIo: the packets to be started, those that wait, and its current slot.
 
 ghost use Rattle.std.specs.Prelude.{◌≡◌, IfOk, IsTrue, None, Some};
-ghost use Rattle.model.specs.Queues.{head_of};
+ghost use Rattle.model.specs.Queues.{head_of, is_linked};
 
 use crate::guarded::Guarded;
 use std::alloc::{AllocError, Global};
@@ -34,7 +34,7 @@ impl Model for DeviceQueue {
 impl DeviceQueue {
     ghost use Rattle.model.specs.Queues.{idle, started, has_room_to_start};
     ghost use Rattle.model.specs.Queues.{next_started, has_room_for_next};
-    ghost use Rattle.model.specs.Queues.{without_first_to_start, with_slot};
+    ghost use Rattle.model.specs.Queues.{dequeued, without_first_to_start, with_slot};
 
     /// An idle device: both lists and the current slot are empty. An error where memory for all
     /// entries is refused; no other call needs any.
@@ -98,6 +98,22 @@ impl DeviceQueue {
             Some(n) => self.start_list.insert(n),
             None => self.busy = false,
         }
+    }
+
+    /// The first packet of the device queue, which stays: none where that queue is empty.
+    pub fn first_waiting(&self) -> Option<u64>
+        ensures { result ≡ head_of self.now.device_queue }
+    {
+        self.device_queue.head()
+    }
+
+    /// Takes the first entry of a packet off the device queue; the others keep their order. It
+    /// answers false, and nothing has changed, exactly where the packet has no entry there.
+    pub fn dequeue(&mut self, n: u64) -> bool
+        ensures found { result ≡ is_linked self.old.device_queue n }
+        ensures rest { self.new ≡ dequeued self.old n }
+    {
+        self.device_queue.unlink(n)
     }
 
     /// The first packet of the start list, which stays: none where that list is empty.

@@ -8,10 +8,11 @@ use Rattle.model.specs.declared.event.Event.TheVariants.{Issue, Cancel as Cancel
 use Rattle.model.specs.declared.event.Lock.{Lock}
 use Rattle.model.specs.declared.event.Lock.TheVariants.{SystemCancel}
 use Rattle.model.specs.declared.instr.Instr.{Instr}
-use Rattle.model.specs.declared.instr.Instr.TheVariants.{Const, Move, Clear, Add, Subtract, JumpIfZero, JumpIfLess, Jump, Loop, End, Load, Store, LoadPaged, StorePaged, Get, Put, Mark, Acquire, Release, AcquireCancel, ReleaseCancel, Insert, Remove, Unlink, Arm, Disarm, IfCancel, Start, Take, Begin, Next, Pass, Call, Complete, IfPending, Ret}
+use Rattle.model.specs.declared.instr.Instr.TheVariants.{Const, Move, Clear, Add, Subtract, JumpIfZero, JumpIfLess, Jump, Loop, End, Load, Store, LoadPaged, StorePaged, Get, Put, Mark, Acquire, Release, AcquireCancel, ReleaseCancel, Insert, Remove, Unlink, Arm, Disarm, IfCancel, Start, Take, Begin, Next, Dequeue, Pass, Call, Complete, IfPending, Ret}
 use Rattle.model.specs.declared.instr.Return.{Return}
 use Rattle.model.specs.declared.instr.Return.TheVariants.{WithStatus, Lower, Continue, Stop, Void}
 use Rattle.model.specs.declared.limits.TheConstants.{MAX_ENTRIES, MAX_FRAMES, MAX_INSTRUCTIONS, MAX_LOOPS, MAX_QUEUES}
+use Rattle.model.specs.declared.set.QueueName.TheVariants.{DeviceQueue}
 use Rattle.model.specs.declared.status.Status.{Status}
 use Rattle.model.specs.declared.world.Activation.{Activation}
 use Rattle.model.specs.declared.world.CancelStep.{CancelStep}
@@ -19,9 +20,9 @@ use Rattle.model.specs.declared.world.CancelStep.TheVariants.{Acquire as Acquire
 use Rattle.model.specs.declared.world.Packet.{Packet}
 use Rattle.model.specs.declared.world.Value.TheVariants.{Num, Ref, Status as StatusValue}
 use Rattle.model.specs.Effect.{spin_lock}
-use Rattle.model.specs.Queues.{StartState, has_room_for_next, has_room_to_start, is_linked}
+use Rattle.model.specs.Queues.{StartState, has_room_for_next, has_room_to_start, head_of, is_linked}
 use Rattle.model.specs.Run.{run}
-use Rattle.model.specs.Set.{Set, instruction_at, lower_of}
+use Rattle.model.specs.Set.{Set, has_cancel, instruction_at, lower_of}
 use Rattle.model.specs.Sound.{IsSound}
 use Rattle.model.specs.Typable.{IsTypable}
 use Rattle.model.specs.World.{innermost, owner_of, register}
@@ -77,6 +78,14 @@ CanStart s device =
 abbrev pub CanStartNext : SlotShared → ℕ → Type 0
 CanStartNext s device =
     (start : StartState) → slot_start s device ≡ Some start → has_room_for_next start ≡ true
+
+-- where the driver has a cancel routine for the device queue, the packet that is started next is
+-- there
+abbrev pub CanDisarmNext : Set → SlotShared → ℕ → ℕ → Type 0
+CanDisarmNext set s driver device =
+    (start : StartState) (k : ℕ) → slot_start s device ≡ Some start
+    → has_cancel set driver DeviceQueue ≡ true → head_of start.device_queue ≡ Some k
+    → is_some (packet_at s k) ≡ true
 
 -- the key that is put into a list stands in none: in no queue of any device, no start list and no
 -- device queue
@@ -140,7 +149,9 @@ InstructionFits set s t a (Start r) =
     HasKey s a r × HasStart s a.device × CanStart s a.device × CanBeListed s (key_at a r)
 InstructionFits set s t a (Take r label) = HasStart s a.device
 InstructionFits set s t a (Begin r) = HasKey s a r × HasStart s a.device
-InstructionFits set s t a Next = HasStart s a.device × CanStartNext s a.device
+InstructionFits set s t a Next =
+    HasStart s a.device × CanStartNext s a.device × CanDisarmNext set s a.driver a.device
+InstructionFits set s t a (Dequeue r) = HasKey s a r × HasStart s a.device
 InstructionFits set s t a (Pass r) =
     HasKey s a r × (is_some (lower_of set a.device) ≡ true)
 InstructionFits set s t a (Call r f) =

@@ -2,16 +2,17 @@
 -- made of what a register holds, of whether the thread owns a lock that it takes or gives back, of
 -- whether a packet is live, or of how much room a list, a stack or a packet's locations have. Where
 -- a look-up finds nothing a step does nothing: in runs of accepted sets it finds what it looks for.
-use Rattle.std.specs.Prelude.{ℕ, ◌+◌, ◌-◌, ◌%◌, ◌^◌, Bool, true, false, List, [], ◌∷◌, ◌++◌, length, take, Option, None, Some, is_none, nat_eq, nat_lt, slice_get, slice_index_or, slice_set, if◌then◌else◌}
+use Rattle.std.specs.Prelude.{ℕ, ◌+◌, ◌-◌, ◌%◌, ◌^◌, ◌&&◌, Bool, true, false, List, [], ◌∷◌, ◌++◌, length, take, Option, None, Some, is_none, nat_eq, nat_lt, slice_get, slice_index_or, slice_set, if◌then◌else◌}
 use Rattle.model.specs.declared.event.Lock.{Lock}
 use Rattle.model.specs.declared.event.Lock.TheVariants.{SystemCancel}
 use Rattle.model.specs.declared.event.Reply.{Reply}
 use Rattle.model.specs.declared.event.Reply.TheVariants.{Stepped, Topped, Waited, Idle, Refused}
 use Rattle.model.specs.declared.instr.Field.{Field}
 use Rattle.model.specs.declared.instr.Instr.{Instr}
-use Rattle.model.specs.declared.instr.Instr.TheVariants.{Const, Move, Clear, Add, Subtract, JumpIfZero, JumpIfLess, Jump, Loop, End, Load, Store, LoadPaged, StorePaged, Get, Put, Mark, Acquire, Release, AcquireCancel, ReleaseCancel, Insert, Remove, Unlink, Arm, Disarm, IfCancel, Start, Take, Begin, Next, Pass, Call, Complete, IfPending, Ret}
+use Rattle.model.specs.declared.instr.Instr.TheVariants.{Const, Move, Clear, Add, Subtract, JumpIfZero, JumpIfLess, Jump, Loop, End, Load, Store, LoadPaged, StorePaged, Get, Put, Mark, Acquire, Release, AcquireCancel, ReleaseCancel, Insert, Remove, Unlink, Arm, Disarm, IfCancel, Start, Take, Begin, Next, Dequeue, Pass, Call, Complete, IfPending, Ret}
 use Rattle.model.specs.declared.instr.Return.{Return}
 use Rattle.model.specs.declared.instr.Return.TheVariants.{WithStatus, Lower, Continue, Stop, Void}
+use Rattle.model.specs.declared.set.QueueName.TheVariants.{DeviceQueue}
 use Rattle.model.specs.declared.status.Status.{Status}
 use Rattle.model.specs.declared.status.Status.TheVariants.{Success}
 use Rattle.model.specs.declared.world.Activation.{Activation}
@@ -26,10 +27,10 @@ use Rattle.model.specs.declared.world.OpenLoop.{OpenLoop}
 use Rattle.model.specs.declared.world.Packet.{Packet}
 use Rattle.model.specs.declared.world.Value.{Value}
 use Rattle.model.specs.declared.world.Value.TheVariants.{Blank, Num, Ref, Status as StatusValue}
-use Rattle.model.specs.Effect.{answered, armer_of, completes_with, dispatched, routine_of_device, set_by, spin_lock, stored, stored_paged, turned}
+use Rattle.model.specs.Effect.{answered, armer_of, armer_waiting, completes_with, dispatched, next_disarmed, routine_of_device, set_by, spin_lock, stored, stored_paged, turned}
 use Rattle.model.specs.Events.{finished_or}
-use Rattle.model.specs.Queues.{StartState, inserted, next_started, started, unlinked, with_slot}
-use Rattle.model.specs.Set.{Set, cancel_routine_named, instruction_at, lower_of}
+use Rattle.model.specs.Queues.{StartState, dequeued, inserted, next_started, started, unlinked, with_slot}
+use Rattle.model.specs.Set.{Set, cancel_routine_named, has_cancel, instruction_at, lower_of}
 use Rattle.model.specs.World.{asked_of, at_label, cancelled, carried_up, completion_of, current_location, entered, field_of, innermost, left_location, mark_current, moved_up, next, owner_of, register, sent_down, shared_with, with_armer, with_info, with_loops, with_owner, with_register}
 use Rattle.slot_laws.specs.Slots.{SlotFrame, SlotRoutine, SlotWalk, SlotCancel, SlotShared, SlotThread, SlotWorld, packet_at, slot_queue, slot_start, with_packet_at, with_slot_cells, with_slot_locks, with_slot_queue, with_slot_start, without_packet_at}
 
@@ -176,10 +177,25 @@ unlink_step s a q k None = goes_on s a
 unlink_step s a q k (Some entries) =
     goes_on (with_slot_queue s a.device q (unlinked entries k)) (next a)
 
--- what a device has for StartIo
-abbrev pub start_step : SlotShared → Activation → ℕ → Option StartState → SlotOutcome
-start_step s a k None = goes_on s a
-start_step s a k (Some start) = goes_on (with_slot_start s a.device (started start k)) (next a)
+-- what a device has for StartIo. Where the driver has a cancel routine for the device queue, that
+-- becomes the cancel routine of a packet which has to wait there
+abbrev pub start_waiting_step : SlotShared → Activation → ℕ → StartState → Option Packet
+    → SlotOutcome
+start_waiting_step s a k start None = goes_on s a
+start_waiting_step s a k start (Some p) =
+    goes_on
+    (with_slot_start (with_packet_at s k (with_armer p (Some (armer_waiting a)))) a.device
+    (started start k)) (next a)
+
+abbrev pub start_packet_step : SlotShared → Activation → ℕ → StartState → Bool → SlotOutcome
+start_packet_step s a k start false =
+    goes_on (with_slot_start s a.device (started start k)) (next a)
+start_packet_step s a k start true = start_waiting_step s a k start (packet_at s k)
+
+abbrev pub start_step : Set → SlotShared → Activation → ℕ → Option StartState → SlotOutcome
+start_step set s a k None = goes_on s a
+start_step set s a k (Some start) =
+    start_packet_step s a k start (has_cancel set a.driver DeviceQueue && start.busy)
 
 abbrev pub take_from_step : SlotShared → Activation → ℕ → ℕ → StartState → Option ℕ → SlotOutcome
 take_from_step s a r label start None = goes_on s (at_label a label)
@@ -195,9 +211,26 @@ begin_step s a k None = goes_on s a
 begin_step s a k (Some start) =
     goes_on (with_slot_start s a.device (with_slot start (Some k))) (next a)
 
-abbrev pub next_step : SlotShared → Activation → Option StartState → SlotOutcome
-next_step s a None = goes_on s a
-next_step s a (Some start) = goes_on (with_slot_start s a.device (next_started start)) (next a)
+-- where the driver has that cancel routine, a packet which waited has none any more
+abbrev pub next_packet_step : SlotShared → Activation → StartState → ℕ → Option Packet → SlotOutcome
+next_packet_step s a start k None = goes_on s a
+next_packet_step s a start k (Some p) =
+    goes_on
+    (with_slot_start (with_packet_at s k (with_armer p None)) a.device (next_started start))
+    (next a)
+
+abbrev pub next_waiting_step : SlotShared → Activation → StartState → Option ℕ → SlotOutcome
+next_waiting_step s a start None =
+    goes_on (with_slot_start s a.device (next_started start)) (next a)
+next_waiting_step s a start (Some k) = next_packet_step s a start k (packet_at s k)
+
+abbrev pub next_step : Set → SlotShared → Activation → Option StartState → SlotOutcome
+next_step set s a None = goes_on s a
+next_step set s a (Some start) = next_waiting_step s a start (next_disarmed set a start)
+
+abbrev pub dequeue_step : SlotShared → Activation → ℕ → Option StartState → SlotOutcome
+dequeue_step s a k None = goes_on s a
+dequeue_step s a k (Some start) = goes_on (with_slot_start s a.device (dequeued start k)) (next a)
 
 -- the I/O manager takes a packet that is completed
 abbrev pub complete_step : SlotShared → Activation → Status → ℕ → Option Packet → SlotOutcome
@@ -288,11 +321,13 @@ instruction_step set s t under a (Disarm r label) =
 instruction_step set s t under a (IfCancel r label) =
     ask_step s a label (packet_at s (key_at a r))
 instruction_step set s t under a (Start r) =
-    start_step s a (key_at a r) (slot_start s a.device)
+    start_step set s a (key_at a r) (slot_start s a.device)
 instruction_step set s t under a (Take r label) = take_step s a r label (slot_start s a.device)
 instruction_step set s t under a (Begin r) =
     begin_step s a (key_at a r) (slot_start s a.device)
-instruction_step set s t under a Next = next_step s a (slot_start s a.device)
+instruction_step set s t under a Next = next_step set s a (slot_start s a.device)
+instruction_step set s t under a (Dequeue r) =
+    dequeue_step s a (key_at a r) (slot_start s a.device)
 instruction_step set s t under a (Pass r) =
     pass_step set s a (key_at a r) (lower_of set a.device) (packet_at s (key_at a r))
 instruction_step set s t under a (Call r f) =

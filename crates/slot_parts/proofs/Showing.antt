@@ -4,7 +4,7 @@ use Rattle.std.specs.Prelude.{is_some, nat_lt, slice_get, slice_index_or, slice_
 use Rattle.std.proofs.lemmas.Bool.Decides.{leb_tells}
 use Rattle.std.proofs.lemmas.List.{get_or-set_other, length-replicate, set-get_or}
 use Rattle.devqueue.specs.Lists.{Lists, is_free}
-use Rattle.model.specs.Queues.{head_of, inserted, next_started, started, with_slot, without_first_to_start, without_head}
+use Rattle.model.specs.Queues.{dequeued, head_of, inserted, next_started, started, unlinked, with_slot, without_first_to_start, without_head}
 use Rattle.slot_laws.specs.Fits.{in_queues, to_start}
 use Rattle.slot_parts.specs.declared.device_lists.Serving.{Serving}
 use Rattle.slot_parts.specs.Lists.{DeviceLists, list_at, lists_of, no_entries, queue_entries, queues_shown, start_entries, start_shown, starts_shown, with_queue_entries, with_start_entries}
@@ -286,6 +286,23 @@ module _ (cs : List Serving) (ls : List (List ℕ)) (fits : length ls ≡ lists_
             let rest : start_shown x (without_head first) waiting
             ≡ without_first_to_start (start_entries v device) = rw start_seen refl in
             rw (taken, is_four, ← rest) (starts_left (without_head first))
+
+      -- one that waits is taken off
+      module _ (five : ℕ) (is_five : five ≡ list_at device 5) where
+        pub waiting_seen : slice_index_or ls five [] ≡ (start_entries v device).device_queue
+        waiting_seen = rw (is_five, start_seen) refl
+
+        pub waits_less : (key : ℕ) (later : List (List ℕ))
+            → later ≡ slice_set ls five (unlinked (slice_index_or ls five []) key)
+            → shown cs later ≡ with_start_entries v device (dequeued (start_entries v device) key)
+        waits_less key later taken =
+            let rest : start_shown x first (unlinked waiting key)
+            ≡ dequeued (start_entries v device) key = rw start_seen refl in
+            rw (taken, is_five, ← rest) (waits_left (unlinked waiting key))
+
+      -- whether it is busy
+      pub busy_seen : x.busy ≡ (start_entries v device).busy
+      busy_seen = rw start_seen refl
 
       -- the current slot
       pub slot_seen : x.slot ≡ (start_entries v device).slot

@@ -3,7 +3,7 @@
 ghost use Rattle.std.specs.Prelude.{◌≡◌, ◌≢◌, ◌≤◌, ◌<◌, false, IfOk, IsTrue, None, Some, is_some, length, slice_get};
 ghost use Rattle.devqueue.specs.Lists.{entries_of, with_entries};
 ghost use Rattle.model.specs.declared.limits.TheConstants.{MAX_DEVICES, MAX_LIVE_PACKETS, MAX_QUEUES};
-ghost use Rattle.model.specs.Queues.{head_of, inserted, is_linked, next_started, started, unlinked, with_slot, without_first_to_start, without_head};
+ghost use Rattle.model.specs.Queues.{dequeued, head_of, inserted, is_linked, next_started, started, unlinked, with_slot, without_first_to_start, without_head};
 ghost use Rattle.slot_laws.specs.Fits.{in_queues, to_start};
 ghost use Rattle.slot_parts.specs.Lists.{list_at, lists_of, no_entries, queue_entries, start_entries, with_queue_entries, with_start_entries};
 
@@ -136,6 +136,23 @@ impl DeviceLists {
         Some(key as u64)
     }
 
+    /// The first key of a device queue, which stays: none where it is empty.
+    pub fn first_waiting(&self, device: u8) -> Option<u64>
+        requires { device < length self.now.starts }
+        ensures { result ≡ head_of (start_entries self.now device).device_queue }
+    {
+        let key = self.links.front(device_queue_of(device))?;
+        Some(key as u64)
+    }
+
+    /// Whether a device is busy: a key that is started now goes to the device queue.
+    pub fn is_busy(&self, device: u8) -> bool
+        requires { device < length self.now.starts }
+        ensures { result ≡ (start_entries self.now device).busy }
+    {
+        self.serving[device as usize].busy
+    }
+
     /// IoStartPacket: a key that is in no list goes to the back of the start list, and the device
     /// becomes busy; on a busy one it goes to the back of the device queue.
     pub fn start(&mut self, device: u8, key: u64)
@@ -165,6 +182,17 @@ impl DeviceLists {
             Some(key) => self.links.push_back(start_list_of(device), key),
             None => self.serving[device as usize].busy = false,
         }
+    }
+
+    /// A key is taken off a device queue, wherever it stands there. It answers whether it stood
+    /// there.
+    pub fn dequeue(&mut self, device: u8, key: u64) -> bool
+        requires { device < length self.old.starts }
+        ensures found { result ≡ is_linked (start_entries self.old device).device_queue key }
+        ensures rest { let start = dequeued (start_entries self.old device) key in
+            self.new ≡ with_start_entries self.old device start }
+    {
+        self.links.unlink(device_queue_of(device), key as usize)
     }
 
     /// The first key of a start list, which is taken off: none where it is empty, and then nothing

@@ -1,16 +1,17 @@
 -- What a step of a thread does to a world whose registers hold words. It is the step on slots where
 -- each operand is read as a word: nothing asks whether it is a number, a status or a key. Where a
 -- register has nothing from then on, it is left as it is.
-use Rattle.std.specs.Prelude.{ℕ, ◌+◌, ◌-◌, ◌%◌, ◌^◌, Bool, true, false, List, [], ◌∷◌, ◌++◌, length, take, Option, None, Some, is_none, nat_eq, nat_lt, slice_get, slice_index_or, slice_set, if◌then◌else◌}
+use Rattle.std.specs.Prelude.{ℕ, ◌+◌, ◌-◌, ◌%◌, ◌^◌, ◌&&◌, Bool, true, false, List, [], ◌∷◌, ◌++◌, length, take, Option, None, Some, is_none, nat_eq, nat_lt, slice_get, slice_index_or, slice_set, if◌then◌else◌}
 use Rattle.model.specs.declared.event.Lock.{Lock}
 use Rattle.model.specs.declared.event.Lock.TheVariants.{SystemCancel}
 use Rattle.model.specs.declared.event.Reply.{Reply}
 use Rattle.model.specs.declared.event.Reply.TheVariants.{Stepped, Topped, Waited, Idle, Refused}
 use Rattle.model.specs.declared.instr.Field.{Field}
 use Rattle.model.specs.declared.instr.Instr.{Instr}
-use Rattle.model.specs.declared.instr.Instr.TheVariants.{Const, Move, Clear, Add, Subtract, JumpIfZero, JumpIfLess, Jump, Loop, End, Load, Store, LoadPaged, StorePaged, Get, Put, Mark, Acquire, Release, AcquireCancel, ReleaseCancel, Insert, Remove, Unlink, Arm, Disarm, IfCancel, Start, Take, Begin, Next, Pass, Call, Complete, IfPending, Ret}
+use Rattle.model.specs.declared.instr.Instr.TheVariants.{Const, Move, Clear, Add, Subtract, JumpIfZero, JumpIfLess, Jump, Loop, End, Load, Store, LoadPaged, StorePaged, Get, Put, Mark, Acquire, Release, AcquireCancel, ReleaseCancel, Insert, Remove, Unlink, Arm, Disarm, IfCancel, Start, Take, Begin, Next, Dequeue, Pass, Call, Complete, IfPending, Ret}
 use Rattle.model.specs.declared.instr.Return.{Return}
 use Rattle.model.specs.declared.instr.Return.TheVariants.{WithStatus, Lower, Continue, Stop, Void}
+use Rattle.model.specs.declared.set.QueueName.TheVariants.{DeviceQueue}
 use Rattle.model.specs.declared.status.Status.{Status}
 use Rattle.model.specs.declared.world.Armer.{Armer}
 use Rattle.model.specs.declared.world.CancelStep.{CancelStep}
@@ -23,13 +24,13 @@ use Rattle.model.specs.declared.world.OpenLoop.{OpenLoop}
 use Rattle.model.specs.declared.world.Packet.{Packet}
 use Rattle.model.specs.Effect.{routine_of_device, stored, stored_paged}
 use Rattle.model.specs.Events.{finished_or}
-use Rattle.model.specs.Queues.{StartState, inserted, next_started, started, unlinked, with_slot}
-use Rattle.model.specs.Set.{Set, cancel_routine_named, instruction_at, lower_of}
+use Rattle.model.specs.Queues.{StartState, dequeued, inserted, next_started, started, unlinked, with_slot}
+use Rattle.model.specs.Set.{Set, cancel_routine_named, has_cancel, instruction_at, lower_of}
 use Rattle.model.specs.World.{asked_of, cancelled, carried_up, completion_of, current_location, field_of, left_location, mark_current, moved_up, owner_of, sent_down, shared_with, with_armer, with_info, with_owner}
 use Rattle.slot_laws.specs.Slots.{SlotShared, packet_at, slot_queue, slot_start, with_packet_at, with_slot_cells, with_slot_locks, with_slot_queue, with_slot_start, without_packet_at}
 use Rattle.slot_laws.specs.SlotStep.{if_numbered}
 use Rattle.word_laws.specs.declared.activation.WordActivation.{WordActivation}
-use Rattle.word_laws.specs.Words.{WordFrame, WordRoutine, WordWalk, WordCancel, WordThread, WordWorld, answered, armer_of, at_label, completes_with, dispatched, entered, innermost, next, set_by, spin_lock, status_of_word, turned, with_loops, with_word, word}
+use Rattle.word_laws.specs.Words.{WordFrame, WordRoutine, WordWalk, WordCancel, WordThread, WordWorld, answered, armer_of, armer_waiting, at_label, completes_with, dispatched, entered, innermost, next, next_disarmed, set_by, spin_lock, status_of_word, turned, with_loops, with_word, word}
 
 -- what a frame's step leaves: the shared part, the frames that stand in place of the one that ran
 -- (the lowest first), the reply, whether the frame below is taken away with the one that ran, and
@@ -149,10 +150,25 @@ unlink_step s a q k None = goes_on s a
 unlink_step s a q k (Some entries) =
     goes_on (with_slot_queue s a.device q (unlinked entries k)) (next a)
 
--- what a device has for StartIo
-abbrev pub start_step : SlotShared → WordActivation → ℕ → Option StartState → WordOutcome
-start_step s a k None = goes_on s a
-start_step s a k (Some start) = goes_on (with_slot_start s a.device (started start k)) (next a)
+-- what a device has for StartIo. Where the driver has a cancel routine for the device queue, that
+-- becomes the cancel routine of a packet which has to wait there
+abbrev pub start_waiting_step : SlotShared → WordActivation → ℕ → StartState → Option Packet
+    → WordOutcome
+start_waiting_step s a k start None = goes_on s a
+start_waiting_step s a k start (Some p) =
+    goes_on
+    (with_slot_start (with_packet_at s k (with_armer p (Some (armer_waiting a)))) a.device
+    (started start k)) (next a)
+
+abbrev pub start_packet_step : SlotShared → WordActivation → ℕ → StartState → Bool → WordOutcome
+start_packet_step s a k start false =
+    goes_on (with_slot_start s a.device (started start k)) (next a)
+start_packet_step s a k start true = start_waiting_step s a k start (packet_at s k)
+
+abbrev pub start_step : Set → SlotShared → WordActivation → ℕ → Option StartState → WordOutcome
+start_step set s a k None = goes_on s a
+start_step set s a k (Some start) =
+    start_packet_step s a k start (has_cancel set a.driver DeviceQueue && start.busy)
 
 abbrev pub take_from_step : SlotShared → WordActivation → ℕ → ℕ → StartState → Option ℕ
     → WordOutcome
@@ -169,9 +185,27 @@ begin_step s a k None = goes_on s a
 begin_step s a k (Some start) =
     goes_on (with_slot_start s a.device (with_slot start (Some k))) (next a)
 
-abbrev pub next_step : SlotShared → WordActivation → Option StartState → WordOutcome
-next_step s a None = goes_on s a
-next_step s a (Some start) = goes_on (with_slot_start s a.device (next_started start)) (next a)
+-- where the driver has that cancel routine, a packet which waited has none any more
+abbrev pub next_packet_step : SlotShared → WordActivation → StartState → ℕ → Option Packet
+    → WordOutcome
+next_packet_step s a start k None = goes_on s a
+next_packet_step s a start k (Some p) =
+    goes_on
+    (with_slot_start (with_packet_at s k (with_armer p None)) a.device (next_started start))
+    (next a)
+
+abbrev pub next_waiting_step : SlotShared → WordActivation → StartState → Option ℕ → WordOutcome
+next_waiting_step s a start None =
+    goes_on (with_slot_start s a.device (next_started start)) (next a)
+next_waiting_step s a start (Some k) = next_packet_step s a start k (packet_at s k)
+
+abbrev pub next_step : Set → SlotShared → WordActivation → Option StartState → WordOutcome
+next_step set s a None = goes_on s a
+next_step set s a (Some start) = next_waiting_step s a start (next_disarmed set a start)
+
+abbrev pub dequeue_step : SlotShared → WordActivation → ℕ → Option StartState → WordOutcome
+dequeue_step s a k None = goes_on s a
+dequeue_step s a k (Some start) = goes_on (with_slot_start s a.device (dequeued start k)) (next a)
 
 -- the I/O manager takes a packet that is completed
 abbrev pub complete_step : SlotShared → WordActivation → Status → ℕ → Option Packet → WordOutcome
@@ -263,11 +297,13 @@ instruction_step set s t under a (Disarm r label) =
 instruction_step set s t under a (IfCancel r label) =
     ask_step s a label (packet_at s (word a r))
 instruction_step set s t under a (Start r) =
-    start_step s a (word a r) (slot_start s a.device)
+    start_step set s a (word a r) (slot_start s a.device)
 instruction_step set s t under a (Take r label) = take_step s a r label (slot_start s a.device)
 instruction_step set s t under a (Begin r) =
     begin_step s a (word a r) (slot_start s a.device)
-instruction_step set s t under a Next = next_step s a (slot_start s a.device)
+instruction_step set s t under a Next = next_step set s a (slot_start s a.device)
+instruction_step set s t under a (Dequeue r) =
+    dequeue_step s a (word a r) (slot_start s a.device)
 instruction_step set s t under a (Pass r) =
     pass_step set s a (word a r) (lower_of set a.device) (packet_at s (word a r))
 instruction_step set s t under a (Call r f) =

@@ -4,7 +4,7 @@ use Rattle.model.specs.declared.event.Lock.{Lock}
 use Rattle.model.specs.declared.event.Lock.TheVariants.{Spin}
 use Rattle.model.specs.declared.limits.TheConstants.{REGISTERS}
 use Rattle.model.specs.declared.set.Device.{Device}
-use Rattle.model.specs.declared.set.QueueName.TheVariants.{Declared}
+use Rattle.model.specs.declared.set.QueueName.TheVariants.{Declared, DeviceQueue}
 use Rattle.model.specs.declared.status.Major.{Major}
 use Rattle.model.specs.declared.status.Status.{Status}
 use Rattle.model.specs.declared.status.Status.TheVariants.{Success, Pending, Busy, Unsuccessful, InvalidParameter, InvalidDeviceRequest, Cancelled}
@@ -14,7 +14,8 @@ use Rattle.model.specs.declared.world.Completion.{Completion}
 use Rattle.model.specs.declared.world.Irql.{Irql}
 use Rattle.model.specs.declared.world.OpenLoop.{OpenLoop}
 use Rattle.model.specs.Effect.{operand_of, routine_of_device, serving_for}
-use Rattle.model.specs.Set.{Set, default_number, instruction_at}
+use Rattle.model.specs.Queues.{StartState, head_of}
+use Rattle.model.specs.Set.{Set, default_number, has_cancel, instruction_at}
 use Rattle.model.specs.Status.{status_code}
 use Rattle.slot_laws.specs.Slots.{SlotShared}
 use Rattle.word_laws.specs.declared.activation.WordActivation.{WordActivation}
@@ -86,16 +87,25 @@ turned a l =
     l.start
     else next (with_loops a (outer_loops a))
 
--- what a routine names by its device: a spin lock, a list whose cancel routine it sets, a
--- completion routine
+-- what a routine names by its device: a spin lock, a list whose cancel routine it sets, the device
+-- queue, a completion routine
 abbrev pub spin_lock : WordActivation → ℕ → Lock
 spin_lock a lock = Spin (record { device = a.device; number = lock })
 
 abbrev pub armer_of : WordActivation → ℕ → Armer
 armer_of a q = record { device = a.device; queue = Declared q }
 
+abbrev pub armer_waiting : WordActivation → Armer
+armer_waiting a = record { device = a.device; queue = DeviceQueue }
+
 abbrev pub set_by : WordActivation → Option ℕ → Option Completion
 set_by a f = option_map (λ routine. record { routine = routine; device = a.device }) f
+
+-- the key of the packet that IoStartNextPacket starts, where the driver has a cancel routine for
+-- the device queue: that packet has none any more
+abbrev pub next_disarmed : Set → WordActivation → StartState → Option ℕ
+next_disarmed set a start =
+    if has_cancel set a.driver DeviceQueue then head_of start.device_queue else None
 
 -- a routine that begins, with what it is handed in its first register. It may take nothing from the
 -- others

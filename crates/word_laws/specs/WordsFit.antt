@@ -6,7 +6,7 @@ use Rattle.model.specs.declared.event.Event.{Event}
 use Rattle.model.specs.declared.event.Event.TheVariants.{Issue, Cancel as CancelEvent, Interrupt, Dpc as DpcEvent, StartIo as StartIoEvent, Step}
 use Rattle.model.specs.declared.event.Lock.TheVariants.{SystemCancel}
 use Rattle.model.specs.declared.instr.Instr.{Instr}
-use Rattle.model.specs.declared.instr.Instr.TheVariants.{Const, Move, Clear, Add, Subtract, JumpIfZero, JumpIfLess, Jump, Loop, End, Load, Store, LoadPaged, StorePaged, Get, Put, Mark, Acquire, Release, AcquireCancel, ReleaseCancel, Insert, Remove, Unlink, Arm, Disarm, IfCancel, Start, Take, Begin, Next, Pass, Call, Complete, IfPending, Ret}
+use Rattle.model.specs.declared.instr.Instr.TheVariants.{Const, Move, Clear, Add, Subtract, JumpIfZero, JumpIfLess, Jump, Loop, End, Load, Store, LoadPaged, StorePaged, Get, Put, Mark, Acquire, Release, AcquireCancel, ReleaseCancel, Insert, Remove, Unlink, Arm, Disarm, IfCancel, Start, Take, Begin, Next, Dequeue, Pass, Call, Complete, IfPending, Ret}
 use Rattle.model.specs.declared.instr.Return.{Return}
 use Rattle.model.specs.declared.instr.Return.TheVariants.{WithStatus, Lower, Continue, Stop, Void}
 use Rattle.model.specs.declared.limits.TheConstants.{MAX_FRAMES, MAX_INSTRUCTIONS, MAX_LOOPS}
@@ -17,7 +17,7 @@ use Rattle.model.specs.Set.{Set, instruction_at, lower_of}
 use Rattle.model.specs.Sound.{IsSound}
 use Rattle.model.specs.Status.{status_code}
 use Rattle.model.specs.Typable.{IsTypable}
-use Rattle.slot_laws.specs.Fits.{CanAcquire, CanBeListed, CanStart, CanStartNext, CancelFits, HasCells, HasLock, HasQueue, HasStart, QueueHasRoom}
+use Rattle.slot_laws.specs.Fits.{CanAcquire, CanBeListed, CanDisarmNext, CanStart, CanStartNext, CancelFits, HasCells, HasLock, HasQueue, HasStart, QueueHasRoom}
 use Rattle.slot_laws.specs.Slots.{SlotShared, packet_at}
 use Rattle.word_laws.specs.declared.activation.WordActivation.{WordActivation}
 use Rattle.word_laws.specs.Reads.{WordsMean}
@@ -82,7 +82,9 @@ WordInstructionFits set s t a (Start r) =
     × CanBeListed s (word a r)
 WordInstructionFits set s t a (Take r label) = HasStart s a.device
 WordInstructionFits set s t a (Begin r) = IsKey s (word a r) × HasStart s a.device
-WordInstructionFits set s t a Next = HasStart s a.device × CanStartNext s a.device
+WordInstructionFits set s t a Next =
+    HasStart s a.device × CanStartNext s a.device × CanDisarmNext set s a.driver a.device
+WordInstructionFits set s t a (Dequeue r) = IsKey s (word a r) × HasStart s a.device
 WordInstructionFits set s t a (Pass r) =
     IsKey s (word a r) × (is_some (lower_of set a.device) ≡ true)
 WordInstructionFits set s t a (Call r f) =

@@ -5,7 +5,7 @@ ghost use Rattle.std.specs.Prelude.{◌≡◌, ◌<◌, IsSome, IsTrue, None, So
 use super::Shared;
 
 impl Shared {
-    ghost use Rattle.model.specs.Queues.{head_of, next_started, started, with_slot, without_first_to_start};
+    ghost use Rattle.model.specs.Queues.{dequeued, head_of, is_linked, next_started, started, with_slot, without_first_to_start};
     ghost use Rattle.slot_laws.specs.Fits.{CanBeListed};
     ghost use Rattle.slot_laws.specs.Slots.{packet_at, slot_start, with_slot_start};
     ghost use Rattle.slot_parts.specs.Devices.{start_in};
@@ -26,6 +26,22 @@ impl Shared {
         ensures { result ≡ head_of (start_in self.now device).start_list }
     {
         self.lists.first_to_start(device)
+    }
+
+    /// The first key of the device queue of a device, which stays: none where that queue is empty.
+    pub fn first_waiting(&self, device: u8) -> Option<u64>
+        requires { device < length self.now.starts }
+        ensures { result ≡ head_of (start_in self.now device).device_queue }
+    {
+        self.lists.first_waiting(device)
+    }
+
+    /// Whether a device is busy: a packet that is started now waits in the device queue.
+    pub fn is_busy(&self, device: u8) -> bool
+        requires { device < length self.now.starts }
+        ensures { result ≡ (start_in self.now device).busy }
+    {
+        self.lists.is_busy(device)
     }
 
     /// IoStartPacket: the key of a packet that is in no list.
@@ -66,6 +82,17 @@ impl Shared {
             self.new ≡ with_slot_start self.old device next }
     {
         self.lists.start_next(device);
+    }
+
+    /// A key is taken off the device queue of a device, wherever it stands there. It answers
+    /// whether it stood there.
+    pub fn dequeue(&mut self, device: u8, key: u64) -> bool
+        requires { device < length self.old.starts }
+        ensures found { result ≡ is_linked (start_in self.old device).device_queue key }
+        ensures rest { let start = dequeued (start_in self.old device) key in
+            self.new ≡ with_slot_start self.old device start }
+    {
+        self.lists.dequeue(device, key)
     }
 
     /// The StartIo routine of a device begins: the first key of its start list is taken off. None
