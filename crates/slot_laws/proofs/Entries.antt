@@ -1,6 +1,6 @@
 -- The entries of lists are live packets, in every run of an accepted set: so keys that name other
 -- packets after a step, but for live ones, name the same entries.
-use Rattle.std.proofs.Common.{◌≡◌, ◌≤◌, ◌+◌, ℕ, true, List, [], ◌∷◌, Option, None, Some, refl, ◌∙◌, ap, map, is_some, arith, nat_eq}
+use Rattle.std.proofs.Common.{◌≡◌, ◌≤◌, ◌+◌, ℕ, true, List, [], ◌∷◌, Option, None, Some, refl, ◌∙◌, ap, map, is_some, arith, nat_eq, false}
 use Rattle.std.specs.Prelude.{option_map, if◌then◌else◌, ⊤}
 use Rattle.std.proofs.lemmas.Bool.{eq-eqb}
 use Rattle.model.specs.declared.event.Event.{Event}
@@ -10,12 +10,24 @@ use Rattle.model.specs.Run.{Run, run}
 use Rattle.model.specs.Set.{Set}
 use Rattle.model.specs.World.{Shared, packet_of}
 use Rattle.run_laws.specs.ArrivingStates.{States}
-use Rattle.run_laws.specs.Holder.{HasOneHolder, alive, holders, is_live, times_at, times_in, times_in_slot, times_listed, times_on, times_queued, times_started, times_waiting}
+use Rattle.run_laws.specs.Holder.{HasOneHolder, alive, holders, is_live, times_at, times_in, times_in_slot, times_listed, times_on, times_queued, times_started, times_waiting, times_to_start}
 use Rattle.slot_laws.specs.Rep.{MeansShared, meant_lists, meant_start}
 use Rattle.slot_laws.specs.Slots.{SlotShared}
 
 times_own : (n more : ℕ) → 1 ≤ (if nat_eq n n then 1 else 0) + more
 times_own n more = rw (eq-eqb n n refl) (omega arith)
+
+-- how often a packet stands anywhere in what devices have for StartIo
+abbrev times_anywhere : List StartState → ℕ → ℕ
+times_anywhere [] n = 0
+times_anywhere (start ∷ starts) n = times_at false start n + times_anywhere starts n
+
+-- where it does, it stands in a list or in a current slot
+anywhere_le : (set : Set) (d : ℕ) (starts : List StartState) (n : ℕ)
+    → times_anywhere starts n ≤ times_to_start starts n + times_started set d starts n
+anywhere_le set d [] n = omega arith
+anywhere_le set d (start ∷ starts) n =
+    omega (arith, anywhere_le set (d + 1) starts n)
 
 module _ (s : Shared) where
   abbrev Lives : ℕ → Type 0
@@ -86,7 +98,7 @@ module _ (s : Shared) where
         ap (λ (m : ℕ). Some m) (live k (rw one (h n some)) ∙ one)
 
     start_renamed : (key start : StartState) → meant_start name key ≡ start
-        → ((n : ℕ) → 1 ≤ times_at start n → Lives n) → meant_start other key ≡ start
+        → ((n : ℕ) → 1 ≤ times_at false start n → Lives n) → meant_start other key ≡ start
     start_renamed key start is h =
         let starts : map name key.start_list ≡ start.start_list =
         ap (λ (x : StartState). x.start_list) is in
@@ -102,7 +114,8 @@ module _ (s : Shared) where
         ) refl
 
     starts_renamed : (keys starts : List StartState) → map (meant_start name) keys ≡ starts
-        → ((n : ℕ) → 1 ≤ times_started starts n → Lives n) → map (meant_start other) keys ≡ starts
+        → ((n : ℕ) → 1 ≤ times_anywhere starts n → Lives n)
+        → map (meant_start other) keys ≡ starts
     starts_renamed [] starts is h = is
     starts_renamed (k ∷ keys) [] is h = cc
     starts_renamed (k ∷ keys) (start ∷ starts) is h =
@@ -115,7 +128,7 @@ module _ (s : Shared) where
 
     pub shared_renamed : (keys : SlotShared) → MeansShared name keys s
         → ((n : ℕ) → 1 ≤ times_queued s.queues n → Lives n)
-        → ((n : ℕ) → 1 ≤ times_started s.starts n → Lives n)
+        → ((n : ℕ) → 1 ≤ times_anywhere s.starts n → Lives n)
         → MeansShared other keys s
     shared_renamed keys means queued started =
         record {
@@ -146,11 +159,13 @@ module _ (set : Set) (states : States) (threads : ℕ) (events : List Event)
       one.listed n in
       alive_some (packet_of here.world.shared n) (omega arith)
 
-  pub started_live : (n : ℕ) → 1 ≤ times_started here.world.shared.starts n
+  pub started_live : (n : ℕ) → 1 ≤ times_anywhere here.world.shared.starts n
       → is_some (packet_of here.world.shared n) ≡ true
   started_live n some =
       let all : holders set states here.world.threads n + times_waiting set here.world.shared n
       ≡ (if is_live here n then 1 else 0) = one.one n in
+      let few : times_listed here.world.shared n ≤ (if is_live here n then 1 else 0) = one.once n in
       let there : alive (packet_of here.world.shared n) ≡ (if is_live here n then 1 else 0) =
       one.listed n in
-      alive_some (packet_of here.world.shared n) (omega arith)
+      alive_some (packet_of here.world.shared n)
+      (omega (arith, anywhere_le set 0 here.world.shared.starts n))

@@ -1,24 +1,27 @@
 -- Queues and what devices have for StartIo: an instruction does to the lists of packets that keys
 -- mean what it does to the lists of keys.
-use Rattle.std.proofs.Common.{◌≡◌, ℕ, Bool, true, false, List, [], ◌∷◌, ◌++◌, Option, None, Some, refl, sym, ◌∙◌, ap, map, inl, inr}
-use Rattle.std.specs.Prelude.{not, option_and_then, option_map, slice_get, slice_index_or, slice_set}
+use Rattle.std.proofs.Common.{◌≡◌, ℕ, Bool, true, false, List, [], ◌∷◌, ◌++◌, Option, None, Some, refl, sym, ◌∙◌, ap, map, inl, inr, subst}
+use Rattle.std.specs.Prelude.{not, option_and_then, option_map, slice_get, slice_index_or, slice_set, ◌&&◌, if◌then◌else◌}
 use Rattle.std.proofs.lemmas.Bool.Decides.{eqb_tells}
 use Rattle.std.proofs.lemmas.List.{map-append}
 use Rattle.model.specs.declared.world.Activation.{Activation}
 use Rattle.model.specs.declared.world.Value.TheVariants.{Ref}
 use Rattle.model.specs.Action.{Action, Touches}
-use Rattle.model.specs.Effect.{Outcome, begin_effect, insert_effect, next_effect, remove_effect, start_effect, take_effect, take_from, unlink_effect}
+use Rattle.model.specs.Effect.{Outcome, begin_effect, insert_effect, next_effect, remove_effect, start_effect, take_effect, take_from, unlink_effect, armer_waiting, dequeue_effect, next_disarmed, next_waiting, start_packet}
 use Rattle.model.specs.Effect as effect
-use Rattle.model.specs.Queues.{StartState, has_room_for_next, has_room_to_start, inserted, is_full, next_of, next_started, started, unlinked, with_slot}
-use Rattle.model.specs.World.{Shared, at_label, next, queue_of, start_of, with_queue, with_register, with_start}
-use Rattle.slot_laws.specs.Rep.{MeansShared, meant_lists, meant_routine, meant_start}
-use Rattle.slot_laws.specs.Slots.{SlotShared, slot_queue, slot_start, with_slot_queue, with_slot_start}
-use Rattle.slot_laws.specs.SlotStep.{SlotOutcome, begin_step, goes_on, insert_step, next_step, remove_step, start_step, take_from_step, take_step, unlink_step}
-use Rattle.slot_laws.proofs.Keys.{Found, Keyed, found_alone, found_name}
+use Rattle.model.specs.Queues.{StartState, has_room_for_next, has_room_to_start, inserted, is_full, next_of, next_started, started, unlinked, with_slot, dequeued, head_of}
+use Rattle.model.specs.World.{Shared, at_label, next, queue_of, start_of, with_queue, with_register, with_start, with_armer, with_packet}
+use Rattle.slot_laws.specs.Rep.{MeansShared, meant_lists, meant_routine, meant_start, slotted}
+use Rattle.slot_laws.specs.Slots.{SlotShared, slot_queue, slot_start, with_slot_queue, with_slot_start, with_packet_at}
+use Rattle.slot_laws.specs.SlotStep.{SlotOutcome, begin_step, goes_on, insert_step, next_step, remove_step, start_step, take_from_step, take_step, unlink_step, dequeue_step, next_waiting_step, start_packet_step}
+use Rattle.slot_laws.proofs.Keys.{Found, Keyed, found_alone, found_name, written, written_same}
 use Rattle.slot_laws.proofs.Local.{b, goes}
-use Rattle.slot_laws.proofs.Outcomes.{GoesRight, MeansOutcome, kept_slots, on}
+use Rattle.slot_laws.proofs.Outcomes.{GoesRight, MeansOutcome, kept_slots, on, SameSlots}
 use Rattle.slot_laws.proofs.Touching.{Finds}
 use Rattle.slot_laws.proofs.Words.{map_get, map_index, map_put, written_meant}
+use Rattle.model.specs.declared.set.QueueName.TheVariants.{DeviceQueue}
+use Rattle.model.specs.declared.world.Packet.{Packet}
+use Rattle.model.specs.Set.{Set, has_cancel}
 
 -- a queue of a device of which each has lists
 looked_up : (name : ℕ → ℕ) (q : ℕ) (o : Option (List (List ℕ)))
@@ -211,17 +214,45 @@ module _ (name : ℕ → ℕ) (s : SlotShared) (r : Shared) (keyed : Keyed name 
         (start_put name s r means a.device one other is)
         (kept_slots name s (with_slot_start s a.device one) refl refl refl) same
 
-    pub starts : (k : ℕ) (o : Option ℕ) (start : Option StartState) → Finds s r k o
-        → GoesRight (start_effect r c o (option_map (meant_start name) start))
-        → Means (start_step s a k start)
-        (start_effect r c o (option_map (meant_start name) start))
-    starts k None start finds right = cc
-    starts k (Some n) None finds right = cc
-    starts k (Some n) (Some start) finds right =
-        filling _ _ (not (has_room_to_start (meant_start name start)))
-        (restarted (started start k) (started (meant_start name start) n)
+    -- and the word of a packet is set or emptied
+    exchanged : (k n : ℕ) (found : Found s r k n) (q : Packet) → q.number ≡ n
+        → (one other : StartState) → meant_start name one ≡ other → (d e : Activation)
+        (actions : List Action) → meant_routine name d ≡ e
+        → Means (goes_on (with_slot_start (with_packet_at s k (slotted q)) a.device one) d)
+        (effect.goes_on (with_start (with_packet r n q) a.device other) e actions)
+    exchanged k n found q same one other is d e actions goes =
+        let kept : SameSlots s (with_packet_at s k (slotted q)) =
+        written_same name s r keyed k n found q same in
+        on name s (with_slot_start (with_packet_at s k (slotted q)) a.device one)
+        (with_start (with_packet r n q) a.device other) d e actions
+        (start_put name (with_packet_at s k (slotted q)) (with_packet r n q)
+        (written name s r keyed k n found q same) a.device one other is)
+        (record { name = kept.name; use_of = kept.use_of; order = kept.order; issued = kept.issued })
+        goes
+
+    starts_one : (k n : ℕ) (start : StartState) → Found s r k n → (waits : Bool)
+        → Means (start_packet_step s a k start waits)
+        (start_packet r c n (meant_start name start) waits)
+    starts_one k n start found false =
+        restarted (started start k) (started (meant_start name start) n)
         (started_meant name k n start.start_list start.device_queue start.busy start.slot
-        (found_name name s r keyed k n (finds n refl))) (next a) (next c) (Touches n ∷ []) refl)
+        (found_name name s r keyed k n found)) (next a) (next c) (Touches n ∷ []) refl
+    starts_one k n start found true =
+        rw (found.at, found.of)
+        (exchanged k n found (with_armer found.packet (Some (armer_waiting a))) found.number
+        (started start k) (started (meant_start name start) n)
+        (started_meant name k n start.start_list start.device_queue start.busy start.slot
+        (found_name name s r keyed k n found)) (next a) (next c) _ refl)
+
+    pub starts : (set : Set) (k : ℕ) (o : Option ℕ) (start : Option StartState) → Finds s r k o
+        → GoesRight (start_effect set r c o (option_map (meant_start name) start))
+        → Means (start_step set s a k start)
+        (start_effect set r c o (option_map (meant_start name) start))
+    starts set k None start finds right = cc
+    starts set k (Some n) None finds right = cc
+    starts set k (Some n) (Some start) finds right =
+        filling _ _ (not (has_room_to_start (meant_start name start)))
+        (starts_one k n start (finds n refl) (has_cancel set a.driver DeviceQueue && start.busy))
 
     takes_from : (i label : ℕ) (start : StartState) (o : Option ℕ)
         → Means (take_from_step s a i label start o)
@@ -251,11 +282,55 @@ module _ (name : ℕ → ℕ) (s : SlotShared) (r : Shared) (keyed : Keyed name 
         (ap (λ (m : ℕ). with_slot (meant_start name start) (Some m))
         (found_name name s r keyed k n (finds n refl))) (next a) (next c) (Touches n ∷ []) refl
 
-    pub nexts : (start : Option StartState)
-        → GoesRight (next_effect r c (option_map (meant_start name) start))
-        → Means (next_step s a start) (next_effect r c (option_map (meant_start name) start))
-    nexts None right = cc
-    nexts (Some start) right =
+    -- the next one is started, and what it is named is found
+    pub head_meant : (keys : List ℕ) → head_of (map name keys) ≡ option_map name (head_of keys)
+    head_meant [] = refl
+    head_meant (k ∷ keys) = refl
+
+    disarmed_meant : (has : Bool) (keys : List ℕ)
+        → (if has then head_of (map name keys) else None)
+        ≡ option_map name (if has then head_of keys else None)
+    disarmed_meant true keys = head_meant keys
+    disarmed_meant false keys = refl
+
+    next_on : (start : StartState) (o : Option ℕ) → ((k : ℕ) → o ≡ Some k → Found s r k (name k))
+        → Means (next_waiting_step s a start o)
+        (next_waiting r c (meant_start name start) (option_map name o))
+    next_on start None finds =
+        restarted (next_started start) (next_started (meant_start name start))
+        (next_meant name start start.device_queue) (next a) (next c) [] refl
+    next_on start (Some k) finds =
+        let found : Found s r k (name k) = finds k refl in
+        rw (found.at, found.of)
+        (exchanged k (name k) found (with_armer found.packet None) found.number
+        (next_started start) (next_started (meant_start name start))
+        (next_meant name start start.device_queue) (next a) (next c) _ refl)
+
+    pub nexts : (set : Set) (start : Option StartState)
+        → ((x : StartState) (k : ℕ) → start ≡ Some x → next_disarmed set a x ≡ Some k
+        → Found s r k (name k))
+        → GoesRight (next_effect set r c (option_map (meant_start name) start))
+        → Means (next_step set s a start)
+        (next_effect set r c (option_map (meant_start name) start))
+    nexts set None finds right = cc
+    nexts set (Some start) finds right =
         filling _ _ (not (has_room_for_next (meant_start name start)))
-        (restarted (next_started start) (next_started (meant_start name start))
-        (next_meant name start start.device_queue) (next a) (next c) [] refl)
+        (subst (λ (o : Option ℕ). Means (next_waiting_step s a start (next_disarmed set a start))
+        (next_waiting r c (meant_start name start) o))
+        (sym (disarmed_meant (has_cancel set a.driver DeviceQueue) start.device_queue))
+        (next_on start (next_disarmed set a start) (λ k is. finds start k refl is)))
+
+    -- one is taken off the device queue
+    pub dequeues : (k : ℕ) (o : Option ℕ) (start : Option StartState) → Finds s r k o
+        → GoesRight (dequeue_effect r c o (option_map (meant_start name) start))
+        → Means (dequeue_step s a k start)
+        (dequeue_effect r c o (option_map (meant_start name) start))
+    dequeues k None start finds right = cc
+    dequeues k (Some n) None finds right = cc
+    dequeues k (Some n) (Some start) finds right =
+        let found : Found s r k n = finds n refl in
+        restarted (dequeued start k) (dequeued (meant_start name start) n)
+        (ap (λ (xs : List ℕ). record (meant_start name start) { device_queue = xs })
+        (unlinked_meant name k n (found_name name s r keyed k n found)
+        (λ j is. found_alone name s r keyed j k n found is) start.device_queue)) (next a) (next c)
+        (Touches n ∷ []) refl

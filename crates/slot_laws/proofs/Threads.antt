@@ -16,12 +16,12 @@ use Rattle.model.specs.declared.world.Canceller.{Canceller}
 use Rattle.model.specs.declared.world.Frame.{Frame}
 use Rattle.model.specs.declared.world.Frame.TheVariants.{Routine, Walk, Cancel as CancelFrame}
 use Rattle.model.specs.declared.world.Thread.{Thread}
-use Rattle.model.specs.Effect.{Outcome, frame_effect, routine_effect, top_of}
+use Rattle.model.specs.Effect.{Outcome, frame_effect, routine_effect, top_of, next_disarmed}
 use Rattle.model.specs.Events.{Change, finished_or, standing, step_thread, top_effect, unchanged}
 use Rattle.model.specs.Sound.{OperandFits}
-use Rattle.model.specs.Set.{Set, instruction_at, sort_of}
+use Rattle.model.specs.Set.{Set, instruction_at, sort_of, has_cancel}
 use Rattle.model.specs.Trace.{Entry}
-use Rattle.model.specs.World.{Shared, World, completion_of, current_location, owner_of, packet_of}
+use Rattle.model.specs.World.{Shared, World, completion_of, current_location, owner_of, packet_of, start_of}
 use Rattle.run_laws.proofs.Accepted.Keeps.{Keeps}
 use Rattle.run_laws.proofs.Alike.Frames.{AlikeActivation, AlikeFrame, AlikeFrames}
 use Rattle.run_laws.proofs.Alike.Lives.{touches_live}
@@ -39,8 +39,8 @@ use Rattle.run_laws.proofs.Steps.Comes.{walks_gone}
 use Rattle.run_laws.proofs.Steps.Walk.{comes}
 use Rattle.run_laws.proofs.Steps.Words.{lock_taken}
 use Rattle.run_laws.specs.ArrivingStates.{States}
-use Rattle.slot_laws.specs.Rep.{CancelStands, EachThread, MeansShared, Ordered, meant_frame, meant_routine, meant_thread, named}
-use Rattle.slot_laws.specs.Slots.{SlotCancel, SlotFrame, SlotRoutine, SlotShared, SlotThread, SlotWalk, SlotWorld}
+use Rattle.slot_laws.specs.Rep.{CancelStands, EachThread, MeansShared, Ordered, meant_frame, meant_routine, meant_thread, named, meant_start}
+use Rattle.slot_laws.specs.Slots.{SlotCancel, SlotFrame, SlotRoutine, SlotShared, SlotThread, SlotWalk, SlotWorld, slot_start}
 use Rattle.slot_laws.specs.SlotStep.{frame_step, routine_step, slot_step, stays, thread_step, top_frame, top_step}
 use Rattle.slot_laws.proofs.Executing.{executes}
 use Rattle.slot_laws.proofs.Keys.{Found, Keyed, found_low}
@@ -50,6 +50,11 @@ use Rattle.slot_laws.proofs.Outcomes.{GoesRight}
 use Rattle.slot_laws.proofs.Stacks.{MeansChange, before_meant, each_at, each_take, settles, threads_at, top_meant}
 use Rattle.slot_laws.proofs.Topping.{walks}
 use Rattle.slot_laws.proofs.Words.{map_get}
+use Rattle.model.specs.Queues.{StartState, head_of}
+use Rattle.model.specs.declared.set.QueueName.TheVariants.{DeviceQueue}
+use Rattle.slot_laws.proofs.Lists.{head_meant, start_meant}
+use Rattle.run_laws.proofs.States.StartsFit.{StartFits, head_low, start_issued}
+use Rattle.run_laws.proofs.Holders.Waits.{first_both}
 
 -- a step that isn't wrong
 right_of : (frames : List Frame) (reply : Reply) → stops_run (finished_or frames reply) ≡ false
@@ -174,6 +179,25 @@ module _ (set : Set) (states : States) (threads : ℕ) (w : World) (past : List 
         let no : true ≡ false = sym (tops.says lock own) ∙ free in
         cc
 
+    -- the next packet of a device queue was issued
+    next_found : (a c : Activation) → Tops (Routine c) → (start : StartState) (k : ℕ)
+        → slot_start s a.device ≡ Some start → next_disarmed set a start ≡ Some k
+        → Found s r k (name k)
+    next_found a c tops start k there first =
+        let meant : start_of r a.device ≡ Some (meant_start name start) =
+        sym (start_meant name s r means a.device)
+        ∙ ap (λ (o : Option StartState). option_map (meant_start name) o) there in
+        let fits : StartFits r.issued (meant_start name start) =
+        start_issued set r a.device (meant_start name start) meant tops.top.fits.starts in
+        let both : (has_cancel set a.driver DeviceQueue ≡ true)
+        × (head_of start.device_queue ≡ Some k) =
+        first_both (has_cancel set a.driver DeviceQueue) (head_of start.device_queue) k first in
+        found_low name s r keyed k (name k) refl
+        (head_low r.issued (meant_start name start) fits (map name start.device_queue) (name k)
+        fits.device_queue
+        (head_meant name s r keyed a start.device_queue
+        ∙ ap (λ (o : Option ℕ). option_map name o) both.1))
+
     routine_left : (a c : Activation) → AlikeActivation set states None (meant_routine name a) c
         → Tops (Routine c) → (o : Option Instr)
         → instruction_at set a.driver a.routine a.position ≡ o
@@ -183,7 +207,8 @@ module _ (set : Set) (states : States) (threads : ℕ) (w : World) (past : List 
     routine_left a c like tops None at right = cc
     routine_left a c like tops (Some i) at right =
         left_of name s r keyed _ _
-        (executes name s r keyed set t a under i (takes_free a c like tops i at) right)
+        (executes name s r keyed set t a under i (takes_free a c like tops i at)
+        (next_found a c tops) right)
 
     walk_left : (k n : ℕ) → (is_some (packet_of r n) ≡ true → name k ≡ n) → Tops (Walk n)
         → Left name s (frame_step set s t under (SlotWalk k))

@@ -6,7 +6,7 @@ use Rattle.model.specs.declared.event.Event.TheVariants.{Issue, Cancel as Cancel
 use Rattle.model.specs.declared.event.Lock.{Lock}
 use Rattle.model.specs.declared.event.Lock.TheVariants.{SystemCancel}
 use Rattle.model.specs.declared.instr.Instr.{Instr}
-use Rattle.model.specs.declared.instr.Instr.TheVariants.{Const, Move, Clear, Add, Subtract, JumpIfZero, JumpIfLess, Jump, Loop, End, Load, Store, LoadPaged, StorePaged, Get, Put, Mark, Acquire, Release, AcquireCancel, ReleaseCancel, Insert, Remove, Unlink, Arm, Disarm, IfCancel, Start, Take, Begin, Next, Pass, Call, Complete, IfPending, Ret}
+use Rattle.model.specs.declared.instr.Instr.TheVariants.{Const, Move, Clear, Add, Subtract, JumpIfZero, JumpIfLess, Jump, Loop, End, Load, Store, LoadPaged, StorePaged, Get, Put, Mark, Acquire, Release, AcquireCancel, ReleaseCancel, Insert, Remove, Unlink, Arm, Disarm, IfCancel, Start, Take, Begin, Next, Pass, Call, Complete, IfPending, Ret, Dequeue}
 use Rattle.model.specs.declared.instr.Return.{Return}
 use Rattle.model.specs.declared.instr.Return.TheVariants.{WithStatus, Lower, Continue, Stop, Void}
 use Rattle.model.specs.declared.world.Activation.{Activation}
@@ -25,7 +25,7 @@ use Rattle.slot_laws.proofs.Fitting.LocalTop.{has_instruction, has_room, is_near
 use Rattle.slot_laws.proofs.Fitting.SharedCells.{has_cells, has_lower}
 use Rattle.slot_laws.proofs.Fitting.SharedLocks.{can_acquire, cancel_can_acquire, has_lock}
 use Rattle.slot_laws.proofs.Fitting.SharedQueues.{has_queue, queue_has_room}
-use Rattle.slot_laws.proofs.Fitting.SharedStarts.{can_start, can_start_next, has_start}
+use Rattle.slot_laws.proofs.Fitting.SharedStarts.{can_start, can_start_next, has_start, can_disarm_next}
 use Rattle.slot_laws.proofs.Fitting.Unlisted.{insert_unlisted, start_unlisted}
 use Rattle.slot_laws.specs.Fits.{CanAcquire, CancelFits, EventsFit, FrameFits, HasCells, HasKey, HasLock, HasNumber, HasQueue, HasStart, InstructionFits, ReturnFits, RoutineFits, ThreadFits}
 use Rattle.slot_laws.specs.Rep.{Means}
@@ -121,14 +121,16 @@ module _ (set : Set) (typable : IsTypable set) (sound : IsSound set) (threads : 
       start (Start r) at refl,
       can_start set typable sound threads events v rep t x found a top r at,
       start_unlisted set typable sound threads events v rep t x found a top r at
-          (start (Start r) at refl),
+          (start (Start r) at refl) (key (Start r) at r refl),
     )
     instruction_fits (Take r label) at = start (Take r label) at refl
     instruction_fits (Begin r) at = (key (Begin r) at r refl, start (Begin r) at refl)
     instruction_fits Next at = (
       start Next at refl,
       can_start_next set typable sound threads events v rep t x found a top at,
+      can_disarm_next set typable sound threads events v rep t x found a top at,
     )
+    instruction_fits (Dequeue r) at = (key (Dequeue r) at r refl, start (Dequeue r) at refl)
     instruction_fits (Pass r) at = (key (Pass r) at r refl, lower (Pass r) at refl)
     instruction_fits (Call r f) at = (
       key (Call r f) at r refl,

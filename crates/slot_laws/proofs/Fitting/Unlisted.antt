@@ -1,7 +1,7 @@
 -- A key that is inserted or started stands in no list: after the step it stands in one, and no
 -- packet of a run stands in two.
-use Rattle.std.proofs.Common.{◌≡◌, ◌≤◌, ◌+◌, ◌-◌, ◌++◌, ◌∙◌, ℕ, Bool, true, false, List, [], ◌∷◌, length, take, Option, Some, refl, arith, map, inl, inr, ap}
-use Rattle.std.specs.Prelude.{◌||◌, slice_get, if◌then◌else◌}
+use Rattle.std.proofs.Common.{◌≡◌, ◌≤◌, ◌+◌, ◌-◌, ◌++◌, ◌∙◌, ℕ, Bool, true, false, List, [], ◌∷◌, length, take, Option, Some, refl, arith, map, inl, inr, ap, sym, subst}
+use Rattle.std.specs.Prelude.{◌||◌, slice_get, if◌then◌else◌, ◌&&◌}
 use Rattle.std.specs.List.{list_any}
 use Rattle.std.proofs.lemmas.Bool.{eq-eqb}
 use Rattle.std.proofs.lemmas.Bool.Decides.{eqb_tells}
@@ -12,7 +12,7 @@ use Rattle.model.specs.declared.instr.Instr.{Instr}
 use Rattle.model.specs.declared.world.Activation.{Activation}
 use Rattle.model.specs.Queues.{StartState, inserted, is_linked, started}
 use Rattle.model.specs.Run.{Run, run}
-use Rattle.model.specs.Set.{Set, instruction_at}
+use Rattle.model.specs.Set.{Set, instruction_at, has_cancel}
 use Rattle.model.specs.Sound.{IsSound}
 use Rattle.model.specs.Typable.{IsTypable}
 use Rattle.model.specs.World.{Shared}
@@ -22,12 +22,14 @@ use Rattle.run_laws.proofs.Holders.Queued.{times_pushed, times_put}
 use Rattle.run_laws.proofs.Holders.Started.{waits_given, waits_in}
 use Rattle.run_laws.specs.Holder.{is_live, times_in, times_listed, times_on, times_queued, times_to_start}
 use Rattle.slot_laws.proofs.Laws.{events_show}
-use Rattle.slot_laws.specs.Fits.{CanBeListed, HasQueue, HasStart, in_queues, to_start}
+use Rattle.slot_laws.specs.Fits.{CanBeListed, HasQueue, HasStart, in_queues, to_start, HasKey}
 use Rattle.slot_laws.specs.GoOn.{EventShows}
 use Rattle.slot_laws.specs.Rep.{Means, MeansShared, meant_lists, meant_start, named}
 use Rattle.slot_laws.specs.SlotEvents.{slot_event}
-use Rattle.slot_laws.specs.SlotStep.{insert_step, instruction_step, key_at, routine_step, start_step, thread_step, top_frame, top_step}
-use Rattle.slot_laws.specs.Slots.{SlotFrame, SlotRoutine, SlotShared, SlotThread, SlotWorld, with_slot_queue, with_slot_start}
+use Rattle.slot_laws.specs.SlotStep.{insert_step, instruction_step, key_at, routine_step, start_step, thread_step, top_frame, top_step, start_packet_step, key_read}
+use Rattle.slot_laws.specs.Slots.{SlotFrame, SlotRoutine, SlotShared, SlotThread, SlotWorld, with_slot_queue, with_slot_start, packet_at}
+use Rattle.model.specs.declared.world.Packet.{Packet}
+use Rattle.model.specs.declared.set.QueueName.TheVariants.{DeviceQueue}
 
 both : (one other : Bool) → one ≡ false → other ≡ false → (one || other) ≡ false
 both false other is others = others
@@ -183,19 +185,35 @@ module _ (set : Set) (typable : IsTypable set) (sound : IsSound set) (threads : 
       let few = rw is at (once k) in
       in_none k (omega (arith, put, pushed, few))
 
+  -- IoStartPacket leaves the queues, and puts the packet where it stands then
+  started_lists : (k : ℕ) (start : StartState) (waits : Bool) (p : Packet)
+      → packet_at s k ≡ Some p
+      → ((start_packet_step s a k start waits).shared.queues ≡ s.queues)
+      × ((start_packet_step s a k start waits).shared.starts
+      ≡ (with_slot_start s a.device (started start k)).starts)
+  started_lists k start false p lies = (refl, refl)
+  started_lists k start true p lies = (rw lies refl, rw lies refl)
+
   pub start_unlisted : (r : ℕ)
       → instruction_at set a.driver a.routine a.position ≡ Some (Start r)
-      → HasStart s a.device → CanBeListed s (key_at a r)
-  start_unlisted r at has =
+      → HasStart s a.device → HasKey s a r → CanBeListed s (key_at a r)
+  start_unlisted r at has key =
       let k : ℕ = key_at a r in
       let start : StartState = has.start in
-      let is : after ≡ with_slot_start s a.device (started start k) =
+      let same : key.key ≡ k = ap key_read (sym key.is) in
+      let lies : packet_at s k ≡ Some key.packet =
+      subst (λ (j : ℕ). packet_at s j ≡ Some key.packet) same key.lies in
+      let lists : ((start_packet_step s a k start (has_cancel set a.driver DeviceQueue && start.busy)).shared.queues ≡ s.queues)
+      × ((start_packet_step s a k start (has_cancel set a.driver DeviceQueue && start.busy)).shared.starts
+      ≡ (with_slot_start s a.device (started start k)).starts) =
+      started_lists k start (has_cancel set a.driver DeviceQueue && start.busy) key.packet lies in
+      let is : after ≡ (start_packet_step s a k start (has_cancel set a.driver DeviceQueue && start.busy)).shared =
       stepped (Start r) at
-      ∙ ap (λ (o : Option StartState). (start_step s a k o).shared) has.is in
+      ∙ ap (λ (o : Option StartState). (start_step set s a k o).shared) has.is in
       let put : times_to_start (with_slot_start s a.device (started start k)).starts k
       + waits_in start k ≡ times_to_start s.starts k + waits_in (started start k) k =
       to_start_put s.starts a.device start (started start k) k has.is in
       let one = eq-eqb k k refl in
       let given = rw one at (waits_given start k k) in
-      let few = rw is at (once k) in
+      let few = rw (is, lists.0, lists.1) at (once k) in
       in_none k (omega (arith, put, given, few))
