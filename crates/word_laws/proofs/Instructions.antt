@@ -1,12 +1,12 @@
 -- Each instruction does to words what it does to slots that they are read as, where it finds what
 -- it looks for.
-use Rattle.std.proofs.Common.{◌≡◌, ℕ, ◌+◌, ◌-◌, ◌++◌, Bool, List, [], ◌∷◌, Option, None, Some, refl, sym, ap, subst}
-use Rattle.std.specs.Prelude.{◌%◌, ◌^◌, is_none, nat_eq, nat_lt, slice_get, slice_index_or}
+use Rattle.std.proofs.Common.{◌≡◌, ℕ, ◌+◌, ◌-◌, ◌++◌, Bool, List, [], ◌∷◌, Option, None, Some, refl, sym, ap, subst, false, true}
+use Rattle.std.specs.Prelude.{◌%◌, ◌^◌, is_none, nat_eq, nat_lt, slice_get, slice_index_or, ◌&&◌}
 use Rattle.model.specs.declared.event.Lock.{Lock}
 use Rattle.model.specs.declared.event.Lock.TheVariants.{SystemCancel}
 use Rattle.model.specs.declared.instr.Field.{Field}
 use Rattle.model.specs.declared.instr.Instr.{Instr}
-use Rattle.model.specs.declared.instr.Instr.TheVariants.{Const, Move, Clear, Add, Subtract, JumpIfZero, JumpIfLess, Jump, Loop, End, Load, Store, LoadPaged, StorePaged, Get, Put, Mark, Acquire, Release, AcquireCancel, ReleaseCancel, Insert, Remove, Unlink, Arm, Disarm, IfCancel, Start, Take, Begin, Next, Pass, Call, Complete, IfPending, Ret}
+use Rattle.model.specs.declared.instr.Instr.TheVariants.{Const, Move, Clear, Add, Subtract, JumpIfZero, JumpIfLess, Jump, Loop, End, Load, Store, LoadPaged, StorePaged, Get, Put, Mark, Acquire, Release, AcquireCancel, ReleaseCancel, Insert, Remove, Unlink, Arm, Disarm, IfCancel, Start, Take, Begin, Next, Pass, Call, Complete, IfPending, Ret, Dequeue}
 use Rattle.model.specs.declared.instr.Return.{Return}
 use Rattle.model.specs.declared.instr.Return.TheVariants.{WithStatus, Lower, Continue, Stop, Void}
 use Rattle.model.specs.declared.status.Status.{Status}
@@ -18,8 +18,8 @@ use Rattle.model.specs.declared.world.Value.{Value}
 use Rattle.model.specs.declared.world.Value.TheVariants.{Blank, Num, Ref}
 use Rattle.model.specs.Effect.{spin_lock, stored, stored_paged}
 use Rattle.model.specs.Effect as model
-use Rattle.model.specs.Queues.{StartState, inserted, next_started, started, unlinked, with_slot}
-use Rattle.model.specs.Set.{Set, lower_of}
+use Rattle.model.specs.Queues.{StartState, inserted, next_started, started, unlinked, with_slot, dequeued}
+use Rattle.model.specs.Set.{Set, lower_of, has_cancel}
 use Rattle.model.specs.World.{asked_of, at_label, current_location, field_of, innermost, mark_current, next, outer_loops, owner_of, register, with_armer, with_info, with_loops, with_owner, with_register}
 use Rattle.slot_laws.specs.Fits.{HasKey, HasNumber, InstructionFits, ReturnFits}
 use Rattle.slot_laws.specs.Slots.{SlotFrame, SlotRoutine, SlotShared, SlotWalk, SlotCancel, packet_at, slot_queue, slot_start, with_packet_at, with_slot_cells, with_slot_locks, with_slot_queue, with_slot_start}
@@ -29,10 +29,11 @@ use Rattle.word_laws.specs.declared.activation.WordActivation.{WordActivation}
 use Rattle.word_laws.specs.Reads.{Paired, ReadsFrame, ReadsValue, in_words}
 use Rattle.word_laws.specs.Words.{WordCancel, WordFrame, WordRoutine, WordWalk, word}
 use Rattle.word_laws.specs.Words as words_of
-use Rattle.word_laws.specs.WordStep.{WordOutcome, acquire_step, arm_step, ask_step, begin_step, call_step, complete_step, disarm_step, end_step, get_step, goes_on, insert_step, instruction_step, is_walk, jump_step, load_paged_step, load_step, look_step, mark_step, next_step, pass_step, put_step, remove_step, return_step, start_step, store_paged_step, store_step, take_from_step, take_step, unlink_step, value_step}
+use Rattle.word_laws.specs.WordStep.{WordOutcome, acquire_step, arm_step, ask_step, begin_step, call_step, complete_step, disarm_step, end_step, get_step, goes_on, insert_step, instruction_step, is_walk, jump_step, load_paged_step, load_step, look_step, mark_step, next_step, pass_step, put_step, remove_step, return_step, start_step, store_paged_step, store_step, take_from_step, take_step, unlink_step, value_step, start_waiting_step, start_packet_step, next_packet_step, next_waiting_step, dequeue_step}
 use Rattle.word_laws.proofs.Operands.{key_same, number_same, register_reads, status_same}
 use Rattle.word_laws.proofs.Outcomes.{ReadsOutcome, dispatched_reads, goes, goes_by, routine_reads}
 use Rattle.word_laws.proofs.Pairs.{PairedOption, paired_set, paired_skip}
+use Rattle.model.specs.declared.set.QueueName.TheVariants.{DeviceQueue}
 
 -- the frame under the one that runs
 walk_same : (under : Option SlotFrame) (over : Option WordFrame)
@@ -172,9 +173,24 @@ module _ (s : SlotShared) (a : Activation) (words : List ℕ)
   unlinks q k None = stays
   unlinks q k (Some entries) = on (with_slot_queue s a.device q (unlinked entries k))
 
-  starts : (k : ℕ) (o : Option StartState) → Reads (slots.start_step s a k o) (start_step s b k o)
-  starts k None = stays
-  starts k (Some start) = on (with_slot_start s a.device (started start k))
+  starts_waiting : (k : ℕ) (start : StartState) (o : Option Packet)
+      → Reads (slots.start_waiting_step s a k start o) (start_waiting_step s b k start o)
+  starts_waiting k start None = stays
+  starts_waiting k start (Some p) =
+      on
+      (with_slot_start (with_packet_at s k (with_armer p (Some (model.armer_waiting a)))) a.device
+      (started start k))
+
+  starts_packet : (k : ℕ) (start : StartState) (waits : Bool)
+      → Reads (slots.start_packet_step s a k start waits) (start_packet_step s b k start waits)
+  starts_packet k start false = on (with_slot_start s a.device (started start k))
+  starts_packet k start true = starts_waiting k start (packet_at s k)
+
+  starts : (set : Set) (k : ℕ) (o : Option StartState)
+      → Reads (slots.start_step set s a k o) (start_step set s b k o)
+  starts set k None = stays
+  starts set k (Some start) =
+      starts_packet k start (has_cancel set a.driver DeviceQueue && start.busy)
 
   takes_from : (r label : ℕ) (start : StartState) (o : Option ℕ)
       → Reads (slots.take_from_step s a r label start o) (take_from_step s b r label start o)
@@ -191,9 +207,27 @@ module _ (s : SlotShared) (a : Activation) (words : List ℕ)
   begins k None = stays
   begins k (Some start) = on (with_slot_start s a.device (with_slot start (Some k)))
 
-  nexts : (o : Option StartState) → Reads (slots.next_step s a o) (next_step s b o)
-  nexts None = stays
-  nexts (Some start) = on (with_slot_start s a.device (next_started start))
+  next_packet : (start : StartState) (k : ℕ) (o : Option Packet)
+      → Reads (slots.next_packet_step s a start k o) (next_packet_step s b start k o)
+  next_packet start k None = stays
+  next_packet start k (Some p) =
+      on
+      (with_slot_start (with_packet_at s k (with_armer p None)) a.device (next_started start))
+
+  next_waits : (start : StartState) (o : Option ℕ)
+      → Reads (slots.next_waiting_step s a start o) (next_waiting_step s b start o)
+  next_waits start None = on (with_slot_start s a.device (next_started start))
+  next_waits start (Some k) = next_packet start k (packet_at s k)
+
+  nexts : (set : Set) (o : Option StartState)
+      → Reads (slots.next_step set s a o) (next_step set s b o)
+  nexts set None = stays
+  nexts set (Some start) = next_waits start (model.next_disarmed set a start)
+
+  dequeues : (k : ℕ) (o : Option StartState)
+      → Reads (slots.dequeue_step s a k o) (dequeue_step s b k o)
+  dequeues k None = stays
+  dequeues k (Some start) = on (with_slot_start s a.device (dequeued start k))
 
   -- packets that are completed, or sent down
   completes : (status : Status) (k : ℕ) (o : Option Packet)
@@ -361,13 +395,16 @@ module _ (s : SlotShared) (a : Activation) (words : List ℕ)
         by_key r fits (λ k. slots.ask_step s a label (packet_at s k)) _
         (asks_flag label (packet_at s (word b r)))
     instructs set t (Start r) fits =
-        by_key r fits.0 (λ k. slots.start_step s a k (slot_start s a.device)) _
-        (starts (word b r) (slot_start s a.device))
+        by_key r fits.0 (λ k. slots.start_step set s a k (slot_start s a.device)) _
+        (starts set (word b r) (slot_start s a.device))
     instructs set t (Take r label) fits = takes_out r label (slot_start s a.device)
     instructs set t (Begin r) fits =
         by_key r fits.0 (λ k. slots.begin_step s a k (slot_start s a.device)) _
         (begins (word b r) (slot_start s a.device))
-    instructs set t Next fits = nexts (slot_start s a.device)
+    instructs set t Next fits = nexts set (slot_start s a.device)
+    instructs set t (Dequeue r) fits =
+        by_key r fits.0 (λ k. slots.dequeue_step s a k (slot_start s a.device)) _
+        (dequeues (word b r) (slot_start s a.device))
     instructs set t (Pass r) fits =
         by_key r fits.0
         (λ k. slots.pass_step set s a k (lower_of set a.device) (packet_at s k)) _
