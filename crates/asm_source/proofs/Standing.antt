@@ -82,7 +82,7 @@ module _ (text : List ℕ) (number : ℕ) where
     line_to_end CloseDriver e = rw e later
     line_to_end (AddQueue other guard cancel) e = rw e later
     line_to_end (Handle major handler) e = rw e later
-    line_to_end (HandleStartIo handler) e = rw e later
+    line_to_end (HandleStartIo handler cancel) e = rw e later
     line_to_end (HandleDpc handler) e = rw e later
     line_to_end (OpenRoutine other sort) e = rw e later
     line_to_end CloseRoutine e = rw (none_left (n + 1) raws) tt
@@ -117,7 +117,7 @@ module _ (text : List ℕ) (number : ℕ) where
     line_to_routine zero CloseDriver at = cc
     line_to_routine zero (AddQueue other guard cancel) at = later zero at
     line_to_routine zero (Handle major handler) at = later zero at
-    line_to_routine zero (HandleStartIo handler) at = later zero at
+    line_to_routine zero (HandleStartIo handler cancel) at = later zero at
     line_to_routine zero (HandleDpc handler) at = later zero at
     line_to_routine zero (OpenRoutine other sort) at =
         let same : routine_code has ls ≡ code = cc in
@@ -130,7 +130,7 @@ module _ (text : List ℕ) (number : ℕ) where
     line_to_routine (suc r) CloseDriver at = cc
     line_to_routine (suc r) (AddQueue other guard cancel) at = later (suc r) at
     line_to_routine (suc r) (Handle major handler) at = later (suc r) at
-    line_to_routine (suc r) (HandleStartIo handler) at = later (suc r) at
+    line_to_routine (suc r) (HandleStartIo handler cancel) at = later (suc r) at
     line_to_routine (suc r) (HandleDpc handler) at = later (suc r) at
     line_to_routine (suc r) (OpenRoutine other sort) at = later r at
     line_to_routine (suc r) CloseRoutine at = later (suc r) at
@@ -167,7 +167,7 @@ module _ (text : List ℕ) (number : ℕ) where
     line_to_driver zero CloseDriver its = later zero its
     line_to_driver zero (AddQueue other guard cancel) its = later zero its
     line_to_driver zero (Handle major handler) its = later zero its
-    line_to_driver zero (HandleStartIo handler) its = later zero its
+    line_to_driver zero (HandleStartIo handler cancel) its = later zero its
     line_to_driver zero (HandleDpc handler) its = later zero its
     line_to_driver zero (OpenRoutine other sort) its = later zero its
     line_to_driver zero CloseRoutine its = later zero its
@@ -178,7 +178,7 @@ module _ (text : List ℕ) (number : ℕ) where
     line_to_driver (suc d) CloseDriver its = later (suc d) its
     line_to_driver (suc d) (AddQueue other guard cancel) its = later (suc d) its
     line_to_driver (suc d) (Handle major handler) its = later (suc d) its
-    line_to_driver (suc d) (HandleStartIo handler) its = later (suc d) its
+    line_to_driver (suc d) (HandleStartIo handler cancel) its = later (suc d) its
     line_to_driver (suc d) (HandleDpc handler) its = later (suc d) its
     line_to_driver (suc d) (OpenRoutine other sort) its = later (suc d) its
     line_to_driver (suc d) CloseRoutine its = later (suc d) its

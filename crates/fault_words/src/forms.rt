@@ -11,7 +11,7 @@ const OUTSIDE: [&str; 2] = ["driver", "device"];
 
 const IN_DRIVER: [&str; 6] = ["dispatch", "startio", "dpc", "queue", "routine", "endd"];
 
-const IN_ROUTINE: [&str; 37] = [
+const IN_ROUTINE: [&str; 38] = [
     "const",
     "mov",
     "clear",
@@ -43,6 +43,7 @@ const IN_ROUTINE: [&str; 37] = [
     "take",
     "begin",
     "next",
+    "dequeue",
     "pass",
     "call",
     "complete",
@@ -90,7 +91,7 @@ pub(crate) fn form_of(word: &[u8]) -> Option<Form> {
 
 /// Whether the last operand behind a word may be left out.
 fn is_open(word: &str) -> bool {
-    matches!(word, "queue" | "device" | "call")
+    matches!(word, "queue" | "startio" | "device" | "call")
 }
 
 /// What stands behind a word.
@@ -99,12 +100,13 @@ fn operands_of(word: &str) -> &'static [Operand] {
         "driver" => &[NewName],
         "device" => &[NewName, Driver, Stack, LowerDevice],
         "dispatch" => &[Major, Routine],
-        "startio" | "dpc" => &[Routine],
+        "startio" => &[Routine, Routine],
+        "dpc" => &[Routine],
         "queue" => &[NewName, SpinLock, Routine],
         "routine" => &[NewName, Sort],
         "const" => &[Register, Constant],
         "mov" | "add" | "sub" | "put" => &[Register, Register],
-        "clear" | "mark" | "start" | "begin" | "pass" => &[Register],
+        "clear" | "mark" | "start" | "begin" | "dequeue" | "pass" => &[Register],
         "jz" | "disarm" | "ifcancel" | "take" | "ifpending" => &[Register, Label],
         "jlt" => &[Register, Register, Label],
         "jmp" => &[Label],

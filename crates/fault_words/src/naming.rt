@@ -8,6 +8,7 @@ use crate::nearest::{distance, is_near};
 use std::alloc::{AllocError, Global};
 use text::class::is;
 use text::piece::Piece;
+use text::token::Tokens;
 
 /// Names that are listed, at most.
 const LISTED: usize = 12;
@@ -86,7 +87,7 @@ pub(crate) fn add_unknown_name(
         }
         place = place.saturating_add(1);
     }
-    add_wrong_sort(prose, word, line)
+    add_wrong_sort(alloc, prose, word, line)
 }
 
 /// The thing of a name, if it has been given.
@@ -158,17 +159,12 @@ fn nearest_name<'n, 'a>(token: &[u8], names: &'n Vec<Given<'a>>) -> Option<&'n P
 
 /// Adds that a routine is of another sort than the line takes.
 fn add_wrong_sort(
+    alloc: Global,
     prose: &mut String,
     word: &[u8],
     line: &FaultyLine<'_>,
 ) -> Result<(), AllocError> {
-    let place = if is(word, b"queue") {
-        2
-    } else if is(word, b"dispatch") || is(word, b"call") {
-        1
-    } else {
-        0
-    };
+    let place = wrong_place(alloc, word, line)?;
     let Some(routine) = line.parts.operand(place) else {
         return Ok(());
     };
@@ -177,18 +173,63 @@ fn add_wrong_sort(
         routine,
         ", a routine of another sort than this line takes",
     )?;
-    add_expected(prose, sort_behind(word))
+    add_expected(prose, sort_behind(word, place))
 }
 
-/// Which routines a line takes.
-fn sort_behind(word: &[u8]) -> &'static str {
+/// The place of the routine that is of another sort than the line takes. A `startio` line may name
+/// two: where the first is of its sort, it is the second.
+fn wrong_place(alloc: Global, word: &[u8], line: &FaultyLine<'_>) -> Result<usize, AllocError> {
+    if is(word, b"queue") {
+        Ok(2)
+    } else if is(word, b"dispatch") || is(word, b"call") {
+        Ok(1)
+    } else if is(word, b"startio") && begins_packets(alloc, line)? {
+        Ok(1)
+    } else {
+        Ok(0)
+    }
+}
+
+/// Whether the routine that a line names first is of sort `startio`.
+fn begins_packets(alloc: Global, line: &FaultyLine<'_>) -> Result<bool, AllocError> {
+    let Some(name) = line.parts.operand(0) else {
+        return Ok(false);
+    };
+    let names = names_of(
+        alloc,
+        Thing::Routine,
+        &line.source,
+        &line.scope,
+        line.number,
+    )?;
+    match found(&names, name) {
+        Some(given) => Ok(is_startio(line.source.line(given.line))),
+        None => Ok(false),
+    }
+}
+
+/// Whether a `routine` line is of sort `startio`.
+fn is_startio(line: Option<&Piece<'_>>) -> bool {
+    let Some(line) = line else {
+        return false;
+    };
+    let mut tokens = Tokens::of(line.bytes());
+    let (_, _) = (tokens.next(), tokens.next());
+    match tokens.next() {
+        Some(sort) => is(sort, b"startio"),
+        None => false,
+    }
+}
+
+/// Which routines a line takes at a place.
+fn sort_behind(word: &[u8], place: usize) -> &'static str {
     if is(word, b"dispatch") {
         "a routine of sort `dispatch`"
-    } else if is(word, b"startio") {
+    } else if is(word, b"startio") && place == 0 {
         "a routine of sort `startio`"
     } else if is(word, b"dpc") {
         "a routine of sort `dpc`"
-    } else if is(word, b"queue") {
+    } else if is(word, b"queue") || is(word, b"startio") {
         "a routine of sort `cancel`"
     } else {
         "a routine of sort `propagate` or `hold`"
