@@ -31,6 +31,7 @@ fn lack_of(instr: &Instr, state: &Abs) -> Lack {
         | Instr::IfCancel(r, _)
         | Instr::Start(r)
         | Instr::Begin(r)
+        | Instr::Dequeue(r)
         | Instr::Pass(r)
         | Instr::Call(r, _)
         | Instr::Complete(r, _)

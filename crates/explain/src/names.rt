@@ -65,10 +65,14 @@ impl<'a> Names<'a> {
         }
     }
 
-    /// Adds the name of a queue.
+    /// Adds the name of a queue, or that it is the device queue.
     pub(crate) fn add_queue(&self, prose: &mut String, name: QueueName) -> Result<(), AllocError> {
-        let QueueName::Declared(number) = name;
-        add_name(prose, self.queues.get(number as usize), "queue", number)
+        match name {
+            QueueName::Declared(number) => {
+                add_name(prose, self.queues.get(number as usize), "queue", number)
+            }
+            QueueName::DeviceQueue => prose.push_str("the device queue"),
+        }
     }
 
     /// Adds the name of a routine.

@@ -1,9 +1,9 @@
 //! The rules in words: why an instruction breaks one, where that is written, and how to mend it.
 
 use crate::kinds::wrong_kind;
-use model::abs::{Abs, Duty, Rule, Settled};
+use model::abs::{Abs, Duty, Kind, Rule, Settled};
 use model::instr::{Instr, Return};
-use model::set::Sort;
+use model::set::{QueueName, Sort};
 
 /// Why a rule is broken, where that is written, and how to mend it.
 #[derive(Clone, Copy)]
@@ -31,7 +31,8 @@ pub(crate) fn lesson_of(rule: Rule, instr: &Instr, sort: Sort, state: Option<&Ab
         Rule::MarkIrpPending => of_marks(instr, state),
         Rule::CancelSpinLock | Rule::SpinLock | Rule::LockHeld => of_locks(rule, instr),
         Rule::Level => of_level(sort),
-        Rule::Guard | Rule::CancelState => of_queues(rule, instr, sort),
+        Rule::Guard => of_guards(instr),
+        Rule::CancelState => of_cancellation(instr, sort, state),
         Rule::Token => of_token(instr),
         Rule::Sort => of_sort(instr, sort),
         Rule::Completion => of_completion(instr, state),
@@ -240,29 +241,57 @@ fn of_level(sort: Sort) -> Lesson {
     }
 }
 
-/// The rules on queues and cancellation.
-fn of_queues(rule: Rule, instr: &Instr, sort: Sort) -> Lesson {
+/// The rule on the locks of queues and of the device queue.
+fn of_guards(instr: &Instr) -> Lesson {
     let source = "the Driver Kit on driver-managed IRP queues and IoSetCancelRoutine";
-    match (rule, instr) {
-        (Rule::Guard, Instr::Release(_)) => Lesson::of(
+    let waiting = "the Driver Kit on IoStartPacket, IoStartNextPacket and cancel routines";
+    match instr {
+        Instr::Release(_) => Lesson::of(
             "the lock is released while a register has a packet that may still be cancelled",
             source,
             "`disarm` it before the release, and at the label leave it to the cancel routine",
         ),
-        (Rule::Guard, _) => Lesson::of(
+        Instr::ReleaseCancel => Lesson::of(
+            "the lock is released while the packet that is being cancelled is in the device queue",
+            waiting,
+            "`dequeue` it before `relc`",
+        ),
+        Instr::Start(_) | Instr::Next | Instr::Dequeue(_) => Lesson::of(
+            "packets of the device queue can be cancelled, and the system cancel lock isn't held",
+            waiting,
+            "`acqc` before it, and `relc` after it",
+        ),
+        _ => Lesson::of(
             "the queue is touched while its lock isn't held",
             source,
             "acquire the lock of the queue before it",
         ),
-        (_, Instr::Remove(_, _, _)) => Lesson::of(
+    }
+}
+
+/// The rule on packets that may be cancelled.
+fn of_cancellation(instr: &Instr, sort: Sort, state: Option<&Abs>) -> Lesson {
+    let source = "the Driver Kit on driver-managed IRP queues and IoSetCancelRoutine";
+    match instr {
+        Instr::Remove(_, _, _) => Lesson::of(
             "a second packet of the queue is taken while a register still names it",
             source,
             "`disarm` the first one, or leave it to its cancel routine, before the next",
         ),
-        (_, Instr::Unlink(_, _) | Instr::Arm(_, _) | Instr::Disarm(_, _)) => Lesson::of(
+        Instr::Dequeue(_) => Lesson::of(
+            "the packet isn't one of the device queue that is being cancelled",
+            source,
+            "`dequeue` the packet that was handed in, in the cancel routine of the device queue",
+        ),
+        Instr::Unlink(_, _) | Instr::Arm(_, _) | Instr::Disarm(_, _) => Lesson::of(
             "the packet isn't in the state that this takes: in that queue, or armed",
             source,
             "insert, arm, disarm and unlink a packet in this order, under the lock",
+        ),
+        _ if state.is_some_and(|state| waits(state)) => Lesson::of(
+            "the packet still stands in the device queue, so it isn't the cancel routine's own",
+            source,
+            "`dequeue` it under the system cancel lock, and `relc` first",
         ),
         _ if matches!(sort, Sort::Cancel) => Lesson::of(
             "the packet may still stand in its queue, so it isn't the cancel routine's own",
@@ -275,6 +304,12 @@ fn of_queues(rule: Rule, instr: &Instr, sort: Sort) -> Lesson {
             "`disarm` and `unlink` it under the lock of its queue first",
         ),
     }
+}
+
+/// Whether the packet that is being cancelled stands in the device queue.
+fn waits(state: &Abs) -> bool {
+    let waiting = Kind::Cancelling(QueueName::DeviceQueue);
+    state.kinds.iter().any(|kind| *kind == waiting)
 }
 
 /// The rule on the token of a busy device.
@@ -318,6 +353,11 @@ fn of_sort(instr: &Instr, sort: Sort) -> Lesson {
             "the driver has no StartIo routine",
             source,
             "name one with `startio`, or use a queue",
+        ),
+        (Instr::Dequeue(_), _) => Lesson::of(
+            "the driver names no cancel routine for its device queue",
+            source,
+            "name one behind the StartIo routine on the `startio` line",
         ),
         (Instr::Take(_, _), _) => Lesson::of(
             "only a DPC routine takes the current packet",
