@@ -1,5 +1,5 @@
-//! Images: the bytes of known sets, their beginnings, and all their changes by one byte. The
-//! digests are those of what an independent program answers.
+//! Images of both editions: the bytes of known sets, their beginnings, and all their changes by one
+//! byte. The digests are those of what an independent program answers.
 
 use asm::assemble;
 use image::{ImageFault, decode, encode};
@@ -9,13 +9,20 @@ use std::test::Fail;
 
 /// A driver whose one routine completes a read at once, and its device.
 pub(crate) const ONE_READ: [u8; 40] = [
+    0x44, 0x56, 0x42, 0x32, 0x01, 0x01, 0x00, 0x00, 0x01, 0x00, 0x00, 0xff, 0xff, 0xff, 0xff, 0xff,
+    0x00, 0x00, 0x02, 0x00, 0x22, 0x00, 0x00, 0x00, 0x00, 0x00, 0x00, 0x00, 0x24, 0x00, 0x00, 0x00,
+    0x00, 0x00, 0x00, 0x00, 0x00, 0x01, 0xff, 0x00,
+];
+
+/// The same set's image of the first edition.
+const OLD_ONE_READ: [u8; 40] = [
     0x44, 0x56, 0x42, 0x31, 0x01, 0x01, 0x00, 0x00, 0x01, 0x00, 0x00, 0xff, 0xff, 0xff, 0xff, 0x00,
     0x00, 0x00, 0x02, 0x00, 0x22, 0x00, 0x00, 0x00, 0x00, 0x00, 0x00, 0x00, 0x24, 0x00, 0x00, 0x00,
     0x00, 0x00, 0x00, 0x00, 0x00, 0x01, 0xff, 0x00,
 ];
 
 /// The set without drivers and devices.
-pub(crate) const EMPTY: [u8; 8] = [0x44, 0x56, 0x42, 0x31, 0x00, 0x00, 0x00, 0x00];
+pub(crate) const EMPTY: [u8; 8] = [0x44, 0x56, 0x42, 0x32, 0x00, 0x00, 0x00, 0x00];
 
 /// A driver that queues what it is sent, with a cancel routine.
 pub(crate) const QUEUED: &str =
@@ -29,18 +36,23 @@ pub(crate) const QUEUED: &str =
 
 /// The digest of its image.
 const QUEUED_IMAGE: [u8; 16] = [
-    0xc8, 0xe5, 0xa1, 0xd2, 0x01, 0x0a, 0xe4, 0xad, 0x0f, 0x91, 0x20, 0x69, 0xed, 0x52, 0x01, 0xca,
+    0xf6, 0xa6, 0x92, 0x16, 0xb0, 0x17, 0xd9, 0xfc, 0x4e, 0x2d, 0x7c, 0xb0, 0x76, 0x86, 0x23, 0x43,
 ];
 
 /// The digest of the numbers of the faults of all changes of one byte, 0 for none: of the byte at
 /// each place, by each value.
 const ONE_READ_FAULTS: [u8; 16] = [
-    0x95, 0x57, 0x74, 0x71, 0x01, 0xed, 0xe6, 0x68, 0x02, 0x1c, 0xf5, 0xc0, 0x0b, 0x58, 0x4a, 0x43,
+    0x4f, 0x62, 0x98, 0x12, 0x54, 0xd4, 0x3b, 0xbb, 0x6b, 0xb2, 0x95, 0xbc, 0x63, 0xd4, 0xf0, 0xf1,
+];
+
+/// The same of `OLD_ONE_READ`.
+const OLD_ONE_READ_FAULTS: [u8; 16] = [
+    0x0a, 0x9c, 0x93, 0xd3, 0x00, 0xdb, 0x3b, 0x6f, 0xc4, 0xe3, 0x51, 0x72, 0xce, 0x2d, 0x3b, 0x88,
 ];
 
 /// The same of the image of `QUEUED`.
 const QUEUED_FAULTS: [u8; 16] = [
-    0x3d, 0xd2, 0x4e, 0x80, 0x7d, 0xb6, 0x73, 0x0e, 0xbb, 0x43, 0x32, 0x3d, 0x63, 0xf7, 0xdc, 0x94,
+    0xeb, 0x47, 0xa0, 0xf4, 0x10, 0x6e, 0xd7, 0xec, 0xf5, 0x30, 0x8d, 0xf0, 0x01, 0xdb, 0xba, 0x38,
 ];
 
 /// A byte of `ONE_READ` changed, and the fault.
@@ -50,7 +62,7 @@ struct Change {
     fault: ImageFault,
 }
 
-static CHANGES: [Change; 18] = [
+static CHANGES: [Change; 21] = [
     Change {
         place: 0,
         value: 0x45,
@@ -58,7 +70,17 @@ static CHANGES: [Change; 18] = [
     },
     Change {
         place: 3,
-        value: 0x32,
+        value: 0x31,
+        fault: ImageFault::BadOpcode,
+    },
+    Change {
+        place: 3,
+        value: 0x30,
+        fault: ImageFault::Magic,
+    },
+    Change {
+        place: 3,
+        value: 0x33,
         fault: ImageFault::Magic,
     },
     Change {
@@ -93,8 +115,13 @@ static CHANGES: [Change; 18] = [
     },
     Change {
         place: 15,
+        value: 0,
+        fault: ImageFault::OverLimit,
+    },
+    Change {
+        place: 15,
         value: 1,
-        fault: ImageFault::BadOpcode,
+        fault: ImageFault::OverLimit,
     },
     Change {
         place: 16,
@@ -113,7 +140,7 @@ static CHANGES: [Change; 18] = [
     },
     Change {
         place: 20,
-        value: 37,
+        value: 38,
         fault: ImageFault::BadOpcode,
     },
     Change {
@@ -139,6 +166,35 @@ static CHANGES: [Change; 18] = [
     Change {
         place: 39,
         value: 1,
+        fault: ImageFault::BadOpcode,
+    },
+];
+
+/// A byte of `OLD_ONE_READ` changed, and the fault.
+static OLD_CHANGES: [Change; 5] = [
+    Change {
+        place: 3,
+        value: 0x30,
+        fault: ImageFault::Magic,
+    },
+    Change {
+        place: 3,
+        value: 0x32,
+        fault: ImageFault::OverLimit,
+    },
+    Change {
+        place: 15,
+        value: 1,
+        fault: ImageFault::BadOpcode,
+    },
+    Change {
+        place: 15,
+        value: 0xff,
+        fault: ImageFault::BadOpcode,
+    },
+    Change {
+        place: 20,
+        value: 37,
         fault: ImageFault::BadOpcode,
     },
 ];
@@ -198,6 +254,41 @@ fn changed_bytes(rt: HostRuntime) {
         }
         assert_eq!(rt; decode(alloc, bytes.as_slice()).err(), Some(change.fault));
     }
+}
+
+/// An image of the first edition is read, and written as one of the second.
+#[test]
+fn old_images(rt: HostRuntime) -> Result<(), Fail> {
+    let alloc = rt.alloc();
+    let set = decode(alloc, OLD_ONE_READ.as_slice())
+        .ok()
+        .ok_or("the image is a set's")?;
+    assert_eq!(rt; set.edition(), 1);
+    let image = encode(alloc, &set).ok().ok_or("out of memory")?;
+    assert!(rt; image.as_slice() == ONE_READ.as_slice());
+    for change in OLD_CHANGES.iter() {
+        let mut bytes = OLD_ONE_READ;
+        if let Some(byte) = bytes.get_mut(change.place) {
+            *byte = change.value;
+        }
+        assert_eq!(rt; decode(alloc, bytes.as_slice()).err(), Some(change.fault));
+    }
+    Ok(())
+}
+
+#[test]
+fn every_change_of_one_byte_of_an_old_image(rt: HostRuntime) -> Result<(), Fail> {
+    let alloc = rt.alloc();
+    let mut faults = Vec::new(alloc);
+    for place in 0..40 {
+        for value in 0..=255 {
+            let mut bytes = OLD_ONE_READ;
+            bytes[place] = value;
+            faults.push(fault_number(alloc, bytes.as_slice()))?;
+        }
+    }
+    assert!(rt; Md5::digest(faults.as_slice()).as_slice() == OLD_ONE_READ_FAULTS.as_slice());
+    Ok(())
 }
 
 /// A role of another sort is told only where nothing else is wrong.
