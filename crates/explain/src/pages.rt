@@ -345,9 +345,11 @@ device v d 1
 };
 
 const GUARD: Page = Page {
-    says: "`insert`, `remove`, `unlink` and `arm` stand where the lock of their queue is held. A
-guard is not released while a register has a packet that may still be cancelled
-behind its back: one that is listed, or taken off and not disarmed.",
+    says: "`insert`, `remove`, `unlink` and `arm` stand where the lock of their queue is held.
+Where the device queue has a cancel routine, `start`, `next` and `dequeue` stand where
+the system cancel spin lock is held. A guard is not released while a register has a
+packet that may still be cancelled behind its back: one that is listed, or taken off
+and not disarmed, or one that is being cancelled and stands in the device queue.",
     source: "the Driver Kit on driver-managed IRP queues and their spin locks",
     example: Some(Example {
         refused: "driver d
@@ -379,8 +381,9 @@ device v d 1
 const CANCEL_STATE: Page = Page {
     says: "A packet of a queue with a cancel routine is the routine's own, to be completed or
 moved, only when that is settled: after `unlink` by one who listed it or by the
-cancel routine, or after a `disarm` that found the cancel routine still set. A second
-packet of such a queue is not taken while a register names it.",
+cancel routine, after `dequeue` by the cancel routine of the device queue, or after a
+`disarm` that found the cancel routine still set. A second packet of such a queue is
+not taken while a register names it.",
     source: "the Driver Kit on IoSetCancelRoutine and on cancel routines: who gets NULL leaves the \
         packet to the cancel routine; bug checks 0x44, 0x48 and 0x0A",
     example: Some(Example {
@@ -468,8 +471,9 @@ const SORT: Page = Page {
     says: "Each sort of routine has its forms of return: `ret STATUS` and `ret lower` for
 dispatch, `ret continue` for propagate and hold, `ret stop` for hold, `ret void` for
 the others. `take` is for DPC routines, `pass` and `call` for dispatch routines,
-`start` for drivers that have a StartIo routine. Each cancel routine is that of
-exactly one queue; another one is told at its first position.",
+`start` for drivers that have a StartIo routine, `dequeue` for those whose device
+queue has a cancel routine. Each cancel routine is that of exactly one queue or
+`startio` line; another one is told at its first position.",
     source: "the Driver Kit on each sort of routine",
     example: Some(Example {
         refused: "driver d

@@ -439,7 +439,7 @@ fn of_devices(rule: Rule) -> Lesson {
 /// Why a cancel routine can't be entered.
 pub(crate) fn not_entered() -> Lesson {
     Lesson::of(
-        "not exactly one queue names this cancel routine",
+        "not exactly one queue or startio line names this cancel routine",
         "the Driver Kit on cancel routines",
         "name it on one `queue` line, or take it out",
     )

@@ -84,7 +84,7 @@ in driver d, routine gone (cancel), position 0, line 3:
   > 3  relc
     4  complete r0 CANCELLED
     5  ret void
-why: not exactly one queue names this cancel routine
+why: not exactly one queue or startio line names this cancel routine
 see: the Driver Kit on cancel routines
 mend it: name it on one `queue` line, or take it out
 ",
@@ -409,7 +409,7 @@ in driver filter, routine gone (cancel), position 0, line 20:
   > 20  relc
     21  complete r0 CANCELLED
     22  ret void
-why: not exactly one queue names this cancel routine
+why: not exactly one queue or startio line names this cancel routine
 see: the Driver Kit on cancel routines
 mend it: name it on one `queue` line, or take it out
 ",
