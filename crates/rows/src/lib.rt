@@ -75,6 +75,8 @@ mod stacks;
 #[cfg(test)]
 mod texts;
 #[cfg(test)]
+mod waiting;
+#[cfg(test)]
 mod worked;
 #[cfg(test)]
 mod wrong_drivers;
