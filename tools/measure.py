@@ -69,6 +69,25 @@ def through_a_cancelable_queue():
             'unlink r0 q', 'release l0', 'complete r0 CANCELLED', 'ret void', 'endr', 'endd', 'device v d 1']
     return text, ['issue 0 0 READ 0', 'step 0 7'], ['interrupt 0', 'dpc 1 0', 'step 1 7'], ['step 1 10']
 
+def through_a_cancelable_device_queue():
+    """The same of a driver that starts its packets one at a time, each of which can be cancelled while it waits."""
+    text = ['driver d', 'dispatch READ f', 'startio s gone', 'dpc g', 'routine f dispatch', 'mark r0', 'acqc', 'ifcancel r0 was', 'start r0',
+            'relc', 'ret PENDING', 'was: relc', 'complete r0 CANCELLED', 'ret PENDING', 'endr', 'routine s startio', 'begin r0', 'ret void',
+            'endr', 'routine g dpc', 'take r0 none', 'acqc', 'next', 'relc', 'complete r0 SUCCESS', 'ret void', 'none: ret void', 'endr',
+            'routine gone cancel', 'dequeue r0', 'relc', 'complete r0 CANCELLED', 'ret void', 'endr', 'endd', 'device v d 1']
+    return text, ['issue 0 0 READ 0', 'step 0 6'], ['startio 1 0', 'step 1 2', 'interrupt 0', 'dpc 1 0', 'step 1 7'], ['step 1 8']
+
+def cancelled_while_waiting(requests, waiting, request, completion, cancel):
+    """Nearly so many requests: one is started and so many wait, every other one of these is cancelled and the rest are
+    completed, again and again."""
+    lines = ['threads 2']
+    for first in range(0, requests - waiting, waiting + 1):
+        lines += request * (waiting + 1)
+        for number in range(first + 1, first + 1 + waiting, 2):
+            lines += ['cancel 1 %d 0' % number] + cancel
+        lines += completion * (1 + waiting // 2)
+    return lines
+
 def half_cancelled(requests, live, request, completion, cancel):
     """So many requests: so many are queued, every other one of them is cancelled and the rest are completed, again and again."""
     lines = ['threads 2']
@@ -121,6 +140,10 @@ def cases():
     for live in 2, 1000:
         yield 'trace of 55,000 requests, half cancelled, %s live' % f'{live:,}', 'trace', text, \
             half_cancelled(55000, live, request, completion, cancel)
+    text, request, completion, cancel = through_a_cancelable_device_queue()
+    for waiting in 1, 1000:
+        yield 'trace of 55,000 requests, StartIo, half cancelled while they wait, %s waiting' % f'{waiting:,}', 'trace', text, \
+            cancelled_while_waiting(55000, waiting, request, completion, cancel)
 
 def served_commands(commands):
     """Of so many commands each second is a request, and of the requests each second one is cancelled: the lines of a script."""
