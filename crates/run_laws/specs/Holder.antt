@@ -171,10 +171,11 @@ pub record StandsInside (set : Set) (a : Activation) : Type 0 where
   pub registers : length a.registers ≡ REGISTERS
 
 -- a packet of a run that was issued and hasn't topped out has one holder, be it a register, the I/O
--- manager's frame, a place in a start list or in a queue or device queue without a cancel routine, a
--- current slot, or its cancel word, is in the list of live packets, and stands at most once in all
--- lists together; any other one has none, isn't there, and stands in none. Every routine's frame, on
--- top of its thread or below, stands at a position, whose state tells its registers' rights
+-- manager's frame, a place in a start list or in a queue or device queue without a cancel routine,
+-- a current slot, or its cancel word, is in the list of live packets, and stands at most once in
+-- all lists together; any other one has none, isn't there, and stands in none. Every routine's
+-- frame, on top of its thread or below, stands at a position, whose state tells its registers'
+-- rights
 pub record HasOneHolder (set : Set) (states : States) (threads : ℕ) (events : List Event) : Type 0
   where
     pub stand : (t k : ℕ) (a : Activation) → slice_get (frames_on (run set threads events).world t) k

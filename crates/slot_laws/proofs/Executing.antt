@@ -184,7 +184,8 @@ module _ (name : ℕ → ℕ) (s : SlotShared) (r : Shared) (keyed : Keyed name 
     executes Next free waits right =
         by_found name s (next_step set s a (slot_start s a.device)) (next_effect set r c)
         (option_map (meant_start name) (slot_start s a.device)) (start_of r a.device)
-        (start_meant name s r means a.device) (nexts name s r keyed a set (slot_start s a.device) waits)
+        (start_meant name s r means a.device)
+        (nexts name s r keyed a set (slot_start s a.device) waits)
         right
     executes (Dequeue i) free waits right =
         by_start _ (dequeue_effect r c (packet_in r (register c i)))

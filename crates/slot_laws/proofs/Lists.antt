@@ -227,7 +227,12 @@ module _ (name : ℕ → ℕ) (s : SlotShared) (r : Shared) (keyed : Keyed name 
         (with_start (with_packet r n q) a.device other) d e actions
         (start_put name (with_packet_at s k (slotted q)) (with_packet r n q)
         (written name s r keyed k n found q same) a.device one other is)
-        (record { name = kept.name; use_of = kept.use_of; order = kept.order; issued = kept.issued })
+        (record {
+          name = kept.name;
+          use_of = kept.use_of;
+          order = kept.order;
+          issued = kept.issued;
+        })
         goes
 
     starts_one : (k n : ℕ) (start : StartState) → Found s r k n → (waits : Bool)

@@ -125,7 +125,8 @@ module _ (set : Set) (states : States) (threads : ℕ) (w : World) (past : List 
         locks = locks_kept set states w past good keeps.stands keeps.locks actor c on;
         held = held_kept set states w past good keeps.stands keeps.held keeps.tokens actor c
             (top_lent set states w keeps.sees actor.thread)
-            (next_armed set states w past good keeps.stands keeps.locks keeps.told.locks keeps.claims
+            (next_armed set states w past good keeps.stands keeps.locks keeps.told.locks
+            keeps.claims
             actor.thread) on;
         claims = claimed_kept set states w past good keeps.stands keeps.claims keeps.locks
             keeps.told.locks keeps.held actor c on;
@@ -133,7 +134,8 @@ module _ (set : Set) (states : States) (threads : ℕ) (w : World) (past : List 
         sees = sees_event set states w past good keeps.stands keeps.sees actor.thread c on.happens;
         room = roomy_kept set states w past good keeps.stands keeps.held keeps.room keeps.claims
             actor c
-            (next_armed set states w past good keeps.stands keeps.locks keeps.told.locks keeps.claims
+            (next_armed set states w past good keeps.stands keeps.locks keeps.told.locks
+            keeps.claims
             actor.thread) on;
         falls = falls_event set states w actor.thread keeps.falls past c good keeps.stands
             on.happens;

@@ -35,7 +35,8 @@ abbrev pub hit : ℕ → QueueName → ℕ → ℕ → QueueName → ℕ → ℕ
 hit d q n e p m =
     if is_name q p then (if nat_eq d e then (if nat_eq n m then 1 else 0) else 0) else 0
 
-pub hit_elsewhere : (d : ℕ) (q : QueueName) (n e : ℕ) (p : QueueName) (m : ℕ) → nat_eq d e ≡ false → hit d q n e p m ≡ 0
+pub hit_elsewhere : (d : ℕ) (q : QueueName) (n e : ℕ) (p : QueueName) (m : ℕ) → nat_eq d e ≡ false
+    → hit d q n e p m ≡ 0
 hit_elsewhere d q n e p m far =
     rw far (elim (names_tell q p) [
       | inr other ↦ rw other.0 refl
@@ -43,7 +44,8 @@ hit_elsewhere d q n e p m far =
     ])
 
 module _ (P : ℕ → QueueName → ℕ → Type 0) (d : ℕ) (q : QueueName) (n : ℕ) (h : P d q n) where
-  hit_tells : (e : ℕ) (p : QueueName) (m : ℕ) → (hit d q n e p m ≡ 0) ⊎ ((hit d q n e p m ≡ 1) × P e p m)
+  hit_tells : (e : ℕ) (p : QueueName) (m : ℕ) → (hit d q n e p m ≡ 0)
+      ⊎ ((hit d q n e p m ≡ 1) × P e p m)
   hit_tells e p m =
       elim (names_tell q p) [
         | inr far ↦ inl (rw far.0 refl)
@@ -71,7 +73,8 @@ at_swapped false true one = refl
 at_swapped false false one = refl
 
 -- as many registers of a kind as before, but for the packet of one, which became of another kind
-abbrev pub OneTurns : (QueueName → Kind → Bool) → (one other : ℕ → QueueName → ℕ → ℕ) → Kind → Kind → ℕ → ℕ
+abbrev pub OneTurns : (QueueName → Kind → Bool) → (one other : ℕ → QueueName → ℕ → ℕ) → Kind → Kind
+    → ℕ → ℕ
     → Type 0
 OneTurns f one other j k e m =
     (d : ℕ) (q : QueueName) (n : ℕ) → other d q n + at_kind (f q) (λ c. nat_eq c d) e j m n
@@ -119,7 +122,8 @@ by_more : (e : ℕ) (p : QueueName) (m : ℕ) (one other : ℕ → QueueName →
 by_more e p m one other h d q n =
     omega (arith, h d q n)
 
-by_fewer : (e : ℕ) (p : QueueName) (m : ℕ) (one other : ℕ → QueueName → ℕ → ℕ) → Fewer e p m one other
+by_fewer : (e : ℕ) (p : QueueName) (m : ℕ) (one other : ℕ → QueueName → ℕ → ℕ)
+    → Fewer e p m one other
     → Moves one other (hit e p m) none
 by_fewer e p m one other h d q n =
     omega (arith, h d q n)
@@ -153,7 +157,8 @@ module _ (set : Set) (x y : Numbers) (b : Balanced set x)
       }
 
   module _ (j k : Kind) (e m : ℕ) (turns : KindTurns x y j k e m)
-      (word_out word_in out into : ℕ → QueueName → ℕ → ℕ) (word : Moves x.word y.word word_out word_in)
+      (word_out word_in out into : ℕ → QueueName → ℕ → ℕ)
+      (word : Moves x.word y.word word_out word_in)
       (entries : Moves x.entries y.entries out into) where
     module _ (d : ℕ) (q : QueueName) (n : ℕ) where
       abbrev of : (QueueName → Kind → Bool) → Kind → ℕ
@@ -194,7 +199,8 @@ module _ (set : Set) (x y : Numbers) (b : Balanced set x)
           omega (arith, turns.listed d q n, turns.armed d q n, entries d q n, b.standing d q n is)
 
     -- and so all of it
-    by_turn : ((d : ℕ) (q : QueueName) (n : ℕ) → of d q n is_armed k + of d q n is_taken k + word_out d q n
+    by_turn : ((d : ℕ) (q : QueueName) (n : ℕ)
+        → of d q n is_armed k + of d q n is_taken k + word_out d q n
         + of d q n is_cancelling j
         ≤ of d q n is_armed j + of d q n is_taken j + word_in d q n + of d q n is_cancelling k)
         → ((d : ℕ) (q : QueueName) (n : ℕ) → into d q n + word_out d q n + of d q n is_cancelling j
@@ -217,7 +223,8 @@ module _ (set : Set) (x y : Numbers) (b : Balanced set x)
       → KindTurns x y j BlankKind e m → Same x.word y.word → Same x.entries y.entries
       → Balanced set y
   balanced_gives j e m plain turns word entries =
-      let no_right : (d : ℕ) (q : QueueName) (n : ℕ) → at_kind (is_listed q) (λ c. nat_eq c d) e j m n
+      let no_right : (d : ℕ) (q : QueueName) (n : ℕ)
+      → at_kind (is_listed q) (λ c. nat_eq c d) e j m n
       + at_kind (is_cancelling q) (λ c. nat_eq c d) e j m n ≡ 0 =
       λ d q n. rw ((plain q).0, (plain q).1) refl in
       by_turn j BlankKind e m turns none none none none (by_same x.word y.word word)
@@ -274,7 +281,8 @@ module _ (set : Set) (x y : Numbers) (b : Balanced set x)
                 | inr here ↦ let no : true ≡ false = sym is ∙ here.1 in cc
               ];
           standing = λ d q n is.
-              by_standing Own BlankKind e m turns none none none at words more d q n is (omega arith);
+              by_standing Own BlankKind e m turns none none none at words more d q n is
+              (omega arith);
           once = once;
         }
 
@@ -339,7 +347,8 @@ module _ (set : Set) (x y : Numbers) (b : Balanced set x)
           standing = one_gone BlankKind Own turns no_armed no_listed (λ d q n. refl)
               (λ d q n is far.
               let nothing : at d q n ≡ 0 = far in
-              by_standing BlankKind Own e m turns none none at none words less d q n is (omega arith));
+              by_standing BlankKind Own e m turns none none at none words less d q n is
+              (omega arith));
           once = once;
         }
 
@@ -354,7 +363,8 @@ module _ (set : Set) (x y : Numbers) (b : Balanced set x)
 
     pub balanced_cancels : x.armed e p m ≡ 0 → x.taken e p m ≡ 0 → x.listed e p m ≡ 0
         → y.entries e p m ≡ 0
-        → ((d : ℕ) (q : QueueName) (n : ℕ) → hit e p m d q n ≡ 0 → y.entries d q n ≡ x.entries d q n)
+        → ((d : ℕ) (q : QueueName) (n : ℕ) → hit e p m d q n ≡ 0
+        → y.entries d q n ≡ x.entries d q n)
         → KindTurns x y (Cancelling p) Own e m → Same x.word y.word → Balanced set y
     balanced_cancels no_armed no_taken no_listed no_entry others turns word =
         let words : Moves x.word y.word none none = by_same x.word y.word word in
@@ -440,8 +450,8 @@ module _ (set : Set) (x y : Numbers) (b : Balanced set x)
         (by_fewer e p m x.word y.word word) (by_same x.entries y.entries entries)
         (λ d q n. omega arith) (λ d q n. omega arith) (λ d q n. omega arith)
 
-    -- IoStartPacket puts a packet into a list with its cancel routine set at once; IoStartNextPacket
-    -- takes one off it and empties its word, while nobody has a claim to it there
+    -- IoStartPacket puts a packet into a list with its cancel routine set at once;
+    -- IoStartNextPacket takes one off it and empties its word, while nobody has a claim to it there
     pub balanced_waits : KindTurns x y Own BlankKind e m → More e p m x.word y.word
         → More e p m x.entries y.entries → Balanced set y
     balanced_waits turns word entries =

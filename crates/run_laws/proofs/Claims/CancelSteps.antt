@@ -124,7 +124,8 @@ module _ (set : Set) (states : States) (w : World) (past : List Entry) (good : I
               (Cancelling armer.queue) armer.device n changes refl
               (λ m. rw shared (c.balanced.once m)))
               armer.device armer.queue n changes
-              (λ d l m. rw shared (word_emptied w.shared n armer.device armer.queue p there armer (refl, refl)
+              (λ d l m. rw shared
+              (word_emptied w.shared n armer.device armer.queue p there armer (refl, refl)
               is_set
               d l m))
               (λ d l m. rw shared refl);
@@ -148,7 +149,8 @@ module _ (states : States) (s : Shared) where
       → ((g : Kind → Bool) → OfQueues g → (on : ℕ → Bool) (m : ℕ)
       → stack_sum (frame_names states g on m) frames ≡ 0)
       → Each (FrameApart states) frames
-      → ((m d : ℕ) (q : QueueName) → word_at (find o.shared.packets m) d q ≡ word_at (find s.packets m) d q)
+      → ((m d : ℕ) (q : QueueName)
+      → word_at (find o.shared.packets m) d q ≡ word_at (find s.packets m) d q)
       → o.shared.queues ≡ s.queues → o.shared.starts ≡ s.starts
       → Quiet states s (CancelFrame cancel) o
   cancel_quiet cancel frames o is none others words queues starts =

@@ -178,7 +178,8 @@ module _ (set : Set) (states : States) (s : Shared) (past : List Entry) (a : Act
         let its : list_of s a.device DeviceQueue ≡ Some start.device_queue = rw there refl in
         omega (
           arith,
-          own_named (kind_of (state_of states a) r) (register a r) n m own (reads_ref s (register a r) n reads),
+          own_named (kind_of (state_of states a) r) (register a r) n m own
+              (reads_ref s (register a r) n reads),
           named_le is_own s.issued (state_of states a).kinds a.registers r m h.stays.kinds,
           apart.own DeviceQueue m start.device_queue its may,
         ))

@@ -73,8 +73,8 @@ module _ (set : Set) (driver : ℕ) (name : QueueName) where
   taken_needs locks cancel (Taken other) is h = guard_for locks cancel other is h.1
   taken_needs locks cancel _ is h = cc
 
--- a register with a packet that was handed to the cancel routine of the device queue needs its guard
--- too
+-- a register with a packet that was handed to the cancel routine of the device queue needs its
+-- guard too
 pub waiting_needs : (set : Set) (driver : ℕ)
     → NeedsGuard set driver (is_cancelling DeviceQueue) DeviceQueue
 waiting_needs set driver locks cancel (Cancelling DeviceQueue) is h = h.1
@@ -320,5 +320,6 @@ module _ (set : Set) (states : States) (w : World) (past : List Entry) (good : I
       ap counts frame ∙ (rw (eq-eqb a.device a.device refl) refl) in
       omega (
         arith,
-        below_none set states good a.device name guard.0 f device serves.1 is_guard need w.shared.issued n h.below h.frame (stands_there set states w past good stands t h),
+        below_none set states good a.device name guard.0 f device serves.1 is_guard need
+            w.shared.issued n h.below h.frame (stands_there set states w past good stands t h),
       )

@@ -115,7 +115,8 @@ module _ (states : States) (d : ℕ) (q : QueueName) (n : ℕ) where
       (frame_names states is_own (λ e. true) n) (λ f. frame_rights states f n) rights_three threads
 
 -- what a cancel word names, one word names
-named_word : (o : Option Armer) (d : ℕ) (q : QueueName) → word_for o d q ≤ (if is_some o then 1 else 0)
+named_word : (o : Option Armer) (d : ℕ) (q : QueueName)
+    → word_for o d q ≤ (if is_some o then 1 else 0)
 named_word None d q = omega arith
 named_word (Some armer) d q = some_le _ 1
 
@@ -159,7 +160,8 @@ frame_no_takes states n (Routine a) none =
     rw same at one)
 
 stack_no_takes : (states : States) (n : ℕ) (frames : List Frame)
-    → ((d : ℕ) (q : QueueName) → stack_sum (frame_names states (is_taken q) (λ e. nat_eq e d) n) frames
+    → ((d : ℕ) (q : QueueName)
+    → stack_sum (frame_names states (is_taken q) (λ e. nat_eq e d) n) frames
     ≡ 0)
     → stack_sum (frame_names states was_taken (λ e. true) n) frames ≡ 0
 stack_no_takes states n [] none = refl

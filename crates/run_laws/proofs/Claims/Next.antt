@@ -1,7 +1,7 @@
 -- The packet in a device queue that IoStartNextPacket starts has its cancel routine set, where the
--- packets there have one: it stands in the queue, so that its word or the cancel routine has it; and
--- while the routine holds the system cancel spin lock no other one has a packet that was handed to
--- the cancel routine, nor has this one, which has the token of its device.
+-- packets there have one: it stands in the queue, so that its word or the cancel routine has it;
+-- and while the routine holds the system cancel spin lock no other one has a packet that was handed
+-- to the cancel routine, nor has this one, which has the token of its device.
 use Rattle.std.proofs.Common.{◌≡◌, ◌≤◌, ℕ, Bool, true, false, List, [], ◌∷◌, Option, None, Some, refl, ap, sym, ◌∙◌, subst, arith, ◌+◌, eq-eqb}
 use Rattle.model.specs.Set.{Set, Member, cancel_routine_of, cancels_for, guard_named, has_cancel, member}
 use Rattle.model.specs.Queues.{StartState, head_of}
@@ -48,8 +48,8 @@ use Rattle.run_laws.proofs.States.Along.{arrives_keep}
 use Rattle.run_laws.proofs.States.NoViews.{HasNone, NeverMade, none_arrives}
 use Rattle.run_laws.proofs.States.Rules.{first_none, granted, second_none}
 
--- kinds that no instruction makes: of a packet of the device queue in a register, but for one that is
--- being cancelled; and of one that is being cancelled at all
+-- kinds that no instruction makes: of a packet of the device queue in a register, but for one that
+-- is being cancelled; and of one that is being cancelled at all
 abbrev pub is_waiting : Kind → Bool
 is_waiting (Listed DeviceQueue) = true
 is_waiting (Armed DeviceQueue) = true

@@ -181,7 +181,8 @@ module _ (set : Set) (states : States) (w : World) (past : List Entry) (good : I
         (λ n. times_pushed entries m n) d p n
 
     inserts_by : (cancel : Option ℕ) → cancel_routine_of set a.driver q ≡ cancel
-        → TurnsNames states a (next a) Own (kind_inserted cancel (Declared q)) m → Claimed set states to
+        → TurnsNames states a (next a) Own (kind_inserted cancel (Declared q)) m
+        → Claimed set states to
     inserts_by None none turns =
         let changes : Changes Own BlankKind m =
         kind_turns set states w past good stands c t h leaves a (next a) Own BlankKind m frame
@@ -273,12 +274,14 @@ module _ (set : Set) (states : States) (w : World) (past : List Entry) (good : I
 
       removed_listed : names_on states (is_listed (Declared q)) a.device m w.threads ≡ 0
       removed_listed =
-          alone (Remove r q label) (Declared q) run (first_none _ _ run.obeys) (is_listed (Declared q))
+          alone (Remove r q label) (Declared q) run (first_none _ _ run.obeys)
+          (is_listed (Declared q))
           (listed_needs set a.driver (Declared q)) m ∙ none_listed m
 
       removed_armed : names_on states (is_armed (Declared q)) a.device m w.threads ≡ 0
       removed_armed =
-          alone (Remove r q label) (Declared q) run (first_none _ _ run.obeys) (is_armed (Declared q))
+          alone (Remove r q label) (Declared q) run (first_none _ _ run.obeys)
+          (is_armed (Declared q))
           (armed_needs set a.driver (Declared q)) m ∙ none_armed m
 
       -- it stands in the queue, so that it wasn't taken off one
@@ -306,7 +309,8 @@ module _ (set : Set) (states : States) (w : World) (past : List Entry) (good : I
             removed_fewer n,
           ))
 
-      removed_entries : (d : ℕ) (p : QueueName) (n : ℕ) → times_of (list_of to.shared d p) n + hit a.device (Declared q) m d p n
+      removed_entries : (d : ℕ) (p : QueueName) (n : ℕ)
+          → times_of (list_of to.shared d p) n + hit a.device (Declared q) m d p n
           ≡ times_of (list_of w.shared d p) n
       removed_entries d p n =
           entries_fewer w.shared to.shared a.device (Declared q) m (m ∷ entries) entries
@@ -323,7 +327,8 @@ module _ (set : Set) (states : States) (w : World) (past : List Entry) (good : I
           run.here)
 
       removes_by : (cancel : Option ℕ) → cancel_routine_of set a.driver q ≡ cancel
-          → TurnsNames states a taker BlankKind (kind_removed cancel (Declared q)) m → Claimed set states to
+          → TurnsNames states a taker BlankKind (kind_removed cancel (Declared q)) m
+          → Claimed set states to
       removes_by None none turns =
           let changes : Changes BlankKind Own m =
           kind_turns set states w past good stands c t h leaves a taker BlankKind Own m frame frames
@@ -353,7 +358,8 @@ module _ (set : Set) (states : States) (w : World) (past : List Entry) (good : I
                 (λ n.
                 omega (arith, changes.takes n, removed_lists n, c.balanced.once n))
                 a.device (Declared q) m
-                (cancelable_is set a.device a.driver (Declared q) (Some cancel) run.stays.serves some)
+                (cancelable_is set a.device a.driver (Declared q)
+                (Some cancel) run.stays.serves some)
                 removed_armed removed_taken removed_listed
                 changes
                 words_same removed_entries;
@@ -395,7 +401,8 @@ module _ (set : Set) (states : States) (w : World) (past : List Entry) (good : I
           in
           omega (
             arith,
-            named_le (is_cancelling name) w.shared.issued (state_of states a).kinds a.registers r m run.stays.kinds,
+            named_le (is_cancelling name) w.shared.issued
+                (state_of states a).kinds a.registers r m run.stays.kinds,
           )
 
       pub unlinks_cancelled : Claimed set states to
@@ -478,7 +485,8 @@ module _ (set : Set) (states : States) (w : World) (past : List Entry) (good : I
           ))
 
       put : Puts w.shared to.shared a.device (Declared q) entries (unlinked entries m)
-      put = puts_queue w.shared to.shared a.device q entries (unlinked entries m) there queues starts
+      put = puts_queue w.shared to.shared a.device q entries
+          (unlinked entries m) there queues starts
 
       unlinks_by : Unlinks (Declared q) (kind_of (state_of states a) r) → Claimed set states to
       unlinks_by (inl is) =
@@ -492,7 +500,8 @@ module _ (set : Set) (states : States) (w : World) (past : List Entry) (good : I
           in
           let stand : names_on states (is_listed (Declared q)) a.device m w.threads
           + names_on states (is_armed (Declared q)) a.device m w.threads
-          ≤ times_of (queue_of w.shared a.device q) m = c.balanced.standing a.device (Declared q) m refl in
+          ≤ times_of (queue_of w.shared a.device q) m =
+          c.balanced.standing a.device (Declared q) m refl in
           let its : times_of (queue_of w.shared a.device q) m ≡ times_in entries m =
           ap (λ (o : Option (List ℕ)). times_of o m) there in
           let some : 1 ≤ times_in entries m = omega arith in

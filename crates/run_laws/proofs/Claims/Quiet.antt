@@ -57,7 +57,8 @@ pub record Quiet (states : States) (s : Shared) (f : Frame) (o : Outcome) : Type
   pub names : (g : Kind → Bool) → OfQueues g → (on : ℕ → Bool) (n : ℕ)
       → stack_sum (frame_names states g on n) o.frames ≡ frame_names states g on n f
   pub apart : FrameApart states f → Each (FrameApart states) o.frames
-  pub words : (n d : ℕ) (q : QueueName) → word_at (find o.shared.packets n) d q ≡ word_at (find s.packets n) d q
+  pub words : (n d : ℕ) (q : QueueName)
+      → word_at (find o.shared.packets n) d q ≡ word_at (find s.packets n) d q
   pub queues : o.shared.queues ≡ s.queues
   pub starts : o.shared.starts ≡ s.starts
 
@@ -197,7 +198,8 @@ module _ (set : Set) (states : States) (s : Shared) (past : List Entry) (actor :
       → ((g : Kind → Bool) → OfQueues g → (on : ℕ → Bool) (n : ℕ)
       → stack_sum (frame_names states g on n) above ≡ 0)
       → Each (FrameApart states) above
-      → ((n d : ℕ) (q : QueueName) → word_at (find o.shared.packets n) d q ≡ word_at (find s.packets n) d q)
+      → ((n d : ℕ) (q : QueueName)
+      → word_at (find o.shared.packets n) d q ≡ word_at (find s.packets n) d q)
       → o.shared.queues ≡ s.queues → o.shared.starts ≡ s.starts → Quiet states s (Routine a) o
   goes_quiet a b above o keeps device frames none others words queues starts =
       record {
@@ -215,7 +217,8 @@ module _ (set : Set) (states : States) (s : Shared) (past : List Entry) (actor :
 
   pub on_quiet : (a b : Activation) (o : Outcome) → KeepsNames states a b → b.device ≡ a.device
       → o.frames ≡ Routine b ∷ []
-      → ((n d : ℕ) (q : QueueName) → word_at (find o.shared.packets n) d q ≡ word_at (find s.packets n) d q)
+      → ((n d : ℕ) (q : QueueName)
+      → word_at (find o.shared.packets n) d q ≡ word_at (find s.packets n) d q)
       → o.shared.queues ≡ s.queues → o.shared.starts ≡ s.starts → Quiet states s (Routine a) o
   on_quiet a b o keeps device frames words queues starts =
       goes_quiet a b [] o keeps device frames (λ g of on n. refl) tt words queues starts
@@ -223,7 +226,8 @@ module _ (set : Set) (states : States) (s : Shared) (past : List Entry) (actor :
   -- a routine returns
   returns_quiet : (a : Activation) (form : Return) (o : Outcome) → Runs set states s a (Ret form)
       → o.frames ≡ []
-      → ((n d : ℕ) (q : QueueName) → word_at (find o.shared.packets n) d q ≡ word_at (find s.packets n) d q)
+      → ((n d : ℕ) (q : QueueName)
+      → word_at (find o.shared.packets n) d q ≡ word_at (find s.packets n) d q)
       → o.shared.queues ≡ s.queues → o.shared.starts ≡ s.starts → Quiet states s (Routine a) o
   returns_quiet a form o h frames words queues starts =
       let back : Bool = gives_back (sort_of set a.driver a.routine) form in
@@ -245,7 +249,8 @@ module _ (set : Set) (states : States) (s : Shared) (past : List Entry) (actor :
       → ((g : Kind → Bool) → OfQueues g → (on : ℕ → Bool) (m : ℕ)
       → stack_sum (frame_names states g on m) frames ≡ 0)
       → Each (FrameApart states) frames
-      → ((m d : ℕ) (q : QueueName) → word_at (find o.shared.packets m) d q ≡ word_at (find s.packets m) d q)
+      → ((m d : ℕ) (q : QueueName)
+      → word_at (find o.shared.packets m) d q ≡ word_at (find s.packets m) d q)
       → o.shared.queues ≡ s.queues → o.shared.starts ≡ s.starts → Quiet states s (Walk n) o
   walk_quiet n frames o is none others words queues starts =
       record {

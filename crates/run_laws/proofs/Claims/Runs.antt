@@ -61,7 +61,8 @@ module _ (set : Set) (states : States) (w : World) (past : List Entry) (good : I
       → slice_get w.threads t ≡ Some thread → thread.frames.items ≡ [] → after.frames.items ≡ f ∷ []
       → ((g : Kind → Bool) → OfQueues g → (on : ℕ → Bool) (n : ℕ) → frame_names states g on n f ≡ 0)
       → FrameApart states f
-      → ((n d : ℕ) (q : QueueName) → word_at (find s.packets n) d q ≡ word_at (find w.shared.packets n) d q)
+      → ((n d : ℕ) (q : QueueName)
+      → word_at (find s.packets n) d q ≡ word_at (find w.shared.packets n) d q)
       → s.queues ≡ w.shared.queues
       → ((d n : ℕ) → is_cancelable set d DeviceQueue ≡ true
       → times_of (list_of s d DeviceQueue) n ≤ times_of (list_of w.shared d DeviceQueue) n)
@@ -91,7 +92,8 @@ module _ (set : Set) (states : States) (w : World) (past : List Entry) (good : I
       (v : Value) → BeginsPlain sort → Enters set states issued a sort v
       → slice_get w.threads t ≡ Some thread → thread.frames.items ≡ []
       → after.frames.items ≡ Routine a ∷ []
-      → ((n d : ℕ) (q : QueueName) → word_at (find s.packets n) d q ≡ word_at (find w.shared.packets n) d q)
+      → ((n d : ℕ) (q : QueueName)
+      → word_at (find s.packets n) d q ≡ word_at (find w.shared.packets n) d q)
       → s.queues ≡ w.shared.queues
       → ((d n : ℕ) → is_cancelable set d DeviceQueue ≡ true
       → times_of (list_of s d DeviceQueue) n ≤ times_of (list_of w.shared d DeviceQueue) n)

@@ -242,7 +242,8 @@ module _ (set : Set) (states : States) (w : World) (past : List Entry) (good : I
       lists_by a b w.shared.starts frame outcome names device (λ d n may. omega arith)
       c.balanced.once
 
-  start_by : (a b : Activation) (i : Instr) (start after : StartState) {actions : List Action} {full : Bool}
+  start_by : (a b : Activation) (i : Instr)
+      (start after : StartState) {actions : List Action} {full : Bool}
       → h.frame ≡ Routine a
       → Runs set states w.shared a i
       → h.outcome ≡ queued_to w.shared b w.shared.queues
@@ -340,7 +341,8 @@ module _ (set : Set) (states : States) (w : World) (past : List Entry) (good : I
         waits_given start n m,
       )))
   queues_by a i frame run outcome holding (takes_out r label n start there slot) quiet =
-      start_by a (next (with_register a r (Ref n))) (Take r label) start (with_slot start None) frame
+      start_by a (next (with_register a r (Ref n))) (Take r label) start
+      (with_slot start None) frame
       run outcome
       (turns_nothing states a (next (with_register a r (Ref n))) BlankKind Own n refl refl
       (next_takes set states w.shared a (Take r label) run r Own n refl refl

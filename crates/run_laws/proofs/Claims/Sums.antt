@@ -112,9 +112,11 @@ numbers states w =
 
 -- who has a claim is backed by the word or by the cancel routine; an entry of a queue with a cancel
 -- routine has its word, its cancel routine, or a register of kind Listed; a register of kind Listed
--- or Armed names an entry of its queue; and a packet stands in one list, or was taken off by one, or neither
+-- or Armed names an entry of its queue; and a packet stands in one list, or was taken off by one,
+-- or neither
 pub record Balanced (set : Set) (x : Numbers) : Type 0 where
-  pub backed : (d : ℕ) (q : QueueName) (n : ℕ) → x.armed d q n + x.taken d q n ≤ x.word d q n + x.cancelling d q n
+  pub backed : (d : ℕ) (q : QueueName) (n : ℕ)
+      → x.armed d q n + x.taken d q n ≤ x.word d q n + x.cancelling d q n
   pub entered : (d : ℕ) (q : QueueName) (n : ℕ) → is_cancelable set d q ≡ true
       → x.entries d q n ≤ x.word d q n + x.cancelling d q n + x.listed d q n
   pub standing : (d : ℕ) (q : QueueName) (n : ℕ) → is_declared q ≡ true

@@ -1,6 +1,6 @@
--- An instruction that starts packets keeps claims where packets that wait can be cancelled: one that
--- has to wait goes into the device queue with its cancel routine set, and the next one that is started
--- leaves it without one.
+-- An instruction that starts packets keeps claims where packets that wait can be cancelled: one
+-- that has to wait goes into the device queue with its cancel routine set, and the next one that is
+-- started leaves it without one.
 use Rattle.std.proofs.Common.{◌≡◌, ℕ, ◌+◌, ◌≤◌, Bool, true, List, [], ◌∷◌, Option, None, Some, refl, ap, subst, arith}
 use Rattle.std.specs.Prelude.{nat_eq, is_some, if◌then◌else◌}
 use Rattle.model.specs.declared.abs.Kind.{Kind}

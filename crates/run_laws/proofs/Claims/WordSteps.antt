@@ -78,7 +78,8 @@ names_both _ _ h = absurd (omega arith)
 abbrev pub IsFor : Armer → ℕ → QueueName → Type 0
 IsFor armer d q = (armer.device ≡ d) × (armer.queue ≡ q)
 
-pub word_is_for : (armer : Armer) (d : ℕ) (q : QueueName) → 1 ≤ word_for (Some armer) d q → IsFor armer d q
+pub word_is_for : (armer : Armer) (d : ℕ) (q : QueueName) → 1 ≤ word_for (Some armer) d q
+    → IsFor armer d q
 word_is_for armer d q h =
     let both : (nat_eq armer.device d ≡ true) × (is_name armer.queue q ≡ true) =
     names_both (nat_eq armer.device d) (is_name armer.queue q) h in
@@ -97,7 +98,8 @@ word_hit armer d q m e p is =
     rw (is.0, is.1, eq-eqb m m refl) (if_both (nat_eq d e) (is_name q p) 1)
 
 -- a packet's word before and after: filled, or emptied
-module _ (s : Shared) (m d : ℕ) (q : QueueName) (p : Packet) (there : packet_of s m ≡ Some p) (armer : Armer)
+module _ (s : Shared) (m d : ℕ) (q : QueueName) (p : Packet) (there : packet_of s m ≡ Some p)
+    (armer : Armer)
     (is : IsFor armer d q) where
   pub hit_other : (e : ℕ) (l : QueueName) (n : ℕ) → nat_eq m n ≡ false → hit d q m e l n ≡ 0
   hit_other e l n other =
@@ -262,7 +264,8 @@ module _ (set : Set) (states : States) (w : World) (past : List Entry) (good : I
           let named : times_named (packet_of w.shared m) ≡ (if is_some p.armer then 1 else 0) =
           ap times_named there in
           let empty : p.armer ≡ None = no_armer p.armer (omega arith) in
-          let word : word_at (find w.shared.packets m) a.device (Declared q) ≤ times_waiting set w.shared m =
+          let word : word_at (find w.shared.packets m) a.device (Declared q)
+          ≤ times_waiting set w.shared m =
           word_holds set states w kept m a.device (Declared q) in
           let backed : names_on states (is_armed (Declared q)) a.device m w.threads
           + names_on states (is_taken (Declared q)) a.device m w.threads
@@ -291,13 +294,15 @@ module _ (set : Set) (states : States) (w : World) (past : List Entry) (good : I
                 (λ n. rw shared (c.balanced.once n)))
                 a.device (Declared q) m
                 changes
-                (λ d l n. rw shared (word_filled w.shared m a.device (Declared q) p there (armer_of a q)
+                (λ d l n. rw shared
+                (word_filled w.shared m a.device (Declared q) p there (armer_of a q)
                 (refl, refl)
                 empty d l n))
                 (λ d l n. rw shared refl);
             apart = all_apart set states w past good stands c t h leaves
                 (rw frames (
-                  apart_up states a (next a) (Listed (Declared q)) (Armed (Declared q)) m (Declared q) turns
+                  apart_up states a (next a) (Listed (Declared q)) (Armed (Declared q)) m
+                      (Declared q) turns
                       ((λ l n e. omega arith), (λ l. refl)) (omega arith) apart_a,
                   tt,
                 ));

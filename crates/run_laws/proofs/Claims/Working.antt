@@ -94,7 +94,8 @@ NewClaim k q =
     ≡ (if is_name q p then (if nat_eq m n then 1 else 0) else 0))
     × ((p : QueueName) → is_cancelling p k ≡ false)
 
-claim_tells : (l q : QueueName) (m n sum : ℕ) → sum ≡ (if is_name l q then (if nat_eq m n then 1 else 0) else 0)
+claim_tells : (l q : QueueName) (m n sum : ℕ)
+    → sum ≡ (if is_name l q then (if nat_eq m n then 1 else 0) else 0)
     → (sum ≡ 0) ⊎ ((l ≡ q) × (m ≡ n) × (sum ≡ 1))
 claim_tells l q m n sum h =
     elim (names_tell l q) [
@@ -167,7 +168,8 @@ taken_le states w d q n =
 
 -- a queue of the device has a cancel routine
 pub cancelable_is : (set : Set) (d driver : ℕ) (q : QueueName) (o : Option ℕ)
-    → Serves set d driver → cancel_routine_named set driver q ≡ o → is_cancelable set d q ≡ is_some o
+    → Serves set d driver → cancel_routine_named set driver q ≡ o
+    → is_cancelable set d q ≡ is_some o
 cancelable_is set d driver q o serves is =
     let its : routine_of_device (slice_get set.devices d) ≡ driver =
     ap routine_of_device serves.1 ∙ serves.2 in

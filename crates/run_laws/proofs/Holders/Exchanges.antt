@@ -58,7 +58,8 @@ let_go_right set driver lock (Armed name) =
     (λ (k : Kind). is_right k ≡ false) (λ guards. refl) (λ other. refl)
 let_go_right set driver lock _ = refl
 
-all_go_rights : (set : Set) (driver : ℕ) (lock : Guard) (kinds : List Kind) (values : List Value) (n : ℕ)
+all_go_rights : (set : Set) (driver : ℕ) (lock : Guard) (kinds : List Kind) (values : List Value)
+    (n : ℕ)
     → rights (all_let_go set driver lock kinds) values n ≡ rights kinds values n
 all_go_rights set driver lock [] values n = refl
 all_go_rights set driver lock (k ∷ kinds) [] n = refl

@@ -240,7 +240,8 @@ module _ (set : Set) (states : States) (s : Shared) (past : List Entry) (actor :
         (armer : Option Armer) (full : Bool) → packet_of s n ≡ Some p
         → Waits set s a i starts n armer full → Executing set a i → NextArmed set s (Routine a)
         → is_some armer ≡ false → is_some p.armer ≡ true
-    held_word a i starts n p armer full there (arms_waiting r m start reads is armed) at ready free =
+    held_word a i starts n p armer full there
+        (arms_waiting r m start reads is armed) at ready free =
         cc
     held_word a i starts n p armer full there (disarms_next m start is first) at ready free =
         let word : (armer : Armer) × (p.armer ≡ Some armer) × (armer.device ≡ a.device)
@@ -263,7 +264,13 @@ module _ (set : Set) (states : States) (s : Shared) (past : List Entry) (actor :
               ≡ unheld (find s.packets m) = unheld_set s n p at q its refl m in
               omega (
                 arith,
-                waited_rights set states s a i h waits p (λ r own reads. right_unarmed set states s past a holding h.stays.kinds r n own reads p there) (λ free. held_word a i starts n p armer full there waits at_next ready free) (λ k. times_named (packet_of (with_packet s n q) k)) (λ k was now. omega (arith, waits_won s n p at q its set was now k)) (λ k was now. omega (arith, waits_lost s n p at q its set was now k)) m,
+                waited_rights set states s a i h waits p
+                    (λ r own reads. right_unarmed set states s past a holding h.stays.kinds r n own
+                    reads p there)
+                    (λ free. held_word a i starts n p armer full there waits at_next ready free)
+                    (λ k. times_named (packet_of (with_packet s n q) k))
+                    (λ k was now. omega (arith, waits_won s n p at q its set was now k))
+                    (λ k was now. omega (arith, waits_lost s n p at q its set was now k)) m,
               );
           walks = λ stays m.
               let packets : held (find (with_packet s n q).packets m) ≡ held (find s.packets m) =
@@ -482,7 +489,8 @@ module _ (set : Set) (states : States) (s : Shared) (past : List Entry) (actor :
       → HoldStep set states s under f o
   hold under f o top holding slot lent ready (errs a lacks) quiet =
       kept under a a o (λ n. refl) refl refl (λ n. refl) (λ n. refl) (λ n. refl)
-  hold under f o top holding slot lent ready (awaits_lock a i lock owner at takes owned other) quiet =
+  hold under f o top holding slot lent ready
+      (awaits_lock a i lock owner at takes owned other) quiet =
       kept under a a o (λ n. refl) refl refl (λ n. refl) (λ n. refl) (λ n. refl)
   hold under f o top holding slot lent ready (computes a i b jumped cells at is goes long) quiet =
       kept under a b o (λ n. refl) refl (lent_same set a b (goes_same a i b jumped goes))
@@ -508,7 +516,8 @@ module _ (set : Set) (states : States) (s : Shared) (past : List Entry) (actor :
       kept under a b o (λ n. refl) refl (lent_same set a b (goes_same a i b false goes))
       (goes_rights set states s a i (runs set states s a i top at) b false (rw is refl) goes)
       (λ n. refl) (λ n. refl)
-  hold under f o top holding slot lent ready (touches_gone a i r n at is on operand reads gone) quiet =
+  hold under f o top holding slot lent ready
+      (touches_gone a i r n at is on operand reads gone) quiet =
       absurd (topped_faults past n
       (gone_topped s past n holding.tells (named s (register a r) n reads) gone) quiet)
   hold under f o top holding slot lent ready
@@ -516,7 +525,8 @@ module _ (set : Set) (states : States) (s : Shared) (past : List Entry) (actor :
       kept under a b o (λ n. refl) refl (lent_same set a b (goes_same a i b jumped goes))
       (goes_rights set states s a i (runs set states s a i top at) b jumped (rw is refl) goes)
       (λ m. refl) (λ m. refl)
-  hold under f o top holding slot lent ready (writes_info a q r n p info at reads there number) quiet =
+  hold under f o top holding slot lent ready
+      (writes_info a q r n p info at reads there number) quiet =
       works_on under a (next a) n p (with_info p info) o there refl refl refl refl refl refl
       (still_rights set states s a (Put q r) (runs set states s a (Put q r) top at) refl refl refl)
   hold under f o top holding slot lent ready (marks_packet a r n p at reads there) quiet =
@@ -558,9 +568,11 @@ module _ (set : Set) (states : States) (s : Shared) (past : List Entry) (actor :
       (runs set states s a i top at).stays.kinds r n own reads gone) queued refl
   hold under f o top holding slot lent ready
       (works_on_waiting a i starts n p armer full at there waits) quiet =
-      waiting_hold under a i starts n p armer full (runs set states s a i top at) holding there waits
+      waiting_hold under a i starts n p armer full
+      (runs set states s a i top at) holding there waits
       at ready
-  hold under f o top holding slot lent ready (completes_packet a r status n p at reads there) quiet =
+  hold under f o top holding slot lent ready
+      (completes_packet a r status n p at reads there) quiet =
       completes under a r status n p o (runs set states s a (Complete r status) top at) holding
       reads
       there refl refl
@@ -570,12 +582,14 @@ module _ (set : Set) (states : States) (s : Shared) (past : List Entry) (actor :
       absurd (right_lives set states s past a holding h.stays.kinds r n
       (completes_one (state_of states a) (sort_of set a.driver a.routine) set a.driver r status
       h.obeys).right reads gone)
-  hold under f o top holding slot lent ready (passes_down a r n p lower at reads there below) quiet =
+  hold under f o top holding slot lent ready
+      (passes_down a r n p lower at reads there below) quiet =
       sends under a (Pass r) (runs set states s a (Pass r) top at) r lower n p (shared_with p lower)
       o
       refl refl refl
       reads there below refl refl refl refl refl
-  hold under f o top holding slot lent ready (calls_down a r g n p lower at reads there below) quiet =
+  hold under f o top holding slot lent ready
+      (calls_down a r g n p lower at reads there below) quiet =
       sends under a (Call r g) (runs set states s a (Call r g) top at) r lower n p
       (sent_down p lower (set_by a g)) o
       refl refl refl reads there below refl refl refl refl refl

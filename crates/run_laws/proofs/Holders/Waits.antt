@@ -528,7 +528,8 @@ waited_rights set states s a i h (arms_waiting r n start reads there armed) p un
     rights_given set states s a (Start r) h r n refl refl right reads m in
     let both : (has_cancel set a.driver DeviceQueue ≡ true) × (start.busy ≡ true) =
     and_both (has_cancel set a.driver DeviceQueue) start.busy armed in
-    let may : waits_cancelable set a.device ≡ true = served_waits set states s a (Start r) h ∙ both.0
+    let may : waits_cancelable set a.device ≡ true =
+    served_waits set states s a (Start r) h ∙ both.0
     in
     let same : times_at (waits_cancelable set a.device) (started start n) m
     ≡ times_at (waits_cancelable set a.device) start m = rw may (times_waited start n m both.1) in

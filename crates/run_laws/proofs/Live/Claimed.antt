@@ -91,7 +91,8 @@ module _ (set : Set) (states : States) (w : World) (past : List Entry) (good : I
   pub claims_live : (t : ℕ) (h : StepsFrame set w t) → ClaimsLive states w.shared h.frame
   claims_live t h = frame_claims t h h.frame refl
 
-  entries_of : (d : ℕ) (q : QueueName) (n : ℕ) (entries : List ℕ) (b : Bool) → list_of w.shared d q ≡ Some entries
+  entries_of : (d : ℕ) (q : QueueName) (n : ℕ) (entries : List ℕ) (b : Bool)
+      → list_of w.shared d q ≡ Some entries
       → is_cancelable set d q ≡ b → times_in entries n ≤ unheld (find w.shared.packets n)
   entries_of d q n entries true there may =
       let entered : times_of (list_of w.shared d q) n

@@ -85,7 +85,8 @@ onto_says : (set : Set) (driver : ℕ) (s : Abs) (i : Instr) (jumped : Bool) (d 
 onto_says set driver s i false d l quiet = handed_says set driver s i d l quiet
 onto_says set driver s i true d l quiet = label_says s i d l
 
-queued_quiet : {set : Set} {s : Shared} {a b : Activation} {i : Instr} {queues : List (List (List ℕ))}
+queued_quiet : {set : Set} {s : Shared} {a b : Activation} {i : Instr} {queues : List
+    (List (List ℕ))}
     {lists : List StartState} {actions : List Action} {full : Bool}
     → Queued set s a i b queues lists actions full → is_locking (work_of i) ≡ false
 queued_quiet queued = ap is_locking (queued_work queued)

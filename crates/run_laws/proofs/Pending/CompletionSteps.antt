@@ -89,14 +89,16 @@ pub never_new : (s : Abs) (r : ℕ) → HasNone is_new s → kind_of s r ≡ New
 never_new s r none new =
     let no : true ≡ false = sym (ap is_new new) ∙ none_at is_new handed_news s.kinds r none in cc
 
-queued_beyond : (m : ℕ) {set : Set} {s : Shared} {a b : Activation} {i : Instr} {queues : List (List (List ℕ))}
+queued_beyond :
+    (m : ℕ) {set : Set} {s : Shared} {a b : Activation} {i : Instr} {queues : List (List (List ℕ))}
     {lists : List StartState} {actions : List Action} {full : Bool}
     → Queued set s a i b queues lists actions full
     → list_any (tells_beyond m) (Executes ∷ actions) ≡ false
 queued_beyond m queued =
     elim (queued_touches queued) [ inl empty ↦ rw empty refl | inr one ↦ rw one.1 refl ]
 
-pub queued_silent : {set : Set} {s : Shared} {a b : Activation} {i : Instr} {queues : List (List (List ℕ))}
+pub queued_silent : {set : Set} {s : Shared} {a b : Activation} {i : Instr} {queues : List
+    (List (List ℕ))}
     {lists : List StartState} {actions : List Action} {full : Bool}
     → Queued set s a i b queues lists actions full
     → list_any is_telling (Executes ∷ actions) ≡ false

@@ -380,10 +380,12 @@ module _ (set : Set) (states : States) (s : Shared) (past : List Entry) (actor :
       (lists : List StartState) (actions : List Action) (full : Bool) → Executing set a i
       → Queued set s a i b queues lists actions full → GoesOnAs states a b
   queued_as i b queues lists actions full at (inserts r q n entries reads there) =
-      next_turns (Insert r q) r (kind_inserted (cancel_routine_of set a.driver q) (Declared q)) at refl refl
+      next_turns (Insert r q) r
+      (kind_inserted (cancel_routine_of set a.driver q) (Declared q)) at refl refl
       refl refl (λ x. inserted_lower x (cancel_routine_of set a.driver q) q (register a r))
   queued_as i b queues lists actions full at (removes r q label n entries there) =
-      takes_own (Remove r q label) r n (kind_removed (cancel_routine_of set a.driver q) (Declared q)) at
+      takes_own (Remove r q label) r n
+      (kind_removed (cancel_routine_of set a.driver q) (Declared q)) at
       (removes r q label n entries there) refl refl refl
   queued_as i b queues lists actions full at (removes_none r q label there) =
       takes_nothing (Remove r q label) r label at refl refl refl

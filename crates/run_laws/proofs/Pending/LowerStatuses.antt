@@ -108,7 +108,8 @@ go_lower b set driver lock (Armed name) v h =
     (λ k. LowerIs b k v) (λ guards. tt) (λ other. tt)
 go_lower b set driver lock _ v h = h
 
-lowers_go : (b : Bool) (set : Set) (driver : ℕ) (lock : Guard) (kinds : List Kind) (values : List Value)
+lowers_go : (b : Bool) (set : Set) (driver : ℕ) (lock : Guard) (kinds : List Kind)
+    (values : List Value)
     → Lowers b kinds values → Lowers b (all_let_go set driver lock kinds) values
 lowers_go b set driver lock [] values h = tt
 lowers_go b set driver lock (k ∷ kinds) [] h = tt

@@ -220,7 +220,8 @@ module _ (f : Kind → Bool) (claim : IsClaim f) (M : ℕ → Type 0) where
       others (suc count) = ((λ is. empty), others count)
 
   -- once a guard is released
-  go_claim : (set : Set) (driver : ℕ) (lock : Guard) (k : Kind) → f (let_go set driver lock k) ≡ true
+  go_claim : (set : Set) (driver : ℕ) (lock : Guard) (k : Kind)
+      → f (let_go set driver lock k) ≡ true
       → f k ≡ true
   go_claim set driver lock (Armed name) =
       cond_both (is_guard (guard_named set driver name) lock) BlankKind (Armed name)

@@ -331,7 +331,8 @@ module _ (set : Set) (states : States) (w : World) (past : List Entry) (good : I
               starts = start_put_room set w.shared roomy.waiting h.d h.start start h.has
                   (λ m some.
                   let gone : times_at (waits_cancelable set h.d) start m
-                  + (if nat_eq h.n m then 1 else 0) ≡ times_at (waits_cancelable set h.d) h.start m =
+                  + (if nat_eq h.n m then 1 else 0)
+                  ≡ times_at (waits_cancelable set h.d) h.start m =
                   times_first (waits_cancelable set h.d) h.start h.n m h.first in
                   roomy.waiting.starts h.d m h.start h.has (omega arith));
               words = roomy.waiting.words;

@@ -291,7 +291,8 @@ module _ (set : Set) (states : States) (s : Shared) (a : Activation)
     (room : FrameRoom set states s a) (waiting : WaitingRoom set s) where
   removed_place : (f : Kind → Bool) → IsClaim f → (q n : ℕ) (entries : List ℕ)
       → Serves set a.device a.driver → queue_of s a.device q ≡ Some (n ∷ entries)
-      → f (kind_removed (cancel_routine_of set a.driver q) (Declared q)) ≡ true → HasPlace set s a.device n
+      → f (kind_removed (cancel_routine_of set a.driver q) (Declared q)) ≡ true
+      → HasPlace set s a.device n
   removed_place f claim q n entries serves there is =
       waiting.queues a.device q n (n ∷ entries) there
       (served_cancels set a.device a.driver q serves
@@ -511,7 +512,8 @@ module _ (set : Set) (states : States) (s : Shared) (a : Activation) (after : Sh
   waiting_waits i h {starts = starts} (arms_waiting r n start reads there armed) place =
       let both : (has_cancel set a.driver DeviceQueue ≡ true) × (start.busy ≡ true) =
       and_both (has_cancel set a.driver DeviceQueue) start.busy armed in
-      let may : waits_cancelable set a.device ≡ true = served_waits set states s a (Start r) h ∙ both.0
+      let may : waits_cancelable set a.device ≡ true =
+      served_waits set states s a (Start r) h ∙ both.0
       in
       let here : start_of after a.device ≡ Some start =
       ap (λ (xs : List StartState). slice_get xs a.device) same ∙ there in
@@ -531,7 +533,8 @@ module _ (set : Set) (states : States) (s : Shared) (a : Activation) (after : Sh
       let both : (has_cancel set a.driver DeviceQueue ≡ true)
       × (head_of start.device_queue ≡ Some n) =
       first_both (has_cancel set a.driver DeviceQueue) (head_of start.device_queue) n first in
-      let may : waits_cancelable set a.device ≡ true = served_waits set states s a Next h ∙ both.0 in
+      let may : waits_cancelable set a.device ≡ true =
+      served_waits set states s a Next h ∙ both.0 in
       let here : start_of after a.device ≡ Some start =
       ap (λ (xs : List StartState). slice_get xs a.device) same ∙ there in
       record {

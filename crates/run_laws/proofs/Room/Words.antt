@@ -33,7 +33,8 @@ module _ (set : Set) (states : States) (w : World) (past : List Entry) (good : I
     (stands : Standing set states w past) (held : Held set states w)
     (claimed : Claimed set states w)
   where
-    backed_device : (d : ℕ) (q : QueueName) (n : ℕ) (p : Packet) (armer : Armer) → find w.shared.packets n ≡ Some p
+    backed_device : (d : ℕ) (q : QueueName) (n : ℕ) (p : Packet) (armer : Armer)
+        → find w.shared.packets n ≡ Some p
         → p.armer ≡ Some armer
         → 1 ≤ names_on states (is_armed q) d n w.threads
         + names_on states (is_taken q) d n w.threads

@@ -506,7 +506,8 @@ module _ (set : Set) (states : States) (s : Shared) (past : List Entry) (actor :
       }
   leaves_fine under f o h quiet (works_on_waiting a i starts n p armer full at there waits) =
       let run : Runs set states s a i = runs set states s a i h at in
-      let on : MovedOn set states s a i (next a) s.queues starts = waits_move set states s a i run waits
+      let on : MovedOn set states s a i (next a) s.queues starts =
+      waits_move set states s a i run waits
       in
       record {
         fits = with_queues_fits set (with_packet s n (with_armer p armer))

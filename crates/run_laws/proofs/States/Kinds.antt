@@ -331,8 +331,10 @@ module _ (s : Abs) (sort : Sort) (set : Set) (driver : ℕ) where
   same_kinds issued values (Mark r) keeps same on stays h =
       mark_kinds issued values r (kind_of s r) keeps (kinds_get issued s.kinds values r h) h
   same_kinds issued values (Insert r q) keeps same on stays h =
-      kinds_turn issued s.kinds values r (kind_inserted (cancel_routine_of set driver q) (Declared q)) h
-      (inserted_suits issued (cancel_routine_of set driver q) (Declared q) (slice_index_or values r Blank)
+      kinds_turn issued s.kinds values r
+      (kind_inserted (cancel_routine_of set driver q) (Declared q)) h
+      (inserted_suits issued (cancel_routine_of set driver q) (Declared q)
+      (slice_index_or values r Blank)
       (packet_there issued values (Insert r q) r keeps refl h))
   same_kinds issued values (Unlink r q) keeps same on stays h =
       kinds_turn issued s.kinds values r Own h

@@ -256,7 +256,8 @@ module _ (set : Set) (driver : ℕ) where
   left_fits locks cancel (Cancelling name) = tt
   left_fits locks cancel View = tt
 
-  set_fits : (s : Abs) (r : ℕ) (k : Kind) → KindFits set driver s.locks s.cancel k → AllFit set driver s
+  set_fits : (s : Abs) (r : ℕ) (k : Kind) → KindFits set driver s.locks s.cancel k
+      → AllFit set driver s
       → Each (KindFits set driver s.locks s.cancel) (slice_set s.kinds r k)
   set_fits s r k new h = each_set (KindFits set driver s.locks s.cancel) s.kinds r k h new
 
@@ -299,7 +300,8 @@ module _ (set : Set) (driver : ℕ) where
   handed_fits s (Dequeue r) sort keeps h = set_fits s r Own tt h
   handed_fits s (Arm r q) sort keeps h =
       set_fits s r (Armed (Declared q))
-      (armed_fits s.locks s.cancel (Declared q) (kind_of s r) (first_none _ _ keeps) (kind_fits_at s r h)) h
+      (armed_fits s.locks s.cancel (Declared q) (kind_of s r) (first_none _ _ keeps)
+      (kind_fits_at s r h)) h
   handed_fits s (Disarm r label) sort keeps h =
       set_fits s r (kind_disarmed (kind_of s r))
       (disarmed_fits s.locks s.cancel (kind_of s r) (kind_fits_at s r h)) h
@@ -427,7 +429,8 @@ named_only set driver number (Declared q) name named only =
         let member : (i : ℕ) ×
         (slice_get (cancelled_from d.queues 0 number) i ≡ Some (Declared (0 + q))) =
         member_from d.queues 0 number q named in
-        let among : (i : ℕ) × (slice_get (cancelled_in (Some d) number) i ≡ Some (Declared (0 + q))) =
+        let among : (i : ℕ)
+        × (slice_get (cancelled_in (Some d) number) i ≡ Some (Declared (0 + q))) =
         behind_waiting d number (Declared (0 + q)) member in
         single name (Declared q) among.0
         (ap (λ (names : List QueueName). slice_get names among.0) (sym list) ∙ among.1 ∙ same)
@@ -451,7 +454,8 @@ not_waiting : (d : Driver) (number q : ℕ) → cancelled_in (Some d) number ≡
 not_waiting d number q list =
     elim (cases_Bool (is_named d.startio_cancel number)) [
       | inl is ↦
-          let no : DeviceQueue ∷ cancelled_from d.queues 0 number ≡ Declared q ∷ [] = rw is at list in
+          let no : DeviceQueue ∷ cancelled_from d.queues 0 number ≡ Declared q ∷ [] =
+          rw is at list in
           cc
       | inr isnt ↦ rw isnt at list
     ]

@@ -187,9 +187,11 @@ module _ (set : Set) (driver : ℕ) (f : Kind → Bool) (never : NeverMade set d
   handed_none s (Get r q field) sort keeps h = none_set f s.kinds r Num never.number h
   handed_none s (Mark r) sort keeps h = marked_none s r (kind_of s r) h
   handed_none s (Insert r q) sort keeps h =
-      none_set f s.kinds r (kind_inserted (cancel_routine_of set driver q) (Declared q)) (never.inserted q) h
+      none_set f s.kinds r (kind_inserted (cancel_routine_of set driver q) (Declared q))
+      (never.inserted q) h
   handed_none s (Remove r q label) sort keeps h =
-      none_set f s.kinds r (kind_removed (cancel_routine_of set driver q) (Declared q)) (never.removed q) h
+      none_set f s.kinds r (kind_removed (cancel_routine_of set driver q) (Declared q))
+      (never.removed q) h
   handed_none s (Unlink r q) sort keeps h = none_set f s.kinds r Own never.own h
   handed_none s (Dequeue r) sort keeps h = none_set f s.kinds r Own never.own h
   handed_none s (Arm r q) sort keeps h =

@@ -60,7 +60,8 @@ queue_moves set states s a i h (removes r q label n entries there) =
       moved = moved_next set states s a (Remove r q label) h refl (slice_set a.registers r (Ref n))
           (kinds_set s.issued (state_of states a).kinds a.registers r
           (kind_removed (cancel_routine_of set a.driver q) (Declared q)) (Ref n) h.stays.kinds
-          (removed_suits s.issued (cancel_routine_of set a.driver q) (Declared q) (Ref n) (n, refl, all.0)));
+          (removed_suits s.issued (cancel_routine_of set a.driver q) (Declared q) (Ref n)
+          (n, refl, all.0)));
       fits = queue_put_fits set s a.device q (n ∷ entries) entries there all.1 h.fits.queued;
       starts = h.fits.starts;
     }

@@ -101,10 +101,11 @@ waits_armed set a start = has_cancel set a.driver DeviceQueue && start.busy
 -- what an instruction about queues comes to: a packet is put into a queue of the device or taken
 -- off one, from its front or wherever it stands, given to the device for StartIo, taken out of its
 -- current slot or put into it, or the next one is started, or it is taken off the device queue
--- wherever it stands; or there is none to take off or out, and it jumps. How the activation goes on,
--- the queues and what the devices have for StartIo after it, the packet that it touches, if any, and
--- whether a list has no room
-pub data Queued (set : Set) (s : Shared) (a : Activation) : Instr → Activation → List (List (List ℕ))
+-- wherever it stands; or there is none to take off or out, and it jumps. How the activation goes
+-- on, the queues and what the devices have for StartIo after it, the packet that it touches, if
+-- any, and whether a list has no room
+pub data Queued (set : Set) (s : Shared) (a : Activation) : Instr → Activation
+    → List (List (List ℕ))
     → List StartState → List Action → Bool → Type 0 where
   inserts : (r q n : ℕ) (entries : List ℕ) → Reads s a r n → queue_of s a.device q ≡ Some entries
       → Queued set s a (Insert r q) (next a) (with_queue s a.device q (inserted entries n)).queues

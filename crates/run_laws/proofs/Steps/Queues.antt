@@ -11,7 +11,8 @@ use Rattle.run_laws.proofs.Steps.Words.{Queueing, work_of}
 use Rattle.model.specs.Set.{Set}
 use Rattle.model.specs.declared.world.Armer.{Armer}
 
-pub queued_work : {set : Set} {s : Shared} {a b : Activation} {i : Instr} {queues : List (List (List ℕ))}
+pub queued_work : {set : Set} {s : Shared} {a b : Activation} {i : Instr} {queues : List
+    (List (List ℕ))}
     {lists : List StartState} {actions : List Action} {full : Bool}
     → Queued set s a i b queues lists actions full → work_of i ≡ Queueing
 queued_work (inserts r q n entries reads there) = refl
@@ -26,7 +27,8 @@ queued_work (starts_next start there none) = refl
 queued_work (starts_gone n start there first gone) = refl
 queued_work (dequeues_packet r n start reads there) = refl
 
-pub queued_same : {set : Set} {s : Shared} {a b : Activation} {i : Instr} {queues : List (List (List ℕ))}
+pub queued_same : {set : Set} {s : Shared} {a b : Activation} {i : Instr} {queues : List
+    (List (List ℕ))}
     {lists : List StartState} {actions : List Action} {full : Bool}
     → Queued set s a i b queues lists actions full → (b.driver ≡ a.driver) × (b.routine ≡ a.routine)
 queued_same (inserts r q n entries reads there) = (refl, refl)
@@ -41,7 +43,8 @@ queued_same (starts_next start there none) = (refl, refl)
 queued_same (starts_gone n start there first gone) = (refl, refl)
 queued_same (dequeues_packet r n start reads there) = (refl, refl)
 
-pub queued_touches : {set : Set} {s : Shared} {a b : Activation} {i : Instr} {queues : List (List (List ℕ))}
+pub queued_touches : {set : Set} {s : Shared} {a b : Activation} {i : Instr} {queues : List
+    (List (List ℕ))}
     {lists : List StartState} {actions : List Action} {full : Bool}
     → Queued set s a i b queues lists actions full
     → (actions ≡ []) ⊎ ((n : ℕ) × (actions ≡ Touches n ∷ []))

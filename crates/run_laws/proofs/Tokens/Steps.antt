@@ -360,7 +360,8 @@ module _ (set : Set) (states : States) (s : Shared) where
         same_tokens states a d b device token in
         record { start = after; has = there; even = omega arith; idle = λ kept free. kept free }
 
-    next_starts_tokens : Runs set states s a Next → (start : StartState) → start_of s a.device ≡ Some start
+    next_starts_tokens : Runs set states s a Next → (start : StartState)
+        → start_of s a.device ≡ Some start
         → (d : ℕ) (after : StartState)
         → slice_get (with_start s a.device (next_started start)).starts d ≡ Some after
         → EvenFor states s (Routine a) (Routine (next a) ∷ []) d after
@@ -438,8 +439,10 @@ module _ (set : Set) (states : States) (s : Shared) where
     waits_tokens : (i : Instr) → Runs set states s a i
         → {starts : List StartState} {n : ℕ} {armer : Option Armer} {full : Bool}
         → Waits set s a i starts n armer full → (d : ℕ) (after : StartState)
-        → slice_get starts d ≡ Some after → EvenFor states s (Routine a) (Routine (next a) ∷ []) d after
-    waits_tokens i h (arms_waiting r n start reads there armed) = start_tokens_given r n h start there
+        → slice_get starts d ≡ Some after
+        → EvenFor states s (Routine a) (Routine (next a) ∷ []) d after
+    waits_tokens i h (arms_waiting r n start reads there armed) =
+        start_tokens_given r n h start there
     waits_tokens i h (disarms_next n start there first) = next_starts_tokens h start there
 
   -- a packet is sent down to a routine that begins

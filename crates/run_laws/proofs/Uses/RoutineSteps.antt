@@ -268,7 +268,8 @@ module _ (set : Set) (states : States) (s : Shared) (past : List Entry) (actor :
       {armer : Option Armer} {full : Bool} → Waits set s a i starts n armer full
       → (state_of states (next a)).settled ≡ (state_of states a).settled
   waits_settled i at waits =
-      let on : MovedOn set states s a i (next a) s.queues _ = waits_move set states s a i (h.runs i at)
+      let on : MovedOn set states s a i (next a) s.queues _ =
+      waits_move set states s a i (h.runs i at)
       waits in
       ap (λ (state : Abs). state.settled) on.moved.arrives
       ∙ onto_settled set a.driver (state_of states a) i on.jumped

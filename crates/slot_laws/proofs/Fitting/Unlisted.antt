@@ -203,11 +203,14 @@ module _ (set : Set) (typable : IsTypable set) (sound : IsSound set) (threads : 
       let same : key.key ≡ k = ap key_read (sym key.is) in
       let lies : packet_at s k ≡ Some key.packet =
       subst (λ (j : ℕ). packet_at s j ≡ Some key.packet) same key.lies in
-      let lists : ((start_packet_step s a k start (has_cancel set a.driver DeviceQueue && start.busy)).shared.queues ≡ s.queues)
-      × ((start_packet_step s a k start (has_cancel set a.driver DeviceQueue && start.busy)).shared.starts
+      let lists : ((start_packet_step s a k start
+      (has_cancel set a.driver DeviceQueue && start.busy)).shared.queues ≡ s.queues)
+      × ((start_packet_step s a k start
+      (has_cancel set a.driver DeviceQueue && start.busy)).shared.starts
       ≡ (with_slot_start s a.device (started start k)).starts) =
       started_lists k start (has_cancel set a.driver DeviceQueue && start.busy) key.packet lies in
-      let is : after ≡ (start_packet_step s a k start (has_cancel set a.driver DeviceQueue && start.busy)).shared =
+      let is : after ≡
+      (start_packet_step s a k start (has_cancel set a.driver DeviceQueue && start.busy)).shared =
       stepped (Start r) at
       ∙ ap (λ (o : Option StartState). (start_step set s a k o).shared) has.is in
       let put : times_to_start (with_slot_start s a.device (started start k)).starts k
