@@ -1,5 +1,6 @@
 pub mod Status
 pub mod Words
+pub mod InstructionForm
 pub mod Set
 pub mod Sound
 pub mod Loops
