@@ -13,11 +13,9 @@ use Rattle.image.specs.declared.reading.Counts.{Counts}
 use Rattle.image.specs.declared.word.Word.{Word}
 use Rattle.image.specs.Reading.{all_at, count_at, counted, device_at, driver_at, field_at, instruction_at, letters_at, queue_at, routine_at, set_at, set_in, word_at, Read}
 use Rattle.image.specs.Spelling.{device_bytes, driver_bytes, instruction_bytes, or_none, queue_bytes, routine_bytes, sort_number, spelling, word_bytes, word_of}
-use Rattle.image.proofs.Again.{InRange, instruction_again}
+use Rattle.image.proofs.Again.{InRange, instruction_again, last_fits}
 use Rattle.image.proofs.Numbers.{at_most_again, below_again, none_or_below_again, sort_again, stack_again}
 use Rattle.model.specs.declared.instr.Instr.{Instr}
-use Rattle.model.specs.declared.instr.Instr.TheVariants.{Const, JumpIfZero, JumpIfLess, Jump, Loop, Remove, Disarm, IfCancel, Take, IfPending, Ret}
-use Rattle.model.specs.declared.instr.Return.TheVariants.{WithStatus, Lower, Continue, Stop, Void}
 use Rattle.model.specs.declared.limits.TheConstants.{MAX_DEVICES, MAX_DRIVERS, MAX_INSTRUCTIONS, MAX_QUEUES, MAX_ROUTINES, SPIN_LOCKS}
 use Rattle.model.specs.declared.set.Device.{Device}
 use Rattle.model.specs.declared.set.Queue.{Queue}
@@ -49,25 +47,6 @@ word_again : (w : Word) (rest : List ℕ) → w.last < 2 ^ 32
     → word_at (word_bytes w ++ rest) ≡ Ok (w, rest)
 word_again w rest lt =
     rw (field_again 8 (word_bytes w) rest refl) (rw (from_le_bytes-to_le_bytes_4 w.last lt) refl)
-
-last_fits : (counts : Counts) → counts.positions ≤ MAX_INSTRUCTIONS → (i : Instr)
-    → InRange counts i → (word_of i).last < 2 ^ 32
-last_fits counts few (Const r n) h = h.operands.1
-last_fits counts few (JumpIfZero r label) h = omega (arith, few, h.label)
-last_fits counts few (JumpIfLess r q label) h = omega (arith, few, h.label)
-last_fits counts few (Jump label) h = omega (arith, few, h.label)
-last_fits counts few (Loop turns) h = omega (arith, h.operands.1)
-last_fits counts few (Remove r q label) h = omega (arith, few, h.label)
-last_fits counts few (Disarm r label) h = omega (arith, few, h.label)
-last_fits counts few (IfCancel r label) h = omega (arith, few, h.label)
-last_fits counts few (Take r label) h = omega (arith, few, h.label)
-last_fits counts few (IfPending r label) h = omega (arith, few, h.label)
-last_fits counts few (Ret (WithStatus status)) h = omega arith
-last_fits counts few (Ret (Lower r)) h = omega arith
-last_fits counts few (Ret Continue) h = omega arith
-last_fits counts few (Ret Stop) h = omega arith
-last_fits counts few (Ret Void) h = omega arith
-last_fits counts few _ h = omega arith
 
 -- everything of a list fits, each thing by its number
 abbrev From : {A : Type 0} → (ℕ → A → Type 0) → ℕ → List A → Type 0

@@ -2,8 +2,9 @@
 -- of a routine's instructions in two, or a whole word of eight. One that isn't whole is Truncated.
 -- In a field that is whole, a number that nothing has and a byte that must be zero and isn't are
 -- BadOpcode; else a number out of its range, or one that names nothing, is OverLimit.
-use Rattle.std.specs.Prelude.{ℕ, zero, suc, ⊤, ◌≡◌, ◌⊎◌, ◌==◌, ◌&&◌, ◌||◌, Bool, true, false, nat_lt, nat_le, List, [], ◌∷◌, length, get_or, take, drop, Option, None, Some, Result, Ok, Err, if◌then◌else◌}
+use Rattle.std.specs.Prelude.{ℕ, zero, suc, ⊤, ◌+◌, ◌≡◌, ◌⊎◌, ◌==◌, ◌&&◌, ◌||◌, Bool, true, false, nat_lt, nat_le, List, [], ◌∷◌, length, get_or, take, drop, Option, None, Some, Result, Ok, Err, if◌then◌else◌}
 use Rattle.std.specs.Int.{w16, w32, from_le_bytes}
+use Rattle.std.specs.List.{list_any}
 use Rattle.image.specs.declared.fault.ImageFault.{ImageFault}
 use Rattle.image.specs.declared.fault.ImageFault.TheVariants.{Magic, Truncated, Trailing, BadOpcode, OverLimit, Memory}
 use Rattle.image.specs.declared.word.Word.{Word}
@@ -12,7 +13,7 @@ use Rattle.image.specs.Spelling.{word}
 use Rattle.model.specs.declared.instr.Field.{Field}
 use Rattle.model.specs.declared.instr.Field.TheVariants.{Major, Argument, Info}
 use Rattle.model.specs.declared.instr.Instr.{Instr}
-use Rattle.model.specs.declared.instr.Instr.TheVariants.{Const, Move, Clear, Add, Subtract, JumpIfZero, JumpIfLess, Jump, Loop, End, Load, Store, LoadPaged, StorePaged, Get, Put, Mark, Acquire, Release, AcquireCancel, ReleaseCancel, Insert, Remove, Unlink, Arm, Disarm, IfCancel, Start, Take, Begin, Next, Pass, Call, Complete, IfPending, Ret}
+use Rattle.model.specs.declared.instr.Return.{Return}
 use Rattle.model.specs.declared.instr.Return.TheVariants.{WithStatus, Lower, Continue, Stop, Void}
 use Rattle.model.specs.declared.limits.TheConstants.{CELLS, MAX_DEVICES, MAX_DRIVERS, MAX_INSTRUCTIONS, MAX_QUEUES, MAX_ROUTINES, MAX_STACK, MAX_TURNS, REGISTERS, SPIN_LOCKS}
 use Rattle.model.specs.declared.set.Device.{Device}
@@ -23,6 +24,7 @@ use Rattle.model.specs.declared.set.Sort.{Sort}
 use Rattle.model.specs.declared.set.Sort.TheVariants.{Dispatch, StartIo, Dpc, Cancel, Propagate, Hold}
 use Rattle.model.specs.declared.status.Status.{Status}
 use Rattle.model.specs.declared.status.Status.TheVariants.{Success, Pending, Busy, Unsuccessful, InvalidParameter, InvalidDeviceRequest, Cancelled}
+use Rattle.model.specs.InstructionForm.{Operand, ARegister, ACell, APagedCell, ASpinLock, AConstant, ATurns, AField, AStatus, AQueue, ALabel, ARoutine, AReturn, Form, ValueOf, Values, forms, made_of}
 use Rattle.model.specs.Set.{Set}
 use Rattle.model.specs.Sound.{IsSound}
 
@@ -33,17 +35,9 @@ abbrev pub ◌>>=◌ : {A B : Type 0} → Result A ImageFault → (A → Result 
 (Ok x) >>= f = f x
 (Err fault) >>= f = Err fault
 
--- what is made of one operand, of two, of three
+-- what is made of one thing
 abbrev pub one : {A X : Type 0} → (A → X) → Result A ImageFault → Result X ImageFault
 one f a = a >>= λ x. Ok (f x)
-
-abbrev pub two : {A B X : Type 0} → (A → B → X) → Result A ImageFault → Result B ImageFault
-    → Result X ImageFault
-two f a b = a >>= λ x. one (f x) b
-
-abbrev pub three : {A B C X : Type 0} → (A → B → C → X) → Result A ImageFault
-    → Result B ImageFault → Result C ImageFault → Result X ImageFault
-three f a b c = a >>= λ x. two (f x) b c
 
 -- ---- what a number may be
 
@@ -129,93 +123,79 @@ leaves used wide w =
 abbrev pub using : {A : Type 0} → ℕ → Bool → Word → Result A ImageFault → Result A ImageFault
 using used wide w said = if leaves used wide w then said else Err BadOpcode
 
--- what `ret` returns, by its form
-abbrev pub returned : Word → Result Instr ImageFault
-returned w =
-    if w.first == 0 then using 2 false w (one (λ s. Ret (WithStatus s)) (status_in w.second)) else
-    (if w.first == 1 then using 2 false w (one (λ r. Ret (Lower r)) (register_in w.second)) else
-    (if w.first == 2 then using 1 false w (Ok (Ret Continue)) else
-    (if w.first == 3 then using 1 false w (Ok (Ret Stop)) else
-    (if w.first == 4 then using 1 false w (Ok (Ret Void)) else Err BadOpcode))))
+-- the operand byte of a place
+abbrev pub byte_of : Word → ℕ → ℕ
+byte_of w place = get_or (w.first ∷ w.second ∷ w.third ∷ []) place 0
 
--- what is done with packets
-abbrev pub on_packets : Counts → Word → Result Instr ImageFault
-on_packets counts w =
-    if w.number == 27 then using 1 true w
-    (two IfCancel (register_in w.first) (below counts.positions w.last)) else
-    (if w.number == 28 then using 1 false w (one Start (register_in w.first)) else
-    (if w.number == 29 then using 1 true w
-    (two Take (register_in w.first) (below counts.positions w.last)) else
-    (if w.number == 30 then using 1 false w (one Begin (register_in w.first)) else
-    (if w.number == 31 then using 0 false w (Ok Next) else
-    (if w.number == 32 then using 1 false w (one Pass (register_in w.first)) else
-    (if w.number == 33 then using 2 false w
-    (two Call (register_in w.first) (none_or_below counts.routines w.second)) else
-    (if w.number == 34 then using 2 false w
-    (two Complete (register_in w.first) (status_in w.second)) else
-    (if w.number == 35 then using 1 true w
-    (two IfPending (register_in w.first) (below counts.positions w.last)) else
-    (if w.number == 36 then returned w else Err BadOpcode)))))))))
+-- what `ret` returns, by its form and what stands behind that
+abbrev pub return_in : ℕ → ℕ → Result Return ImageFault
+return_in form n =
+    if form == 0 then one (λ s. WithStatus s) (status_in n) else
+    (if form == 1 then one (λ r. Lower r) (register_in n) else
+    (if form == 2 then Ok Continue else
+    (if form == 3 then Ok Stop else
+    (if form == 4 then Ok Void else Err BadOpcode))))
 
--- what is done with the device's locks and queues, or with packets
-abbrev pub on_queues : Counts → Word → Result Instr ImageFault
-on_queues counts w =
-    if w.number == 18 then using 1 false w (one Acquire (lock_in w.first)) else
-    (if w.number == 19 then using 1 false w (one Release (lock_in w.first)) else
-    (if w.number == 20 then using 0 false w (Ok AcquireCancel) else
-    (if w.number == 21 then using 0 false w (Ok ReleaseCancel) else
-    (if w.number == 22 then using 2 false w
-    (two Insert (register_in w.first) (below counts.queues w.second)) else
-    (if w.number == 23 then using 2 true w
-    (three Remove (register_in w.first) (below counts.queues w.second)
-    (below counts.positions w.last)) else
-    (if w.number == 24 then using 2 false w
-    (two Unlink (register_in w.first) (below counts.queues w.second)) else
-    (if w.number == 25 then using 2 false w
-    (two Arm (register_in w.first) (below counts.queues w.second)) else
-    (if w.number == 26 then using 1 true w
-    (two Disarm (register_in w.first) (below counts.positions w.last)) else
-    on_packets counts w))))))))
+-- how many operand bytes an operand takes, the first of which is this
+abbrev pub size_of : Operand → ℕ → ℕ
+size_of AConstant first = 0
+size_of ATurns first = 0
+size_of ALabel first = 0
+size_of AReturn first = if nat_lt first 2 then 2 else 1
+size_of _ first = 1
 
--- what is done with the device's cells and a packet's fields, its locks and queues, or packets
-abbrev pub on_cells : Counts → Word → Result Instr ImageFault
-on_cells counts w =
-    if w.number == 10 then using 0 false w (Ok End) else
-    (if w.number == 11 then using 2 false w
-    (two Load (register_in w.first) (cell_in w.second)) else
-    (if w.number == 12 then using 2 false w
-    (two Store (cell_in w.first) (register_in w.second)) else
-    (if w.number == 13 then using 2 false w
-    (two LoadPaged (register_in w.first) (cell_in w.second)) else
-    (if w.number == 14 then using 2 false w
-    (two StorePaged (cell_in w.first) (register_in w.second)) else
-    (if w.number == 15 then using 3 false w
-    (three Get (register_in w.first) (register_in w.second) (field_in w.third)) else
-    (if w.number == 16 then using 2 false w
-    (two Put (register_in w.first) (register_in w.second)) else
-    (if w.number == 17 then using 1 false w (one Mark (register_in w.first)) else
-    on_queues counts w)))))))
+-- whether it takes the last four bytes
+abbrev pub takes_last : Operand → Bool
+takes_last AConstant = true
+takes_last ATurns = true
+takes_last ALabel = true
+takes_last _ = false
 
--- the instruction that a word spells, in a routine of so many positions, of a driver with so many
--- routines and queues
+-- how many operand bytes are used by operands from a place on
+abbrev pub used_from : List Operand → ℕ → Word → ℕ
+used_from [] place w = place
+used_from (operand ∷ operands) place w =
+    used_from operands (place + size_of operand (byte_of w place)) w
+
+-- an operand whose bytes begin at a place, of an instruction in a routine of so many positions, of
+-- a driver with so many routines and queues
+abbrev pub operand_in : Counts → (operand : Operand) → ℕ → Word
+    → Result (ValueOf operand) ImageFault
+operand_in counts ARegister place w = register_in (byte_of w place)
+operand_in counts ACell place w = cell_in (byte_of w place)
+operand_in counts APagedCell place w = cell_in (byte_of w place)
+operand_in counts ASpinLock place w = lock_in (byte_of w place)
+operand_in counts AConstant place w = Ok w.last
+operand_in counts ATurns place w = turns_in w.last
+operand_in counts AField place w = field_in (byte_of w place)
+operand_in counts AStatus place w = status_in (byte_of w place)
+operand_in counts AQueue place w = below counts.queues (byte_of w place)
+operand_in counts ALabel place w = below counts.positions w.last
+operand_in counts ARoutine place w = none_or_below counts.routines (byte_of w place)
+operand_in counts AReturn place w = return_in (byte_of w place) (byte_of w (place + 1))
+
+abbrev pub operands_in : Counts → (operands : List Operand) → ℕ → Word
+    → Result (Values operands) ImageFault
+operands_in counts [] place w = Ok tt
+operands_in counts (operand ∷ operands) place w =
+    operand_in counts operand place w >>= λ value.
+    one (λ values. (value, values))
+    (operands_in counts operands (place + size_of operand (byte_of w place)) w)
+
+-- the instruction of a form
+abbrev pub form_in : Counts → Word → Form → Result Instr ImageFault
+form_in counts w form =
+    using (used_from form.operands 0 w) (list_any takes_last form.operands) w
+    (one (made_of form.operands form.makes) (operands_in counts form.operands 0 w))
+
+-- the instruction that a word spells, by the form that has its number
+abbrev pub in_forms : List Form → Counts → Word → Result Instr ImageFault
+in_forms [] counts w = Err BadOpcode
+in_forms (form ∷ forms) counts w =
+    if w.number == form.number then form_in counts w form else in_forms forms counts w
+
 abbrev pub instruction_in : Counts → Word → Result Instr ImageFault
-instruction_in counts w =
-    if w.number == 1 then using 1 true w (one (λ r. Const r w.last) (register_in w.first)) else
-    (if w.number == 2 then using 2 false w
-    (two Move (register_in w.first) (register_in w.second)) else
-    (if w.number == 3 then using 1 false w (one Clear (register_in w.first)) else
-    (if w.number == 4 then using 2 false w
-    (two Add (register_in w.first) (register_in w.second)) else
-    (if w.number == 5 then using 2 false w
-    (two Subtract (register_in w.first) (register_in w.second)) else
-    (if w.number == 6 then using 1 true w
-    (two JumpIfZero (register_in w.first) (below counts.positions w.last)) else
-    (if w.number == 7 then using 2 true w
-    (three JumpIfLess (register_in w.first) (register_in w.second)
-    (below counts.positions w.last)) else
-    (if w.number == 8 then using 0 true w (one Jump (below counts.positions w.last)) else
-    (if w.number == 9 then using 0 true w (one Loop (turns_in w.last)) else
-    on_cells counts w))))))))
+instruction_in counts w = in_forms forms counts w
 
 -- ---- fields
 

@@ -1,14 +1,15 @@
 //! Bytes read as an image.
 
-ghost use Rattle.std.specs.Prelude.{◌≡◌, ◌⊎◌, IfErr, IfOk, MatchResult, Ok};
+ghost use Rattle.std.specs.Prelude.{◌≡◌, ◌⊎◌, [], ◌∷◌, IfErr, IfOk, MatchResult, Ok};
 ghost use Rattle.image.specs.Reading.{all_at, at_most, below, byte_at, cell_in, count_at};
-ghost use Rattle.image.specs.Reading.{device_at, driver_at, field_in, instruction_at};
+ghost use Rattle.image.specs.Reading.{device_at, driver_at, field_in, in_forms, instruction_at};
 ghost use Rattle.image.specs.Reading.{instruction_in, leaves, letter, letters_at, lock_in};
-ghost use Rattle.image.specs.Reading.{none_or_below, on_cells, on_packets, on_queues, queue_at};
-ghost use Rattle.image.specs.Reading.{register_in, returned, routine_at, set_in, sort_in, stack_in};
-ghost use Rattle.image.specs.Reading.{status_in, turns_in, unused, word_at, Gives, IsFaultOf};
+ghost use Rattle.image.specs.Reading.{none_or_below, queue_at, register_in, return_in, routine_at};
+ghost use Rattle.image.specs.Reading.{set_in, sort_in, stack_in, status_in, turns_in, unused};
+ghost use Rattle.image.specs.Reading.{used_from, word_at, Gives, IsFaultOf};
 ghost use Rattle.image.specs.Spelling.{Spells};
 ghost use Rattle.image.specs.declared.fault.ImageFault.TheVariants.{Memory};
+ghost use Rattle.model.specs.InstructionForm.{AReturn, cell_forms, packet_forms, queue_forms};
 ghost use Rattle.model.specs.Set.{Set};
 ghost use Rattle.model.specs.Sound.{IsSound};
 
@@ -151,25 +152,25 @@ impl Word {
             && (wide || self.last == 0)
     }
 
-    /// What `ret` returns, by its form.
-    fn returned(&self) -> Result<Instr, ImageFault>
-        ensures { result ≡ returned self.now }
+    /// How many operand bytes a `ret` uses.
+    fn return_size(&self) -> u8
+        ensures { result ≡ used_from (AReturn ∷ []) 0 self.now }
     {
-        let used = match self.first {
-            0 | 1 => 2,
-            2 | 3 | 4 => 1,
-            _ => return Err(ImageFault::BadOpcode),
-        };
-        if !self.leaves(used, false) {
-            return Err(ImageFault::BadOpcode);
+        if self.first < 2 { 2 } else { 1 }
+    }
+
+    /// What `ret` returns, by its form.
+    fn returned(&self) -> Result<Return, ImageFault>
+        ensures { result ≡ return_in self.now.first self.now.second }
+    {
+        match self.first {
+            0 => Ok(Return::WithStatus(status(self.second)?)),
+            1 => Ok(Return::Lower(register(self.second)?)),
+            2 => Ok(Return::Continue),
+            3 => Ok(Return::Stop),
+            4 => Ok(Return::Void),
+            _ => Err(ImageFault::BadOpcode),
         }
-        Ok(Instr::Ret(match self.first {
-            0 => Return::WithStatus(status(self.second)?),
-            1 => Return::Lower(register(self.second)?),
-            2 => Return::Continue,
-            3 => Return::Stop,
-            _ => Return::Void,
-        }))
     }
 }
 
@@ -207,7 +208,7 @@ fn instruction(counts: &Counts, word: &Word) -> Result<Instr, ImageFault>
 
 /// What is done with the device's cells and a packet's fields, its locks and queues, or packets.
 fn on_cells(counts: &Counts, word: &Word) -> Result<Instr, ImageFault>
-    ensures { result ≡ on_cells counts.now word.now }
+    ensures { result ≡ in_forms cell_forms counts.now word.now }
 {
     match word.number {
         10 if word.leaves(0, false) => Ok(Instr::End),
@@ -238,7 +239,7 @@ fn on_cells(counts: &Counts, word: &Word) -> Result<Instr, ImageFault>
 
 /// What is done with the device's locks and queues, or with packets.
 fn on_queues(counts: &Counts, word: &Word) -> Result<Instr, ImageFault>
-    ensures { result ≡ on_queues counts.now word.now }
+    ensures { result ≡ in_forms queue_forms counts.now word.now }
 {
     match word.number {
         18 if word.leaves(1, false) => Ok(Instr::Acquire(lock(word.first)?)),
@@ -273,7 +274,7 @@ fn on_queues(counts: &Counts, word: &Word) -> Result<Instr, ImageFault>
 
 /// What is done with packets.
 fn on_packets(counts: &Counts, word: &Word) -> Result<Instr, ImageFault>
-    ensures { result ≡ on_packets counts.now word.now }
+    ensures { result ≡ in_forms packet_forms counts.now word.now }
 {
     match word.number {
         27 if word.leaves(1, true) => Ok(Instr::IfCancel(
@@ -300,7 +301,7 @@ fn on_packets(counts: &Counts, word: &Word) -> Result<Instr, ImageFault>
             register(word.first)?,
             label(counts.positions, word.last)?,
         )),
-        36 => word.returned(),
+        36 if word.leaves(word.return_size(), false) => Ok(Instr::Ret(word.returned()?)),
         _ => Err(ImageFault::BadOpcode),
     }
 }

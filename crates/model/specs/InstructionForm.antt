@@ -117,57 +117,58 @@ forms =
     ∷ form 9 (codes "loop") (ATurns ∷ []) Loop
     ∷ cell_forms
 
--- an instruction's form, and its operands
-pub record Said : Type 0 where
-  pub form : Form
-  pub values : Values form.operands
-
 abbrev no_form : Form
 no_form = form 0 [] [] End
 
 abbrev pub form_at : ℕ → Form
 form_at number = get_or forms (number - 1) no_form
 
-abbrev at : (number : ℕ) → Values (form_at number).operands → Said
-at number values = record { form = form_at number; values = values }
+-- what goes by an instruction's form and its operands
+abbrev pub by_form : {X : Type 0} → ((form : Form) → Values form.operands → X) → Instr → X
+by_form says (Const r n) = says (form_at 1) (r, (n, tt))
+by_form says (Move r q) = says (form_at 2) (r, (q, tt))
+by_form says (Clear r) = says (form_at 3) (r, tt)
+by_form says (Add r q) = says (form_at 4) (r, (q, tt))
+by_form says (Subtract r q) = says (form_at 5) (r, (q, tt))
+by_form says (JumpIfZero r label) = says (form_at 6) (r, (label, tt))
+by_form says (JumpIfLess r q label) = says (form_at 7) (r, (q, (label, tt)))
+by_form says (Jump label) = says (form_at 8) (label, tt)
+by_form says (Loop turns) = says (form_at 9) (turns, tt)
+by_form says End = says (form_at 10) tt
+by_form says (Load r c) = says (form_at 11) (r, (c, tt))
+by_form says (Store c r) = says (form_at 12) (c, (r, tt))
+by_form says (LoadPaged r c) = says (form_at 13) (r, (c, tt))
+by_form says (StorePaged c r) = says (form_at 14) (c, (r, tt))
+by_form says (Get r q field) = says (form_at 15) (r, (q, (field, tt)))
+by_form says (Put q r) = says (form_at 16) (q, (r, tt))
+by_form says (Mark r) = says (form_at 17) (r, tt)
+by_form says (Acquire lock) = says (form_at 18) (lock, tt)
+by_form says (Release lock) = says (form_at 19) (lock, tt)
+by_form says AcquireCancel = says (form_at 20) tt
+by_form says ReleaseCancel = says (form_at 21) tt
+by_form says (Insert r q) = says (form_at 22) (r, (q, tt))
+by_form says (Remove r q label) = says (form_at 23) (r, (q, (label, tt)))
+by_form says (Unlink r q) = says (form_at 24) (r, (q, tt))
+by_form says (Arm r q) = says (form_at 25) (r, (q, tt))
+by_form says (Disarm r label) = says (form_at 26) (r, (label, tt))
+by_form says (IfCancel r label) = says (form_at 27) (r, (label, tt))
+by_form says (Start r) = says (form_at 28) (r, tt)
+by_form says (Take r label) = says (form_at 29) (r, (label, tt))
+by_form says (Begin r) = says (form_at 30) (r, tt)
+by_form says Next = says (form_at 31) tt
+by_form says (Pass r) = says (form_at 32) (r, tt)
+by_form says (Call r f) = says (form_at 33) (r, (f, tt))
+by_form says (Complete r status) = says (form_at 34) (r, (status, tt))
+by_form says (IfPending r label) = says (form_at 35) (r, (label, tt))
+by_form says (Ret form) = says (form_at 36) (form, tt)
+
+-- an instruction's form, with its operands
+pub record Said : Type 0 where
+  pub form : Form
+  pub values : Values form.operands
 
 abbrev pub said : Instr → Said
-said (Const r n) = at 1 (r, (n, tt))
-said (Move r q) = at 2 (r, (q, tt))
-said (Clear r) = at 3 (r, tt)
-said (Add r q) = at 4 (r, (q, tt))
-said (Subtract r q) = at 5 (r, (q, tt))
-said (JumpIfZero r label) = at 6 (r, (label, tt))
-said (JumpIfLess r q label) = at 7 (r, (q, (label, tt)))
-said (Jump label) = at 8 (label, tt)
-said (Loop turns) = at 9 (turns, tt)
-said End = at 10 tt
-said (Load r c) = at 11 (r, (c, tt))
-said (Store c r) = at 12 (c, (r, tt))
-said (LoadPaged r c) = at 13 (r, (c, tt))
-said (StorePaged c r) = at 14 (c, (r, tt))
-said (Get r q field) = at 15 (r, (q, (field, tt)))
-said (Put q r) = at 16 (q, (r, tt))
-said (Mark r) = at 17 (r, tt)
-said (Acquire lock) = at 18 (lock, tt)
-said (Release lock) = at 19 (lock, tt)
-said AcquireCancel = at 20 tt
-said ReleaseCancel = at 21 tt
-said (Insert r q) = at 22 (r, (q, tt))
-said (Remove r q label) = at 23 (r, (q, (label, tt)))
-said (Unlink r q) = at 24 (r, (q, tt))
-said (Arm r q) = at 25 (r, (q, tt))
-said (Disarm r label) = at 26 (r, (label, tt))
-said (IfCancel r label) = at 27 (r, (label, tt))
-said (Start r) = at 28 (r, tt)
-said (Take r label) = at 29 (r, (label, tt))
-said (Begin r) = at 30 (r, tt)
-said Next = at 31 tt
-said (Pass r) = at 32 (r, tt)
-said (Call r f) = at 33 (r, (f, tt))
-said (Complete r status) = at 34 (r, (status, tt))
-said (IfPending r label) = at 35 (r, (label, tt))
-said (Ret form) = at 36 (form, tt)
+said i = by_form (λ form values. record { form = form; values = values }) i
 
 -- the instruction of a form with these operands
 abbrev pub built : Said → Instr
@@ -184,8 +185,7 @@ changed change (operand ∷ operands) values =
 
 abbrev pub rebuilt : Changes → Instr → Instr
 rebuilt change i =
-    made_of (said i).form.operands (said i).form.makes
-    (changed change (said i).form.operands (said i).values)
+    by_form (λ form values. made_of form.operands form.makes (changed change form.operands values)) i
 
 -- what is built of a form and operands says them again
 abbrev pub SaysAgain : Form → Type 0
