@@ -4,13 +4,26 @@ use Rattle.std.specs.Prelude.{⊤, IfSome}
 use Rattle.model.specs.declared.instr.Instr.{Instr}
 use Rattle.model.specs.declared.instr.Instr.TheVariants.{Const}
 use Rattle.model.specs.declared.limits.TheConstants.{MAX_TURNS}
-use Rattle.model.specs.InstructionForm.{FormsAreInverse, Operand, ARegister, ACell, APagedCell, ASpinLock, AConstant, ATurns, AField, AStatus, AQueue, ALabel, ARoutine, AReturn, ValueOf, Values, built, said}
+use Rattle.model.specs.InstructionForm.{Changes, Form, FormsAreInverse, Operand, ARegister, ACell, APagedCell, ASpinLock, AConstant, ATurns, AField, AStatus, AQueue, ALabel, ARoutine, AReturn, ValueOf, Values, built, by_form, changed, made_of, rebuilt, said}
 use Rattle.model.specs.Set.{label_of}
 use Rattle.model.specs.Sound.{FormFits, IsCell, IsRegister, IsSpinLock, OperandFits, completion_named, queue_named}
 
 pub built_again : (i : Instr) → built (said i) ≡ i
 built_again (Const r n) = refl
 built_again _ = refl
+
+-- what goes by the form of an instruction goes by what it says
+pub by_form_said : {X : Type 0} (says : (form : Form) → Values form.operands → X) (i : Instr)
+    → by_form says i ≡ says (said i).form (said i).values
+by_form_said says (Const r n) = refl
+by_form_said says _ = refl
+
+pub rebuilt_said : (change : Changes) (i : Instr) → rebuilt change i
+    ≡ made_of (said i).form.operands (said i).form.makes
+    (changed change (said i).form.operands (said i).values)
+rebuilt_said change i =
+    by_form_said
+    (λ form values. made_of form.operands form.makes (changed change form.operands values)) i
 
 -- the same of each form, one after another
 infixr 5 ◌also◌
