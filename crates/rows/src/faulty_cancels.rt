@@ -292,7 +292,7 @@ static CODES: [Faulty; 45] = [
         told: "text fault 2 UnknownWord line 4\n",
     },
     Faulty {
-        text: "dequeue r0\n",
+        text: "requeue r0\n",
         told: "text fault 2 UnknownWord line 4\n",
     },
     Faulty {

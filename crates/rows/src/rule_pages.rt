@@ -37,8 +37,9 @@ static RULES: [(Rule, &str); 20] = [
 pub(crate) const CANCEL_STATE: &[u8] = b"V12 CancelState
 A packet of a queue with a cancel routine is the routine's own, to be completed or
 moved, only when that is settled: after `unlink` by one who listed it or by the
-cancel routine, or after a `disarm` that found the cancel routine still set. A second
-packet of such a queue is not taken while a register names it.
+cancel routine, after `dequeue` by the cancel routine of the device queue, or after a
+`disarm` that found the cancel routine still set. A second packet of such a queue is
+not taken while a register names it.
 see: the Driver Kit on IoSetCancelRoutine and on cancel routines: who gets NULL leaves the packet \
     to the cancel routine; bug checks 0x44, 0x48 and 0x0A
 
