@@ -231,7 +231,7 @@ none_over m p s has arrives = by m.routine.sort refl
         (λ first enters. over_first m.routine.sort (cancels_for m.set m.driver m.number) first
         (rw is refl) enters) arrives
 
-head_counts : (entries : List ℕ) (n : ℕ) → head_of entries ≡ Some n → 1 ≤ times_in entries n
+pub head_counts : (entries : List ℕ) (n : ℕ) → head_of entries ≡ Some n → 1 ≤ times_in entries n
 head_counts [] n first = cc
 head_counts (m ∷ entries) n first =
     let same : m ≡ n = cc in rw (same, eq-eqb n n refl) (omega arith)

@@ -3,6 +3,7 @@
 -- its packet.
 use Rattle.model.specs.declared.set.QueueName.{QueueName}
 use Rattle.model.specs.declared.instr.Return.TheVariants.{Continue}
+use Rattle.run_laws.proofs.Claims.Next.{head_counts}
 use Rattle.run_laws.proofs.States.Cancelled.{begins_called}
 use Rattle.model.specs.declared.world.CancelStep.{CancelStep}
 use Rattle.run_laws.proofs.Holders.Lent.{back_unheld, hold_sort}
@@ -65,7 +66,7 @@ use Rattle.run_laws.proofs.Steps.Comes.{Waits, starts_gone, dequeues_packet, wor
 use Rattle.model.specs.declared.instr.Instr.TheVariants.{Dequeue}
 use Rattle.run_laws.proofs.Steps.Comes.{Waits, arms_waiting, disarms_next}
 use Rattle.model.specs.declared.world.Armer.{Armer}
-use Rattle.std.proofs.Common.{[], ◌∷◌}
+use Rattle.std.proofs.Common.{◌∷◌}
 
 -- a routine that goes on sees what it saw
 goes_seen : (set : Set) (states : States) (under : Option Frame) (a b : Activation)
@@ -417,12 +418,6 @@ module _ (set : Set) (states : States) (s : Shared) (past : List Entry) where
       own_if (find s.packets n) some in
       ap (λ (gone : Bool). bug_if gone IrqlNotLessOrEqual (PacketSubject n))
       (untopped s past n own.0 tells own.1)
-
-  head_counts : (entries : List ℕ) (n : ℕ) → head_of entries ≡ Some n → 1 ≤ times_in entries n
-  head_counts [] n h = cc
-  head_counts (m ∷ entries) n h =
-      let same : m ≡ n = cc in
-      rw (same, eq-eqb n n refl) (omega arith)
 
   queued_faults : (actor : Actor) (under : Option Frame) (a : Activation) (i : Instr)
       → OnTop set states s (Routine a) → Holding set states s past (Routine a)
