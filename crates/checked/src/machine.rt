@@ -37,7 +37,7 @@ impl Model for Checked {
 }
 
 impl Checked {
-    /// A machine that runs the set on so many threads, 1 to 32, before the first event. All memory
+    /// A machine that runs the set on so many threads, 1 to 64, before the first event. All memory
     /// that it ever needs is taken here: the set comes back where some of it is refused.
     pub fn new(
         alloc: Global,
@@ -97,7 +97,7 @@ impl Checked {
         self.state.due(device)
     }
 
-    /// The machine after these events over so many threads, 1 to 32. Where the set is typable, as
+    /// The machine after these events over so many threads, 1 to 64. Where the set is typable, as
     /// an accepted one is, its run keeps the rules: among them that no operand is of a wrong kind,
     /// that locks and levels are kept, and that each activation is within its certificate. The set
     /// comes back where memory is refused.

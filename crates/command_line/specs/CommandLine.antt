@@ -5,6 +5,7 @@ use Rattle.clap.specs.declared.builder.ArgAction.TheVariants.{Set, SetTrue}
 use Rattle.clap.specs.declared.builder.value_parser.ValueParser.TheVariants.{Signed}
 use Rattle.interleave.specs.Line.{number_within}
 use Rattle.model.specs.Words.{rule_word}
+use Rattle.model.specs.declared.limits.TheConstants.{MAX_THREADS}
 use Rattle.command_line.specs.declared.job.Job.{Job}
 use Rattle.command_line.specs.declared.job.Job.TheVariants.{Check, Explain, ExplainRule, List as ListJob, Version, Trace, Host}
 use Rattle.command_line.specs.declared.job.JobFault.{JobFault}
@@ -66,7 +67,7 @@ workers_option =
     record (new_rule (codes "workers")) {
       long = Some (codes "workers");
       action = Some Set;
-      parser = Some (Signed (pos 1) (pos 32));
+      parser = Some (Signed (pos 1) (pos MAX_THREADS));
       required = true;
     }
 
@@ -135,7 +136,7 @@ NamesTask found (Trace set schedule verification) =
 NamesTask found (Host set script workers) =
     (found.0 ≡ codes "host") × (first_of (codes "FILE") found.1 ≡ Some set.now)
     × (first_of (codes "SCRIPT") found.1 ≡ Some script.now)
-    × (option_and_then (number_within 1 32) (first_of (codes "workers") found.1) ≡ Some workers)
+    × (option_and_then (number_within 1 MAX_THREADS) (first_of (codes "workers") found.1) ≡ Some workers)
 
 -- the matches name a task
 abbrev pub Names : Option (Text × List Row) → Job → Type 0

@@ -96,7 +96,7 @@ impl Model for Workers {
 impl Workers {
     /// As many as a text says in the numbers of a script, if that is within the limits.
     fn of(text: &str) -> Option<Workers>
-        ensures { result ≡ number_within 1 32 text.now }
+        ensures { result ≡ number_within 1 MAX_THREADS text.now }
     {
         let count = number_within(1, MAX_THREADS as u64, text.as_bytes())?;
         Some(Workers { count: count as u8 })
@@ -383,8 +383,8 @@ fn workers_option<'a>(alloc: Global) -> Arg<'a>
         .long("workers")
         .required(true)
         .action(ArgAction::Set)
-        .value_parser(ValueParser::Signed(1, 32))
-        .help("How many workers serve it, 1 to 32")
+        .value_parser(ValueParser::Signed(1, 64))
+        .help("How many workers serve it, 1 to 64")
 }
 
 /// The task that a parsed command line names.

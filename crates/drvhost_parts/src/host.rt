@@ -30,7 +30,7 @@ use std::thread::Threads;
 use verifier::{Accepted, verify};
 use workers::Gate;
 
-/// Has the commands of a script served by so many workers, 1 to 32, over one locked core of an
+/// Has the commands of a script served by so many workers, 1 to 64, over one locked core of an
 /// accepted driver set, and writes a line for each command: how its request's packet topped out, or
 /// else the reply to it, or that it was left. The last line says of how many entries the history
 /// is, and whether the reference machine, which replays it, agrees. Before each turn a worker asks

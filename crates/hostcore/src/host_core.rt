@@ -112,7 +112,7 @@ fn append(log: &mut Log, seats: &mut Vec<Option<u64>>, entry: Entry)
 }
 
 impl Core {
-    /// A core of an accepted set with so many threads, 1 to 32, an empty history that may have so
+    /// A core of an accepted set with so many threads, 1 to 64, an empty history that may have so
     /// many entries, at most `MAX_HISTORY`, and no seat given out. All memory that it ever needs is
     /// taken here: the set comes back where some of it is refused.
     pub fn new(

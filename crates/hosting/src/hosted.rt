@@ -50,7 +50,7 @@ struct Told {
 }
 
 /// Submits the commands of a script to a queue, closes it, and has it served over a core of an
-/// accepted set by so many workers, 1 to 32, each with a thread of the core. The history is then
+/// accepted set by so many workers, 1 to 64, each with a thread of the core. The history is then
 /// replayed on the reference machine.
 ///
 /// # Errors

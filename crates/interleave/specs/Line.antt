@@ -1,6 +1,7 @@
 -- One line of a schedule: what it stands for, or the least kind of what is wrong with it.
 use Rattle.std.specs.Prelude.{ℕ, ◌^◌, ◌-◌, ◌&&◌, nat_le, List, [], ◌∷◌, bytes_eq, codes, Option, Some, None, Result, Ok, Err, if◌then◌else◌}
 use Rattle.model.specs.declared.event.Event.TheVariants.{Issue, Cancel, Interrupt, Dpc, StartIo, Step}
+use Rattle.model.specs.declared.limits.TheConstants.{MAX_THREADS}
 use Rattle.model.specs.declared.status.Major.{Major}
 use Rattle.text.specs.Cut.{tokens_of}
 use Rattle.text.specs.Class.{is_number}
@@ -30,7 +31,7 @@ ranged (Some a) = Ok (Some a)
 
 -- so many threads
 abbrev pub threads_of : List ℕ → Result (Option ℕ) ScheduleKind
-threads_of count = if is_number count then ranged (number_within 1 32 count) else Err UnknownWord
+threads_of count = if is_number count then ranged (number_within 1 MAX_THREADS count) else Err UnknownWord
 
 -- `threads K`
 abbrev pub threads_line : List (List ℕ) → Result (Option ℕ) ScheduleKind

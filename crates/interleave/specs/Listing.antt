@@ -2,6 +2,7 @@
 -- least kind of what is wrong there.
 use Rattle.std.specs.Prelude.{◌≡◌, ◌⊎◌, ℕ, ◌+◌, ◌≤◌, nat_le, List, [], ◌∷◌, ◌++◌, length, replicate, Option, Some, None, Result, Ok, Err, if◌then◌else◌}
 use Rattle.model.specs.declared.event.Event.{Event}
+use Rattle.model.specs.declared.limits.TheConstants.{MAX_THREADS}
 use Rattle.text.specs.Cut.{lines_of}
 use Rattle.interleave.specs.Line.{and_then, opening_line, event_line}
 use Rattle.interleave.specs.declared.read.Repeated.{Repeated}
@@ -64,5 +65,5 @@ IsFaultOf text fault = (fault ≡ record { line = 0; kind = Memory }) ⊎ (sched
 -- as many threads and events as a schedule may have
 pub record IsWithinLimits (schedule : Schedule) : Type 0 where
   pub some_threads : 1 ≤ schedule.threads
-  pub most_threads : schedule.threads ≤ 32
+  pub most_threads : schedule.threads ≤ MAX_THREADS
   pub most_events : length schedule.events ≤ 1000000

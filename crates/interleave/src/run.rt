@@ -11,7 +11,7 @@ use model::memory::OutOfMemory;
 use std::alloc::Global;
 use verifier::Accepted;
 
-/// The world after these events, on so many threads, 1 to 32. The set comes back where memory is
+/// The world after these events, on so many threads, 1 to 64. The set comes back where memory is
 /// refused.
 pub fn run(
     alloc: Global,

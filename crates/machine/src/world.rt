@@ -61,7 +61,7 @@ impl Model for World {
 }
 
 impl World {
-    /// The world before the first event, with so many threads, 1 to 32. All memory that it ever
+    /// The world before the first event, with so many threads, 1 to 64. All memory that it ever
     /// needs is taken here: the set comes back where some of it is refused.
     pub fn new(
         alloc: Global,

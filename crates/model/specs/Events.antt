@@ -92,7 +92,7 @@ step_thread set w t (Some thread) =
 abbrev pub is_idle : Thread → Bool
 is_idle thread = nat_eq (length thread.frames.items) 0
 
--- fewer than 1,024 packets live, and fewer than 18,446,744,073,709,551,615 were issued
+-- fewer than 4,096 packets live, and fewer than 18,446,744,073,709,551,615 were issued
 abbrev pub can_issue : Shared → Bool
 can_issue s = nat_lt (length s.packets) MAX_LIVE_PACKETS && nat_lt s.issued MAX_ISSUED
 

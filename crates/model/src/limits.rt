@@ -27,11 +27,11 @@ pub const MAX_STACK: usize = 16;
 /// Frames on a thread, at most.
 pub const MAX_FRAMES: usize = 32;
 /// Packets that are issued and have not topped out, at most.
-pub const MAX_LIVE_PACKETS: usize = 1024;
+pub const MAX_LIVE_PACKETS: usize = 4096;
 /// Entries of a list of packets (a queue, a start list), at most. A packet may stand there twice.
-pub const MAX_ENTRIES: usize = 1_024;
+pub const MAX_ENTRIES: usize = 4_096;
 /// Threads of a run, at most; it has at least one.
-pub const MAX_THREADS: usize = 32;
+pub const MAX_THREADS: usize = 64;
 /// Packets ever issued in a run, at most.
 pub const MAX_ISSUED: u64 = 18_446_744_073_709_551_615;
 /// Entries of a history, at most.
