@@ -11,7 +11,7 @@ use Rattle.drvhost_parts.specs.declared.verification.Verification.TheVariants.{R
 use Rattle.asm.specs.Reading.{set_in}
 use Rattle.interleave.specs.Listing.{schedule_in}
 use Rattle.report.specs.Fault.{image_fault_line, text_fault_line}
-use Rattle.drvhost_parts.specs.Answer.{Answer, ImageSays, IsCheck, IsIfAccepted, IsListing, IsOfFile, IsOfSaid, IsRefused, IsTraced, IsVerdict, SaysAs, TextSays, acceptance, ended, is_image, ran}
+use Rattle.drvhost_parts.specs.Answer.{Answer, ImageSays, IsCheck, IsIfAccepted, IsListing, IsOfFile, IsOfSaid, IsRefused, IsRewrite, IsRewritten, IsTraced, IsVerdict, SaysAs, TextSays, acceptance, ended, is_image, ran}
 use Rattle.drvhost_parts.specs.Device.{Bytes}
 use Rattle.drvhost_parts.specs.Ends.{IsRunOf, IsTrace}
 
@@ -124,3 +124,8 @@ module _ (spell : BytesSpellOne) (faultless : ImagesAreFaultless) (single : Faul
   pub list_once : (set : List ℕ) (one other : Answer) → IsOfFile IsListing set one
       → IsOfFile IsListing set other → one ≡ other
   list_once set one other a b = file_once IsListing (λ _ _ _ c d. c ∙ sym d) set one other a b
+
+  pub rewrite_once : (set : List ℕ) (one other : Answer) → IsRewrite set one → IsRewrite set other
+      → one ≡ other
+  rewrite_once set one other a b =
+      file_once IsRewritten (λ _ _ _ c d. c.1 ∙ sym d.1) set one other a b

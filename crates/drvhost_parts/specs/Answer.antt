@@ -1,12 +1,14 @@
--- What `check`, `explain`, `trace`, `host`, `list` and `version` answer for the bytes of their files.
+-- What `check`, `explain`, `trace`, `host`, `list`, `rewrite` and `version` answer for the bytes of
+-- their files.
 use Rattle.std.specs.Prelude.{ℕ, ⊤, nat_eq, ◌≡◌, ◌+◌, ◌⊎◌, ◌++◌, Bool, true, false, if◌then◌else◌, List, [], ◌∷◌, codes, length, None, Option, Some, Result, Ok, Err}
 use Rattle.std.specs.List.{list_any, starts_with}
 use Rattle.asm.specs.declared.fault.AsmFault.{AsmFault}
 use Rattle.asm.specs.Reading.{set_in}
 use Rattle.asm_listing.specs.Listing.{listing}
+use Rattle.image.specs.declared.edition.Edition.TheVariants.{Current}
 use Rattle.image.specs.declared.fault.ImageFault.{ImageFault}
 use Rattle.image.specs.Reading.{IsFaultOf}
-use Rattle.image.specs.Spelling.{Spells}
+use Rattle.image.specs.Spelling.{Spells, spelling}
 use Rattle.interleave.specs.declared.schedule.Schedule.{Schedule}
 use Rattle.interleave.specs.declared.schedule.ScheduleFault.{ScheduleFault}
 use Rattle.model.specs.declared.abs.Refusal.{Refusal}
@@ -185,6 +187,10 @@ IsToRun Skipped set = ⊤
 abbrev pub IsListing : Set → Answer → Type 0
 IsListing set answer = answer ≡ ended Complete (listing set)
 
+-- the image of a set, in the second edition
+abbrev pub IsRewritten : Set → Answer → Type 0
+IsRewritten set answer = IsSound set × (answer ≡ ended Complete (spelling Current set))
+
 -- the program's name and its version
 abbrev pub IsVersion : Answer → Type 0
 IsVersion answer = answer ≡ ended Complete (codes "drvhost 0.1.0\n")
@@ -197,6 +203,10 @@ pub record IsRuleExplained (rule : Rule) (answer : Answer) : Type 0 where
 -- what `check` answers for the bytes of its file
 abbrev pub IsCheck : List ℕ → Answer → Type 0
 IsCheck set answer = IsOfFile IsVerdict set answer
+
+-- what `rewrite` answers for the bytes of its file
+abbrev pub IsRewrite : List ℕ → Answer → Type 0
+IsRewrite set answer = IsOfFile IsRewritten set answer
 
 -- the line of a command of a script: what is told of it, or that it was left
 abbrev pub command_line : ℕ → Option Reply → List ℕ

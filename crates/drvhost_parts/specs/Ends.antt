@@ -5,7 +5,7 @@ use Rattle.drvhost_parts.specs.declared.verification.Verification.{Verification}
 use Rattle.interleave.specs.Listing.{schedule_in}
 use Rattle.model.specs.Set.{Set}
 use Rattle.script.specs.Script.{script_in}
-use Rattle.drvhost_parts.specs.Answer.{Answer, FileSays, IsExplainedSaid, IsIfAccepted, IsListing, IsOfFile, IsServed, IsToRun, IsTraced, IsVerdict, ran}
+use Rattle.drvhost_parts.specs.Answer.{Answer, FileSays, IsExplainedSaid, IsIfAccepted, IsListing, IsOfFile, IsRewritten, IsServed, IsToRun, IsTraced, IsVerdict, ran}
 use Rattle.drvhost_parts.specs.Device.{Bytes, Holds, Supply, TakesBeginning}
 
 -- what is right for the set that a source has, where these are the right answers for a set
@@ -27,6 +27,10 @@ IsExplainedOf supply answer =
 -- what `list` answers for what its source has
 abbrev pub IsListOf : Supply → Answer → Type 0
 IsListOf supply answer = IsOfSupply IsListing supply answer
+
+-- what `rewrite` answers for what its source has
+abbrev pub IsRewriteOf : Supply → Answer → Type 0
+IsRewriteOf supply answer = IsOfSupply IsRewritten supply answer
 
 -- what a run of a set by the schedule that a source has answers
 abbrev pub IsRunOf : Supply → Set → Answer → Type 0

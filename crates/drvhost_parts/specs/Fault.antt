@@ -17,10 +17,12 @@ use Rattle.script.specs.Script.{script_in}
 use Rattle.std.specs.Global.{Vec}
 use Rattle.report.specs.Fault.{image_fault_line, schedule_fault_line, script_fault_line, text_fault_line}
 use Rattle.drvhost_parts.specs.declared.fault.End.{End}
+use Rattle.drvhost_parts.specs.declared.fault.End.TheVariants.{Complete}
 use Rattle.drvhost_parts.specs.declared.fault.Fault.{Fault}
 use Rattle.drvhost_parts.specs.declared.fault.Fault.TheVariants.{Read, Write, Memory, Text, Image, Schedule as OfSchedule, Script as OfScript}
 use Rattle.drvhost_parts.specs.Answer.{Answer, FileSays, ImageSays, TextSays, end_status, ended, faulty}
 use Rattle.drvhost_parts.specs.Device.{Adds, Holds, Supply, TakesBeginning}
+use Rattle.drvhost_parts.specs.Ends.{IsRewriteOf}
 
 -- how many reads failed
 abbrev pub failed_reads : Fault → ℕ
@@ -156,6 +158,11 @@ ReadsSet held (Err Memory) = ⊤
 ReadsSet held (Err Write) = ⊥
 ReadsSet held (Err (OfSchedule fault)) = ⊥
 ReadsSet held (Err (OfScript fault)) = ⊥
+
+-- an image was made of the set that the bytes of a source name, or the set's first fault is told
+abbrev pub ReadsImage : Supply → Result (Vec ℕ) Fault → Type 0
+ReadsImage held (Ok image) = IsRewriteOf held (ended Complete image.items)
+ReadsImage held (Err fault) = ReadsSet held (Err fault)
 
 -- a schedule was read likewise
 abbrev pub ReadsSchedule : Supply → Result Schedule Fault → Type 0

@@ -1,7 +1,7 @@
--- The answer for the bytes of the files is one.
+-- The answer for the bytes of the files is one, and what was rewritten stays as it is.
 use Rattle.std.specs.Prelude.{ℕ, ◌≡◌, List}
 use Rattle.drvhost_parts.specs.declared.verification.Verification.{Verification}
-use Rattle.drvhost_parts.specs.Answer.{Answer, IsCheck, IsListing, IsOfFile}
+use Rattle.drvhost_parts.specs.Answer.{Answer, IsCheck, IsListing, IsOfFile, IsRewrite}
 use Rattle.drvhost_parts.specs.Ends.{IsTrace}
 
 -- two answers of `check` for the same bytes are equal
@@ -20,3 +20,14 @@ abbrev pub ListIsOne : Type 0
 ListIsOne =
     (set : List ℕ) (one other : Answer) → IsOfFile IsListing set one → IsOfFile IsListing set other
     → one ≡ other
+
+-- two answers of `rewrite` likewise
+abbrev pub RewriteIsOne : Type 0
+RewriteIsOne =
+    (set : List ℕ) (one other : Answer) → IsRewrite set one → IsRewrite set other → one ≡ other
+
+-- where a set was rewritten, a second rewrite, of what was written, answers the same
+abbrev pub RewritingIsStable : Type 0
+RewritingIsStable =
+    (set : List ℕ) (one other : Answer) → IsRewrite set one → one.status ≡ 0
+    → IsRewrite one.output other → other ≡ one

@@ -1,6 +1,6 @@
 //! What the program does, over any devices: the verdict on a driver set, explained or not, its
-//! trace and its listing, a rule in words, and what comes of a script of commands that workers
-//! serve.
+//! trace, its listing and its image, a rule in words, and what comes of a script of commands that
+//! workers serve.
 #![tactic(auto)]
 
 pub mod check;
@@ -12,6 +12,7 @@ pub mod host;
 pub mod laws;
 pub mod list;
 mod reading;
+pub mod rewriting;
 pub mod rule;
 mod running;
 mod task;

@@ -1,4 +1,4 @@
-use Rattle.drvhost_parts.proofs.One.{check_once, list_once, trace_once}
+use Rattle.drvhost_parts.proofs.One.{check_once, list_once, rewrite_once, trace_once}
 use Rattle.drvhost_parts.proofs.laws.answer_is_one.Goals as goal
 
 pub returns-clause-check : goal.returns-clause-check
@@ -14,4 +14,9 @@ returns-clause-trace c = λ v set schedule one other.
 pub returns-clause-list : goal.returns-clause-list
 returns-clause-list c = λ set one other.
     list_once c.bytes_spell_one.ensures c.images_are_faultless.ensures c.fault_is_one.ensures set one
+    other
+
+pub returns-clause-rewrite : goal.returns-clause-rewrite
+returns-clause-rewrite c = λ set one other.
+    rewrite_once c.bytes_spell_one.ensures c.images_are_faultless.ensures c.fault_is_one.ensures set one
     other

@@ -1,0 +1,73 @@
+//! The image of a driver set, whatever its file is.
+
+ghost use Rattle.std.specs.Prelude.{◌≡◌, ◌≢◌, ◌+◌, ◌⊎◌, [], IfErr, IfOk};
+ghost use Rattle.drvhost_parts.specs.Device.{CanCount, Says};
+ghost use Rattle.drvhost_parts.specs.Ends.{Answers, IsRewriteOf};
+ghost use Rattle.drvhost_parts.specs.Fault.{Goes, ReadsImage, reads_failed, writes_failed};
+
+use crate::device::{Sink, Source};
+use crate::fault::{End, Fault, finish, no_memory};
+use crate::reading::read_set;
+use crate::transfer::write_bytes;
+use image::encode;
+use report::lines::Lines;
+use std::alloc::{AllocError, Global};
+
+/// Writes the image of a driver set, in the second edition, whether or not the set is accepted. The
+/// answer is the exit status: 0 where it was written, 2 where the set's text or its image is faulty
+/// or a read or a write failed, 3 where memory ran out. Faults are told on the error writer. Nothing
+/// is done with the writer before the whole image stands in memory.
+pub fn rewrite<S: Source, O: Sink, E: Sink>(
+    alloc: Global,
+    set: &mut S,
+    out: &mut O,
+    err: &mut E,
+) -> u8
+    requires set { CanCount (S.failures set.old) }
+    requires out { CanCount (O.failures out.old) }
+    requires err { CanCount (E.failures err.old) }
+    ensures answers { Answers (IsRewriteOf (S.supply set.old))
+        (S.failures set.old) (S.failures set.new) (O.failures out.old) (O.failures out.new)
+        (O.contents out.old) (O.contents out.new)
+        (Says (E.failures err.old) (E.failures err.new) (E.contents err.old) (E.contents err.new))
+        result }
+    ensures untouched { (out.new ≡ out.old)
+        ⊎ ((result ≡ 0) ⊎ (O.failures out.new ≡ O.failures out.old + 1)) }
+{
+    match Lines::new(alloc) {
+        Ok(mut lines) => {
+            let end = rewrite_set(alloc, set, out);
+            finish(end, &mut lines, err)
+        }
+        Err(AllocError) => no_memory(err),
+    }
+}
+
+/// Writes the image of the set that the bytes of a source name, once it stands whole.
+fn rewrite_set<S: Source, O: Sink>(alloc: Global, set: &mut S, out: &mut O) -> Result<End, Fault>
+    requires set { CanCount (S.failures set.old) }
+    requires out { CanCount (O.failures out.old) }
+    ensures goes { Goes (IsRewriteOf (S.supply set.old)) (O.contents out.old) (O.contents out.new)
+        [] [] result }
+    ensures reads { S.failures set.new ≡ S.failures set.old + reads_failed result }
+    ensures writes { O.failures out.new ≡ O.failures out.old + writes_failed result }
+    ensures untouched { IfErr result (λ fault. fault ≢ Fault.Write → out.new ≡ out.old) }
+    ensures done { IfOk result (λ end. end ≡ End.Complete) }
+{
+    let image = image_of(alloc, set)?;
+    write_bytes(image.as_slice(), out)?;
+    Ok(End::Complete)
+}
+
+/// The image of the set that the bytes of a source name.
+fn image_of<S: Source>(alloc: Global, source: &mut S) -> Result<Vec<u8>, Fault>
+    requires { CanCount (S.failures source.old) }
+    ensures image { ReadsImage (S.supply source.old) result }
+    ensures reads { S.failures source.new ≡ S.failures source.old + reads_failed result }
+    ensures unwritten { writes_failed result ≡ 0 }
+{
+    let set = read_set(alloc, source)?;
+    let _sound = set.drivers();
+    let image = encode(alloc, &set)?;
+    Ok(image)
+}
