@@ -8,4 +8,4 @@ pub mod One
 pub mod Explained
 pub mod Files
 pub mod Wording
-pub mod Rewriting
+pub mod Images

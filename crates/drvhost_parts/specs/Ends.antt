@@ -1,11 +1,12 @@
 -- How a command ends, for what its devices hold.
-use Rattle.std.specs.Prelude.{ℕ, ◌≡◌, ◌+◌, List, codes, Ok, Option, Result}
+use Rattle.std.specs.Prelude.{ℕ, ◌≡◌, ◌+◌, ◌⊎◌, List, codes, Ok, Option, Result}
 use Rattle.std.specs.Io.KnownBytes.{Appends, Keeps}
+use Rattle.drvhost_parts.specs.declared.fault.End.TheVariants.{Complete}
 use Rattle.drvhost_parts.specs.declared.verification.Verification.{Verification}
 use Rattle.interleave.specs.Listing.{schedule_in}
 use Rattle.model.specs.Set.{Set}
 use Rattle.script.specs.Script.{script_in}
-use Rattle.drvhost_parts.specs.Answer.{Answer, FileSays, IsExplainedSaid, IsIfAccepted, IsListing, IsOfFile, IsRewritten, IsServed, IsToRun, IsTraced, IsVerdict, ran}
+use Rattle.drvhost_parts.specs.Answer.{Answer, FileSays, IsExplainedSaid, IsIfAccepted, IsListing, IsOfFile, IsRewritten, IsServed, IsToRun, IsTraced, IsVerdict, ended, ran}
 use Rattle.drvhost_parts.specs.Device.{Bytes, Holds, Supply, TakesBeginning}
 
 -- what is right for the set that a source has, where these are the right answers for a set
@@ -65,6 +66,13 @@ HoldsSet Such supply =
 -- a source has a set that `trace` runs, or that is accepted
 abbrev pub HoldsRun : Verification → Supply → Type 0
 HoldsRun verification supply = HoldsSet (IsToRun verification) supply
+
+-- a sink has taken the image of the set that a source has, or a beginning of it where a write failed
+pub record TakesImage (supply : Supply) (before after : Option (List ℕ)) (status : ℕ) : Type 0 where
+  pub image : List ℕ
+  pub right : IsRewriteOf supply (ended Complete image)
+  pub taken : ((status ≡ 0) × Appends before after image)
+      ⊎ ((status ≡ 2) × TakesBeginning before after image)
 
 -- how a command ends, where these answers are right: by its exit status, what it tells, what went
 -- out, and how many reads and writes failed

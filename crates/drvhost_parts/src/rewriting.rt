@@ -1,9 +1,9 @@
 //! The image of a driver set, whatever its file is.
 
-ghost use Rattle.std.specs.Prelude.{◌≡◌, ◌≢◌, ◌+◌, ◌⊎◌, [], IfErr, IfOk};
+ghost use Rattle.std.specs.Prelude.{◌≡◌, ◌+◌, ◌⊎◌, []};
 ghost use Rattle.drvhost_parts.specs.Device.{CanCount, Says};
-ghost use Rattle.drvhost_parts.specs.Ends.{Answers, IsRewriteOf};
-ghost use Rattle.drvhost_parts.specs.Fault.{Goes, ReadsImage, reads_failed, writes_failed};
+ghost use Rattle.drvhost_parts.specs.Ends.{Answers, IsRewriteOf, TakesImage};
+ghost use Rattle.drvhost_parts.specs.Fault.{Goes, ReadsImage, reads_failed, status_of, writes_failed};
 
 use crate::device::{Sink, Source};
 use crate::fault::{End, Fault, finish, no_memory};
@@ -31,8 +31,8 @@ pub fn rewrite<S: Source, O: Sink, E: Sink>(
         (O.contents out.old) (O.contents out.new)
         (Says (E.failures err.old) (E.failures err.new) (E.contents err.old) (E.contents err.new))
         result }
-    ensures untouched { (out.new ≡ out.old)
-        ⊎ ((result ≡ 0) ⊎ (O.failures out.new ≡ O.failures out.old + 1)) }
+    ensures touched { (out.new ≡ out.old)
+        ⊎ TakesImage (S.supply set.old) (O.contents out.old) (O.contents out.new) result }
 {
     match Lines::new(alloc) {
         Ok(mut lines) => {
@@ -51,8 +51,9 @@ fn rewrite_set<S: Source, O: Sink>(alloc: Global, set: &mut S, out: &mut O) -> R
         [] [] result }
     ensures reads { S.failures set.new ≡ S.failures set.old + reads_failed result }
     ensures writes { O.failures out.new ≡ O.failures out.old + writes_failed result }
-    ensures untouched { IfErr result (λ fault. fault ≢ Fault.Write → out.new ≡ out.old) }
-    ensures done { IfOk result (λ end. end ≡ End.Complete) }
+    ensures touched { (out.new ≡ out.old)
+        ⊎ TakesImage (S.supply set.old) (O.contents out.old) (O.contents out.new)
+        (status_of result) }
 {
     let image = image_of(alloc, set)?;
     write_bytes(image.as_slice(), out)?;

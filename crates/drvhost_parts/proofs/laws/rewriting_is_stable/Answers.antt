@@ -1,4 +1,4 @@
-use Rattle.drvhost_parts.proofs.Rewriting.{stable}
+use Rattle.drvhost_parts.proofs.Images.{stable}
 use Rattle.drvhost_parts.proofs.laws.rewriting_is_stable.Goals as goal
 
 pub returns : goal.returns

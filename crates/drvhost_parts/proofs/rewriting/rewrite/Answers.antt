@@ -1,9 +1,8 @@
-use Rattle.std.proofs.Common.{arith, inl, refl}
+use Rattle.std.proofs.Common.{arith, refl}
 use Rattle.drvhost_parts.specs.declared.fault.Fault.TheVariants.{Memory}
 use Rattle.drvhost_parts.specs.Ends.{IsRewriteOf, OutOfMemory}
 use Rattle.drvhost_parts.specs.Fault.{fault_told, reads_failed, told_of, writes_failed}
 use Rattle.drvhost_parts.proofs.Jobs.{ends_of}
-use Rattle.drvhost_parts.proofs.Rewriting.{same_or_written}
 use Rattle.drvhost_parts.proofs.Writing.{keeps_same}
 use Rattle.drvhost_parts.proofs.rewriting.rewrite.Goals as goal
 
@@ -22,11 +21,8 @@ returns-in-Ok-clause-answers g c =
           c.rewrite_set-end.ensures.goes);
     }
 
-pub returns-in-Ok-clause-untouched : goal.returns-in-Ok-clause-untouched
-returns-in-Ok-clause-untouched g c =
-    same_or_written _ c.rewrite_set-end.result _ _ _ c.finish.ensures.status
-    c.rewrite_set-end.ensures.writes c.rewrite_set-end.ensures.untouched
-    c.rewrite_set-end.ensures.done
+pub returns-in-Ok-clause-touched : goal.returns-in-Ok-clause-touched
+returns-in-Ok-clause-touched g c = rw c.finish.ensures.status c.rewrite_set-end.ensures.touched
 
 pub returns-in-Err-clause-answers : goal.returns-in-Err-clause-answers
 returns-in-Err-clause-answers g c =

@@ -1,0 +1,52 @@
+-- The image of a set is written, and a rewrite of an image gives that image.
+use Rattle.std.proofs.Common.{◌≡◌, ◌∙◌, ℕ, List, [], Option, Ok, Err, inr, ap, refl, subst, sym}
+use Rattle.std.proofs.lemmas.List.{append-nil}
+use Rattle.std.specs.Global.{Vec}
+use Rattle.std.specs.Io.KnownBytes.{Appends}
+use Rattle.image.specs.declared.edition.Edition.TheVariants.{Current}
+use Rattle.image.specs.Laws.{BytesSpellOne, ImagesAreFaultless}
+use Rattle.image.specs.Spelling.{spelling}
+use Rattle.model.specs.Set.{Set}
+use Rattle.model.specs.Sound.{IsSound}
+use Rattle.drvhost_parts.specs.declared.fault.End.TheVariants.{Complete}
+use Rattle.drvhost_parts.specs.Answer.{Answer, IsRewrite, IsRewritten, ended}
+use Rattle.drvhost_parts.specs.Device.{Supply}
+use Rattle.drvhost_parts.specs.Ends.{IsRewriteOf}
+use Rattle.drvhost_parts.specs.Fault.{Goes, ReadsImage, ReadsSet}
+use Rattle.drvhost_parts.specs.Laws.{RewritingIsStable}
+use Rattle.drvhost_parts.proofs.Jobs.{right_on}
+
+-- the image of the set that a source has
+pub image_read : (held : Supply) (set : Set) (image : Vec ℕ) → ReadsSet held (Ok set) → IsSound set
+    → image.items ≡ spelling Current set → ReadsImage held (Ok image)
+image_read held set image read sound is =
+    right_on IsRewritten held set read (ended Complete image.items) (sound, ap (ended Complete) is)
+
+-- it is written, or a beginning of it
+pub image_written : (held : Supply) (b n : Option (List ℕ)) (image : List ℕ)
+    → IsRewriteOf held (ended Complete image) → Appends b n image
+    → Goes (IsRewriteOf held) b n [] [] (Ok Complete)
+image_written held b n image right written =
+    (
+      image,
+      right,
+      record { written = image; appended = written; whole = sym (append-nil image) },
+    )
+
+module _ (spell : BytesSpellOne) (faultless : ImagesAreFaultless) where
+  -- the image of a set is rewritten as it is
+  image_again : (set : Set) (other : Answer) → IsSound set
+      → IsRewrite (spelling Current set) other → other ≡ ended Complete (spelling Current set)
+  image_again set other sound (Ok found, says, right) =
+      let same : found ≡ set =
+      spell (spelling Current set) found set says.0 sound says.1 (inr (tt, refl)) in
+      right.1 ∙ ap (λ x. ended Complete (spelling Current x)) same
+  image_again set other sound (Err line, says, right) =
+      absurd (faultless (spelling Current set) set says.0 sound (inr (tt, refl)) says.1)
+
+  pub stable : RewritingIsStable
+  stable bytes one other (Ok set, says, right) done again =
+      let P : List ℕ → Type 0 = λ b. IsRewrite b other in
+      image_again set other right.0 (subst P (ap (λ a. a.output) right.1) again) ∙ sym right.1
+  stable bytes one other (Err line, says, right) done again =
+      let no : 2 ≡ 0 = sym (ap (λ a. a.status) right) ∙ done in cc
