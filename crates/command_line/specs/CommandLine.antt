@@ -7,7 +7,7 @@ use Rattle.interleave.specs.Line.{number_within}
 use Rattle.model.specs.Words.{rule_word}
 use Rattle.model.specs.declared.limits.TheConstants.{MAX_THREADS}
 use Rattle.command_line.specs.declared.job.Job.{Job}
-use Rattle.command_line.specs.declared.job.Job.TheVariants.{Check, Explain, ExplainRule, List as ListJob, Version, Trace, Host}
+use Rattle.command_line.specs.declared.job.Job.TheVariants.{Check, Explain, ExplainRule, List as ListJob, Rewrite, Version, Trace, Host}
 use Rattle.command_line.specs.declared.job.JobFault.{JobFault}
 use Rattle.command_line.specs.declared.job.JobFault.TheVariants.{Usage, Memory}
 use Rattle.drvhost_parts.specs.declared.explaining.Extent.{Extent}
@@ -51,6 +51,12 @@ explain_command =
 abbrev pub list_command : App
 list_command = with_rule (new_app (codes "list")) (file_argument (codes "FILE"))
 
+-- `rewrite FILE OUT`
+abbrev pub rewrite_command : App
+rewrite_command =
+    with_rule (with_rule (new_app (codes "rewrite")) (file_argument (codes "FILE")))
+    (file_argument (codes "OUT"))
+
 -- `version`
 abbrev pub version_command : App
 version_command = new_app (codes "version")
@@ -87,7 +93,7 @@ bare_program =
     { top = record named_program.top { no_binary_name = true; subcommand_required = true } }
 
 -- with the subcommands that run nothing, with those that start no thread, with all that judge a set
--- or run it, with all that name files, and with all
+-- or run it, with all that read files alone, with all that name files, and with all
 abbrev pub unrun_program : App
 unrun_program =
     with_subcommand (with_subcommand bare_program check_command.top) explain_command.top
@@ -98,8 +104,11 @@ unthreaded_program = with_subcommand unrun_program trace_command.top
 abbrev pub judging_program : App
 judging_program = with_subcommand unthreaded_program host_command.top
 
+abbrev pub reading_program : App
+reading_program = with_subcommand judging_program list_command.top
+
 abbrev pub program_of_files : App
-program_of_files = with_subcommand judging_program list_command.top
+program_of_files = with_subcommand reading_program rewrite_command.top
 
 abbrev pub program : App
 program = with_subcommand program_of_files version_command.top
@@ -128,6 +137,9 @@ NamesTask found (ExplainRule rule) = (found.0 ≡ codes "explain")
     × IsExtent (first_of (codes "all") found.1) First
 NamesTask found (ListJob set) = (found.0 ≡ codes "list")
     × (first_of (codes "FILE") found.1 ≡ Some set.now)
+NamesTask found (Rewrite set output) =
+    (found.0 ≡ codes "rewrite") × (first_of (codes "FILE") found.1 ≡ Some set.now)
+    × (first_of (codes "OUT") found.1 ≡ Some output.now)
 NamesTask found Version = found.0 ≡ codes "version"
 NamesTask found (Trace set schedule verification) =
     (found.0 ≡ codes "trace") × (first_of (codes "FILE") found.1 ≡ Some set.now)

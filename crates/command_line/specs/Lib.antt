@@ -1,3 +1,4 @@
 pub mod CommandLine
 pub mod Files
 pub mod Program
+pub mod Outside

@@ -1,5 +1,6 @@
--- What the program answers for the words of its command line, and which files it opens.
-use Rattle.std.specs.Prelude.{ℕ, ◌≡◌, ◌≢◌, ◌⊎◌, List, [], map, true, Result, Ok, Err, String, drop, string_bytes}
+-- What the program answers for the words of its command line, which files it opens, and what it
+-- writes to one.
+use Rattle.std.specs.Prelude.{ℕ, ◌≡◌, ◌≢◌, ◌+◌, ◌++◌, ◌⊎◌, List, [], map, true, Result, Ok, Err, String, drop, string_bytes}
 use Rattle.std.specs.Global.{Global, Vec}
 use Rattle.std.specs.declared.io.ErrorKind.{ErrorKind}
 use Rattle.std.specs.declared.io.ErrorKind.TheVariants.{OutOfMemory}
@@ -8,12 +9,13 @@ use Rattle.drvhost_parts.specs.Answer.{Answer, IsRuleExplained, IsUnopened, IsVe
 use Rattle.drvhost_parts.specs.Device.{MayBeClosed, Supply}
 use Rattle.drvhost_parts.specs.declared.verification.Verification.{Verification}
 use Rattle.drvhost_parts.specs.declared.verification.Verification.TheVariants.{Required}
-use Rattle.drvhost_parts.specs.Ends.{HoldsRun, IsCheckOf, IsExplainedOf, IsHostOf, IsListOf, IsTraceOf}
+use Rattle.drvhost_parts.specs.Ends.{HoldsRun, IsCheckOf, IsExplainedOf, IsHostOf, IsListOf, IsRewriteOf, IsTraceOf}
 use Rattle.command_line.specs.declared.answer.Way.{Way}
 use Rattle.command_line.specs.declared.answer.Way.TheVariants.{BySchedule, ByWorkers}
 use Rattle.command_line.specs.declared.job.Job.{Job}
-use Rattle.command_line.specs.declared.job.Job.TheVariants.{Check, Explain, ExplainRule, List as ListJob, Version, Trace, Host}
+use Rattle.command_line.specs.declared.job.Job.TheVariants.{Check, Explain, ExplainRule, List as ListJob, Rewrite, Version, Trace, Host}
 use Rattle.command_line.specs.CommandLine.{Names, program, usage}
+use Rattle.command_line.specs.Files.{Has}
 
 -- what a run of a set by an input answers, where these are what their files have
 abbrev pub IsRunBy : Way → Supply → Supply → Answer → Type 0
@@ -30,12 +32,18 @@ abbrev pub IsOfNamed : (Supply → Answer → Type 0) → (List ℕ → Supply) 
 IsOfNamed Right supply name answer =
     Right (supply name) answer ⊎ (MayBeClosed (supply name) × IsUnopened name answer)
 
+-- what is right where the output goes to a file: the same, with nothing on the standard output
+abbrev pub IsQuietly : (Answer → Type 0) → Answer → Type 0
+IsQuietly Right answer =
+    (whole : Answer) × Right whole × (answer ≡ record whole { output = [] })
+
 -- what is right for a job, where the files of these names have this to give
 abbrev pub IsJobOf : (List ℕ → Supply) → Job → Answer → Type 0
 IsJobOf supply (Check set) answer = IsCheckOf (supply set.now) answer
 IsJobOf supply (Explain set extent) answer = IsOfNamed IsExplainedOf supply set.now answer
 IsJobOf supply (ExplainRule rule) answer = IsRuleExplained rule answer
 IsJobOf supply (ListJob set) answer = IsOfNamed IsListOf supply set.now answer
+IsJobOf supply (Rewrite set output) answer = IsQuietly (IsRewriteOf (supply set.now)) answer
 IsJobOf supply Version answer = IsVersion answer
 IsJobOf supply (Trace set schedule verification) answer =
     IsTraceOf verification (supply set.now) (supply schedule.now) answer
@@ -47,12 +55,13 @@ abbrev pub OpensToTrace : Verification → Supply → ℕ → Type 0
 OpensToTrace verification set count =
     (count ≡ 1) ⊎ ((count ≡ 2) × HoldsRun verification set)
 
--- how many files a job opens
+-- how many files a job opens to read them
 abbrev pub Opens : (List ℕ → Supply) → Job → ℕ → Type 0
 Opens supply (Check set) count = count ≡ 1
 Opens supply (Explain set extent) count = count ≡ 1
 Opens supply (ExplainRule rule) count = count ≡ 0
 Opens supply (ListJob set) count = count ≡ 1
+Opens supply (Rewrite set output) count = count ≡ 1
 Opens supply Version count = count ≡ 0
 Opens supply (Trace set schedule verification) count =
     OpensToTrace verification (supply set.now) count
@@ -89,7 +98,7 @@ abbrev pub IsProgram : (List ℕ → Supply) → Result (Vec (String Global)) Er
 IsProgram supply (Ok words) answer = IsAnswerTo supply (arguments words) answer
 IsProgram supply (Err kind) answer = IsAnswerToLost kind answer
 
--- how many files the program opens for these words: none, or those of a job that they name
+-- how many files the program opens to read them, for these words: none, or those of a job that they name
 abbrev pub OpensFor : (List ℕ → Supply) → List Text → ℕ → Type 0
 OpensFor supply words count =
     (count ≡ 0) ⊎ ((job : Job) × NamesJob words job × Opens supply job count)
@@ -97,3 +106,58 @@ OpensFor supply words count =
 abbrev pub ProgramOpens : (List ℕ → Supply) → Result (Vec (String Global)) ErrorKind → ℕ → Type 0
 ProgramOpens supply (Ok words) count = OpensFor supply (arguments words) count
 ProgramOpens supply (Err kind) count = count ≡ 0
+
+-- what the files of names have to give before and after, and how many were written until then and
+-- since: none was, and all have what they had
+pub record LeavesFiles (before after : List ℕ → Supply) (old new : ℕ) : Type 0 where
+  pub supply : after ≡ before
+  pub none : new ≡ old
+
+-- one was written, which is opened for the image of this set alone: it has that image, or a
+-- beginning of it, or what it had if it couldn't be opened; and the others have what they had
+pub record WritesFile (set : Supply) (name : List ℕ) (before after : List ℕ → Supply) (old new : ℕ)
+    (status : ℕ) : Type 0 where
+  pub one : new ≡ old + 1
+  pub image : Answer
+  pub right : IsRewriteOf set image
+  pub is : image.status ≡ 0
+  pub part : List ℕ
+  pub rest : List ℕ
+  pub split : image.output ≡ part ++ rest
+  pub has : Has (before name) (after name) part ⊎ (after name ≡ before name)
+  pub others : (other : List ℕ) → other ≢ name → after other ≡ before other
+  pub status_is : (status ≡ 0) ⊎ (status ≡ 2)
+
+-- what a rewrite does to the file of a name: where it succeeds, that file has the image of the set
+pub record RewritesFile (set : Supply) (name : List ℕ) (before after : List ℕ → Supply)
+    (old new : ℕ) (status : ℕ) : Type 0 where
+  pub whole : status ≡ 0 → (image : Answer) × IsRewriteOf set image
+      × ((image.status ≡ 0) × Has (before name) (after name) image.output)
+  pub touched : LeavesFiles before after old new ⊎ WritesFile set name before after old new status
+
+-- what a job does to the files
+abbrev pub JobStores : Job → (List ℕ → Supply) → (List ℕ → Supply) → ℕ → ℕ → ℕ → Type 0
+JobStores (Rewrite set output) before after old new status =
+    RewritesFile (before set.now) output.now before after old new status
+JobStores (Check set) before after old new status = LeavesFiles before after old new
+JobStores (Explain set extent) before after old new status = LeavesFiles before after old new
+JobStores (ExplainRule rule) before after old new status = LeavesFiles before after old new
+JobStores (ListJob set) before after old new status = LeavesFiles before after old new
+JobStores Version before after old new status = LeavesFiles before after old new
+JobStores (Trace set schedule verification) before after old new status =
+    LeavesFiles before after old new
+JobStores (Host set script workers) before after old new status = LeavesFiles before after old new
+
+-- what the program does to the files for these words: nothing where it names no job, and then it
+-- doesn't succeed, or what that job does
+abbrev pub WordsStore : List Text → (List ℕ → Supply) → (List ℕ → Supply) → ℕ → ℕ → ℕ → Type 0
+WordsStore words before after old new status =
+    (LeavesFiles before after old new × (status ≢ 0))
+    ⊎ ((job : Job) × NamesJob words job × JobStores job before after old new status)
+
+abbrev pub ProgramStores : Result (Vec (String Global)) ErrorKind → (List ℕ → Supply)
+    → (List ℕ → Supply) → ℕ → ℕ → ℕ → Type 0
+ProgramStores (Ok words) before after old new status =
+    WordsStore (arguments words) before after old new status
+ProgramStores (Err kind) before after old new status =
+    LeavesFiles before after old new × (status ≢ 0)

@@ -1,17 +1,18 @@
 //! What the program answers.
 
 ghost use Rattle.std.specs.Prelude.{◌≡◌, ◌+◌, ◌<◌, ◌^◌, ◌⊎◌, ℕ, List, Option, drop, map, string_bytes};
-ghost use Rattle.command_line.specs.Program.{IsAnswerTo, IsAnswerToLost, IsJobOf, IsOfNamed, IsProgram, IsRunBy, Opens, OpensFor, OpensToTrace, ProgramOpens, verification_of};
+ghost use Rattle.command_line.specs.Program.{IsAnswerTo, IsAnswerToLost, IsJobOf, IsOfNamed, IsProgram, IsRunBy, Opens, OpensFor, OpensToTrace, IsQuietly, JobStores, ProgramOpens, ProgramStores, RewritesFile, WordsStore, verification_of};
 ghost use Rattle.drvhost_parts.specs.Device.{CanCount, Says};
-ghost use Rattle.drvhost_parts.specs.Ends.{Answers, HoldsRun, IsCheckOf, IsExplainedOf, IsListOf};
+ghost use Rattle.drvhost_parts.specs.Ends.{Answers, HoldsRun, IsCheckOf, IsExplainedOf, IsListOf, IsRewriteOf};
 
-use crate::files::{Files, Later};
+use crate::files::{Files, Later, Pending};
 use crate::job::{Job, JobFault, Workers, refuse_unknown_words, refuse_words};
 use drvhost_parts::check::check;
 use drvhost_parts::device::{Sink, Source};
 use drvhost_parts::explaining::{Extent, explain};
 use drvhost_parts::host::host;
 use drvhost_parts::list::list;
+use drvhost_parts::rewriting::rewrite;
 use drvhost_parts::rule::explain_rule;
 use drvhost_parts::trace::trace;
 use drvhost_parts::unopened::tell_unopened;
@@ -37,15 +38,20 @@ pub fn answer<F: Files, O: Sink, E: Sink, R: Threads + Wait + Sync>(
 ) -> u8
     requires opened { F.opened files.old + 2 < 2 ^ 64 }
     requires files { CanCount (F.failures files.old) }
+    requires created { F.created files.old + 1 < 2 ^ 64 }
+    requires unwritten { CanCount (F.unwritten files.old) }
     requires out { CanCount (O.failures out.old) }
     requires err { CanCount (E.failures err.old) }
     ensures answers { Answers (IsProgram (F.supply files.old) words)
-        (F.failures files.old) (F.failures files.new) (O.failures out.old) (O.failures out.new)
+        (F.failures files.old) (F.failures files.new)
+        (F.unwritten files.old + O.failures out.old) (F.unwritten files.new + O.failures out.new)
         (O.contents out.old) (O.contents out.new)
         (Says (E.failures err.old) (E.failures err.new) (E.contents err.old) (E.contents err.new))
         result }
     ensures opened { (count : ℕ) × ProgramOpens (F.supply files.old) words count
         × (F.opened files.new ≡ F.opened files.old + count) }
+    ensures stores { ProgramStores words (F.supply files.old) (F.supply files.new)
+        (F.created files.old) (F.created files.new) result }
 {
     match words {
         Ok(words) => answer_words(rt, alloc, arguments(words.as_slice()), files, out, err),
@@ -90,15 +96,20 @@ fn answer_words<F: Files, O: Sink, E: Sink, R: Threads + Wait + Sync>(
 ) -> u8
     requires opened { F.opened files.old + 2 < 2 ^ 64 }
     requires files { CanCount (F.failures files.old) }
+    requires created { F.created files.old + 1 < 2 ^ 64 }
+    requires unwritten { CanCount (F.unwritten files.old) }
     requires out { CanCount (O.failures out.old) }
     requires err { CanCount (E.failures err.old) }
     ensures answers { Answers (IsAnswerTo (F.supply files.old) (map string_bytes words.now))
-        (F.failures files.old) (F.failures files.new) (O.failures out.old) (O.failures out.new)
+        (F.failures files.old) (F.failures files.new)
+        (F.unwritten files.old + O.failures out.old) (F.unwritten files.new + O.failures out.new)
         (O.contents out.old) (O.contents out.new)
         (Says (E.failures err.old) (E.failures err.new) (E.contents err.old) (E.contents err.new))
         result }
     ensures opened { (count : ℕ) × OpensFor (F.supply files.old) (map string_bytes words.now) count
         × (F.opened files.new ≡ F.opened files.old + count) }
+    ensures stores { WordsStore (map string_bytes words.now) (F.supply files.old) (F.supply files.new)
+        (F.created files.old) (F.created files.new) result }
 {
     match Job::of(alloc, words) {
         Ok(job) => perform(rt, alloc, job, files, out, err),
@@ -117,21 +128,27 @@ fn perform<F: Files, O: Sink, E: Sink, R: Threads + Wait + Sync>(
 ) -> u8
     requires opened { F.opened files.old + 2 < 2 ^ 64 }
     requires files { CanCount (F.failures files.old) }
+    requires created { F.created files.old + 1 < 2 ^ 64 }
+    requires unwritten { CanCount (F.unwritten files.old) }
     requires out { CanCount (O.failures out.old) }
     requires err { CanCount (E.failures err.old) }
     ensures answers { Answers (IsJobOf (F.supply files.old) job.entry)
-        (F.failures files.old) (F.failures files.new) (O.failures out.old) (O.failures out.new)
+        (F.failures files.old) (F.failures files.new)
+        (F.unwritten files.old + O.failures out.old) (F.unwritten files.new + O.failures out.new)
         (O.contents out.old) (O.contents out.new)
         (Says (E.failures err.old) (E.failures err.new) (E.contents err.old) (E.contents err.new))
         result }
     ensures opened { (count : ℕ) × Opens (F.supply files.old) job.entry count
         × (F.opened files.new ≡ F.opened files.old + count) }
+    ensures stores { JobStores job.entry (F.supply files.old) (F.supply files.new)
+        (F.created files.old) (F.created files.new) result }
 {
     match job {
         Job::Check { set } => check_file(alloc, set, files, out, err),
         Job::Explain { set, extent } => explain_file(alloc, extent, set, files, out, err),
         Job::ExplainRule { rule } => explain_rule(alloc, rule, out, err),
         Job::List { set } => list_file(alloc, set, files, out, err),
+        Job::Rewrite { set, output } => rewrite_file(alloc, set, output, files, err),
         Job::Version => version(out, err),
         Job::Trace {
             set,
@@ -176,6 +193,9 @@ fn check_file<F: Files, O: Sink, E: Sink>(
         (Says (E.failures err.old) (E.failures err.new) (E.contents err.old) (E.contents err.new))
         result }
     ensures opened { F.opened files.new ≡ F.opened files.old + 1 }
+    ensures supply { F.supply files.new ≡ F.supply files.old }
+    ensures created { F.created files.new ≡ F.created files.old }
+    ensures unwritten { F.unwritten files.new ≡ F.unwritten files.old }
 {
     let mut file = files.open(set);
     let status = check(alloc, &mut file, out, err);
@@ -202,6 +222,9 @@ fn explain_file<F: Files, O: Sink, E: Sink>(
         (Says (E.failures err.old) (E.failures err.new) (E.contents err.old) (E.contents err.new))
         result }
     ensures opened { F.opened files.new ≡ F.opened files.old + 1 }
+    ensures supply { F.supply files.new ≡ F.supply files.old }
+    ensures created { F.created files.new ≡ F.created files.old }
+    ensures unwritten { F.unwritten files.new ≡ F.unwritten files.old }
 {
     let mut file = files.open(set);
     if files.is_closed(&file) {
@@ -231,6 +254,9 @@ fn list_file<F: Files, O: Sink, E: Sink>(
         (Says (E.failures err.old) (E.failures err.new) (E.contents err.old) (E.contents err.new))
         result }
     ensures opened { F.opened files.new ≡ F.opened files.old + 1 }
+    ensures supply { F.supply files.new ≡ F.supply files.old }
+    ensures created { F.created files.new ≡ F.created files.old }
+    ensures unwritten { F.unwritten files.new ≡ F.unwritten files.old }
 {
     let mut file = files.open(set);
     if files.is_closed(&file) {
@@ -239,6 +265,42 @@ fn list_file<F: Files, O: Sink, E: Sink>(
     }
     let status = list(alloc, &mut file, out, err);
     files.close(file);
+    status
+}
+
+/// Writes the image of the set of a file to another one, which is opened only once the image stands
+/// in memory, and may be the same.
+fn rewrite_file<F: Files, E: Sink>(
+    alloc: Global,
+    set: &str,
+    output: &str,
+    files: &mut F,
+    err: &mut E,
+) -> u8
+    requires opened { F.opened files.old + 1 < 2 ^ 64 }
+    requires files { CanCount (F.failures files.old) }
+    requires created { F.created files.old + 1 < 2 ^ 64 }
+    requires unwritten { CanCount (F.unwritten files.old) }
+    requires err { CanCount (E.failures err.old) }
+    ensures answers { (writes : ℕ) (written : Option (List ℕ))
+        → Answers (IsQuietly (IsRewriteOf (F.supply files.old set.now)))
+        (F.failures files.old) (F.failures files.new)
+        (F.unwritten files.old + writes) (F.unwritten files.new + writes) written written
+        (Says (E.failures err.old) (E.failures err.new) (E.contents err.old) (E.contents err.new))
+        result }
+    ensures opened { F.opened files.new ≡ F.opened files.old + 1 }
+    ensures stores { RewritesFile (F.supply files.old set.now) output.now
+        (F.supply files.old) (F.supply files.new) (F.created files.old) (F.created files.new)
+        result }
+{
+    let mut file = files.open(set);
+    let mut pending = Pending::new(files, output);
+    let status = rewrite(alloc, &mut file, &mut pending, err);
+    let target = pending.into_target();
+    files.close(file);
+    if let Some(target) = target {
+        files.keep(output, target);
+    }
     status
 }
 
@@ -285,6 +347,9 @@ fn run_files<F: Files, O: Sink, E: Sink, R: Threads + Wait + Sync>(
     ensures opened { (count : ℕ)
         × OpensToTrace (verification_of way) (F.supply files.old set.now) count
         × (F.opened files.new ≡ F.opened files.old + count) }
+    ensures supply { F.supply files.new ≡ F.supply files.old }
+    ensures created { F.created files.new ≡ F.created files.old }
+    ensures unwritten { F.unwritten files.new ≡ F.unwritten files.old }
 {
     let mut file = files.open(set);
     let mut later = Later::new(files, input);

@@ -6,7 +6,7 @@ ghost use Rattle.clap.specs.declared.builder.command.Command.TheViews.{out-Comma
 ghost use Rattle.drvhost_parts.specs.Device.{CanCount, Says};
 ghost use Rattle.interleave.specs.Line.{number_within};
 ghost use Rattle.model.specs.declared.limits.TheConstants.{MAX_THREADS};
-ghost use Rattle.command_line.specs.CommandLine.{all_flag, check_command, explain_command, file_argument, host_command, job_fault_status, job_fault_told, judging_program, list_command, program, program_of_files, rule_option, text_told, trace_command, unchecked_flag, unrun_program, unthreaded_program, usage, version_command, workers_option, IsExtent, IsFlag, Names, NamesTask};
+ghost use Rattle.command_line.specs.CommandLine.{all_flag, check_command, explain_command, file_argument, host_command, job_fault_status, job_fault_told, judging_program, list_command, program, program_of_files, reading_program, rewrite_command, rule_option, text_told, trace_command, unchecked_flag, unrun_program, unthreaded_program, usage, version_command, workers_option, IsExtent, IsFlag, Names, NamesTask};
 
 use clap::builder::ValueParser;
 use clap::error::ErrorKind;
@@ -57,6 +57,11 @@ pub enum Job<'a> {
     /// `list FILE`
     List {
         set: &'a str,
+    },
+    /// `rewrite FILE OUT`
+    Rewrite {
+        set: &'a str,
+        output: &'a str,
     },
     /// `version`
     Version,
@@ -231,6 +236,15 @@ fn program<'a>(alloc: Global) -> Result<Command<'a>, AllocError>
 fn program_of_files<'a>(alloc: Global) -> Result<Command<'a>, AllocError>
     ensures { IfOk result (λ command. app_of command ≡ program_of_files) }
 {
+    let rewrite = rewrite_command(alloc)?;
+    let program = reading_program(alloc)?;
+    program.subcommand(rewrite)
+}
+
+/// The part of that which writes none.
+fn reading_program<'a>(alloc: Global) -> Result<Command<'a>, AllocError>
+    ensures { IfOk result (λ command. app_of command ≡ reading_program) }
+{
     let list = list_command(alloc)?;
     let program = judging_program(alloc)?;
     program.subcommand(list)
@@ -296,6 +310,16 @@ fn list_command<'a>(alloc: Global) -> Result<Command<'a>, AllocError>
     let set = file(alloc, "FILE", SET);
     let command = Command::new(alloc, "list").about("Writes a driver set as a text");
     command.arg(set)
+}
+
+fn rewrite_command<'a>(alloc: Global) -> Result<Command<'a>, AllocError>
+    ensures app { IfOk result (λ command. app_of command ≡ rewrite_command) }
+    ensures local { IfOk result (λ command. (fields_of command).has_globals ≡ false) }
+{
+    let set = file(alloc, "FILE", SET);
+    let output = file(alloc, "OUT", "The file for the image");
+    let command = Command::new(alloc, "rewrite").about("Writes a driver set as an image");
+    command.arg(set)?.arg(output)
 }
 
 fn version_command<'a>(alloc: Global) -> Command<'a>
@@ -399,6 +423,7 @@ fn named<'a>(matches: &ArgMatches<'a>) -> Option<Job<'a>>
         "trace" => trace_named(inner),
         "host" => host_named(inner),
         "list" => list_named(inner),
+        "rewrite" => rewrite_named(inner),
         "version" => Some(Job::Version),
         _ => None,
     }
@@ -459,6 +484,16 @@ fn list_named<'a>(matches: &ArgMatches<'a>) -> Option<Job<'a>>
 {
     let set = argument(matches, "FILE")?;
     Some(Job::List { set })
+}
+
+fn rewrite_named<'a>(matches: &ArgMatches<'a>) -> Option<Job<'a>>
+    ensures some { IfSome result (NamesTask (codes "rewrite", rows_of (found_of matches.now))) }
+    ensures none { IfNone result
+        ((job : Job) → NamesTask (codes "rewrite", rows_of (found_of matches.now)) job → ⊥) }
+{
+    let set = argument(matches, "FILE")?;
+    let output = argument(matches, "OUT")?;
+    Some(Job::Rewrite { set, output })
 }
 
 fn trace_named<'a>(matches: &ArgMatches<'a>) -> Option<Job<'a>>
