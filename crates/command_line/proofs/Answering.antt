@@ -4,7 +4,7 @@ use Rattle.std.proofs.KnownBytes.{Appends-nil, Keeps-refl}
 use Rattle.clap.specs.Words.{Text, subcommand_of, takes}
 use Rattle.drvhost_parts.specs.Answer.{Answer}
 use Rattle.drvhost_parts.specs.Device.{Bytes, Closed, Holds, IsSuppliedAs, MayBeClosed, Supply, Unknown}
-use Rattle.drvhost_parts.specs.Ends.{Answers, Ends, HoldsRun, IsCheckOf, IsExplainedOf, IsHostOf, IsListOf, IsTraceOf, OutOfMemory, ReadFailed, Rightly, WriteFailed}
+use Rattle.drvhost_parts.specs.Ends.{Answers, Ends, HoldsRun, IsCheckOf, IsExplainedOf, IsHostOf, IsListOf, IsRewriteOf, IsTraceOf, OutOfMemory, ReadFailed, Rightly, WriteFailed}
 use Rattle.drvhost_parts.specs.declared.verification.Verification.{Verification}
 use Rattle.command_line.specs.declared.job.Job.{Job}
 use Rattle.command_line.specs.declared.job.JobFault.{JobFault}
@@ -13,7 +13,7 @@ use Rattle.command_line.specs.CommandLine.{Names, job_fault_status, job_fault_to
 use Rattle.command_line.specs.Files.{supply_of}
 use Rattle.command_line.specs.declared.answer.Way.{Way}
 use Rattle.command_line.specs.declared.answer.Way.TheVariants.{BySchedule, ByWorkers}
-use Rattle.command_line.specs.Program.{IsAnswerTo, IsRunBy}
+use Rattle.command_line.specs.Program.{IsAnswerTo, IsQuietly, IsRunBy}
 
 -- where more answers are right
 ends_rightly : (R Q : Answer → Type 0) (reads writes : ℕ) (b n : Option (List ℕ)) (status : ℕ)
@@ -42,6 +42,50 @@ answers_rightly R Q k m i j w x b n Tells status a on same =
       ends = ends_rightly R Q a.reads a.writes b n status a.told on a.ends;
     }
 
+-- where nothing was written to the files beside
+pub answers_beside : (R : Answer → Type 0) (k m w x u v : ℕ) (b n : Option (List ℕ))
+    (Tells : List ℕ → Type 0) (status : ℕ) → Answers R k m w x b n Tells status → v ≡ u
+    → Answers R k m (u + w) (v + x) b n Tells status
+answers_beside R k m w x u v b n Tells status a same =
+    record {
+      reads = a.reads;
+      writes = a.writes;
+      told = a.told;
+      reads_are = a.reads_are;
+      writes_are = let are : x ≡ w + a.writes = a.writes_are in omega arith;
+      tells = a.tells;
+      ends = a.ends;
+    }
+
+-- where the output goes to a file, and nothing to the standard output
+ends_quietly : (R Q : Answer → Type 0) (reads writes : ℕ) (b n c : Option (List ℕ)) (status : ℕ)
+    (told : List ℕ) → ((answer : Answer) → R answer → Q answer)
+    → Ends R reads writes b n status told → Ends (IsQuietly Q) reads writes c c status told
+ends_quietly R Q reads writes b n c status told on (Rightly answer right r w s t out) =
+    Rightly (record answer { output = [] }) (answer, on answer right, refl) r w s t (Appends-nil c)
+ends_quietly R Q reads writes b n c status told on (ReadFailed r w s t out) =
+    ReadFailed r w s t (Keeps-refl c)
+ends_quietly R Q reads writes b n c status told on (WriteFailed answer right r w s t out) =
+    WriteFailed (record answer { output = [] }) (answer, on answer right, refl) r w s t
+    (record { part = []; rest = []; split = refl; appended = Appends-nil c })
+ends_quietly R Q reads writes b n c status told on (OutOfMemory r w s t out) =
+    OutOfMemory r w s t (Keeps-refl c)
+
+pub answers_quietly : (R Q : Answer → Type 0) (k m i j w x u v p : ℕ) (b n c : Option (List ℕ))
+    (Tells : List ℕ → Type 0) (status : ℕ) → Answers R k m w x b n Tells status
+    → ((answer : Answer) → R answer → Q answer) → j + k ≡ i + m → v + w ≡ u + x
+    → Answers (IsQuietly Q) i j (u + p) (v + p) c c Tells status
+answers_quietly R Q k m i j w x u v p b n c Tells status a on same moved =
+    record {
+      reads = a.reads;
+      writes = a.writes;
+      told = a.told;
+      reads_are = let are : m ≡ k + a.reads = a.reads_are in omega arith;
+      writes_are = let are : x ≡ w + a.writes = a.writes_are in omega arith;
+      tells = a.tells;
+      ends = ends_quietly R Q a.reads a.writes b n c status a.told on a.ends;
+    }
+
 -- what a file holds, what is known of it holds
 holds_known : (known supply : Supply) (bytes : List ℕ) → IsSuppliedAs known supply
     → Holds supply bytes → Holds known bytes
@@ -63,6 +107,11 @@ explain_known known supply h answer (bytes, holds, right) =
 pub list_known : (known supply : Supply) → IsSuppliedAs known supply → (answer : Answer)
     → IsListOf supply answer → IsListOf known answer
 list_known known supply h answer (bytes, holds, right) =
+    (bytes, holds_known known supply bytes h holds, right)
+
+pub rewrite_known : (known supply : Supply) → IsSuppliedAs known supply → (answer : Answer)
+    → IsRewriteOf supply answer → IsRewriteOf known answer
+rewrite_known known supply h answer (bytes, holds, right) =
     (bytes, holds_known known supply bytes h holds, right)
 
 trace_known : (v : Verification) (known supply schedule other : Supply)
@@ -158,3 +207,8 @@ refused_words supply words (Usage text) k w b Tells status refused is tells =
     is tells
 refused_words supply words Memory k w b Tells status refused is tells =
     out_of_memory (IsAnswerTo supply words) k w b Tells status is tells
+
+-- then the program doesn't succeed
+pub refused_status : (fault : JobFault) → job_fault_status fault ≢ 0
+refused_status (Usage text) e = cc
+refused_status Memory e = cc

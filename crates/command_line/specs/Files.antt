@@ -25,6 +25,11 @@ abbrev pub contents_of : {A : Type 0} → (A → Option (List ℕ)) → Supply �
 contents_of contents named None = blank named
 contents_of contents named (Some file) = contents file
 
+-- the bytes that were written to a writer: to none, none
+abbrev pub contents_given : {A : Type 0} → (A → Option (List ℕ)) → Option A → Option (List ℕ)
+contents_given contents None = Some []
+contents_given contents (Some writer) = contents writer
+
 -- a file has these bytes, where something was known of what it had before
 abbrev pub Has : Supply → Supply → List ℕ → Type 0
 Has Unknown after bytes = ⊤

@@ -131,8 +131,8 @@ pub record WritesFile (set : Supply) (name : List ℕ) (before after : List ℕ 
 -- what a rewrite does to the file of a name: where it succeeds, that file has the image of the set
 pub record RewritesFile (set : Supply) (name : List ℕ) (before after : List ℕ → Supply)
     (old new : ℕ) (status : ℕ) : Type 0 where
-  pub whole : status ≡ 0 → (image : Answer) × IsRewriteOf set image
-      × ((image.status ≡ 0) × Has (before name) (after name) image.output)
+  pub whole : status ≡ 0 → (image : Answer) × IsRewriteOf set image × (image.status ≡ 0)
+      × Has (before name) (after name) image.output
   pub touched : LeavesFiles before after old new ⊎ WritesFile set name before after old new status
 
 -- what a job does to the files
@@ -159,5 +159,4 @@ abbrev pub ProgramStores : Result (Vec (String Global)) ErrorKind → (List ℕ 
     → (List ℕ → Supply) → ℕ → ℕ → ℕ → Type 0
 ProgramStores (Ok words) before after old new status =
     WordsStore (arguments words) before after old new status
-ProgramStores (Err kind) before after old new status =
-    LeavesFiles before after old new × (status ≢ 0)
+ProgramStores (Err kind) before after old new status = LeavesFiles before after old new

@@ -3,7 +3,7 @@
 ghost use Rattle.std.specs.Prelude.{◌≡◌, ◌+◌, ◌<◌, ◌^◌, ◌↔◌, ℕ, IsTrue, List, None, Option};
 ghost use Rattle.std.specs.Io.KnownBytes.{Keeps};
 ghost use Rattle.drvhost_parts.specs.Device.{Closed, IsSuppliedAs, Supply, Unknown};
-ghost use Rattle.command_line.specs.Files.{blank, contents_of, failures_of, supply_of, Stores};
+ghost use Rattle.command_line.specs.Files.{blank, contents_given, contents_of, failures_of, supply_of, Stores};
 
 use drvhost_parts::device::{Failed, Reader, Sink, Source, Writer};
 use std::fs::{self, File};
@@ -149,11 +149,17 @@ impl<W: Write> Output<W> {
     pub fn new(writer: Option<W>) -> Output<W>
         ensures failures { ⟦<Output<W> as Sink>⟧.failures result ≡ 0 }
         ensures contents { ⟦<Output<W> as Sink>⟧.contents result
-            ≡ option_elim W.contents (Some []) writer }
+            ≡ contents_given W.contents writer }
     {
-        Output {
-            writer: writer.map(|writer| Writer::new(writer)),
-            refused: 0,
+        match writer {
+            Some(writer) => Output {
+                writer: Some(Writer::new(writer)),
+                refused: 0,
+            },
+            None => Output {
+                writer: None,
+                refused: 0,
+            },
         }
     }
 }

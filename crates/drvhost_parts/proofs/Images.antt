@@ -33,6 +33,14 @@ image_written held b n image right written =
       record { written = image; appended = written; whole = sym (append-nil image) },
     )
 
+-- an image has some bytes
+pub image_some : (held : Supply) (answer : Answer) → IsRewriteOf held answer → answer.status ≡ 0
+    → answer.output ≡ [] → ⊥
+image_some held answer (bytes, holds, (Ok set, says, right)) zero none =
+    let no : spelling Current set ≡ [] = sym (ap (λ a. a.output) right.1) ∙ none in cc
+image_some held answer (bytes, holds, (Err line, says, right)) zero none =
+    let no : 2 ≡ 0 = sym (ap (λ a. a.status) right) ∙ zero in cc
+
 module _ (spell : BytesSpellOne) (faultless : ImagesAreFaultless) where
   -- the image of a set is rewritten as it is
   image_again : (set : Set) (other : Answer) → IsSound set

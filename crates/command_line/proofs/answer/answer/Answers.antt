@@ -9,4 +9,8 @@ returns-in-Ok g c =
 pub returns-in-Err : goal.returns-in-Err
 returns-in-Err g c =
     rw c.in-Err.is
-    (record { answers = c.refuse_lost_words.ensures _ _ _; opened = (0, refl, omega arith) })
+    (record {
+      answers = c.refuse_lost_words.ensures _ _ _;
+      opened = (0, refl, omega arith);
+      stores = record { supply = refl; none = refl };
+    })
