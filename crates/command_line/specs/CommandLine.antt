@@ -148,7 +148,8 @@ NamesTask found (Trace set schedule verification) =
 NamesTask found (Host set script workers) =
     (found.0 ≡ codes "host") × (first_of (codes "FILE") found.1 ≡ Some set.now)
     × (first_of (codes "SCRIPT") found.1 ≡ Some script.now)
-    × (option_and_then (number_within 1 MAX_THREADS) (first_of (codes "workers") found.1) ≡ Some workers)
+    × (option_and_then (number_within 1 MAX_THREADS) (first_of (codes "workers") found.1)
+    ≡ Some workers)
 
 -- the matches name a task
 abbrev pub Names : Option (Text × List Row) → Job → Type 0

@@ -164,6 +164,18 @@ impl<W: Write> Output<W> {
     }
 }
 
+impl<W: Write> Output<W> {
+    /// The writer again, with what was written to it, if there is one.
+    pub fn into_inner(self) -> Option<W>
+        ensures { contents_given W.contents result ≡ ⟦<Output<W> as Sink>⟧.contents self }
+    {
+        match self.writer {
+            Some(writer) => Some(writer.into_inner()),
+            None => None,
+        }
+    }
+}
+
 impl<W: Write> Sink for Output<W> {
     ghost use Rattle.command_line.specs.Outside.{output_contents, output_failures};
 

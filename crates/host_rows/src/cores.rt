@@ -123,13 +123,13 @@ fn is_named(name: Name, submitter: u32, count: u64) -> bool {
     name.submitter == submitter && name.count == count
 }
 
-/// 1,024 packets are live at most: the next request is refused, and that is its outcome.
+/// 4,096 packets are live at most: the next request is refused, and that is its outcome.
 #[test]
 fn a_request_too_many_is_refused(rt: HostRuntime) {
-    let mut core = core_of(&rt, rt.alloc(), QUEUES, 1, 10_000);
+    let mut core = core_of(&rt, rt.alloc(), QUEUES, 1, 40_000);
     let mut seat = core.seat(0).expect(&rt, "a seat");
     let mut desk = Desk::new(0);
-    for number in 0..1_024 {
+    for number in 0..4_096 {
         let (reply, ticket) = request(&rt, &mut core, &mut seat, &mut desk);
         assert!(rt; matches!(reply, Reply::Started(packet) if packet == number));
         queue_it(&rt, &mut core, &mut seat);
@@ -148,7 +148,7 @@ fn a_request_too_many_is_refused(rt: HostRuntime) {
             }
         )
     );
-    assert_eq!(rt; core.give_back(seat), 8_193);
+    assert_eq!(rt; core.give_back(seat), 32_769);
 }
 
 /// One request more.

@@ -73,12 +73,12 @@ fn counted(account: &Account) -> u64 {
         .fold(0, |sum: u64, count| sum.saturating_add(*count))
 }
 
-/// One, two, four and 32 workers perform all of many commands, each once.
+/// One, two, four and 64 workers perform all of many commands, each once.
 #[test]
 fn workers_serve_many_commands(rt: HostRuntime) {
     let alloc = rt.alloc();
     let commands = many_commands(&rt, alloc);
-    for workers in [1, 2, 4, 32u8] {
+    for workers in [1, 2, 4, 64u8] {
         let core = core_of(&rt, alloc, QUEUES, workers, 1_000_000);
         let account = serve_all(&rt, alloc, core, workers, commands.as_slice(), &Open);
         assert!(rt;

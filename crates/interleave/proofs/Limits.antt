@@ -3,6 +3,7 @@ use Rattle.std.proofs.Common.{◌≡◌, ℕ, ◌+◌, ◌≤◌, nat_le, true, 
 use Rattle.std.proofs.lemmas.Bool.{and_parts, leb-true, cond_both}
 use Rattle.std.proofs.lemmas.List.{length-replicate}
 use Rattle.model.specs.declared.event.Event.{Event}
+use Rattle.model.specs.declared.limits.TheConstants.{MAX_THREADS}
 use Rattle.text.specs.Class.{is_number}
 use Rattle.text.specs.Cut.{lines_of}
 use Rattle.text.specs.Number.{number_in}
@@ -35,7 +36,7 @@ within_bounds least most Other = tt
 
 -- a number of threads
 abbrev IsThreads : Option ℕ → Type 0
-IsThreads t = IfSome t (λ k. (1 ≤ k) × (k ≤ 32))
+IsThreads t = IfSome t (λ k. (1 ≤ k) × (k ≤ MAX_THREADS))
 
 ranged_bounds : (t : Option ℕ) → IsThreads t → IfOk (ranged t) IsThreads
 ranged_bounds None here = tt
@@ -44,8 +45,9 @@ ranged_bounds (Some k) here = here
 threads_line_bounds : (operands : List (List ℕ)) → IfOk (threads_line operands) IsThreads
 threads_line_bounds [] = tt
 threads_line_bounds (count ∷ []) =
-    if_ok IsThreads (is_number count) (ranged (number_within 1 32 count)) UnknownWord
-    (λ _. ranged_bounds (number_within 1 32 count) (within_bounds 1 32 (number_in count)))
+    if_ok IsThreads (is_number count) (ranged (number_within 1 MAX_THREADS count)) UnknownWord
+    (λ _. ranged_bounds (number_within 1 MAX_THREADS count)
+    (within_bounds 1 MAX_THREADS (number_in count)))
 threads_line_bounds (count ∷ more ∷ rest) = tt
 
 opening_bounds : (tokens : List (List ℕ)) → IfOk (opening_of tokens) IsThreads
@@ -97,7 +99,7 @@ listing_bound events n (line ∷ lines) few =
     (after_bound events (event_line line) few)
     (λ more short. listing_bound more (n + 1) lines short)
 
-threads_within : (k : ℕ) (r : Result (List Event) ScheduleFault) → 1 ≤ k → k ≤ 32
+threads_within : (k : ℕ) (r : Result (List Event) ScheduleFault) → 1 ≤ k → k ≤ MAX_THREADS
     → IfOk r (λ events. length events ≤ 1000000) → IfOk (with_threads k r) IsWithinLimits
 threads_within k (Ok events) some most few =
     record { some_threads = some; most_threads = most; most_events = few }

@@ -31,7 +31,8 @@ ranged (Some a) = Ok (Some a)
 
 -- so many threads
 abbrev pub threads_of : List ℕ → Result (Option ℕ) ScheduleKind
-threads_of count = if is_number count then ranged (number_within 1 MAX_THREADS count) else Err UnknownWord
+threads_of count =
+    if is_number count then ranged (number_within 1 MAX_THREADS count) else Err UnknownWord
 
 -- `threads K`
 abbrev pub threads_line : List (List ℕ) → Result (Option ℕ) ScheduleKind

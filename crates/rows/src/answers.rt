@@ -4,9 +4,10 @@ ghost use Rattle.std.specs.Prelude.{◌≡◌};
 ghost use Rattle.drvhost_parts.specs.Device.{Unknown};
 
 use crate::failures::{LINES, SCHEDULE, TEXT};
+use crate::images::{OLD_ONE_READ, ONE_READ};
 use crate::rule_pages::CANCEL_STATE;
 use command_line::answer::answer;
-use command_line::files::Files;
+use command_line::files::{Files, Output};
 use drvhost_parts::device::{Reader, Sink, Source, Writer};
 use std::alloc::{AllocError, Global};
 use std::io::ErrorKind;
@@ -31,6 +32,13 @@ pub(crate) const LISTED: &[u8] =
 const TWICE_LISTED: &[u8] =
     b"driver d0\ndispatch READ f0\nroutine f0 dispatch\ncomplete r0 SUCCESS\n\
       complete r0 SUCCESS\nret SUCCESS\nendr\nendd\ndevice v0 d0 1\n";
+
+/// The image of `twice.drv`.
+const TWICE_IMAGE: [u8; 48] = [
+    0x44, 0x56, 0x42, 0x32, 0x01, 0x01, 0x00, 0x00, 0x01, 0x00, 0x00, 0xff, 0xff, 0xff, 0xff, 0xff,
+    0x00, 0x00, 0x03, 0x00, 0x22, 0x00, 0x00, 0x00, 0x00, 0x00, 0x00, 0x00, 0x22, 0x00, 0x00, 0x00,
+    0x00, 0x00, 0x00, 0x00, 0x24, 0x00, 0x00, 0x00, 0x00, 0x00, 0x00, 0x00, 0x00, 0x01, 0xff, 0x00,
+];
 
 const NAMED: &[u8] = b"accepted\ndriver 0 routine 0 dispatch certificate 2\n\
       driver 0 routine 0: driver d, routine f (dispatch)\n";
@@ -144,7 +152,15 @@ Options:
   -h, --help         Print help
 ";
 
-static ALL: [InMemory; 10] = [
+static ALL: [InMemory; 12] = [
+    InMemory {
+        name: "good.image",
+        bytes: &ONE_READ,
+    },
+    InMemory {
+        name: "former.image",
+        bytes: &OLD_ONE_READ,
+    },
     InMemory {
         name: "queue.drv",
         bytes: QUEUES,
@@ -187,21 +203,51 @@ static ALL: [InMemory; 10] = [
     },
 ];
 
-/// The files in memory.
+/// The files in memory, and the bytes of the one that was written last. A file `locked.image` can't
+/// be opened to be written.
 #[derive(Drop)]
 struct Shelf {
+    alloc: Global,
     opened: u64,
     failures: u64,
+    created: u64,
+    unwritten: u64,
+    written: Option<Vec<u8>>,
+}
+
+impl Shelf {
+    /// The files, of which none was opened.
+    fn new(alloc: Global) -> Shelf
+        ensures opened { ⟦<Shelf as Files>⟧.opened result ≡ 0 }
+        ensures failures { ⟦<Shelf as Files>⟧.failures result ≡ 0 }
+        ensures created { ⟦<Shelf as Files>⟧.created result ≡ 0 }
+        ensures unwritten { ⟦<Shelf as Files>⟧.unwritten result ≡ 0 }
+    {
+        Shelf {
+            alloc,
+            opened: 0,
+            failures: 0,
+            created: 0,
+            unwritten: 0,
+            written: None,
+        }
+    }
 }
 
 impl Files for Shelf {
     type File = Reader<&'static [u8]>;
+
+    type Target = Output<Vec<u8>>;
 
     ghost supply = { λ _ _. Unknown };
 
     ghost opened = { λ shelf. shelf.opened };
 
     ghost failures = { λ shelf. shelf.failures };
+
+    ghost created = { λ shelf. shelf.created };
+
+    ghost unwritten = { λ shelf. shelf.unwritten };
 
     fn open(&self, name: &str) -> Reader<&'static [u8]> {
         let file = ALL.iter().find(|file| file.name == name);
@@ -215,6 +261,19 @@ impl Files for Shelf {
     fn close(&mut self, file: Reader<&'static [u8]>) {
         self.opened += 1;
         self.failures += file.failures();
+    }
+
+    fn create(&self, name: &str) -> Output<Vec<u8>> {
+        if name == "locked.image" {
+            return Output::new(None);
+        }
+        Output::new(Some(Vec::new(self.alloc)))
+    }
+
+    fn keep(&mut self, _name: &str, target: Output<Vec<u8>>) {
+        self.created += 1;
+        self.unwritten += target.failures();
+        self.written = target.into_inner();
     }
 }
 
@@ -335,7 +394,7 @@ static CASES: [Case; 31] = [
         failures: 0,
     },
     Case {
-        words: &["drvhost", "host", "--workers=32", "good.drv", "none.script"],
+        words: &["drvhost", "host", "--workers=64", "good.drv", "none.script"],
         status: 0,
         out: b"history 0 agrees\n",
         err: b"",
@@ -516,10 +575,7 @@ fn is_answered<R: Threads + Wait + Sync>(rt: &R, alloc: Global, case: &Case) -> 
     let Ok(words) = given(alloc, case.words) else {
         return false;
     };
-    let mut files = Shelf {
-        opened: 0,
-        failures: 0,
-    };
+    let mut files = Shelf::new(alloc);
     let mut out = Writer::new(Vec::<u8>::new(alloc));
     let mut err = Writer::new(Vec::<u8>::new(alloc));
     let status = answer(rt, alloc, Ok(words), &mut files, &mut out, &mut err);
@@ -544,14 +600,12 @@ fn told_of<R: Threads + Wait + Sync>(
     words: Result<Vec<String>, ErrorKind>,
     status: u8,
 ) -> Vec<u8> {
-    let mut files = Shelf {
-        opened: 0,
-        failures: 0,
-    };
+    let mut files = Shelf::new(alloc);
     let mut out = Writer::new(Vec::<u8>::new(alloc));
     let mut err = Writer::new(Vec::<u8>::new(alloc));
     let answered = answer(rt, alloc, words, &mut files, &mut out, &mut err);
-    if answered == status && files.opened == 0 && out.into_inner().is_empty() {
+    let opened = files.opened > 0 || files.created > 0;
+    if answered == status && !opened && out.into_inner().is_empty() {
         err.into_inner()
     } else {
         Vec::new(alloc)
@@ -561,7 +615,10 @@ fn told_of<R: Threads + Wait + Sync>(
 #[test]
 fn wrong_words(rt: HostRuntime) {
     let alloc = rt.alloc();
-    let all: [&[&str]; 16] = [
+    let all: [&[&str]; 19] = [
+        &["drvhost", "rewrite"],
+        &["drvhost", "rewrite", "good.drv"],
+        &["drvhost", "rewrite", "good.drv", "good.image", "good.image"],
         &[],
         &["drvhost", "explain", "--all"],
         &["drvhost", "explain", "--rule"],
@@ -589,7 +646,7 @@ fn wrong_words(rt: HostRuntime) {
             "good.drv",
             "none.script",
             "--workers",
-            "33",
+            "65",
         ],
         &[
             "drvhost",
@@ -616,4 +673,117 @@ fn lost_words(rt: HostRuntime) {
     assert!(rt; told.as_slice() == b"Usage: drvhost <COMMAND>".as_slice());
     let told = told_of(&rt, alloc, Err(ErrorKind::OutOfMemory), 3);
     assert!(rt; told.as_slice() == b"out of memory\n".as_slice());
+}
+
+/// A set to be rewritten, and what the program answers: what the file has then, whether it was
+/// opened to be written, and how many reads and writes fail.
+struct Rewritten {
+    set: &'static str,
+    output: &'static str,
+    status: u8,
+    err: &'static [u8],
+    image: Option<&'static [u8]>,
+    created: u64,
+    failures: u64,
+    unwritten: u64,
+}
+
+static REWRITTEN: [Rewritten; 7] = [
+    Rewritten {
+        set: "good.drv",
+        output: "good.image",
+        status: 0,
+        err: b"",
+        image: Some(&ONE_READ),
+        created: 1,
+        failures: 0,
+        unwritten: 0,
+    },
+    Rewritten {
+        set: "good.image",
+        output: "good.image",
+        status: 0,
+        err: b"",
+        image: Some(&ONE_READ),
+        created: 1,
+        failures: 0,
+        unwritten: 0,
+    },
+    Rewritten {
+        set: "former.image",
+        output: "good.image",
+        status: 0,
+        err: b"",
+        image: Some(&ONE_READ),
+        created: 1,
+        failures: 0,
+        unwritten: 0,
+    },
+    Rewritten {
+        set: "twice.drv",
+        output: "twice.image",
+        status: 0,
+        err: b"",
+        image: Some(&TWICE_IMAGE),
+        created: 1,
+        failures: 0,
+        unwritten: 0,
+    },
+    Rewritten {
+        set: "open.drv",
+        output: "good.image",
+        status: 2,
+        err: b"text fault 6 Unclosed line 2\n",
+        image: None,
+        created: 0,
+        failures: 0,
+        unwritten: 0,
+    },
+    Rewritten {
+        set: "no.drv",
+        output: "good.image",
+        status: 2,
+        err: b"read failed\n",
+        image: None,
+        created: 0,
+        failures: 1,
+        unwritten: 0,
+    },
+    Rewritten {
+        set: "good.drv",
+        output: "locked.image",
+        status: 2,
+        err: b"write failed\n",
+        image: None,
+        created: 1,
+        failures: 0,
+        unwritten: 1,
+    },
+];
+
+/// Whether the program rewrites so.
+fn is_rewritten<R: Threads + Wait + Sync>(rt: &R, alloc: Global, case: &Rewritten) -> bool {
+    let Ok(words) = given(alloc, &["drvhost", "rewrite", case.set, case.output]) else {
+        return false;
+    };
+    let mut files = Shelf::new(alloc);
+    let mut out = Writer::new(Vec::<u8>::new(alloc));
+    let mut err = Writer::new(Vec::<u8>::new(alloc));
+    let status = answer(rt, alloc, Ok(words), &mut files, &mut out, &mut err);
+    let written = files.written.as_ref().map(|bytes| bytes.as_slice());
+    status == case.status
+        && files.opened == 1
+        && files.failures == case.failures
+        && files.created == case.created
+        && files.unwritten == case.unwritten
+        && written == case.image
+        && out.into_inner().is_empty()
+        && err.into_inner().as_slice() == case.err
+}
+
+#[test]
+fn images_are_rewritten(rt: HostRuntime) {
+    for (number, case) in REWRITTEN.iter().enumerate() {
+        assert!(rt; is_rewritten(&rt, rt.alloc(), case), "{number}");
+    }
 }

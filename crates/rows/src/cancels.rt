@@ -600,11 +600,11 @@ fn filled(alloc: Global, packets: u64) -> Result<(String, String), AllocError> {
     Ok((schedule, out))
 }
 
-/// There are 1,024 live packets at most.
+/// There are 4,096 live packets at most.
 #[test]
 fn the_most_live_packets(rt: HostRuntime) -> Result<(), Fail> {
     let alloc = rt.alloc();
-    let (schedule, out) = filled(alloc, 1024)?;
+    let (schedule, out) = filled(alloc, 4096)?;
     let is_run = runs_so(
         alloc,
         QUEUES,

@@ -1,16 +1,17 @@
-//! Verdicts, explanations, listings and runs of texts and of images, and scripts that one worker
+//! Verdicts, explanations, listings, images and runs of texts and of images, and scripts that one worker
 //! serves, over devices that move few bytes a call, or fail at each call in turn.
 
 ghost use Rattle.std.specs.Prelude.{◌≡◌};
 
 use crate::answers::{LISTED, QUEUES};
 use crate::devices::{Narrow, Slow};
-use crate::images::{EMPTY, ONE_READ};
+use crate::images::{EMPTY, OLD_ONE_READ, ONE_READ};
 use drvhost_parts::check::check;
 use drvhost_parts::device::{Reader, Sink, Source};
 use drvhost_parts::explaining::{Extent, explain};
 use drvhost_parts::host::host;
 use drvhost_parts::list::list;
+use drvhost_parts::rewriting::rewrite;
 use drvhost_parts::trace::trace;
 use drvhost_parts::verification::Verification;
 use drvhost_parts::version::version;
@@ -69,6 +70,7 @@ enum Job {
     Check,
     Explain(Extent),
     List,
+    Rewrite,
     /// A schedule is run.
     Trace(&'static [u8], Verification),
     /// A script is served by one worker.
@@ -107,7 +109,7 @@ const WHOLE: Devices = Devices {
     err: None,
 };
 
-static CASES: [Case; 19] = [
+static CASES: [Case; 22] = [
     Case {
         set: TEXT,
         job: Job::Check,
@@ -166,14 +168,14 @@ static CASES: [Case; 19] = [
     },
     Case {
         set: &EMPTY,
-        job: Job::Trace(b"threads 32\nissue 31 0 WRITE 7\n", Verification::Skipped),
+        job: Job::Trace(b"threads 64\nissue 63 0 WRITE 7\n", Verification::Skipped),
         status: 0,
         lines: b"0 refused\n",
         told: b"",
     },
     Case {
         set: &ONE_READ,
-        job: Job::Trace(b"threads 33\n", Verification::Required),
+        job: Job::Trace(b"threads 65\n", Verification::Required),
         status: 2,
         lines: b"",
         told: b"schedule fault 3 OutOfRange line 1\n",
@@ -229,6 +231,27 @@ static CASES: [Case; 19] = [
         told: b"image fault 2 Truncated\n",
     },
     Case {
+        set: TEXT,
+        job: Job::Rewrite,
+        status: 0,
+        lines: &ONE_READ,
+        told: b"",
+    },
+    Case {
+        set: &OLD_ONE_READ,
+        job: Job::Rewrite,
+        status: 0,
+        lines: &ONE_READ,
+        told: b"",
+    },
+    Case {
+        set: b"DVB1",
+        job: Job::Rewrite,
+        status: 2,
+        lines: b"",
+        told: b"image fault 2 Truncated\n",
+    },
+    Case {
         set: QUEUES,
         job: Job::Host(SCRIPT),
         status: 0,
@@ -262,6 +285,7 @@ fn answer<R: Threads + Wait + Sync>(
         Job::Check => check(alloc, set, out, err),
         Job::Explain(extent) => explain(alloc, extent, set, out, err),
         Job::List => list(alloc, set, out, err),
+        Job::Rewrite => rewrite(alloc, set, out, err),
         Job::Trace(schedule, verification) => {
             let mut schedule = Slow::new(schedule, devices.step, devices.orders);
             trace(alloc, set, &mut schedule, verification, out, err)
@@ -337,7 +361,7 @@ fn each_read_of_orders_fails_in_turn(rt: HostRuntime) {
     for case in CASES.iter() {
         let calls = match case.job {
             Job::Trace(orders, _) | Job::Host(orders) => orders.len().saturating_add(1),
-            Job::Check | Job::Explain(_) | Job::List => 0,
+            Job::Check | Job::Explain(_) | Job::List | Job::Rewrite => 0,
         };
         for calls in 0..calls {
             let devices = Devices {

@@ -51,7 +51,7 @@ static SCHEDULES: [Faulty; 68] = [
         told: "schedule fault 3 OutOfRange line 1\n",
     },
     Faulty {
-        schedule: "threads 33",
+        schedule: "threads 65",
         told: "schedule fault 3 OutOfRange line 1\n",
     },
     Faulty {
@@ -311,7 +311,7 @@ fn nothing_happens(rt: HostRuntime) {
     let is_run = runs_so(
         rt.alloc(),
         SET,
-        "threads 32",
+        "threads 64",
         Verification::Required,
         0,
         "",
