@@ -67,9 +67,9 @@ CANCELLED = [*TAKEN[:13], *('%d stepped' % n for n in range(13, 18)), '18 waited
 LATE = ['0 started 0', '1 stepped', '2 topped 0 0x00000000 0', '3 finished', '4 started 1', '5 finished']
 REUSED = ['0 started 0', '1 started 0', '2 stepped', '3 topped 0 0x00000000 0', '4 finished', '5 started 1', '6 stepped',
           '7 finished']
-FULL = [line for packet in range(1024) for line in
+FULL = [line for packet in range(4096) for line in
         ['%d started %d' % (8 * packet, packet), *('%d stepped' % (8 * packet + n) for n in range(1, 7)),
-         '%d finished' % (8 * packet + 7)]] + ['8192 refused']
+         '%d finished' % (8 * packet + 7)]] + ['32768 refused']
 SERVED = ['0 started 0', *('%d stepped' % n for n in range(1, 7)), '7 finished', *('%d stepped' % n for n in range(8, 15)),
           '15 topped 0 0x00000000 0', '16 finished']
 CERTIFICATES = 'certificates 14 8 6'

@@ -8,8 +8,8 @@ and ends with the next fenced block that is called `output`, which has all that 
 single line `...` there stands for some text, whatever it is. COMMAND is `check`, `explain --all`, `trace`,
 `trace --unchecked` or `host --workers N`, whose files are the blocks between, in their order: `drv`, `sched` and `script` are texts, and `image` has
 the bytes of an image in hexadecimal, up to `;` in a line. Or COMMAND is `run`, and each line of the block `sh` between is a
-command that starts at the top of the tree. The last line counts."""
-import os, re, shlex, subprocess, sys, tempfile
+command that starts where a copy of examples/ lies. The last line counts."""
+import os, re, shlex, shutil, subprocess, sys, tempfile
 
 TOP = os.path.dirname(os.path.dirname(os.path.abspath(__file__)))
 DOCUMENTS = ['README.md', 'docs/TEXTS.md', 'docs/RULES.md']
@@ -69,9 +69,11 @@ def answer(program, words, folder):
 def run_lines(program, example):
     """The answers to the lines of a block, one after another, with the last exit status."""
     told, status = '', None
-    for line in ''.join(text for _, text in example.of_kinds(('sh',))).splitlines():
-        more, status = answer(program, shlex.split(line)[1:], TOP)
-        told += more
+    with tempfile.TemporaryDirectory() as folder:
+        shutil.copytree(os.path.join(TOP, 'examples'), os.path.join(folder, 'examples'))
+        for line in ''.join(text for _, text in example.of_kinds(('sh',))).splitlines():
+            more, status = answer(program, shlex.split(line)[1:], folder)
+            told += more
     return told, status
 
 def run(program, example):

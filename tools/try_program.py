@@ -15,11 +15,18 @@ FILES = {
     'both.drv': BOTH,
     'open.drv': b'driver d\n',
     'short.image': b'DVB1',
+    'former.image': bytes.fromhex('44564231 01010000 010000ff ffffff00 00000200 2200000000000000 2400000000000000 0001ff00'),
     'good.sched': b'threads 1\nissue 0 0 READ 7\nstep 0 4\n',
     'none.sched': b'threads 0\n',
     'two.script': b'request 0 READ 7\ninterrupt 0\n',
     'early.script': b'interrupt 0\ncancel 0 0\n',
     'none.script': b'; no command\n',
+}
+IMAGE = bytes.fromhex('44564232 01010000 010000ff ffffffff 00000200 2200000000000000 2400000000000000 0001ff00')
+IMAGES = {
+    'good.image': IMAGE,
+    'former.image': IMAGE,
+    'twice.image': IMAGE[:18] + b'\3' + IMAGE[19:20] + IMAGE[20:28] + IMAGE[20:],
 }
 LISTED = b'driver d0\ndispatch READ f0\nroutine f0 dispatch\ncomplete r0 SUCCESS\nret SUCCESS\nendr\nendd\ndevice v0 d0 1\n'
 ACCEPTED = b'accepted\ndriver 0 routine 0 dispatch certificate 2\n'
@@ -120,6 +127,13 @@ CASES = [
     ('list good.drv', 0, LISTED, b''),
     ('list open.drv', 2, b'', b'text fault 6 Unclosed line 2\n'),
     ('list nothing.drv', 2, b'', b'cannot read nothing.drv\n'),
+    ('rewrite open.drv open.image', 2, b'', b'text fault 6 Unclosed line 2\n'),
+    ('rewrite short.image open.image', 2, b'', b'image fault 2 Truncated\n'),
+    ('rewrite nothing.drv open.image', 2, b'', b'read failed\n'),
+    ('rewrite good.drv .', 2, b'', b'write failed\n'),
+    ('rewrite good.drv no/such/good.image', 2, b'', b'write failed\n'),
+    ('rewrite good.drv /dev/full', 2, b'', b'write failed\n'),
+    ('rewrite good.drv', 2, b'', SOME),
     ('version', 0, b'drvhost 0.1.0\n', b''),
     ('trace good.drv good.sched', 0, TRACED, b''),
     ('trace good.drv good.sched --unchecked', 0, TRACED, b''),
@@ -131,7 +145,7 @@ CASES = [
     ('trace good.drv nothing.sched', 2, b'', b'read failed\n'),
     ('trace open.drv nothing.sched', 2, b'', b'text fault 6 Unclosed line 2\n'),
     ('host good.drv two.script --workers 1', 0, SERVED, b''),
-    ('host good.drv none.script --workers 32', 0, b'history 0 agrees\n', b''),
+    ('host good.drv none.script --workers 64', 0, b'history 0 agrees\n', b''),
     ('host --workers=2 twice.drv two.script', 1, REFUSED, b''),
     ('host twice.drv early.script --workers 2', 1, REFUSED, b''),
     ('host twice.drv nothing.script --workers 2', 1, REFUSED, b''),
@@ -140,7 +154,7 @@ CASES = [
     ('host open.drv nothing.script --workers 2', 2, b'', b'text fault 6 Unclosed line 2\n'),
     ('host good.drv two.script', 2, b'', SOME),
     ('host good.drv two.script --workers 0', 2, b'', SOME),
-    ('host good.drv two.script --workers 33', 2, b'', SOME),
+    ('host good.drv two.script --workers 65', 2, b'', SOME),
     ('', 2, b'', SOME),
     ('run good.drv', 2, b'', SOME),
     ('check', 2, b'', SOME),
@@ -166,6 +180,17 @@ def answers(program, folder):
     with open('/dev/full', 'wb') as full:
         status, _, told = run(program, ['check', 'good.drv'], folder, full)
     yield 'check good.drv > /dev/full', (2, b'', b'write failed\n'), (status, b'', told)
+    # images are written, also over the file that was read; a faulty set leaves the file as it was
+    for words, name in ('good.drv good.image', 'good.image'), ('good.image good.image', 'good.image'), \
+            ('former.image former.image', 'former.image'), ('twice.drv twice.image', 'twice.image'):
+        found = run(program, ['rewrite', *words.split()], folder)
+        yield 'rewrite ' + words, (0, b'', b''), found
+        with open(os.path.join(folder, name), 'rb') as image:
+            yield name, (0, IMAGES[name], b''), (0, image.read(), b'')
+    run(program, ['rewrite', 'open.drv', 'good.image'], folder)
+    with open(os.path.join(folder, 'good.image'), 'rb') as image:
+        yield 'good.image after a faulty set', (0, IMAGES['good.image'], b''), (0, image.read(), b'')
+    yield 'open.image', (0, False, b''), (0, os.path.exists(os.path.join(folder, 'open.image')), b'')
     # several workers: the history is of their making, and agrees
     status, told, errors = run(program, 'host good.drv two.script --workers 4'.split(), folder)
     yield 'host, 4 workers', (0, True, b''), (status, told.endswith(b' agrees\n'), errors)

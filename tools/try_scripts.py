@@ -1,7 +1,7 @@
 #!/usr/bin/env python3
 """try_scripts.py [--scripts N] [--seed N] [--sets FOLDER] PROGRAM OTHER: random scripts, served by `host` on the accepted sets among examples, the mended
 drivers of gallery and the sets `*.set` of folders. With one worker both programs have to write the same;
-with 2, 4, 8 and 32 workers the program's own answer has to tell of each command once, in order, and its history has to agree.
+with 2, 4, 8 and 64 workers the program's own answer has to tell of each command once, in order, and its history has to agree.
 A run of several workers that doesn't end in five seconds is stopped, and counted by itself: an accepted driver may take two
 locks in one order here and in the other there, and its threads then wait for each other. It prints what is otherwise; the
 last line counts."""
@@ -63,7 +63,7 @@ def try_set(given, name, number, folder):
     one, other = run([given.program] + words + ['1']), run([given.other] + words + ['1'])
     if one is None or one != other:
         wrong.append((name, 'one worker', lines, one, other))
-    for workers in '2', '4', '8', '32':
+    for workers in '2', '4', '8', '64':
         runs += 1
         answer = run([given.program] + words + [workers], 5)
         unended += answer is None

@@ -7,7 +7,7 @@ text on which they differ; the last line counts the texts, by what was said of t
 import concurrent.futures, glob, os, random, subprocess, sys, tempfile
 
 TOP = os.path.dirname(os.path.dirname(os.path.abspath(__file__)))
-NUMBERS = '0 1 00 01 7 8 9 15 16 17 31 32 255 256 999 1000 1001 1024 4294967295 4294967296 18446744073709551615 18446744073709551616 -1 0x1 1a'.split()
+NUMBERS = '0 1 00 01 7 8 9 15 16 17 31 32 33 63 64 65 255 256 999 1000 1001 1024 4294967295 4294967296 18446744073709551615 18446744073709551616 -1 0x1 1a'.split()
 WORDS = ('r0 r15 r16 r016 r00 R0 r l0 l7 l8 c0 c15 c16 p0 p16 READ WRITE CONTROL SUCCESS PENDING CANCELLED STATUS_SUCCESS lower void '
          'continue stop MAJOR ARG INFO ret const mov add sub jz jlt jump loop end call pass complete mark driver endd routine endr '
          'queue device dispatch startio dpc propagate hold cancel a: a :a a:: ; ;;').split()

@@ -605,15 +605,17 @@ fn filled(alloc: Global, packets: u64) -> Result<(String, String), AllocError> {
 fn the_most_live_packets(rt: HostRuntime) -> Result<(), Fail> {
     let alloc = rt.alloc();
     let (schedule, out) = filled(alloc, 4096)?;
-    let is_run = runs_so(
-        alloc,
-        QUEUES,
-        schedule.as_str(),
-        Verification::Required,
-        0,
-        out.as_str(),
-        "",
-    );
-    assert!(rt; is_run);
+    for verification in [Verification::Required, Verification::Skipped] {
+        let is_run = runs_so(
+            alloc,
+            QUEUES,
+            schedule.as_str(),
+            verification,
+            0,
+            out.as_str(),
+            "",
+        );
+        assert!(rt; is_run);
+    }
     Ok(())
 }

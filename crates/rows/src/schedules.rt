@@ -305,17 +305,47 @@ fn faulty_schedules(rt: HostRuntime) {
     }
 }
 
-/// The most threads, and no event.
+/// A driver that starts its packets one at a time.
+const STARTED: &str =
+    "driver d\ndispatch READ f\nstartio s\ndpc g\nroutine f dispatch\nmark r0\nstart r0\n\
+     ret PENDING\nendr\nroutine s startio\nbegin r0\nret void\nendr\nroutine g dpc\ntake r0 none\n\
+     next\ncomplete r0 SUCCESS\nret void\nnone: ret void\nendr\nendd\ndevice v d 1\n";
+
+/// Of 64 threads the last has the number 63: each kind of line names it, and one that isn't there.
+#[test]
+fn the_last_thread(rt: HostRuntime) {
+    for verification in [Verification::Required, Verification::Skipped] {
+        let is_run = runs_so(
+            rt.alloc(),
+            STARTED,
+            "threads 64\nissue 63 0 READ 0\nstep 63 3\nstartio 63 0\nstep 63 2\ninterrupt 0\n\
+             dpc 63 0\nstep 63 5\ncancel 63 0 0\nissue 64 0 READ 0\nstep 64\ncancel 64 0 0\n\
+             dpc 64 0\nstartio 64 0\n",
+            verification,
+            0,
+            "0 started 0\n1 stepped\n2 stepped\n3 finished\n4 started 0\n5 stepped\n6 finished\n\
+             7 stepped\n8 stepped\n9 stepped\n10 stepped\n11 stepped\n\
+             12 topped 0 0x00000000 0\n13 finished\n14 finished\n15 refused\n16 refused\n\
+             17 refused\n18 refused\n19 refused\n",
+            "",
+        );
+        assert!(rt; is_run);
+    }
+}
+
+/// The most threads, and fewer, and no event.
 #[test]
 fn nothing_happens(rt: HostRuntime) {
-    let is_run = runs_so(
-        rt.alloc(),
-        SET,
-        "threads 64",
-        Verification::Required,
-        0,
-        "",
-        "",
-    );
-    assert!(rt; is_run);
+    for threads in ["threads 1", "threads 33", "threads 64"] {
+        let is_run = runs_so(
+            rt.alloc(),
+            SET,
+            threads,
+            Verification::Required,
+            0,
+            "",
+            "",
+        );
+        assert!(rt; is_run, "{threads}");
+    }
 }
