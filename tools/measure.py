@@ -5,7 +5,7 @@ milliseconds, and its ratio to that of the first; at the end, how many times wha
 events `host` takes with one worker. All must answer the same bytes, but where several workers serve
 commands in an order of their own: then as many lines, and histories that agree. The images are those that 'ENCODER
 encode TEXT IMAGE' makes of texts; without an encoder the rows of images are left out. With --only WORD the rows whose
-names have this word."""
+names have this word. Rows with more than 1,000 packets live, or with 64 threads or workers, are of the second limits."""
 import argparse, os, subprocess, sys, tempfile, time
 
 def routine(name, instructions):
@@ -124,8 +124,10 @@ def cases():
     yield 'check of a text of 4 MB, most of it comments', 'check', ['; ' + 'x' * 78] * 50000 + largest_set()[:1], None
     yield 'trace of 1,000,000 steps of an idle thread', 'trace', one_routine(['complete r0 SUCCESS', 'ret SUCCESS']), ['threads 1', 'step 0 1000000']
     yield 'trace of 970 requests, 1,025 steps each', 'trace', long_routine, requests
-    yield 'trace of 300,000 steps on 32 threads', 'trace', one_routine(['mark r0', 'clear r1', 'complete r0 SUCCESS', 'ret PENDING']), \
-        ['threads 32'] + ['issue %d 0 READ 0' % t for t in range(32)] + ['step %d' % (i % 32) for i in range(300000)]
+    for threads in 32, 64:
+        yield 'trace of 300,000 steps on %d threads' % threads, 'trace', \
+            one_routine(['mark r0', 'clear r1', 'complete r0 SUCCESS', 'ret PENDING']), ['threads %d' % threads] \
+            + ['issue %d 0 READ 0' % t for t in range(threads)] + ['step %d' % (i % threads) for i in range(300000)]
 
     yield 'trace of 999,999 steps of loops', 'trace', \
         one_routine(['const r1 0', 'const r2 1', 'loop 1000', 'loop 498', 'add r1 r2', 'end', 'end', 'complete r0 SUCCESS', 'ret SUCCESS']), \
@@ -134,16 +136,16 @@ def cases():
         one_routine(['loop 100', 'loop 150', 'acquire l0', 'load r1 c0', 'store c0 r1', 'release l0', 'clear r1', 'end', 'end', 'complete r0 SUCCESS', 'ret SUCCESS']), \
         ['threads 4'] + ['issue %d 0 READ 0' % t for t in range(4)] + ['step %d' % (i % 4) for i in range(300000)]
     for way, (text, request, completion) in ('a queue', through_a_queue()), ('StartIo', through_startio()):
-        for live in 1, 1000:
+        for live in 1, 1000, 4000:
             yield 'trace of 300,000 events, %s, %s live' % (way, f'{live:,}'), 'trace', text, events_with(live, request, completion)
     text, request, completion, cancel = through_a_cancelable_queue()
-    for live in 2, 1000:
-        yield 'trace of 55,000 requests, half cancelled, %s live' % f'{live:,}', 'trace', text, \
-            half_cancelled(55000, live, request, completion, cancel)
+    for live in 2, 1000, 4000:
+        yield 'trace of 52,000 requests, half cancelled, %s live' % f'{live:,}', 'trace', text, \
+            half_cancelled(52000, live, request, completion, cancel)
     text, request, completion, cancel = through_a_cancelable_device_queue()
-    for waiting in 1, 1000:
-        yield 'trace of 55,000 requests, StartIo, half cancelled while they wait, %s waiting' % f'{waiting:,}', 'trace', text, \
-            cancelled_while_waiting(55000, waiting, request, completion, cancel)
+    for waiting in 1, 1000, 4000:
+        yield 'trace of 52,000 requests, StartIo, half cancelled while they wait, %s waiting' % f'{waiting:,}', 'trace', text, \
+            cancelled_while_waiting(52013, waiting, request, completion, cancel)
 
 def served_commands(commands):
     """Of so many commands each second is a request, and of the requests each second one is cancelled: the lines of a script."""
@@ -154,7 +156,7 @@ def served_commands(commands):
 
 def host_cases():
     """Of each run of `host` its name, its commands and its workers. `trace` has the same events as one worker."""
-    for commands, workers in (16384, 1), (32768, 1), (65536, 1), (65536, 2), (65536, 4), (65536, 8), (65536, 32):
+    for commands, workers in (16384, 1), (32768, 1), (65536, 1), (65536, 2), (65536, 4), (65536, 8), (65536, 32), (65536, 64):
         yield 'host of %s commands, %d worker%s' % (f'{commands:,}', workers, 's' if 1 < workers else ''), commands, workers
 
 # The rows that a run of `host` is compared with, and that run.

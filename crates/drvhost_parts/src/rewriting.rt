@@ -7,8 +7,8 @@ ghost use Rattle.drvhost_parts.specs.Fault.{Goes, ReadsImage, reads_failed, stat
 
 use crate::device::{Sink, Source};
 use crate::fault::{End, Fault, finish, no_memory};
-use crate::reading::read_set;
-use crate::transfer::write_bytes;
+use crate::reading::set_of;
+use crate::transfer::{read_whole, write_bytes};
 use image::encode;
 use report::lines::Lines;
 use std::alloc::{AllocError, Global};
@@ -67,7 +67,8 @@ fn image_of<S: Source>(alloc: Global, source: &mut S) -> Result<Vec<u8>, Fault>
     ensures reads { S.failures source.new ≡ S.failures source.old + reads_failed result }
     ensures unwritten { writes_failed result ≡ 0 }
 {
-    let set = read_set(alloc, source)?;
+    let bytes = read_whole(alloc, source)?;
+    let set = set_of(alloc, bytes.as_slice())?;
     let _sound = set.drivers();
     let image = encode(alloc, &set)?;
     Ok(image)
