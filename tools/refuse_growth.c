@@ -1,7 +1,8 @@
 /* A library that stands before the C library of a program (LD_PRELOAD) and refuses one growth of it: the call of malloc,
    calloc, realloc, aligned_alloc, posix_memalign, mmap or pthread_create with the number that REFUSED_GROWTH says, from 1. A
-   refused pthread_create stands for the memory of a thread. tools/refuse_program.py builds and uses it; how many calls there
-   were is written to the file that COUNTED_GROWTHS names, when the program ends. */
+   refused pthread_create stands for the memory of a thread. tools/refuse_program.py and tools/measure_memory.py build and use
+   it; when the program ends, how many calls there were is written to the file that COUNTED_GROWTHS names, and how many bytes
+   those for memory asked for to the one that ASKED_BYTES names. */
 #define _GNU_SOURCE
 #include <dlfcn.h>
 #include <errno.h>
@@ -16,6 +17,7 @@
 #include <unistd.h>
 
 static atomic_ulong calls;
+static atomic_ulong asked;
 static unsigned long refused;
 static int begun;
 
@@ -58,15 +60,19 @@ __attribute__((constructor)) static void begin(void) {
     begun = 1;
 }
 
-static void count_told(void) {
-    const char *name = getenv("COUNTED_GROWTHS");
-    unsigned long count = calls;
-    begun = 0;
+static void tell(const char *name, unsigned long number) {
     FILE *out = name ? fopen(name, "w") : NULL;
     if (out) {
-        fprintf(out, "%lu\n", count);
+        fprintf(out, "%lu\n", number);
         fclose(out);
     }
+}
+
+static void count_told(void) {
+    unsigned long count = calls, bytes = asked;
+    begun = 0;
+    tell(getenv("COUNTED_GROWTHS"), count);
+    tell(getenv("ASKED_BYTES"), bytes);
 }
 
 /* A program may end without its destructors. */
@@ -76,24 +82,26 @@ void _exit(int status) {
     __builtin_unreachable();
 }
 
-static int is_refused(void) {
-    if (!begun || ++calls != refused) return 0;
+static int is_refused(size_t size) {
+    if (!begun) return 0;
+    asked += size;
+    if (++calls != refused) return 0;
     errno = ENOMEM;
     return 1;
 }
 
 void *malloc(size_t size) {
     if (!real_malloc) return from_early(size);
-    return is_refused() ? NULL : real_malloc(size);
+    return is_refused(size) ? NULL : real_malloc(size);
 }
 
 void *calloc(size_t count, size_t size) {
     if (!real_calloc) return from_early(count * size);
-    return is_refused() ? NULL : real_calloc(count, size);
+    return is_refused(count * size) ? NULL : real_calloc(count, size);
 }
 
 void *realloc(void *p, size_t size) {
-    if (is_refused()) return NULL;
+    if (is_refused(size)) return NULL;
     if (!is_early(p)) return real_realloc(p, size);
     void *grown = real_malloc(size);
     if (grown) memcpy(grown, p, size);
@@ -104,17 +112,17 @@ void free(void *p) {
     if (p && !is_early(p) && real_free) real_free(p);
 }
 
-void *aligned_alloc(size_t alignment, size_t size) { return is_refused() ? NULL : real_aligned(alignment, size); }
+void *aligned_alloc(size_t alignment, size_t size) { return is_refused(size) ? NULL : real_aligned(alignment, size); }
 
 int posix_memalign(void **p, size_t alignment, size_t size) {
-    return is_refused() ? ENOMEM : real_memalign(p, alignment, size);
+    return is_refused(size) ? ENOMEM : real_memalign(p, alignment, size);
 }
 
 void *mmap(void *at, size_t size, int protection, int flags, int file, off_t offset) {
     if (!real_mmap) find();
-    return is_refused() ? MAP_FAILED : real_mmap(at, size, protection, flags, file, offset);
+    return is_refused(size) ? MAP_FAILED : real_mmap(at, size, protection, flags, file, offset);
 }
 
 int pthread_create(pthread_t *thread, const pthread_attr_t *how, void *(*run)(void *), void *with) {
-    return is_refused() ? EAGAIN : real_create(thread, how, run, with);
+    return is_refused(0) ? EAGAIN : real_create(thread, how, run, with);
 }
