@@ -1,5 +1,5 @@
 -- What the file has that an image was written to.
-use Rattle.std.proofs.Common.{◌≡◌, ◌∙◌, ◌+◌, ◌×◌, ◌⊎◌, ℕ, List, [], Option, None, Some, Result, Ok, Err, ap, inl, inr, refl, subst, sym}
+use Rattle.std.proofs.Common.{◌≡◌, ◌∙◌, ◌+◌, ◌++◌, ◌⊎◌, ℕ, List, [], Option, None, Some, Result, Ok, Err, ap, inl, inr, refl, subst, sym, take}
 use Rattle.std.proofs.lemmas.List.{append-nil}
 use Rattle.std.specs.Io.KnownBytes.{Appends, Keeps, WriteAppends}
 use Rattle.drvhost_parts.specs.declared.fault.End.TheVariants.{Complete}
@@ -84,7 +84,8 @@ writes_later None b c (Err e) bytes keeps w = tt
 writes_later (Some xs) None c r bytes keeps w = absurd keeps
 writes_later (Some xs) (Some ys) None (Ok count) bytes keeps w = w
 writes_later (Some xs) (Some ys) None (Err e) bytes keeps w = w
-writes_later (Some xs) (Some ys) (Some zs) (Ok count) bytes keeps w = rw keeps at w in w
+writes_later (Some xs) (Some ys) (Some zs) (Ok count) bytes keeps w =
+    w ∙ ap (λ l. l ++ take count bytes) keeps
 writes_later (Some xs) (Some ys) (Some zs) (Err e) bytes keeps w = w ∙ keeps
 
 module _ (known supply : Supply) (h : IsSuppliedAs known supply) (name : List ℕ)
@@ -136,8 +137,7 @@ module _ (known supply : Supply) (h : IsSuppliedAs known supply) (name : List �
     rewrites_some contents takes last stores one =
         record {
           whole = λ zero.
-              let d = done (IsRewriteOf supply) reads writes b n status told ends zero in
-              (
+              let d = done (IsRewriteOf supply) reads writes b n status told ends zero in (
                 d.0,
                 rewrite_known known supply h d.0 d.1,
                 d.2,
@@ -155,8 +155,7 @@ module _ (known supply : Supply) (h : IsSuppliedAs known supply) (name : List �
     rewrites_none other last same none =
         record {
           whole = λ zero.
-              let d = done (IsRewriteOf supply) reads writes b n status told ends zero in
-              (
+              let d = done (IsRewriteOf supply) reads writes b n status told ends zero in (
                 d.0,
                 rewrite_known known supply h d.0 d.1,
                 d.2,

@@ -298,7 +298,7 @@ impl<F: Files> Sink for Pending<'_, F> {
 
     ghost contents = { λ pending.
         contents_of F.Target.contents (F.supply pending.files.now pending.name.now)
-            pending.target };
+        pending.target };
 
     fn failures(&self) -> u64 {
         match &self.target {

@@ -26,12 +26,11 @@ image_read held set image read sound is =
 pub image_written : (held : Supply) (b n : Option (List ℕ)) (image : List ℕ)
     → IsRewriteOf held (ended Complete image) → Appends b n image
     → Goes (IsRewriteOf held) b n [] [] (Ok Complete)
-image_written held b n image right written =
-    (
-      image,
-      right,
-      record { written = image; appended = written; whole = sym (append-nil image) },
-    )
+image_written held b n image right written = (
+  image,
+  right,
+  record { written = image; appended = written; whole = sym (append-nil image) },
+)
 
 -- an image has some bytes
 pub image_some : (held : Supply) (answer : Answer) → IsRewriteOf held answer → answer.status ≡ 0

@@ -337,15 +337,7 @@ fn the_last_thread(rt: HostRuntime) {
 #[test]
 fn nothing_happens(rt: HostRuntime) {
     for threads in ["threads 1", "threads 33", "threads 64"] {
-        let is_run = runs_so(
-            rt.alloc(),
-            SET,
-            threads,
-            Verification::Required,
-            0,
-            "",
-            "",
-        );
+        let is_run = runs_so(rt.alloc(), SET, threads, Verification::Required, 0, "", "");
         assert!(rt; is_run, "{threads}");
     }
 }
