@@ -1,0 +1,182 @@
+#!/usr/bin/env python3
+"""stored_runs.py [--check | --cases | --show GROUP]: what the program of crates/stored_runs runs, and what it has to write.
+
+A file of crates/stored_runs/runs is a group of cases. A case is a line `# NAME` and the runs behind it: a line `$ WORDS`,
+what drvhost answers to these words, what the error writer is told behind a line `told:`, and a line with the exit status,
+the number of files that are opened, and of reads of them that fail. The files that the words name lie in
+crates/stored_runs/data. The group of the wrong drivers is made of the folder gallery, whose texts are copied to data/gallery.
+
+Without a flag it writes from these the list of the runs (data/runs.txt), the copies, and what the program has to write
+(stdout). With --check it writes nothing, and tells what it would write otherwise; it also tells of a text in data that no
+run names, and of a run that names a text which isn't there, where its answer doesn't say so. With --cases it prints the
+names of all cases, with --show the cases of a group, each with its texts. The last line counts."""
+import os, re, sys
+
+TOP = os.path.dirname(os.path.dirname(os.path.abspath(__file__)))
+GALLERY = os.path.join(TOP, 'gallery')
+CRATE = os.path.join(TOP, 'crates/stored_runs')
+RUNS, DATA = os.path.join(CRATE, 'runs'), os.path.join(CRATE, 'data')
+LIST, STDOUT = 'data/runs.txt', 'stdout'
+COPIED = 'driver.drv', 'events.sched', 'mended.drv'
+END = re.compile(r'^status [0-9]+, opened [0-9]+(, failed reads [1-9][0-9]*)?$')
+TEXT = re.compile(r'\.(drv|image|sched|script)$')
+
+class Run:
+    """The words of a command line, and the lines of the answer."""
+
+    def __init__(self, words):
+        self.words, self.answer = words, []
+
+    def files(self):
+        """The texts that the words name."""
+        return [word for word in self.words if TEXT.search(word)]
+
+    def lines(self):
+        return ['$ ' + ' '.join(self.words), *self.answer]
+
+class Group:
+    """Lines of its title, of the cases' names and of blanks, and runs."""
+
+    def __init__(self, name, parts):
+        self.name, self.parts = name, ['; %s: %s' % (name, parts[0][2:]), *parts[1:]]
+        self.runs = [part for part in parts if isinstance(part, Run)]
+        self.cases = [part[2:] for part in parts if isinstance(part, str) and part.startswith('# ')]
+
+    def asked(self):
+        """The lines without the answers."""
+        return [part if isinstance(part, str) else part.lines()[0] for part in self.parts]
+
+    def lines(self):
+        """The lines with the answers."""
+        return [line for part in self.parts for line in ([part] if isinstance(part, str) else part.lines())]
+
+def read(path):
+    return open(path, 'rb').read()
+
+def stored_group(file):
+    """The group of a file of runs."""
+    parts, run = [], None
+    for line in open(os.path.join(RUNS, file), newline='\n').read().split('\n')[:-1]:
+        if run:
+            run.answer.append(line)
+            run = None if END.match(line) else run
+        elif line.startswith('$ '):
+            run = Run(line[2:].split(' '))
+            parts.append(run)
+        else:
+            assert not line or line[:2] in ('# ', '; '), (file, line)
+            parts.append(line)
+    assert not run, (file, 'the last answer has no end')
+    return Group(file[:-len('.txt')], parts)
+
+def answer_of_gallery(folder, text, opened):
+    """A stored answer, which ends with the exit status."""
+    lines = open(os.path.join(GALLERY, folder, text)).read().splitlines()
+    assert re.match(r'^status [01]$', lines[-1]), (folder, text)
+    return lines[:-1] + ['%s, opened %d' % (lines[-1], opened)]
+
+def gallery_runs(folder):
+    """What each text of a wrong driver's folder answers to. The machine that tests everything runs a mended driver too."""
+    at = lambda text: 'gallery/%s/%s' % (folder, text)
+    asked = [
+        ('check.txt', 1, ['check', at('driver.drv')]),
+        ('explain.txt', 1, ['explain', at('driver.drv')]),
+        ('trace.txt', 2, ['trace', at('driver.drv'), at('events.sched'), '--unchecked']),
+    ]
+    if os.path.exists(os.path.join(GALLERY, folder, 'mended.drv')):
+        mended = ['trace', at('mended.drv'), at('events.sched')]
+        asked += [('mended.txt', 2, mended), ('mended.txt', 2, mended + ['--unchecked'])]
+    for text, opened, words in asked:
+        run = Run(words)
+        run.answer = answer_of_gallery(folder, text, opened)
+        assert text != 'mended.txt' or run.answer[-1].startswith('status 0'), folder
+        yield run
+
+def gallery_group():
+    parts = ['; The wrong drivers of the gallery: their verdicts, what they do without one, and the mended ones.']
+    for folder in sorted(os.listdir(GALLERY)):
+        parts += ['', '# ' + folder, *gallery_runs(folder)]
+    return Group('gallery', parts)
+
+def groups():
+    stored = [stored_group(file) for file in sorted(os.listdir(RUNS))]
+    return sorted(stored + [gallery_group()], key=lambda group: group.name)
+
+def made(all_groups):
+    """The files that are made, by their paths in the crate."""
+    text = lambda lines: ('\n'.join(lines) + '\n').encode()
+    files = {
+        LIST: text([line for group in all_groups for line in group.asked() + ['']]),
+        STDOUT: text([line for group in all_groups for line in group.lines() + ['']]),
+    }
+    for folder in sorted(os.listdir(GALLERY)):
+        for name in COPIED:
+            path = os.path.join(GALLERY, folder, name)
+            if os.path.exists(path):
+                files['data/gallery/%s/%s' % (folder, name)] = read(path)
+    return files
+
+def stray(all_groups, files):
+    """What is wrong with the texts: those that no run names, and those that are named and missing."""
+    named = {name for group in all_groups for run in group.runs for name in run.files()}
+    there = {os.path.relpath(os.path.join(at, name), DATA) for at, _, names in os.walk(DATA) for name in names}
+    there |= {path[len('data/'):] for path in files if path.startswith('data/')}
+    there.discard('runs.txt')
+    told = ['%s: no run names it' % name for name in sorted(there - named)]
+    for group in all_groups:
+        for run in group.runs:
+            missing = [name for name in run.files() if name not in there]
+            if missing and '/' in missing[0]:
+                told.append('%s: it is named and missing' % missing[0])
+    return told
+
+def show(group):
+    """Prints a group, with the texts before the answers that first need them."""
+    seen = set()
+    for part in group.parts:
+        if isinstance(part, str):
+            print(part)
+            continue
+        for name in part.files():
+            if name not in seen and os.path.exists(os.path.join(DATA, name)):
+                seen.add(name)
+                print('-- %s' % name)
+                print(read(os.path.join(DATA, name)).decode(errors='backslashreplace'))
+        print('\n'.join(part.lines()))
+
+def settle(files, is_check):
+    """Writes the files that differ, or tells which do."""
+    told = []
+    for name, content in files.items():
+        path = os.path.join(CRATE, name)
+        if os.path.exists(path) and read(path) == content:
+            continue
+        told.append('%s: %s' % (name, 'it differs' if is_check else 'it is written'))
+        if not is_check:
+            os.makedirs(os.path.dirname(path), exist_ok=True)
+            open(path, 'wb').write(content)
+    return told
+
+def main():
+    all_groups = groups()
+    if '--show' in sys.argv:
+        for group in all_groups:
+            if group.name == sys.argv[-1]:
+                show(group)
+        return 0
+    if '--cases' in sys.argv:
+        for group in all_groups:
+            for case in group.cases:
+                print('%s: %s' % (group.name, case))
+    files = made(all_groups)
+    is_check = '--check' in sys.argv
+    told = settle(files, is_check)
+    wrong = stray(all_groups, files)
+    for line in told + wrong:
+        print(line)
+    count = lambda of: sum(len(of(group)) for group in all_groups)
+    print('%d groups, %d cases, %d runs' % (len(all_groups), count(lambda g: g.cases), count(lambda g: g.runs)))
+    return 1 if wrong or is_check and told else 0
+
+if __name__ == '__main__':
+    sys.exit(main())
