@@ -3,9 +3,8 @@
 
 ghost use Rattle.std.specs.Prelude.{◌≡◌};
 
-use crate::answers::{LISTED, QUEUES};
 use crate::devices::{Narrow, Slow};
-use crate::images::{EMPTY, ONE_READ};
+use crate::images::{EMPTY, ONE_READ, QUEUED};
 use drvhost_parts::check::check;
 use drvhost_parts::device::{Reader, Sink, Source};
 use drvhost_parts::explaining::{Extent, explain};
@@ -23,6 +22,11 @@ use workers::Gate;
 pub(crate) const TEXT: &[u8] =
     b"driver d\ndispatch READ f\nroutine f dispatch\ncomplete r0 SUCCESS\nret SUCCESS\nendr\nendd\n\
       device v d 1\n";
+
+/// Its listing.
+const LISTED: &[u8] =
+    b"driver d0\ndispatch READ f0\nroutine f0 dispatch\ncomplete r0 SUCCESS\nret SUCCESS\nendr\n\
+      endd\ndevice v0 d0 1\n";
 
 const VERDICT: &[u8] = b"accepted\ndriver 0 routine 0 dispatch certificate 2\n";
 
@@ -229,7 +233,7 @@ static CASES: [Case; 19] = [
         told: b"image fault 2 Truncated\n",
     },
     Case {
-        set: QUEUES,
+        set: QUEUED,
         job: Job::Host(SCRIPT),
         status: 0,
         lines: SERVED,

@@ -1,10 +1,8 @@
-//! An accepted set at the limits, and texts past what one block holds. The digests are those of
-//! what an independent program answers.
+//! An accepted set at the limits. The digests are those of what an independent program answers.
 
-use crate::case::is_judged_so;
+use crate::case::traced;
 use drvhost_parts::check::check;
 use drvhost_parts::device::{Reader, Writer};
-use drvhost_parts::trace::trace;
 use drvhost_parts::verification::Verification;
 use md5::{Digest, Md5};
 use std::alloc::{AllocError, Global};
@@ -91,28 +89,11 @@ fn the_largest_set_runs(rt: HostRuntime) -> Result<(), Fail> {
     let set = largest_set(alloc)?;
     let schedule = longest_schedule(alloc)?;
     for verification in [Verification::Required, Verification::Skipped] {
-        let mut out = Writer::new(Vec::<u8>::new(alloc));
-        let mut err = Writer::new(Vec::<u8>::new(alloc));
-        let mut source = Reader::new(Some(set.as_bytes()));
-        let mut events = Reader::new(Some(schedule.as_bytes()));
-        let status = trace(
-            alloc,
-            &mut source,
-            &mut events,
-            verification,
-            &mut out,
-            &mut err,
-        );
-        assert_eq!(rt; status, 0);
-        assert!(rt; err.into_inner().is_empty());
-        assert!(rt; Md5::digest(out.into_inner().as_slice()).as_slice() == TRACE.as_slice());
+        let traced = traced(alloc, set.as_bytes(), schedule.as_bytes(), verification);
+        let Some(traced) = traced else {
+            return Err(Fail::from("the set runs"));
+        };
+        assert!(rt; Md5::digest(traced.as_slice()).as_slice() == TRACE.as_slice());
     }
     Ok(())
-}
-
-#[test]
-fn a_line_of_many_tokens(rt: HostRuntime) {
-    let set = "driver d\na b c d e f g h i\n";
-    let told = "text fault 2 UnknownWord line 2\n";
-    assert!(rt; is_judged_so(rt.alloc(), set, 2, "", told));
 }
