@@ -41,5 +41,3 @@ mod scripts;
 mod shown;
 #[cfg(test)]
 mod sizes;
-#[cfg(test)]
-mod waiting;
