@@ -1,5 +1,5 @@
 #!/usr/bin/env python3
-"""stored_runs.py [--check | --cases | --show GROUP]: what the program of crates/stored_runs runs, and what it has to write.
+"""stored_runs.py [--check | --cases | --show GROUP | run [PROGRAM]]: what the program of crates/stored_runs runs, and what it has to write.
 
 A file of crates/stored_runs/runs is a group of cases. A case is a line `# NAME` and the runs behind it: a line `$ WORDS`,
 what drvhost answers to these words, what the error writer is told behind a line `told:`, and a line with the exit status,
@@ -9,8 +9,12 @@ crates/stored_runs/data. The group of the wrong drivers is made of the folder ga
 Without a flag it writes from these the list of the runs (data/runs.txt), the copies, and what the program has to write
 (stdout). With --check it writes nothing, and tells what it would write otherwise; it also tells of a text in data that no
 run names, and of a run that names a text which isn't there, where its answer doesn't say so. With --cases it prints the
-names of all cases, with --show the cases of a group, each with its texts. The last line counts."""
-import os, re, sys
+names of all cases, with --show the cases of a group, each with its texts. The last line counts.
+
+With `run` it tries the crate before any proof (`rt try`), and prints each run that is answered otherwise; with `run PROGRAM`
+it gives each command line to that program, as to `drvhost`, and compares what goes out, what goes to standard error and the
+exit status."""
+import difflib, os, re, subprocess, sys
 
 TOP = os.path.dirname(os.path.dirname(os.path.abspath(__file__)))
 GALLERY = os.path.join(TOP, 'gallery')
@@ -144,6 +148,54 @@ def show(group):
                 print(read(os.path.join(DATA, name)).decode(errors='backslashreplace'))
         print('\n'.join(part.lines()))
 
+def tried(crate, seconds='600'):
+    """What the program of a crate stored_runs writes before any proof, or None."""
+    data = os.path.join(crate, 'data')
+    names = [os.path.relpath(os.path.join(at, name), data) for at, _, files in os.walk(data) for name in files]
+    words = [word for name in sorted(names) for word in ('--data', '%s=data/%s' % (name, name))]
+    done = subprocess.run(['rt', 'try', '--seconds', seconds, *words], cwd=crate, stdin=subprocess.DEVNULL, capture_output=True,
+                          text=True, errors='replace')
+    if 'run=ended' not in done.stderr:
+        print(done.stderr[-2000:])
+        return None
+    return done.stdout
+
+def by_group(written):
+    """What a run of the stored runs writes, by the names of their groups."""
+    return dict(re.findall(r'^; (\w+): (.*?)(?=^; |\Z)', written, re.M | re.S))
+
+def answered(program, run):
+    """What a program answers to a run's words, as it is stored, but for the files that are opened."""
+    done = subprocess.run([os.path.abspath(program), *run.words], cwd=DATA, stdin=subprocess.DEVNULL, capture_output=True,
+                          text=True, errors='replace')
+    told = ['told:', *done.stderr.splitlines()] if done.stderr else []
+    return [*done.stdout.splitlines(), *told, 'status %d' % done.returncode]
+
+def differences(all_groups, program):
+    """Where the crate, or a program, answers otherwise than it is stored: the lines of each difference."""
+    diff = lambda wanted, found: list(difflib.unified_diff(wanted, found, 'stored', 'answered', lineterm='', n=3))
+    if not program:
+        written = tried(CRATE)
+        wanted = read(os.path.join(CRATE, STDOUT)).decode()
+        return [['nothing is written']] if written is None else [d for d in [diff(wanted.splitlines(), written.splitlines())] if d]
+    found = []
+    for group in all_groups:
+        for run in group.runs:
+            stored = [*run.answer[:-1], run.answer[-1].partition(',')[0]]
+            told = diff(stored, answered(program, run))
+            if told:
+                found.append([run.lines()[0], *told])
+    return found
+
+def compare(all_groups, program):
+    """Prints each difference, and how many there are."""
+    found = differences(all_groups, program)
+    for lines in found:
+        print('\n'.join(lines))
+    print('%d runs, %s' % (sum(len(group.runs) for group in all_groups), '%d answered otherwise' % len(found) if program
+          else 'all answered so' if not found else 'answered otherwise'))
+    return 1 if found else 0
+
 def settle(files, is_check):
     """Writes the files that differ, or tells which do."""
     told = []
@@ -159,6 +211,8 @@ def settle(files, is_check):
 
 def main():
     all_groups = groups()
+    if sys.argv[1:2] == ['run']:
+        return compare(all_groups, sys.argv[2] if len(sys.argv) > 2 else None)
     if '--show' in sys.argv:
         for group in all_groups:
             if group.name == sys.argv[-1]:

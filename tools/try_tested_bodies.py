@@ -7,6 +7,8 @@ which the program has to write something else. Each is tried, without a proof, i
 minutes. The last line counts."""
 import glob, os, re, shutil, subprocess, sys, tempfile
 
+from stored_runs import by_group, tried
+
 TOP = os.path.dirname(os.path.dirname(os.path.abspath(__file__)))
 EDITS = os.path.join(TOP, 'tools/tested_bodies')
 TESTS = 'rows'
@@ -30,23 +32,12 @@ def failed(folder, tests):
         print(done.stdout[-2000:])
     return {name.rpartition('::')[2] for name in names}
 
-def by_group(written):
-    """What a run of the stored runs writes, by the names of their groups."""
-    return dict(re.findall(r'^; (\w+): (.*?)(?=^; |\Z)', written, re.M | re.S))
-
 def differing(folder):
     """The groups of the stored runs of which the program writes anything else than what is stored."""
     crate = os.path.join(folder, 'crates', RUNS)
-    data = os.path.join(crate, 'data')
-    names = [os.path.relpath(os.path.join(at, name), data) for at, _, files in os.walk(data) for name in files]
-    words = [word for name in names for word in ('--data', '%s=data/%s' % (name, name))]
-    done = subprocess.run(['rt', 'try', '--seconds', '600', *words], cwd=crate, stdin=subprocess.DEVNULL, capture_output=True,
-                          text=True, errors='replace')
-    if 'run=ended' not in done.stderr:
-        print(done.stderr[-2000:])
-        return set()
-    wanted, written = (by_group(text) for text in (open(os.path.join(crate, 'stdout')).read(), done.stdout))
-    return {name for name in wanted if written.get(name) != wanted[name]}
+    out = tried(crate)
+    wanted, written = (by_group(text) for text in (open(os.path.join(crate, 'stdout')).read(), out or ''))
+    return {name for name in wanted if written.get(name) != wanted[name]} if out is not None else set()
 
 def is_seen(folder, edit):
     """Whether the named test fails with the edit."""
