@@ -102,7 +102,7 @@ fn wrong_words(rt: HostRuntime) {
             "good.drv",
             "none.script",
             "--workers",
-            "33",
+            "65",
         ],
         &[
             "drvhost",

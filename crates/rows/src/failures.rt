@@ -170,14 +170,14 @@ static CASES: [Case; 19] = [
     },
     Case {
         set: &EMPTY,
-        job: Job::Trace(b"threads 32\nissue 31 0 WRITE 7\n", Verification::Skipped),
+        job: Job::Trace(b"threads 64\nissue 63 0 WRITE 7\n", Verification::Skipped),
         status: 0,
         lines: b"0 refused\n",
         told: b"",
     },
     Case {
         set: &ONE_READ,
-        job: Job::Trace(b"threads 33\n", Verification::Required),
+        job: Job::Trace(b"threads 65\n", Verification::Required),
         status: 2,
         lines: b"",
         told: b"schedule fault 3 OutOfRange line 1\n",

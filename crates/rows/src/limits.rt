@@ -13,9 +13,9 @@ const VERDICT: [u8; 16] = [
     0x10, 0x49, 0xa1, 0xc1, 0xca, 0x57, 0x66, 0xe7, 0x13, 0x46, 0xfe, 0xe1, 0x8e, 0x43, 0xfc, 0xf1,
 ];
 
-/// The digest of the trace: 32,992 lines.
+/// The digest of the trace: 65,984 lines.
 const TRACE: [u8; 16] = [
-    0x6b, 0x5c, 0x9c, 0x50, 0x7a, 0xab, 0x05, 0x28, 0xb1, 0xcd, 0x43, 0xdd, 0x58, 0x0a, 0xac, 0x56,
+    0x65, 0x19, 0x94, 0x93, 0x57, 0x5f, 0x4c, 0x0d, 0x7a, 0x43, 0x1d, 0x84, 0x8e, 0x2b, 0x6e, 0xad,
 ];
 
 /// 8 drivers of 32 routines, of which the first has 1,024 instructions, and 16 devices.
@@ -56,10 +56,10 @@ fn add_routine(
     text.push_str("complete r0 SUCCESS\nret SUCCESS\nendr\n")
 }
 
-/// A request on each of 32 threads, and so many steps that each comes to its end.
+/// A request on each of 64 threads, and so many steps that each comes to its end.
 fn longest_schedule(alloc: Global) -> Result<String, AllocError> {
-    let mut text = String::from_str(alloc, "threads 32\n")?;
-    for thread in 0..32 {
+    let mut text = String::from_str(alloc, "threads 64\n")?;
+    for thread in 0..64 {
         let device = thread % 16;
         let lines = format!(in alloc;
             "issue {thread} {device} READ {thread}\nstep {thread} 1030\n"

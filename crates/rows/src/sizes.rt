@@ -193,11 +193,11 @@ fn filled(alloc: Global, packets: u64) -> Result<(String, String), AllocError> {
     Ok((schedule, out))
 }
 
-/// There are 1,024 live packets at most.
+/// There are 4,096 live packets at most.
 #[test]
 fn the_most_live_packets(rt: HostRuntime) -> Result<(), Fail> {
     let alloc = rt.alloc();
-    let (schedule, lines) = filled(alloc, 1024)?;
+    let (schedule, lines) = filled(alloc, 4_096)?;
     for verification in [Verification::Required, Verification::Skipped] {
         let traced = traced(alloc, QUEUED, schedule.as_bytes(), verification);
         assert!(rt; traced.is_some_and(|traced| traced.as_slice() == lines.as_bytes()));
@@ -214,42 +214,42 @@ struct Full {
     trace: [u8; 16],
 }
 
-/// A list has room for 1,024 entries.
+/// A list has room for 4,096 entries.
 static FULL: [Full; 4] = [
     Full {
         list: "a queue",
-        code: "loop 25\nloop 41\ninsert r0 q\nend\nend\nret SUCCESS\n",
-        steps: 2100,
+        code: "loop 17\nloop 241\ninsert r0 q\nend\nend\nret SUCCESS\n",
+        steps: 8228,
         trace: [
-            0xdb, 0xc0, 0x41, 0xe6, 0x17, 0x4f, 0xfa, 0x59, 0xbb, 0x65, 0x41, 0xe1, 0x95, 0xec,
-            0x1c, 0x8e,
+            0xe3, 0xb4, 0x5b, 0x01, 0x06, 0xeb, 0xbd, 0x87, 0xba, 0xba, 0xf0, 0x92, 0xc7, 0xe3,
+            0xe9, 0xc7,
         ],
     },
     Full {
         list: "the device queue",
-        code: "loop 25\nloop 41\nstart r0\nend\nend\nstart r0\nret SUCCESS\n",
-        steps: 2103,
+        code: "loop 17\nloop 241\nstart r0\nend\nend\nstart r0\nret SUCCESS\n",
+        steps: 8231,
         trace: [
-            0xf9, 0x46, 0xf7, 0xff, 0x99, 0x98, 0x8c, 0x3e, 0x27, 0x03, 0x4e, 0x50, 0xd0, 0xb4,
-            0x1f, 0xdc,
+            0x33, 0x81, 0x63, 0xa5, 0x6d, 0xab, 0x9f, 0x90, 0xae, 0xed, 0xf1, 0x64, 0x80, 0xb1,
+            0x28, 0x17,
         ],
     },
     Full {
         list: "the start list",
-        code: "loop 25\nloop 41\nstart r0\nnext\nend\nend\nret SUCCESS\n",
-        steps: 3124,
+        code: "loop 17\nloop 241\nstart r0\nnext\nend\nend\nret SUCCESS\n",
+        steps: 12324,
         trace: [
-            0xdd, 0xf4, 0xa2, 0x6e, 0xd5, 0x38, 0xa6, 0xcb, 0x1f, 0x3f, 0xcf, 0x6d, 0x70, 0x1b,
-            0xb7, 0xce,
+            0x34, 0xaa, 0xbb, 0x52, 0x3a, 0x9a, 0x10, 0x05, 0xea, 0xd9, 0xe9, 0xa8, 0xcd, 0x97,
+            0x14, 0xe2,
         ],
     },
     Full {
         list: "the start list, from the device queue",
-        code: "loop 33\nloop 31\nstart r0\nnext\nend\nend\nstart r0\nstart r0\nnext\nret SUCCESS\n",
-        steps: 3140,
+        code: "loop 65\nloop 63\nstart r0\nnext\nend\nend\nstart r0\nstart r0\nnext\nret SUCCESS\n",
+        steps: 12420,
         trace: [
-            0xca, 0x71, 0x97, 0x3b, 0xfd, 0xa6, 0x7a, 0x1d, 0xb0, 0xd5, 0xd3, 0x9a, 0xdb, 0x85,
-            0xae, 0x57,
+            0x81, 0xe0, 0x0b, 0x8c, 0xda, 0x8c, 0x8c, 0xb5, 0x03, 0x59, 0x77, 0xbc, 0x38, 0x1e,
+            0x33, 0xd3,
         ],
     },
 ];
