@@ -4,7 +4,8 @@
 A file of crates/stored_runs/runs is a group of cases. A case is a line `# NAME` and the runs behind it: a line `$ WORDS`,
 what drvhost answers to these words, what the error writer is told behind a line `told:`, and a line with the exit status,
 the number of files that are opened, and of reads of them that fail. The files that the words name lie in
-crates/stored_runs/data. The group of the wrong drivers is made of the folder gallery, whose texts are copied to data/gallery.
+crates/stored_runs/data. The group of the wrong drivers is made of the folder gallery, whose texts are copied to data/gallery;
+texts of the folder examples that are named are copied to data/examples.
 
 Without a flag it writes from these the list of the runs (data/runs.txt), the copies, and what the program has to write
 (stdout). With --check it writes nothing, and tells what it would write otherwise; it also tells of a text in data that no
@@ -17,7 +18,7 @@ exit status."""
 import difflib, os, re, subprocess, sys
 
 TOP = os.path.dirname(os.path.dirname(os.path.abspath(__file__)))
-GALLERY = os.path.join(TOP, 'gallery')
+GALLERY, EXAMPLES = os.path.join(TOP, 'gallery'), os.path.join(TOP, 'examples')
 CRATE = os.path.join(TOP, 'crates/stored_runs')
 RUNS, DATA = os.path.join(CRATE, 'runs'), os.path.join(CRATE, 'data')
 LIST, STDOUT = 'data/runs.txt', 'stdout'
@@ -118,15 +119,22 @@ def made(all_groups):
             path = os.path.join(GALLERY, folder, name)
             if os.path.exists(path):
                 files['data/gallery/%s/%s' % (folder, name)] = read(path)
+    for name in sorted(named(all_groups)):
+        folder, _, text = name.partition('/')
+        if folder == 'examples':
+            files['data/' + name] = read(os.path.join(EXAMPLES, text))
     return files
+
+def named(all_groups):
+    """The texts that runs name."""
+    return {name for group in all_groups for run in group.runs for name in run.files()}
 
 def stray(all_groups, files):
     """What is wrong with the texts: those that no run names, and those that are named and missing."""
-    named = {name for group in all_groups for run in group.runs for name in run.files()}
     there = {os.path.relpath(os.path.join(at, name), DATA) for at, _, names in os.walk(DATA) for name in names}
     there |= {path[len('data/'):] for path in files if path.startswith('data/')}
     there.discard('runs.txt')
-    told = ['%s: no run names it' % name for name in sorted(there - named)]
+    told = ['%s: no run names it' % name for name in sorted(there - named(all_groups))]
     for group in all_groups:
         for run in group.runs:
             missing = [name for name in run.files() if name not in there]
