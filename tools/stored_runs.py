@@ -5,7 +5,8 @@ A file of crates/stored_runs/runs is a group of cases. A case is a line `# NAME`
 what drvhost answers to these words, what the error writer is told behind a line `told:`, and a line with the exit status,
 the number of files that are opened, and of reads of them that fail. The files that the words name lie in
 crates/stored_runs/data. The group of the wrong drivers is made of the folder gallery, whose texts are copied to data/gallery;
-texts of the folder examples that are named are copied to data/examples.
+texts of the folder examples that are named are copied to data/examples. The group of the rules' pages is made of
+crates/explain/src/pages.rt and, with what `check` says of a page's example, of docs/RULES.md; the examples are data/pages.
 
 Without a flag it writes from these the list of the runs (data/runs.txt), the copies, and what the program has to write
 (stdout). With --check it writes nothing, and tells what it would write otherwise; it also tells of a text in data that no
@@ -16,6 +17,8 @@ With `run` it tries the crate before any proof (`rt try`), and prints each run t
 it gives each command line to that program, as to `drvhost`, and compares what goes out, what goes to standard error and the
 exit status."""
 import difflib, os, re, subprocess, sys
+
+from compare_pages import pages, sections, titles
 
 TOP = os.path.dirname(os.path.dirname(os.path.abspath(__file__)))
 GALLERY, EXAMPLES = os.path.join(TOP, 'gallery'), os.path.join(TOP, 'examples')
@@ -103,9 +106,48 @@ def gallery_group():
         parts += ['', '# ' + folder, *gallery_runs(folder)]
     return Group('gallery', parts)
 
+EXAMPLE = re.compile(r'^```drv\n(.*?)^```\n\n```output\n(.*?)^```$', re.M | re.S)
+
+def page_of(title, page):
+    """What is told of a rule."""
+    told = '%s\n%s\nsee: %s\n' % (title, page['says'], page['source'])
+    if 'refused' in page:
+        told += '\nthis is refused:\n\n%s\nmend it: %s\nthis is accepted:\n\n%s' % (page['refused'], page['mend'], page['mended'])
+    return told.splitlines()
+
+def answer_of_document(told, part):
+    """What docs/RULES.md says of an example of a page, and the end of the answer."""
+    lines = dict(EXAMPLE.findall(told))[part].splitlines()
+    return lines + ['status %d, opened 1' % (lines[0] != 'accepted')]
+
+def page_runs(number, title, page, told):
+    """What is told of a rule, and what `check` says of its page's example."""
+    run = Run(['explain', '--rule', number])
+    run.answer = page_of(title, page) + ['status 0, opened 0']
+    yield run
+    for kind in [it for it in ('refused', 'mended') if it in page]:
+        run = Run(['check', 'pages/%s-%s.drv' % (number.lower(), kind)])
+        run.answer = answer_of_document(told, page[kind])
+        assert run.answer[0].startswith('refused %s ' % title if kind == 'refused' else 'accepted'), title
+        yield run
+
+def pages_group():
+    parts = ['; The rules in words: the page of each, and verdicts on its example, refused and mended.']
+    told, named = sections(), titles()
+    for rule, page in pages().items():
+        title = named[rule]
+        parts += ['', '# ' + title, *page_runs(title.split()[0], title, page, told[title])]
+    return Group('pages', parts)
+
+def page_texts():
+    """The texts of the pages' examples, by their paths in the crate."""
+    named = titles()
+    return {'data/pages/%s-%s.drv' % (named[rule].split()[0].lower(), kind): page[kind].encode()
+            for rule, page in pages().items() for kind in ('refused', 'mended') if kind in page}
+
 def groups():
     stored = [stored_group(file) for file in sorted(os.listdir(RUNS))]
-    return sorted(stored + [gallery_group()], key=lambda group: group.name)
+    return sorted(stored + [gallery_group(), pages_group()], key=lambda group: group.name)
 
 def made(all_groups):
     """The files that are made, by their paths in the crate."""
@@ -119,6 +161,7 @@ def made(all_groups):
             path = os.path.join(GALLERY, folder, name)
             if os.path.exists(path):
                 files['data/gallery/%s/%s' % (folder, name)] = read(path)
+    files.update(page_texts())
     for name in sorted(named(all_groups)):
         folder, _, text = name.partition('/')
         if folder == 'examples':

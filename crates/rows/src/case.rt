@@ -1,24 +1,9 @@
-//! What `check` or `trace` writes of a set, and its exit status.
+//! What `trace` writes of a set.
 
-use drvhost_parts::check::check;
 use drvhost_parts::device::{Reader, Sink, Source, Writer};
 use drvhost_parts::trace::trace;
 use drvhost_parts::verification::Verification;
 use std::alloc::Global;
-
-/// Whether the verdict on a set ends and writes so.
-pub(crate) fn is_judged_so(alloc: Global, set: &str, status: u8, out: &str, err: &str) -> bool {
-    let mut source = Reader::new(Some(set.as_bytes()));
-    let mut output = Writer::new(Vec::<u8>::new(alloc));
-    let mut errors = Writer::new(Vec::<u8>::new(alloc));
-    let answer = check(alloc, &mut source, &mut output, &mut errors);
-    answer == status
-        && source.failures() == 0
-        && output.failures() == 0
-        && errors.failures() == 0
-        && output.into_inner().as_slice() == out.as_bytes()
-        && errors.into_inner().as_slice() == err.as_bytes()
-}
 
 /// What the trace of a schedule writes, where it ends well and nothing is told.
 pub(crate) fn traced(
