@@ -1,5 +1,5 @@
-//! Each beginning of a driver text, of an image and of a schedule is answered: by a fault that has a
-//! name, or as what it says. The digests are those of what an independent program answers.
+//! Each beginning of a driver text, of an image and of a schedule is answered: by a fault that has
+//! a name, or as what it says. The digests are those of what an independent program answers.
 
 use crate::images::QUEUED;
 use drvhost_parts::check::check;
