@@ -18,8 +18,6 @@ mod evidences;
 #[cfg(test)]
 mod failures;
 #[cfg(test)]
-mod faulty_texts;
-#[cfg(test)]
 mod images;
 #[cfg(test)]
 mod limits;
