@@ -25,6 +25,10 @@ def pages():
     constants = {name: {field: meant(text) for field, text in TEXT.findall(body)} for name, body in PAGE.findall(source)}
     return {rule: constants[name] for rule, name in re.findall(r'Rule::(\w+) => (\w+),', source)}
 
+def titles():
+    """The number and the name of each rule, as `V1 Malformed`."""
+    return dict(re.findall(r'Rule::(\w+) => "(V\d+ \w+)"', read(NAMES)))
+
 def sections():
     """The section of each rule in the document, by its title, as `V1 Malformed`."""
     parts = re.split(r'^###? (.*)\n', read(DOCUMENT), flags=re.M)
@@ -50,12 +54,11 @@ def differences(page, section):
         yield 'example'
 
 def main():
-    titles = dict(re.findall(r'Rule::(\w+) => "(V\d+ \w+)"', read(NAMES)))
-    told, differ = sections(), 0
+    told, named, differ = sections(), titles(), 0
     for rule, page in pages().items():
-        for part in differences(page, told.get(titles[rule], '')):
+        for part in differences(page, told.get(named[rule], '')):
             differ += 1
-            print('%s: %s: %s differs' % (DOCUMENT, titles[rule], part))
+            print('%s: %s: %s differs' % (DOCUMENT, named[rule], part))
     print('%d pages, %d differences' % (len(pages()), differ))
     return 1 if differ else 0
 

@@ -2,13 +2,17 @@
 """try_tested_bodies.py [NAME ..]: a test has to fail for each wrong body of tools/tested_bodies named, or each of all. The
 prover lets most of them through, since it knows neither how much memory there is, nor what a device does, nor what a cell
 holds. An edit there has two lines more than one of tools/wrong_bodies: the test that has to fail, and the crate that is
-changed; and a third where the test isn't one of `rows`. Each is tried, without a proof, in a copy of the sources; that takes
-some minutes. The last line counts."""
+changed; and a third where the test isn't one of `rows`. Where that crate is stored_runs, the test is a group of its runs, of
+which the program has to write something else. Each is tried, without a proof, in a copy of the sources; that takes some
+minutes. The last line counts."""
 import glob, os, re, shutil, subprocess, sys, tempfile
+
+from stored_runs import by_group, tried
 
 TOP = os.path.dirname(os.path.dirname(os.path.abspath(__file__)))
 EDITS = os.path.join(TOP, 'tools/tested_bodies')
 TESTS = 'rows'
+RUNS = 'stored_runs'
 
 def fields(edit):
     """The lines of an edit, by their first words."""
@@ -28,6 +32,13 @@ def failed(folder, tests):
         print(done.stdout[-2000:])
     return {name.rpartition('::')[2] for name in names}
 
+def differing(folder):
+    """The groups of the stored runs of which the program writes anything else than what is stored."""
+    crate = os.path.join(folder, 'crates', RUNS)
+    out = tried(crate)
+    wanted, written = (by_group(text) for text in (open(os.path.join(crate, 'stdout')).read(), out or ''))
+    return {name for name in wanted if written.get(name) != wanted[name]} if out is not None else set()
+
 def is_seen(folder, edit):
     """Whether the named test fails with the edit."""
     said = fields(edit)
@@ -37,10 +48,13 @@ def is_seen(folder, edit):
         print('%s: does not apply' % os.path.basename(edit))
         return False
     open(path, 'w').write(text.replace(said['old'], said['new']))
-    found = failed(folder, said.get('tests', TESTS))
+    tests = said.get('tests', TESTS)
+    found = differing(folder) if tests == RUNS else failed(folder, tests)
     open(path, 'w').write(text)
     seen = said['test'] in found
-    print('%s: %d tests fail, %s %s' % (os.path.basename(edit), len(found), said['test'], 'among them' if seen else 'NOT among them'), flush=True)
+    of = 'groups of runs differ' if tests == RUNS else 'tests fail'
+    print('%s: %d %s, %s %s' % (os.path.basename(edit), len(found), of, said['test'], 'among them' if seen else 'NOT among them'),
+          flush=True)
     return seen
 
 def main():

@@ -1,19 +1,26 @@
-//! What the program answers for the words of its command line, over files in memory.
+//! What the program answers where the words of its command line name no job.
 
 ghost use Rattle.std.specs.Prelude.{◌≡◌};
 ghost use Rattle.drvhost_parts.specs.Device.{Unknown};
 
+<<<<<<< HEAD
 use crate::failures::{LINES, SCHEDULE, TEXT};
 use crate::images::{OLD_ONE_READ, ONE_READ};
 use crate::rule_pages::CANCEL_STATE;
 use command_line::answer::answer;
 use command_line::files::{Files, Output};
 use drvhost_parts::device::{Reader, Sink, Source, Writer};
+=======
+use command_line::answer::answer;
+use command_line::files::{Files, Output};
+use drvhost_parts::device::{Reader, Source, Writer};
+>>>>>>> rower
 use std::alloc::{AllocError, Global};
 use std::io::ErrorKind;
 use std::sync::Wait;
 use std::thread::Threads;
 
+<<<<<<< HEAD
 /// A file in memory.
 struct InMemory {
     name: &'static str,
@@ -205,9 +212,11 @@ static ALL: [InMemory; 12] = [
 
 /// The files in memory, and the bytes of the one that was written last. A file `locked.image` can't
 /// be opened to be written.
+=======
+/// A shelf without files.
+>>>>>>> rower
 #[derive(Drop)]
 struct Shelf {
-    alloc: Global,
     opened: u64,
     failures: u64,
     created: u64,
@@ -239,6 +248,8 @@ impl Files for Shelf {
 
     type Target = Output<Vec<u8>>;
 
+    type Target = Output<Vec<u8>>;
+
     ghost supply = { λ _ _. Unknown };
 
     ghost opened = { λ shelf. shelf.opened };
@@ -249,9 +260,18 @@ impl Files for Shelf {
 
     ghost unwritten = { λ shelf. shelf.unwritten };
 
+<<<<<<< HEAD
+    ghost created = { λ shelf. shelf.created };
+
+    ghost unwritten = { λ shelf. shelf.unwritten };
+
     fn open(&self, name: &str) -> Reader<&'static [u8]> {
         let file = ALL.iter().find(|file| file.name == name);
         Reader::new(file.map(|file| file.bytes))
+=======
+    fn open(&self, _name: &str) -> Reader<&'static [u8]> {
+        Reader::new(None)
+>>>>>>> rower
     }
 
     fn is_closed(&self, file: &Reader<&'static [u8]>) -> bool {
@@ -277,6 +297,7 @@ impl Files for Shelf {
     }
 }
 
+<<<<<<< HEAD
 /// Words, and what the program answers.
 struct Case {
     words: &'static [&'static str],
@@ -561,8 +582,10 @@ static CASES: [Case; 31] = [
     },
 ];
 
+=======
+>>>>>>> rower
 /// The words as the system gives them.
-fn given(alloc: Global, words: &[&str]) -> Result<Vec<String>, AllocError> {
+pub(crate) fn given(alloc: Global, words: &[&str]) -> Result<Vec<String>, AllocError> {
     let mut given = Vec::new(alloc);
     for word in words {
         given.push(String::from_str(alloc, word)?)?;
@@ -570,6 +593,7 @@ fn given(alloc: Global, words: &[&str]) -> Result<Vec<String>, AllocError> {
     Ok(given)
 }
 
+<<<<<<< HEAD
 /// Whether the program answers so.
 fn is_answered<R: Threads + Wait + Sync>(rt: &R, alloc: Global, case: &Case) -> bool {
     let Ok(words) = given(alloc, case.words) else {
@@ -593,6 +617,8 @@ fn jobs(rt: HostRuntime) {
     }
 }
 
+=======
+>>>>>>> rower
 /// What is told where words name no job: the text for the user alone, and status 2.
 fn told_of<R: Threads + Wait + Sync>(
     rt: &R,
@@ -629,6 +655,9 @@ fn wrong_words(rt: HostRuntime) {
         &["drvhost", "check"],
         &["drvhost", "check", "good.drv", "good.sched"],
         &["drvhost", "list"],
+        &["drvhost", "rewrite"],
+        &["drvhost", "rewrite", "good.drv"],
+        &["drvhost", "rewrite", "good.drv", "good.image", "good.image"],
         &["drvhost", "version", "good.drv"],
         &["check", "good.drv"],
         &["drvhost", "host", "good.drv", "none.script"],

@@ -1,5 +1,5 @@
-//! Each beginning of a driver text, of an image and of a schedule is answered: by a fault that has a
-//! name, or as what it says. The digests are those of what an independent program answers.
+//! Each beginning of a driver text, of an image and of a schedule is answered: by a fault that has
+//! a name, or as what it says. The digests are those of what an independent program answers.
 
 use crate::images::QUEUED;
 use drvhost_parts::check::check;
@@ -42,7 +42,7 @@ fn add_run(
     verification: Verification,
     answers: &mut Vec<u8>,
 ) -> Result<(), AllocError> {
-    let mut source = Reader::new(Some(QUEUED.as_bytes()));
+    let mut source = Reader::new(Some(QUEUED));
     let mut events = Reader::new(Some(schedule));
     let mut output = Writer::new(Vec::<u8>::new(alloc));
     let mut errors = Writer::new(Vec::<u8>::new(alloc));
@@ -62,7 +62,7 @@ fn add_run(
 #[test]
 fn beginnings_of_a_text(rt: HostRuntime) -> Result<(), Fail> {
     let alloc = rt.alloc();
-    let text = QUEUED.as_bytes();
+    let text = QUEUED;
     let mut answers = Vec::new(alloc);
     for length in 0..=text.len() {
         add_verdict(alloc, &text[..length], &mut answers)?;

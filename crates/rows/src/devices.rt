@@ -1,5 +1,5 @@
-//! Devices that move few bytes a call, or fail at a chosen call, once: where it is tried again, they
-//! go on as if nothing had happened.
+//! Devices that move few bytes a call, or fail at a chosen call, once: where it is tried again,
+//! they go on as if nothing had happened.
 
 ghost use Rattle.std.specs.Prelude.{◌≡◌, Some};
 ghost use Rattle.drvhost_parts.specs.Device.{Unknown};

@@ -1,11 +1,10 @@
-//! Verdicts, explanations, listings, images and runs of texts and of images, and scripts that one worker
-//! serves, over devices that move few bytes a call, or fail at each call in turn.
+//! Verdicts, explanations, listings, images and runs of texts and of images, and scripts that one
+//! worker serves, over devices that move few bytes a call, or fail at each call in turn.
 
 ghost use Rattle.std.specs.Prelude.{◌≡◌};
 
-use crate::answers::{LISTED, QUEUES};
 use crate::devices::{Narrow, Slow};
-use crate::images::{EMPTY, OLD_ONE_READ, ONE_READ};
+use crate::images::{EMPTY, OLD_ONE_READ, ONE_READ, QUEUED};
 use drvhost_parts::check::check;
 use drvhost_parts::device::{Reader, Sink, Source};
 use drvhost_parts::explaining::{Extent, explain};
@@ -24,6 +23,11 @@ use workers::Gate;
 pub(crate) const TEXT: &[u8] =
     b"driver d\ndispatch READ f\nroutine f dispatch\ncomplete r0 SUCCESS\nret SUCCESS\nendr\nendd\n\
       device v d 1\n";
+
+/// Its listing.
+const LISTED: &[u8] =
+    b"driver d0\ndispatch READ f0\nroutine f0 dispatch\ncomplete r0 SUCCESS\nret SUCCESS\nendr\n\
+      endd\ndevice v0 d0 1\n";
 
 const VERDICT: &[u8] = b"accepted\ndriver 0 routine 0 dispatch certificate 2\n";
 
@@ -109,7 +113,8 @@ const WHOLE: Devices = Devices {
     err: None,
 };
 
-static CASES: [Case; 22] = [
+/// Verdicts, explanations, listings and images.
+static CASES: [Case; 15] = [
     Case {
         set: TEXT,
         job: Job::Check,
@@ -144,41 +149,6 @@ static CASES: [Case; 22] = [
         status: 2,
         lines: b"",
         told: b"image fault 2 Truncated\n",
-    },
-    Case {
-        set: TEXT,
-        job: Job::Trace(SCHEDULE, Verification::Required),
-        status: 0,
-        lines: LINES,
-        told: b"",
-    },
-    Case {
-        set: &ONE_READ,
-        job: Job::Trace(SCHEDULE, Verification::Required),
-        status: 0,
-        lines: LINES,
-        told: b"",
-    },
-    Case {
-        set: &ONE_READ,
-        job: Job::Trace(SCHEDULE, Verification::Skipped),
-        status: 0,
-        lines: LINES,
-        told: b"",
-    },
-    Case {
-        set: &EMPTY,
-        job: Job::Trace(b"threads 64\nissue 63 0 WRITE 7\n", Verification::Skipped),
-        status: 0,
-        lines: b"0 refused\n",
-        told: b"",
-    },
-    Case {
-        set: &ONE_READ,
-        job: Job::Trace(b"threads 65\n", Verification::Required),
-        status: 2,
-        lines: b"",
-        told: b"schedule fault 3 OutOfRange line 1\n",
     },
     Case {
         set: TEXT,
@@ -251,8 +221,47 @@ static CASES: [Case; 22] = [
         lines: b"",
         told: b"image fault 2 Truncated\n",
     },
+];
+
+/// Runs of schedules, and of scripts.
+static RUNS: [Case; 7] = [
     Case {
-        set: QUEUES,
+        set: TEXT,
+        job: Job::Trace(SCHEDULE, Verification::Required),
+        status: 0,
+        lines: LINES,
+        told: b"",
+    },
+    Case {
+        set: &ONE_READ,
+        job: Job::Trace(SCHEDULE, Verification::Required),
+        status: 0,
+        lines: LINES,
+        told: b"",
+    },
+    Case {
+        set: &ONE_READ,
+        job: Job::Trace(SCHEDULE, Verification::Skipped),
+        status: 0,
+        lines: LINES,
+        told: b"",
+    },
+    Case {
+        set: &EMPTY,
+        job: Job::Trace(b"threads 64\nissue 63 0 WRITE 7\n", Verification::Skipped),
+        status: 0,
+        lines: b"0 refused\n",
+        told: b"",
+    },
+    Case {
+        set: &ONE_READ,
+        job: Job::Trace(b"threads 65\n", Verification::Required),
+        status: 2,
+        lines: b"",
+        told: b"schedule fault 3 OutOfRange line 1\n",
+    },
+    Case {
+        set: QUEUED,
         job: Job::Host(SCRIPT),
         status: 0,
         lines: SERVED,
@@ -318,52 +327,70 @@ fn is_answered<R: Threads + Wait + Sync>(
         && err.written.as_slice() == told
 }
 
+/// Whether a case is answered so by devices that move few bytes a call.
+fn is_answered_slowly<R: Threads + Wait + Sync>(rt: &R, alloc: Global, case: &Case) -> bool {
+    for step in [1, 7, 100] {
+        let devices = Devices { step, ..WHOLE };
+        let (status, lines, told) = (case.status, case.lines, case.told);
+        if !is_answered(rt, alloc, case, &devices, status, lines, told) {
+            return false;
+        }
+    }
+    true
+}
+
 #[test]
 fn few_bytes_a_call(rt: HostRuntime) {
     for case in CASES.iter() {
-        for step in [1, 7, 100] {
-            let devices = Devices { step, ..WHOLE };
-            assert!(rt;
-                is_answered(
-                    &rt,
-                    rt.alloc(),
-                    case,
-                    &devices,
-                    case.status,
-                    case.lines,
-                    case.told
-                )
-            );
-        }
+        assert!(rt; is_answered_slowly(&rt, rt.alloc(), case));
+    }
+    for case in RUNS.iter() {
+        assert!(rt; is_answered_slowly(&rt, rt.alloc(), case));
     }
 }
 
-/// A read that fails at any call, also the one that finds the end, is told, and nothing is written.
+/// Whether a read of the set that fails at any call, also the one that finds the end, is told, and
+/// nothing is written.
+fn tells_each_failed_read<R: Threads + Wait + Sync>(rt: &R, alloc: Global, case: &Case) -> bool {
+    for calls in 0..=case.set.len() {
+        let devices = Devices {
+            set: Some(calls),
+            ..WHOLE
+        };
+        if !is_answered(rt, alloc, case, &devices, 2, b"", b"read failed\n") {
+            return false;
+        }
+    }
+    true
+}
+
 #[test]
 fn each_read_of_a_set_fails_in_turn(rt: HostRuntime) {
     for case in CASES.iter() {
-        for calls in 0..=case.set.len() {
-            let devices = Devices {
-                set: Some(calls),
-                ..WHOLE
-            };
-            assert!(rt;
-                is_answered(&rt, rt.alloc(), case, &devices, 2, b"", b"read failed\n"),
-                "{calls}"
-            );
-        }
+        assert!(rt; tells_each_failed_read(&rt, rt.alloc(), case));
     }
 }
 
-/// The same for a schedule, and for a script.
+#[test]
+fn each_read_of_the_set_of_a_run_fails_in_turn(rt: HostRuntime) {
+    for case in RUNS.iter() {
+        assert!(rt; tells_each_failed_read(&rt, rt.alloc(), case));
+    }
+}
+
+/// How many calls read the orders of a case.
+fn calls_of_orders(case: &Case) -> usize {
+    match case.job {
+        Job::Trace(orders, _) | Job::Host(orders) => orders.len().saturating_add(1),
+        Job::Check | Job::Explain(_) | Job::List => 0,
+    }
+}
+
+/// A read of a schedule, or of a script, that fails at any call is told, and nothing is written.
 #[test]
 fn each_read_of_orders_fails_in_turn(rt: HostRuntime) {
-    for case in CASES.iter() {
-        let calls = match case.job {
-            Job::Trace(orders, _) | Job::Host(orders) => orders.len().saturating_add(1),
-            Job::Check | Job::Explain(_) | Job::List | Job::Rewrite => 0,
-        };
-        for calls in 0..calls {
+    for case in RUNS.iter() {
+        for calls in 0..calls_of_orders(case) {
             let devices = Devices {
                 orders: Some(calls),
                 ..WHOLE
@@ -376,87 +403,101 @@ fn each_read_of_orders_fails_in_turn(rt: HostRuntime) {
     }
 }
 
-/// A write that fails at any call is told, and a beginning of the lines is there.
+/// Whether a write that fails at any call is told, and a beginning of the lines is there.
+fn tells_each_failed_write<R: Threads + Wait + Sync>(rt: &R, alloc: Global, case: &Case) -> bool {
+    for calls in 0..case.lines.len() {
+        let devices = Devices {
+            out: Some(calls),
+            ..WHOLE
+        };
+        let written = &case.lines[..calls];
+        if !is_answered(rt, alloc, case, &devices, 2, written, b"write failed\n") {
+            return false;
+        }
+    }
+    true
+}
+
 #[test]
 fn each_write_fails_in_turn(rt: HostRuntime) {
     for case in CASES.iter() {
-        for calls in 0..case.lines.len() {
-            let devices = Devices {
-                out: Some(calls),
-                ..WHOLE
-            };
-            let written = &case.lines[..calls];
-            assert!(rt;
-                is_answered(
-                    &rt,
-                    rt.alloc(),
-                    case,
-                    &devices,
-                    2,
-                    written,
-                    b"write failed\n"
-                ),
-                "{calls}"
-            );
-        }
+        assert!(rt; tells_each_failed_write(&rt, rt.alloc(), case));
     }
 }
 
-/// The status stays where the error writer fails.
+#[test]
+fn each_write_of_a_run_fails_in_turn(rt: HostRuntime) {
+    for case in RUNS.iter() {
+        assert!(rt; tells_each_failed_write(&rt, rt.alloc(), case));
+    }
+}
+
+/// Whether the status of a case stays where the error writer fails.
+fn stays_untold<R: Threads + Wait + Sync>(rt: &R, alloc: Global, case: &Case) -> bool {
+    for calls in 0..case.told.len() {
+        let devices = Devices {
+            err: Some(calls),
+            ..WHOLE
+        };
+        let told = &case.told[..calls];
+        if !is_answered(rt, alloc, case, &devices, case.status, case.lines, told) {
+            return false;
+        }
+    }
+    true
+}
+
 #[test]
 fn no_one_to_tell(rt: HostRuntime) {
     for case in CASES.iter() {
-        for calls in 0..case.told.len() {
-            let devices = Devices {
-                err: Some(calls),
-                ..WHOLE
-            };
-            let told = &case.told[..calls];
-            assert!(rt;
-                is_answered(
-                    &rt,
-                    rt.alloc(),
-                    case,
-                    &devices,
-                    case.status,
-                    case.lines,
-                    told
-                ),
-                "{calls}"
-            );
-        }
+        assert!(rt; stays_untold(&rt, rt.alloc(), case));
+    }
+    for case in RUNS.iter() {
+        assert!(rt; stays_untold(&rt, rt.alloc(), case));
     }
 }
 
-/// The status is the one of a failed device, also where the error writer fails too.
+/// Whether the status is the one of a failed source, also where the error writer fails too.
+fn stays_unread<R: Threads + Wait + Sync>(rt: &R, alloc: Global, case: &Case) -> bool {
+    for calls in 0..12 {
+        let devices = Devices {
+            set: Some(0),
+            err: Some(calls),
+            ..WHOLE
+        };
+        let told = &b"read failed\n"[..calls];
+        if !is_answered(rt, alloc, case, &devices, 2, b"", told) {
+            return false;
+        }
+    }
+    true
+}
+
+/// The same of a sink, where anything is written.
+fn stays_unwritten<R: Threads + Wait + Sync>(rt: &R, alloc: Global, case: &Case) -> bool {
+    for calls in 0..if case.lines.is_empty() { 0 } else { 13 } {
+        let devices = Devices {
+            out: Some(0),
+            err: Some(calls),
+            ..WHOLE
+        };
+        let told = &b"write failed\n"[..calls];
+        if !is_answered(rt, alloc, case, &devices, 2, b"", told) {
+            return false;
+        }
+    }
+    true
+}
+
 #[test]
 fn no_one_to_tell_of_a_failure(rt: HostRuntime) {
-    let alloc = rt.alloc();
     for case in CASES.iter() {
-        for calls in 0..12 {
-            let devices = Devices {
-                set: Some(0),
-                err: Some(calls),
-                ..WHOLE
-            };
-            let told = &b"read failed\n"[..calls];
-            assert!(rt;
-                is_answered(&rt, alloc, case, &devices, 2, b"", told),
-                "{calls}"
-            );
-        }
-        for calls in 0..if case.lines.is_empty() { 0 } else { 13 } {
-            let devices = Devices {
-                out: Some(0),
-                err: Some(calls),
-                ..WHOLE
-            };
-            let told = &b"write failed\n"[..calls];
-            assert!(rt;
-                is_answered(&rt, alloc, case, &devices, 2, b"", told),
-                "{calls}"
-            );
-        }
+        assert!(rt; stays_unread(&rt, rt.alloc(), case));
+        assert!(rt; stays_unwritten(&rt, rt.alloc(), case));
+    }
+    for case in RUNS.iter() {
+        assert!(rt; stays_unread(&rt, rt.alloc(), case));
+        assert!(rt; stays_unwritten(&rt, rt.alloc(), case));
     }
 }
 

@@ -25,8 +25,8 @@ pub(crate) const OLD_ONE_READ: [u8; 40] = [
 pub(crate) const EMPTY: [u8; 8] = [0x44, 0x56, 0x42, 0x32, 0x00, 0x00, 0x00, 0x00];
 
 /// A driver that queues what it is sent, with a cancel routine.
-pub(crate) const QUEUED: &str =
-    "driver d\nqueue q l0 gone\ndispatch READ f\ndpc g\nroutine f dispatch\nmark r0\n\
+pub(crate) const QUEUED: &[u8] =
+    b"driver d\nqueue q l0 gone\ndispatch READ f\ndpc g\nroutine f dispatch\nmark r0\n\
      acquire l0\ninsert r0 q\narm r0 q\nifcancel r0 was\nrelease l0\nret PENDING\n\
      was: disarm r0 lost\nunlink r0 q\nrelease l0\ncomplete r0 CANCELLED\nret PENDING\n\
      lost: release l0\nret PENDING\nendr\nroutine g dpc\nacquire l0\nremove r0 q none\n\
@@ -327,9 +327,7 @@ fn every_change_of_one_byte(rt: HostRuntime) -> Result<(), Fail> {
 
 /// The image of `QUEUED`.
 fn queued_image(alloc: Global) -> Result<Vec<u8>, Fail> {
-    let set = assemble(alloc, QUEUED.as_bytes())
-        .ok()
-        .ok_or("the text is a set")?;
+    let set = assemble(alloc, QUEUED).ok().ok_or("the text is a set")?;
     let image = encode(alloc, &set).ok().ok_or("out of memory")?;
     Ok(image)
 }

@@ -1,10 +1,8 @@
-//! An accepted set at the limits, and texts past what one block holds. The digests are those of
-//! what an independent program answers.
+//! An accepted set at the limits. The digests are those of what an independent program answers.
 
-use crate::case::is_judged_so;
+use crate::case::traced;
 use drvhost_parts::check::check;
 use drvhost_parts::device::{Reader, Writer};
-use drvhost_parts::trace::trace;
 use drvhost_parts::verification::Verification;
 use md5::{Digest, Md5};
 use std::alloc::{AllocError, Global};
@@ -15,9 +13,9 @@ const VERDICT: [u8; 16] = [
     0x10, 0x49, 0xa1, 0xc1, 0xca, 0x57, 0x66, 0xe7, 0x13, 0x46, 0xfe, 0xe1, 0x8e, 0x43, 0xfc, 0xf1,
 ];
 
-/// The digest of the trace: 32,992 lines.
+/// The digest of the trace: 65,984 lines.
 const TRACE: [u8; 16] = [
-    0x6b, 0x5c, 0x9c, 0x50, 0x7a, 0xab, 0x05, 0x28, 0xb1, 0xcd, 0x43, 0xdd, 0x58, 0x0a, 0xac, 0x56,
+    0x65, 0x19, 0x94, 0x93, 0x57, 0x5f, 0x4c, 0x0d, 0x7a, 0x43, 0x1d, 0x84, 0x8e, 0x2b, 0x6e, 0xad,
 ];
 
 /// 8 drivers of 32 routines, of which the first has 1,024 instructions, and 16 devices.
@@ -58,10 +56,10 @@ fn add_routine(
     text.push_str("complete r0 SUCCESS\nret SUCCESS\nendr\n")
 }
 
-/// A request on each of 32 threads, and so many steps that each comes to its end.
+/// A request on each of 64 threads, and so many steps that each comes to its end.
 fn longest_schedule(alloc: Global) -> Result<String, AllocError> {
-    let mut text = String::from_str(alloc, "threads 32\n")?;
-    for thread in 0..32 {
+    let mut text = String::from_str(alloc, "threads 64\n")?;
+    for thread in 0..64 {
         let device = thread % 16;
         let lines = format!(in alloc;
             "issue {thread} {device} READ {thread}\nstep {thread} 1030\n"
@@ -91,28 +89,11 @@ fn the_largest_set_runs(rt: HostRuntime) -> Result<(), Fail> {
     let set = largest_set(alloc)?;
     let schedule = longest_schedule(alloc)?;
     for verification in [Verification::Required, Verification::Skipped] {
-        let mut out = Writer::new(Vec::<u8>::new(alloc));
-        let mut err = Writer::new(Vec::<u8>::new(alloc));
-        let mut source = Reader::new(Some(set.as_bytes()));
-        let mut events = Reader::new(Some(schedule.as_bytes()));
-        let status = trace(
-            alloc,
-            &mut source,
-            &mut events,
-            verification,
-            &mut out,
-            &mut err,
-        );
-        assert_eq!(rt; status, 0);
-        assert!(rt; err.into_inner().is_empty());
-        assert!(rt; Md5::digest(out.into_inner().as_slice()).as_slice() == TRACE.as_slice());
+        let traced = traced(alloc, set.as_bytes(), schedule.as_bytes(), verification);
+        let Some(traced) = traced else {
+            return Err(Fail::from("the set runs"));
+        };
+        assert!(rt; Md5::digest(traced.as_slice()).as_slice() == TRACE.as_slice());
     }
     Ok(())
-}
-
-#[test]
-fn a_line_of_many_tokens(rt: HostRuntime) {
-    let set = "driver d\na b c d e f g h i\n";
-    let told = "text fault 2 UnknownWord line 2\n";
-    assert!(rt; is_judged_so(rt.alloc(), set, 2, "", told));
 }
