@@ -84,8 +84,7 @@ impl Files for Shelf {
     ghost unwritten = { λ shelf. shelf.unwritten };
 
     fn open(&self, name: &str) -> Reader<&'static [u8]> {
-        let file = ALL.iter().find(|file| file.name == name);
-        Reader::new(file.map(|file| file.bytes))
+        Reader::new(stored(name))
     }
 
     fn is_closed(&self, file: &Reader<&'static [u8]>) -> bool {
