@@ -28,6 +28,10 @@ use word_laws::{
     words_tell_registers,
 };
 
+/// Fewer steps than these are made one by one: in so few a routine seldom goes on by itself for long
+/// enough to be worth the look.
+const ENOUGH_STEPS: usize = 16;
+
 /// Steps of a thread that were made one after another.
 #[derive(Clone, Copy)]
 pub struct Steps {
@@ -136,6 +140,9 @@ impl World {
         ensures few { result ≤ count }
         ensures steps { Stepping self.old thread result self.new }
     {
+        if count < ENOUGH_STEPS {
+            return 0;
+        }
         word_events_fit();
         word_events_show_runs();
         words_show_what_they_mean();

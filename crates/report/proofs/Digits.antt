@@ -235,3 +235,24 @@ ready_ten n place text block r small nine some below =
       long = up.long;
       begins = up.begins;
     }
+
+-- a block that begins with the same line
+pub ready_as : (n place : ℕ) (text block now : List ℕ) → IsReady n place text block
+    → take (place + 1 + length text) now ≡ take (place + 1 + length text) block
+    → IsReady n place text now
+ready_as n place text block now r same =
+    let first = take (place + 1) block in
+    let begins : block ≡ (first ++ text) ++ r.behind =
+    r.begins ∙ sym (append_assoc r.front (r.other ∷ []) (text ++ r.behind))
+    ∙ sym (append_assoc (r.front ++ r.other ∷ []) text r.behind)
+    ∙ ap (λ l. (l ++ text) ++ r.behind) (sym (begin_of n place text block r)) in
+    let long : length (first ++ text) ≡ place + 1 + length text =
+    omega (
+      arith,
+      length-append first text,
+      ap length (begin_of n place text block r),
+      length-append r.front (r.other ∷ []),
+      r.long,
+    ) in
+    ready_with n place text text block now r
+    (same ∙ ap (take (place + 1 + length text)) begins ∙ take_at (first ++ text) r.behind _ long)

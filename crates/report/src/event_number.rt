@@ -101,6 +101,7 @@ impl EventNumber {
     }
 
     /// Goes on by ten, from a number that ends in 0.
+    #[inline]
     pub(crate) fn advance_by_ten(&mut self)
         requires ten { self.old % 10 ≡ 0 }
         requires fits { self.old + 10 < 2 ^ 64 }
@@ -131,6 +132,7 @@ impl EventNumber {
     }
 
     /// Goes on from a number that ends in 9.
+    #[inline]
     fn advance_to_ten(&mut self)
         requires last { self.old % 10 ≡ 9 }
         requires fits { self.old + 1 < 2 ^ 64 }
@@ -143,7 +145,15 @@ impl EventNumber {
             self.number = number;
             self.last_digit = 0;
         } else {
-            *self = EventNumber::of(number, self.word);
+            self.renew(number);
         }
+    }
+
+    /// Becomes a number whose digits are others.
+    #[inline(never)]
+    fn renew(&mut self, number: u64)
+        ensures { self.new ≡ number }
+    {
+        *self = EventNumber::of(number, self.word);
     }
 }

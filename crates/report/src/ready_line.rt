@@ -13,6 +13,9 @@ pub(crate) const LONGEST_NUMBER: usize = 20;
 /// Bytes of a number and of what follows it where the reply is one word, at most.
 pub(crate) const LONGEST_WORD_LINE: usize = 32;
 
+/// Bytes that are stored at once where a line has no more.
+const SHORT_LINE: usize = 16;
+
 /// The line of an event of a number that replied a word, but that another digit may stand in the
 /// place of the number's last one.
 #[derive(Drop)]
@@ -67,9 +70,26 @@ impl ReadyLine {
             ≡ word_line self.now.word (self.now.number / 10 * 10 + last_digit) }
         ensures short { result ≤ LONGEST_NUMBER }
     {
-        *block = self.line;
+        let digits = self.place + 1;
+        store(&self.line, digits + self.word.length(), block);
         block[self.place] = b'0' + last_digit;
-        self.place + 1
+        digits
+    }
+}
+
+/// Stores a line that ends here into a block: a short one by half of the bytes.
+#[inline]
+fn store(line: &[u8; LONGEST_WORD_LINE], end: usize, block: &mut [u8; LONGEST_WORD_LINE])
+    ensures { take end block.new ≡ take end line.now }
+{
+    if end > SHORT_LINE {
+        *block = *line;
+        return;
+    }
+    if let Some(front) = line.first_chunk::<SHORT_LINE>() {
+        if let Some(room) = block.first_chunk_mut::<SHORT_LINE>() {
+            *room = *front;
+        }
     }
 }
 

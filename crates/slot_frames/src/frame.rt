@@ -42,31 +42,21 @@ impl Frame {
     ghost use Rattle.slot_frames.specs.Frames.{manager_of};
     ghost use Rattle.slot_frames.specs.Lending.{LendsActivation};
 
-    /// The frame of a routine.
-    pub fn routine(activation: WordActivation) -> Frame
-        ensures { result ≡ WordRoutine activation }
-    {
-        Frame {
-            manager: None,
-            activation,
-        }
-    }
-
-    /// A frame that is put over another one.
-    pub fn over(over: Over) -> Frame
-        ensures { result ≡ frame_over_of over }
+    /// Another frame stands in its place. What a frame of the I/O manager doesn't have stays there.
+    pub fn replace(&mut self, over: Over)
+        ensures { self.new ≡ frame_over_of over }
     {
         match over {
-            Over::Manager(managing) => Frame {
-                manager: Some(managing),
-                activation: entered(0, 0, 0, 0),
-            },
+            Over::Manager(managing) => self.manager = Some(managing),
             Over::Routine {
                 driver,
                 routine,
                 device,
                 key,
-            } => Frame::routine(entered(driver, routine, device, key)),
+            } => {
+                self.manager = None;
+                self.activation = entered(driver, routine, device, key);
+            }
         }
     }
 

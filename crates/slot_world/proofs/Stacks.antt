@@ -1,7 +1,6 @@
 -- A step of a thread's top frame, where it stands.
-use Rattle.std.proofs.Common.{◌≡◌, ◌-◌, ℕ, List, [], ◌∷◌, ◌++◌, Option, None, Some, true, false, length, take, refl, ap, ◌∙◌, length-append, append_assoc, append-nil}
-use Rattle.std.specs.Prelude.{slice_set}
-use Rattle.std.specs.List.{IsLastAndRest, refill}
+use Rattle.std.proofs.Common.{◌≡◌, ◌≤◌, ◌-◌, ℕ, zero, suc, List, [], ◌∷◌, ◌++◌, Option, None, Some, true, false, length, take, drop, refl, ap, sym, ◌∙◌, arith, length-append, take-take, append_assoc, append-nil}
+use Rattle.std.specs.List.{IsLastAndRest}
 use Rattle.model.specs.declared.event.Reply.{Reply}
 use Rattle.model.specs.declared.event.Reply.TheVariants.{Stepped}
 use Rattle.model.specs.declared.status.Status.{Status}
@@ -9,7 +8,6 @@ use Rattle.model.specs.declared.world.Irql.{Irql}
 use Rattle.word_laws.specs.Words.{answered, WordCancel, WordFrame, WordRoutine, WordThread, WordWalk}
 use Rattle.model.specs.Set.{Set}
 use Rattle.run_laws.proofs.Lists.{before_last, last_of}
-use Rattle.slot_frames.proofs.Lists.{refill_all, set_back, set_last}
 use Rattle.slot_frames.specs.Frames.{told}
 use Rattle.word_laws.specs.WordStep.{WordOutcome, ends_or, frame_step, leaves, level_over, told_frame, told_frames, top_frame}
 use Rattle.slot_laws.specs.Slots.{SlotShared}
@@ -37,6 +35,36 @@ moved_as after thread reply = record { shared = after; thread = thread; reply = 
 abbrev pub stays : SlotShared → WordFrame → Reply → WordOutcome
 stays s f reply = record (leaves s (f ∷ [])) { reply = reply }
 
+-- of so many places those that are taken
+few_taken : (depth : ℕ) (places : List WordFrame) → length (take depth places) ≤ depth
+few_taken zero places = omega arith
+few_taken (suc n) [] = omega arith
+few_taken (suc n) (p ∷ places) = omega (arith, few_taken n places)
+
+-- a frame less of those that stand before others, and there are no more than before
+pub one_less : (depth : ℕ) (places : List WordFrame) → let less = length (take depth places) - 1 in
+    take less places ≡ take less (take depth places)
+one_less depth places =
+    let less = length (take depth places) - 1 in
+    sym (take-take less depth places (omega (arith, few_taken depth places)))
+
+pub less_deep : (depth most : ℕ) (places : List WordFrame) → depth ≤ most
+    → length (take depth places) - 1 ≤ most
+less_deep depth most places within = omega (arith, few_taken depth places, within)
+
+-- what was written over the taken places stands there
+pub rewritten : (depth : ℕ) (places frames : List WordFrame)
+    → length frames ≡ length (take depth places)
+    → take depth (frames ++ drop depth places) ≡ frames
+rewritten zero places [] long = refl
+rewritten zero places (f ∷ frames) long = absurd (omega (arith, long))
+rewritten (suc n) [] [] long = refl
+rewritten (suc n) [] (f ∷ frames) long = absurd (omega (arith, long))
+rewritten (suc n) (p ∷ places) [] long = absurd (omega (arith, long))
+rewritten (suc n) (p ∷ places) (f ∷ frames) long =
+    let rest : length frames ≡ length (take n places) = omega (arith, long) in
+    ap (λ (fs : List WordFrame). f ∷ fs) (rewritten n places frames rest)
+
 module _ (set : Set) (s : SlotShared) (n : ℕ) (thread : WordThread) (below : List WordFrame)
     (f : WordFrame) (split : IsLastAndRest thread.frames f below) where
   -- what the step of the top frame has left is what the thread's step leaves
@@ -44,22 +72,25 @@ module _ (set : Set) (s : SlotShared) (n : ℕ) (thread : WordThread) (below : L
       → moved_by set thread below left ≡ thread_moves set s n thread
   moved left same = rw (same, split.0, last_of below f, before_last below f) refl
 
-  -- the frame as written back where it stood
+  -- the frames with another one in the place of the top one
   abbrev pub written : WordFrame → List WordFrame
-  written g = refill (length thread.frames) thread.frames (below ++ g ∷ [])
+  written g = below ++ g ∷ []
 
-  written_top : (g : WordFrame) → written g ≡ below ++ g ∷ []
-  written_top g =
-      refill_all thread.frames (below ++ g ∷ []) (length-append below (g ∷ []) ∙ split.1)
+  -- and the places that then are taken
+  pub standing : (depth : ℕ) (places : List WordFrame) (g : WordFrame)
+      → thread.frames ≡ take depth places
+      → take depth (written g ++ drop depth places) ≡ written g
+  standing depth places g frames =
+      rewritten depth places (written g)
+      (length-append below (g ∷ []) ∙ split.1 ∙ ap length frames)
 
-  pub moved_stays : (after : SlotShared) (g : WordFrame) (reply : Reply)
-      → stays after g reply ≡ frame_step set s n (top_frame below) f →
-      moved_as after (with_items thread (written g)) reply ≡ thread_moves set s n thread
-  moved_stays after g reply same =
+  pub moved_stays : (after : SlotShared) (g : WordFrame) (reply : Reply) (items : List WordFrame)
+      → items ≡ written g → stays after g reply ≡ frame_step set s n (top_frame below) f →
+      moved_as after (with_items thread items) reply ≡ thread_moves set s n thread
+  moved_stays after g reply items is same =
       let now : moved_by set thread below (stays after g reply) ≡ thread_moves set s n thread =
       moved (stays after g reply) same in
-      rw (written_top g)
-      (rw (root_more thread.root below g [], finished_more below g [] reply) at now)
+      rw is (rw (root_more thread.root below g [], finished_more below g [] reply) at now)
 
   abbrev pub under : SlotShared → WordFrame → WordFrame → WordOutcome
   under after g h =
@@ -79,8 +110,7 @@ module _ (set : Set) (s : SlotShared) (n : ℕ) (thread : WordThread) (below : L
       let now : moved_by set thread below (under after g h) ≡ thread_moves set s n thread =
       moved (under after g h) same in
       let whole : items ≡ below ++ g ∷ h ∷ [] =
-      is ∙ ap (λ (xs : List WordFrame). xs ++ h ∷ []) (written_top g)
-      ∙ append_assoc below (g ∷ []) (h ∷ []) in
+      is ∙ append_assoc below (g ∷ []) (h ∷ []) in
       rw whole (rw (root_more thread.root below g (h ∷ []), finished_more below g (h ∷ []) Stepped)
       at now)
 
@@ -90,7 +120,7 @@ module _ (set : Set) (s : SlotShared) (n : ℕ) (thread : WordThread) (below : L
       record { shared = after; frames = []; reply = reply; taken_below = false; told = told }
 
   pub popped : (g : WordFrame) → take (length (written g) - 1) (written g) ≡ below
-  popped g = rw (written_top g) (before_last below g)
+  popped g = before_last below g
 
   pub moved_gone : (after : SlotShared) (reply : Reply) (said : Option Status)
       → gone after reply said ≡ frame_step set s n (top_frame below) f →
@@ -116,11 +146,10 @@ module _ (set : Set) (s : SlotShared) (n : ℕ) (thread : WordThread) (below : L
       rw (append-nil (take (length below - 1) below)) at now
 
 -- the frame on the top is told a status
-pub told_by : (set : Set) (items : List WordFrame) (status : Status) (f : WordFrame)
-    → top_frame items ≡ Some f
-    → slice_set items (length items - 1) (told set status f) ≡ told_frame set items status (Some f)
-told_by set items status (WordWalk k) there = set_back items (length items - 1) (WordWalk k) there
-told_by set items status (WordCancel k m step) there =
-    set_back items (length items - 1) (WordCancel k m step) there
-told_by set items status (WordRoutine a) there =
-    set_last items (WordRoutine a) (WordRoutine (answered set a status)) there
+pub told_on_top : (set : Set) (below : List WordFrame) (f : WordFrame) (status : Status)
+    → below ++ told set status f ∷ [] ≡ told_frame set (below ++ f ∷ []) status (Some f)
+told_on_top set below (WordWalk k) status = refl
+told_on_top set below (WordCancel k m step) status = refl
+told_on_top set below (WordRoutine a) status =
+    ap (λ (fs : List WordFrame). fs ++ WordRoutine (answered set a status) ∷ [])
+    (sym (before_last below (WordRoutine a)))

@@ -1,6 +1,8 @@
 //! A thread: its frames, and their steps.
 
-ghost use Rattle.std.specs.Prelude.{◌≡◌, ◌≤◌, ◌-◌, ◌∷◌, [], Some, length, option_map, take, true};
+ghost use Rattle.std.specs.Prelude.{◌≡◌, ◌≤◌, ◌<◌, ◌-◌, ◌++◌, ◌∷◌, [], Some, length, option_map, take, true};
+ghost use Rattle.model.specs.declared.limits.TheConstants.{MAX_FRAMES};
+ghost use Rattle.slot_frames.specs.Left.{frame_over};
 ghost use Rattle.slot_laws.specs.Rep.{named};
 ghost use Rattle.word_laws.specs.ShownWords.{words_of_frame};
 ghost use Rattle.word_laws.specs.WordViews.{word_frame_view, word_thread_view};
@@ -11,41 +13,49 @@ ghost use Rattle.slot_world.specs.GoingOn.{GoesOn, GoingOnFits};
 ghost use Rattle.slot_world.specs.Threads.{standing_on, thread_moves};
 
 use crate::{running, steps};
-use arrayvec::ArrayVec;
 use driver_set::DriverSet;
 use model::event::Reply;
 use model::limits::{MAX_FRAMES, REGISTERS};
 use model::status::Status;
 use model::view::{FrameView, ThreadView};
 use model::world::{Canceller, Irql};
-use slot_frames::{Frame, Managing, Ran, telling};
+use slot_frames::{Frame, Managing, Over, Ran, telling};
 use slot_parts::Shared;
 use std::marker::Model;
 
 /// A thread: its frames, the lowest first, and the level of the lowest. A thread without frames is
-/// idle, at PASSIVE_LEVEL.
+/// idle, at PASSIVE_LEVEL. All places of frames are there from the start: a frame that comes is
+/// written where it will stand, and one that goes costs nothing.
 #[derive(Drop)]
 pub struct Thread {
     root: Irql,
-    frames: ArrayVec<Frame, MAX_FRAMES>,
+    /// How many frames it has.
+    depth: usize,
+    /// The places of its frames. Those behind its frames have what was left there.
+    places: [Frame; MAX_FRAMES],
 }
 
 impl Model for Thread {
+    ghost use Rattle.std.specs.Prelude.{◌≤◌, take};
+    ghost use Rattle.model.specs.declared.limits.TheConstants.{MAX_FRAMES};
     ghost use Rattle.word_laws.specs.Words.{WordThread};
 
     ghost Value = { WordThread };
 
-    ghost view = { λ t. record { root = t.root; frames = t.frames.items } };
+    ghost view = { λ t. record { root = t.root; frames = take t.depth t.places } };
+
+    ghost invariant = { λ t. t.depth ≤ MAX_FRAMES };
 }
 
 /// The routine on the top, if one stands there, is told the status that a lower driver returned.
-fn tell(set: &DriverSet, frames: &mut ArrayVec<Frame, MAX_FRAMES>, status: Status)
-    ensures { frames.new.items ≡ told_frames set.now frames.old.items (Some status) }
+fn tell(set: &DriverSet, frames: &mut [Frame], status: Status)
+    ensures { frames.new ≡ told_frames set.now frames.old (Some status) }
 {
-    let top = frames.len().saturating_sub(1);
-    if let Some(caller) = frames.get_mut(top) {
-        telling::tell(caller, set, status);
-    }
+    let Some((caller, below)) = frames.split_last_mut() else {
+        return;
+    };
+    let _ = below;
+    telling::tell(caller, set, status);
 }
 
 /// What there is to tell of a frame: of a packet the number.
@@ -93,28 +103,37 @@ impl Thread {
     {
         Thread {
             root: Irql::Passive,
-            frames: ArrayVec::new(),
+            depth: 0,
+            places: Default::default(),
         }
+    }
+
+    /// Its frames, the lowest first.
+    #[inline]
+    fn frames(&self) -> &[Frame]
+        ensures { result.now ≡ self.now.frames }
+    {
+        &self.places[..self.depth]
     }
 
     /// Whether it has no frames.
     pub fn is_idle(&self) -> bool
         ensures { result ≡ has_none self.now }
     {
-        self.frames.is_empty()
+        self.frames().is_empty()
     }
 
     /// What there is to tell of it, where keys name these packets.
     pub fn view(&self, shared: &Shared) -> ThreadView
         ensures { result ≡ word_thread_view (named shared.now) self.now }
     {
-        let top = match self.frames.last() {
+        let top = match self.frames().last() {
             Some(frame) => Some(told_of(frame, shared)),
             None => None,
         };
         ThreadView {
             root: self.root,
-            frames: self.frames.len(),
+            frames: self.frames().len(),
             top,
         }
     }
@@ -124,19 +143,30 @@ impl Thread {
         ensures { option_map (λ words. words.now) result
             ≡ words_of_frame (top_frame self.now.frames) }
     {
-        match self.frames.last() {
+        match self.frames().last() {
             Some(frame) => words_of(frame),
             None => None,
         }
     }
 
     /// A frame is put on an idle thread, at a level.
-    pub fn begin(&mut self, level: Irql, root: Frame)
+    pub fn begin(&mut self, level: Irql, root: Over)
         requires { has_none self.old ≡ true }
-        ensures { self.new ≡ rooted_word level root }
+        ensures { self.new ≡ rooted_word level (frame_over root) }
     {
         self.root = level;
-        self.frames.push(root);
+        self.push(root);
+    }
+
+    /// A frame is put on the others, where it has a place.
+    #[tactic(auto, using(std::proofs::lemmas::List::take_more_set))]
+    fn push(&mut self, over: Over)
+        requires { length self.old.frames < MAX_FRAMES }
+        ensures { let frames = self.old.frames ++ frame_over over ∷ [] in
+            self.new ≡ record self.old { frames = frames } }
+    {
+        self.places[self.depth].replace(over);
+        self.depth += 1;
     }
 
     /// The top frame goes.
@@ -144,8 +174,15 @@ impl Thread {
         ensures { let below = take (length self.old.frames - 1) self.old.frames in
             self.new ≡ record self.old { frames = below } }
     {
-        let top = self.frames.len().saturating_sub(1);
-        self.frames.truncate(top);
+        self.depth = self.below_top();
+    }
+
+    /// How many frames stand under the top one.
+    #[inline]
+    fn below_top(&self) -> usize
+        ensures { result ≡ length self.now.frames - 1 }
+    {
+        self.frames().len().saturating_sub(1)
     }
 
     /// After a step: a thread that it left without frames has finished, and is idle.
@@ -153,7 +190,7 @@ impl Thread {
         ensures thread { self.new ≡ standing_on self.old self.old.frames }
         ensures reply { result ≡ ends_or self.old.frames reply }
     {
-        if !self.frames.is_empty() {
+        if !self.is_idle() {
             return reply;
         }
         self.root = Irql::Passive;
@@ -170,7 +207,7 @@ impl Thread {
         ensures few { result ≤ count }
         ensures goes { GoesOn set.now shared.now number self.old result self.new }
     {
-        let Some((top, below)) = self.frames.as_mut_slice().split_last_mut() else {
+        let Some((top, below)) = self.places[..self.depth].split_last_mut() else {
             return 0;
         };
         running::go_on(top, set, shared, number, below, count)
@@ -182,18 +219,18 @@ impl Thread {
         ensures { record { shared = shared.new; thread = self.new; reply = result }
             ≡ thread_moves set.now shared.old number self.old }
     {
-        let Some((top, below)) = self.frames.as_mut_slice().split_last_mut() else {
+        let Some((top, below)) = self.places[..self.depth].split_last_mut() else {
             return Reply::Idle;
         };
         match steps::step(top, set, shared, number, below) {
             Ran::Steps => Reply::Stepped,
             Ran::Waits => Reply::Waited,
             Ran::Under(over) => {
-                self.frames.push(Frame::over(over));
+                self.push(over);
                 Reply::Stepped
             }
             Ran::Becomes(over) => {
-                *top = Frame::over(over);
+                top.replace(over);
                 Reply::Stepped
             }
             Ran::Ends => {
@@ -219,7 +256,7 @@ impl Thread {
             }
             Ran::Returned(status) => {
                 self.pop();
-                tell(set, &mut self.frames, status);
+                tell(set, &mut self.places[..self.depth], status);
                 self.finish(Reply::Stepped)
             }
         }

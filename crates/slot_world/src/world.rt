@@ -14,6 +14,8 @@ ghost use Rattle.word_laws.specs.WordViews.{word_thread_at};
 ghost use Rattle.word_laws.specs.WordEvents.{cancel_word, dpc_word, interrupt_word, opening_words, startio_word};
 ghost use Rattle.word_laws.specs.WordStep.{word_step};
 ghost use Rattle.model.specs.declared.event.Reply.TheVariants.{Stepped};
+ghost use Rattle.slot_frames.specs.Left.{frame_over};
+ghost use Rattle.word_laws.specs.Words.{WordRoutine, entered};
 ghost use Rattle.slot_world.specs.GoingOn.{after, reply_after};
 ghost use Rattle.slot_world.specs.Threads.{stepped_on, told_of};
 
@@ -24,8 +26,8 @@ use model::limits::REGISTERS;
 use model::status::Major;
 use model::view::{PacketView, ThreadView};
 use model::world::{CancelStep, Irql};
-use slot_frames::activation::{driver_of, entered};
-use slot_frames::{Frame, Managing, Over};
+use slot_frames::activation::driver_of;
+use slot_frames::{Managing, Over};
 use slot_parts::Shared;
 use std::alloc::{AllocError, Global};
 use std::marker::Model;
@@ -51,6 +53,19 @@ fn device_of(set: &DriverSet, number: u8) -> Option<Device>
     ensures stack { IfSome (slice_get set.now.devices number) (λ d. d.stack ≤ MAX_STACK) }
 {
     set.devices().get(number as usize).copied()
+}
+
+/// A routine that begins, with the key that it is handed.
+#[inline]
+fn routine_of(driver: u8, routine: u8, device: u8, key: u64) -> Over
+    ensures { frame_over result ≡ WordRoutine (entered driver routine device key) }
+{
+    Over::Routine {
+        driver,
+        routine,
+        device,
+        key,
+    }
 }
 
 /// The level of a number.
@@ -234,8 +249,8 @@ impl Slots {
         let routine = set.handler(target.driver, major);
         let packet = self.shared.issued();
         let key = self.shared.issue(device, major, argument, target.stack);
-        let root = entered(target.driver, routine, device, key);
-        self.thread_list[thread as usize].begin(Irql::Passive, Frame::routine(root));
+        let root = routine_of(target.driver, routine, device, key);
+        self.thread_list[thread as usize].begin(Irql::Passive, root);
         Reply::Started(packet)
     }
 
@@ -263,7 +278,7 @@ impl Slots {
             number: packet,
             next: CancelStep::Acquire,
         };
-        self.thread_list[thread as usize].begin(level, Frame::over(Over::Manager(cancels)));
+        self.thread_list[thread as usize].begin(level, Over::Manager(cancels));
         Reply::Started(packet)
     }
 
@@ -302,8 +317,8 @@ impl Slots {
             return Reply::Idle;
         }
         self.shared.set_queued(device, false);
-        let root = entered(driver_of(set, device), routine, device, 0);
-        self.thread_list[thread as usize].begin(Irql::Dispatch, Frame::routine(root));
+        let root = routine_of(driver_of(set, device), routine, device, 0);
+        self.thread_list[thread as usize].begin(Irql::Dispatch, root);
         Reply::Stepped
     }
 
@@ -332,8 +347,8 @@ impl Slots {
         };
         let packet = self.shared.named(key);
         let _key = self.shared.start_io(device);
-        let root = entered(driver_of(set, device), routine, device, key);
-        self.thread_list[thread as usize].begin(Irql::Dispatch, Frame::routine(root));
+        let root = routine_of(driver_of(set, device), routine, device, key);
+        self.thread_list[thread as usize].begin(Irql::Dispatch, root);
         Reply::Started(packet)
     }
 }

@@ -7,6 +7,7 @@ use Rattle.word_laws.specs.WordsFit.{WordEventFits}
 use Rattle.word_laws.specs.ShownWords.{shown_words}
 use Rattle.word_laws.specs.Words.{WordWorld}
 use Rattle.slot_world.specs.GoingOn.{after, reply_after}
+use Rattle.machine.proofs.Stepping.{none_made}
 use Rattle.machine.proofs.GoingOn.{all_fit, steps_made, still_meant}
 use Rattle.machine.specs.Runs.{IsMeant}
 use Rattle.machine.specs.Steps.{Stepping}
@@ -59,3 +60,6 @@ returns-clause-steps c =
     c.words_mean_what_they_show.ensures c.self.inside.accepted c.self.invariant.0
     c.self.invariant.1.0 c.self.inside.slots c.args.thread c.self.invariant.1.1
     c.words_show_what_they_mean.ensures c.go_on.result (replied c)))
+
+pub returns-then-count-lt-ENOUGH_STEPS-clause-steps : goal.returns-then-count-lt-ENOUGH_STEPS-clause-steps
+returns-then-count-lt-ENOUGH_STEPS-clause-steps c = none_made c.args.self.now c.args.thread
