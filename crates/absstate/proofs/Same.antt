@@ -120,7 +120,9 @@ pub list_put : (kinds : List Kind) (i : ℕ) (kind : Kind) → i < length kinds
 list_put [] i kind within new = absurd (omega (arith, within))
 list_put (k ∷ kinds) zero kind within new = rw new refl
 list_put (k ∷ kinds) (suc i) kind within new =
-    rw sym (list_put kinds i kind (omega (arith, within)) new) (sym (or_true (has_list k)))
+    let rest : true ≡ list_any has_list (set kinds i kind) =
+    list_put kinds i kind (omega (arith, within)) new in
+    sym (or_true (has_list k)) ∙ ap (λ (b : Bool). has_list k || b) rest
 
 pub none_put : (kinds : List Kind) (i : ℕ) (kind : Kind) → has_list kind ≡ false
     → list_any has_list kinds ≡ false → list_any has_list (set kinds i kind) ≡ false
@@ -137,7 +139,7 @@ pub none_left : (kinds : List Kind) (i : ℕ) (kind d : Kind) → has_list kind 
 none_left [] i kind d new old = refl
 none_left (k ∷ kinds) zero kind d new old = rw (new, old) refl
 none_left (k ∷ kinds) (suc i) kind d new old =
-    rw none_left kinds i kind d new old refl
+    ap (λ (b : Bool). has_list k || b) (none_left kinds i kind d new old)
 
 -- kinds that say the same name no queue where the first ones name none
 pub no_queues : (xs ys : List Kind) → same_shapes xs ys ≡ true → list_any has_list xs ≡ false

@@ -1,7 +1,7 @@
 //! An abstract state with a note whether a register may name a list, and what changes it. Most
 //! routines name none, and then nothing that asks for the lists of registers has to look at them.
 
-ghost use Rattle.std.specs.Prelude.{◌≡◌, ◌↔◌, IsTrue};
+ghost use Rattle.std.specs.Prelude.{◌≡◌, ◌↔◌, IsTrue, true, false};
 ghost use Rattle.model.specs.LocalRule.{kind_of, with_kind};
 ghost use Rattle.model.specs.LocalRule.{with_held, moved};
 ghost use Rattle.model.specs.Kinds.{left_behind};
