@@ -124,12 +124,7 @@ pub fn acquire_fault(state: &Abs, lock: &Guard) -> Option<Rule>
 }
 
 /// A lock that is released was held, and no register needs it.
-pub fn release_fault(
-    tracked: &Tracked,
-    set: &DriverSet,
-    driver: u8,
-    lock: &Guard,
-) -> Option<Rule>
+pub fn release_fault(tracked: &Tracked, set: &DriverSet, driver: u8, lock: &Guard) -> Option<Rule>
     ensures { result ≡ release_fault tracked.now set.now driver lock.now }
 {
     let needed = is_any_in_need(tracked, set, driver, lock);
@@ -345,7 +340,7 @@ pub fn release(tracked: &mut Tracked, set: &DriverSet, driver: u8, lock: &Guard)
 #[tactic(auto, using(crate::proofs::Releasing::none_let_go))]
 fn armed_let_go(tracked: &mut Tracked, set: &DriverSet, driver: u8, lock: &Guard)
     ensures { tracked.new
-        ≡ record tracked.old { kinds = all_let_go set.now driver lock.now tracked.old.kinds; } }
+        ≡ record tracked.old { kinds = all_let_go set.now driver lock.now tracked.old.kinds } }
 {
     if !tracked.named {
         return;

@@ -172,7 +172,7 @@ pub fn state_at_label(tracked: &Tracked, instr: &Instr) -> Tracked
 
 /// The state of a completion routine that has seen Irp->PendingReturned set.
 fn looked_at(mut tracked: Tracked) -> Tracked
-    ensures { result ≡ record tracked { settled = Settled.NeedMark; } }
+    ensures { result ≡ record tracked { settled = Settled.NeedMark } }
 {
     tracked.state.settled = Settled::NeedMark;
     tracked

@@ -86,7 +86,13 @@ fn changes_at_label(instr: &Instr) -> bool
 
 /// Takes the state before an instruction of a driver of a set to the next position, where jumps
 /// have led what is there.
-pub fn arrive(there: &Seen, instr: &Instr, state: &mut Tracked, set: &DriverSet, driver: u8) -> Arrivals
+pub fn arrive(
+    there: &Seen,
+    instr: &Instr,
+    state: &mut Tracked,
+    set: &DriverSet,
+    driver: u8,
+) -> Arrivals
     ensures { IsArrived (flow_of instr.now) (handed set.now driver state.old instr.now) there.now
         (seen_of result state.new) }
 {
