@@ -50,53 +50,24 @@ const FIRST: &str =
      dispatch READ read\nroutine read dispatch\nacqc\nrelc\ncomplete r0 SUCCESS\nret SUCCESS\n\
      endr\nendd\ndevice d0 disk 1\n--\n0 started 0\n1 stepped\n2 stepped\n3 stepped\n\
      4 topped 0 0x00000000 0\n5 finished\n6 idle\n7 idle\n8 idle\n9 idle\n10 idle\n11 idle\n\
-     12 idle\nstatus 0\n==\ncancel-lock-released-before-dequeue\n--\ndriver scanner\n\
-     dispatch READ read\nstartio begins gone\ndpc done\nroutine read dispatch\nmark r0\nacqc\n\
-     ifcancel r0 was\nstart r0\nrelc\nret PENDING\nwas: relc\ncomplete r0 CANCELLED\nret PENDING\n\
-     endr\nroutine begins startio\nbegin r0\nret void\nendr\nroutine done dpc\ntake r0 none\n\
-     acqc\nnext\nrelc\ncomplete r0 SUCCESS\nret void\nnone: ret void\nendr\nroutine gone cancel\n\
-     relc\nacquire l0\nload r1 c0\nconst r2 1\nadd r1 r2\nstore c0 r1\nrelease l0\nacqc\n\
-     dequeue r0\nrelc\ncomplete r0 CANCELLED\nret void\nendr\nendd\ndevice s0 scanner 1\n--\n\
-     threads 2\nissue 0 0 READ 1\nstep 0 6\nissue 0 0 READ 2\nstep 0 6\ncancel 1 1 0\nstep 1 6\n\
-     startio 0 0\nstep 0 2\ninterrupt 0\ndpc 0 0\nstep 0 4\nstep 1 10\nstep 0 3\nstartio 0 0\n\
-     step 0\n--\nrefused V11 Guard driver 0 routine 3 at 0\nstatus 1\n--\n0 started 0\n1 stepped\n\
-     2 stepped\n3 stepped\n4 stepped\n5 stepped\n6 finished\n7 started 1\n8 stepped\n9 stepped\n\
-     10 stepped\n11 stepped\n12 stepped\n13 finished\n14 started 1\n15 stepped\n16 stepped\n\
-     17 stepped\n18 stepped\n19 stepped\n20 stepped\n21 started 0\n22 stepped\n23 finished\n\
-     24 stepped\n25 stepped\n26 stepped\n27 stepped\n28 stepped\n29 stepped\n30 stepped\n\
-     31 stepped\n32 stepped\n33 stepped\n34 stepped\n35 stepped\n36 stepped\n37 stepped\n\
-     38 topped 1 0xC0000120 0\n39 finished\n40 stepped\n41 topped 0 0x00000000 0\n42 finished\n\
-     43 started 1\n44 bug 0x0A packet 1\nstatus 1\n--\ndriver scanner\ndispatch READ read\n\
-     startio begins gone\ndpc done\nroutine read dispatch\nmark r0\nacqc\nifcancel r0 was\n\
-     start r0\nrelc\nret PENDING\nwas: relc\ncomplete r0 CANCELLED\nret PENDING\nendr\n\
-     routine begins startio\nbegin r0\nret void\nendr\nroutine done dpc\ntake r0 none\nacqc\n\
-     next\nrelc\ncomplete r0 SUCCESS\nret void\nnone: ret void\nendr\nroutine gone cancel\n\
-     dequeue r0\nrelc\nacquire l0\nload r1 c0\nconst r2 1\nadd r1 r2\nstore c0 r1\nrelease l0\n\
-     complete r0 CANCELLED\nret void\nendr\nendd\ndevice s0 scanner 1\n--\n0 started 0\n\
-     1 stepped\n2 stepped\n3 stepped\n4 stepped\n5 stepped\n6 finished\n7 started 1\n8 stepped\n\
-     9 stepped\n10 stepped\n11 stepped\n12 stepped\n13 finished\n14 started 1\n15 stepped\n\
-     16 stepped\n17 stepped\n18 stepped\n19 stepped\n20 stepped\n21 started 0\n22 stepped\n\
-     23 finished\n24 stepped\n25 stepped\n26 stepped\n27 stepped\n28 stepped\n29 stepped\n\
-     30 stepped\n31 stepped\n32 stepped\n33 stepped\n34 stepped\n35 stepped\n\
-     36 topped 1 0xC0000120 0\n37 finished\n38 idle\n39 idle\n40 stepped\n\
-     41 topped 0 0x00000000 0\n42 finished\n43 idle\n44 idle\nstatus 0\n==\ncancel-race\n--\n\
-     driver disk\nqueue waiting l0 cancelled\ndispatch READ read\ndpc done\n\
-     routine read dispatch\nmark r0\nacquire l0\ninsert r0 waiting\narm r0 waiting\n\
-     ifcancel r0 was\nrelease l0\nret PENDING\nwas: disarm r0 lost\nunlink r0 waiting\n\
-     release l0\ncomplete r0 CANCELLED\nret PENDING\nlost: release l0\nret PENDING\nendr\n\
-     routine done dpc\nacquire l0\nremove r0 waiting none\ndisarm r0 none\nrelease l0\n\
-     complete r0 SUCCESS\nret void\nnone: release l0\nret void\nendr\nroutine cancelled cancel\n\
-     relc\ncomplete r0 CANCELLED\nret void\nendr\nendd\ndevice d0 disk 1\n--\nthreads 2\n\
-     issue 0 0 READ 0\nstep 0 7\ncancel 1 0 0\nstep 1 7\ninterrupt 0\ndpc 1 0\nstep 1 6\n--\n\
-     refused V12 CancelState driver 0 routine 2 at 1\nstatus 1\n--\n0 started 0\n1 stepped\n\
-     2 stepped\n3 stepped\n4 stepped\n5 stepped\n6 stepped\n7 finished\n8 started 0\n9 stepped\n\
-     10 stepped\n11 stepped\n12 stepped\n13 stepped\n14 topped 0 0xC0000120 0\n15 finished\n\
-     16 stepped\n17 stepped\n18 stepped\n19 bug 0x0A packet 0\nstatus 1\n--\ndriver disk\n\
-     queue waiting l0 cancelled\ndispatch READ read\ndpc done\nroutine read dispatch\nmark r0\n\
-     acquire l0\ninsert r0 waiting\narm r0 waiting\nifcancel r0 was\nrelease l0\nret PENDING\n\
-     was: disarm r0 lost\nunlink r0 waiting\nrelease l0\ncomplete r0 CANCELLED\nret PENDING\n\
-     lost: release l0\nret PENDING\nendr\nroutine done dpc\nacquire l0\nremove r0 waiting none\n\
-     disarm r0 none\nrelease l0\ncomplete r0 SUCCESS\nret void\nnone: release l0\nret void\nendr\n\
+     12 idle\nstatus 0\n==\ncancel-race\n--\ndriver disk\nqueue waiting l0 cancelled\n\
+     dispatch READ read\ndpc done\nroutine read dispatch\nmark r0\nacquire l0\ninsert r0 waiting\n\
+     arm r0 waiting\nifcancel r0 was\nrelease l0\nret PENDING\nwas: disarm r0 lost\n\
+     unlink r0 waiting\nrelease l0\ncomplete r0 CANCELLED\nret PENDING\nlost: release l0\n\
+     ret PENDING\nendr\nroutine done dpc\nacquire l0\nremove r0 waiting none\ndisarm r0 none\n\
+     release l0\ncomplete r0 SUCCESS\nret void\nnone: release l0\nret void\nendr\n\
+     routine cancelled cancel\nrelc\ncomplete r0 CANCELLED\nret void\nendr\nendd\n\
+     device d0 disk 1\n--\nthreads 2\nissue 0 0 READ 0\nstep 0 7\ncancel 1 0 0\nstep 1 7\n\
+     interrupt 0\ndpc 1 0\nstep 1 6\n--\nrefused V12 CancelState driver 0 routine 2 at 1\n\
+     status 1\n--\n0 started 0\n1 stepped\n2 stepped\n3 stepped\n4 stepped\n5 stepped\n6 stepped\n\
+     7 finished\n8 started 0\n9 stepped\n10 stepped\n11 stepped\n12 stepped\n13 stepped\n\
+     14 topped 0 0xC0000120 0\n15 finished\n16 stepped\n17 stepped\n18 stepped\n\
+     19 bug 0x0A packet 0\nstatus 1\n--\ndriver disk\nqueue waiting l0 cancelled\n\
+     dispatch READ read\ndpc done\nroutine read dispatch\nmark r0\nacquire l0\ninsert r0 waiting\n\
+     arm r0 waiting\nifcancel r0 was\nrelease l0\nret PENDING\nwas: disarm r0 lost\n\
+     unlink r0 waiting\nrelease l0\ncomplete r0 CANCELLED\nret PENDING\nlost: release l0\n\
+     ret PENDING\nendr\nroutine done dpc\nacquire l0\nremove r0 waiting none\ndisarm r0 none\n\
+     release l0\ncomplete r0 SUCCESS\nret void\nnone: release l0\nret void\nendr\n\
      routine cancelled cancel\nacquire l0\nunlink r0 waiting\nrelease l0\nrelc\n\
      complete r0 CANCELLED\nret void\nendr\nendd\ndevice d0 disk 1\n--\n0 started 0\n1 stepped\n\
      2 stepped\n3 stepped\n4 stepped\n5 stepped\n6 stepped\n7 finished\n8 started 0\n9 stepped\n\
@@ -122,38 +93,9 @@ const FIRST: &str =
      complete r0 CANCELLED\nret void\nendr\nendd\ndevice d0 disk 1\n--\n0 started 0\n1 stepped\n\
      2 stepped\n3 stepped\n4 stepped\n5 stepped\n6 started 0\n7 stepped\n8 stepped\n9 stepped\n\
      10 waited\n11 stepped\n12 refused\n13 waited\n14 waited\n15 waited\n16 waited\n17 waited\n\
-     18 waited\nstatus 0\n==\ncancelled-and-left-in-the-device-queue\n--\ndriver scanner\n\
-     queue cancelled l0\ndispatch READ read\nstartio begins gone\ndpc done\n\
-     routine read dispatch\nmark r0\nacqc\nifcancel r0 was\nstart r0\nrelc\nret PENDING\n\
-     was: relc\ncomplete r0 CANCELLED\nret PENDING\nendr\nroutine begins startio\nbegin r0\n\
-     ret void\nendr\nroutine done dpc\nacquire l0\nremove r0 cancelled on\nrelease l0\n\
-     complete r0 CANCELLED\njmp on2\non: release l0\non2: take r0 none\nacqc\nnext\nrelc\n\
-     complete r0 SUCCESS\nret void\nnone: ret void\nendr\nroutine gone cancel\nacquire l0\n\
-     insert r0 cancelled\nrelease l0\nrelc\nret void\nendr\nendd\ndevice s0 scanner 1\n--\n\
-     threads 2\nissue 0 0 READ 1\nstep 0 6\nissue 0 0 READ 2\nstep 0 6\ncancel 1 1 0\nstep 1 9\n\
-     startio 0 0\nstep 0 2\ninterrupt 0\ndpc 0 0\nstep 0 13\n--\n\
-     refused V12 CancelState driver 0 routine 3 at 1\nstatus 1\n--\n0 started 0\n1 stepped\n\
-     2 stepped\n3 stepped\n4 stepped\n5 stepped\n6 finished\n7 started 1\n8 stepped\n9 stepped\n\
-     10 stepped\n11 stepped\n12 stepped\n13 finished\n14 started 1\n15 stepped\n16 stepped\n\
-     17 stepped\n18 stepped\n19 stepped\n20 stepped\n21 stepped\n22 finished\n23 idle\n\
-     24 started 0\n25 stepped\n26 finished\n27 stepped\n28 stepped\n29 stepped\n30 stepped\n\
-     31 stepped\n32 stepped\n33 topped 1 0xC0000120 0\n34 stepped\n35 stepped\n36 stepped\n\
-     37 bug 0x0A packet 1\nstatus 1\n--\ndriver scanner\nqueue cancelled l0\ndispatch READ read\n\
-     startio begins gone\ndpc done\nroutine read dispatch\nmark r0\nacqc\nifcancel r0 was\n\
-     start r0\nrelc\nret PENDING\nwas: relc\ncomplete r0 CANCELLED\nret PENDING\nendr\n\
-     routine begins startio\nbegin r0\nret void\nendr\nroutine done dpc\nacquire l0\n\
-     remove r0 cancelled on\nrelease l0\ncomplete r0 CANCELLED\njmp on2\non: release l0\n\
-     on2: take r0 none\nacqc\nnext\nrelc\ncomplete r0 SUCCESS\nret void\nnone: ret void\nendr\n\
-     routine gone cancel\ndequeue r0\nacquire l0\ninsert r0 cancelled\nrelease l0\nrelc\n\
-     ret void\nendr\nendd\ndevice s0 scanner 1\n--\n0 started 0\n1 stepped\n2 stepped\n3 stepped\n\
-     4 stepped\n5 stepped\n6 finished\n7 started 1\n8 stepped\n9 stepped\n10 stepped\n11 stepped\n\
-     12 stepped\n13 finished\n14 started 1\n15 stepped\n16 stepped\n17 stepped\n18 stepped\n\
-     19 stepped\n20 stepped\n21 stepped\n22 stepped\n23 finished\n24 started 0\n25 stepped\n\
-     26 finished\n27 stepped\n28 stepped\n29 stepped\n30 stepped\n31 stepped\n32 stepped\n\
-     33 topped 1 0xC0000120 0\n34 stepped\n35 stepped\n36 stepped\n37 stepped\n38 stepped\n\
-     39 stepped\n40 topped 0 0x00000000 0\n41 finished\nstatus 0\n==\ncompleted-after-an-error\n\
-     --\ndriver disk\ndispatch READ read\nroutine read dispatch\nget r1 r0 ARG\njz r1 wrong\n\
-     jmp done\nwrong: complete r0 INVALID_PARAMETER\ncomplete r0 SUCCESS\nret SUCCESS\n\
+     18 waited\nstatus 0\n==\ncompleted-after-an-error\n--\ndriver disk\ndispatch READ read\n\
+     routine read dispatch\nget r1 r0 ARG\njz r1 wrong\njmp done\n\
+     wrong: complete r0 INVALID_PARAMETER\ncomplete r0 SUCCESS\nret SUCCESS\n\
      done: complete r0 SUCCESS\nret SUCCESS\nendr\nendd\ndevice d0 disk 1\n--\nthreads 1\n\
      issue 0 0 READ 0\nstep 0 12\n--\nrefused V5 DoubleCompletion driver 0 routine 0 at 4\n\
      status 1\n--\n0 started 0\n1 stepped\n2 stepped\n3 stepped\n4 topped 0 0xC000000D 0\n\
@@ -178,24 +120,24 @@ const FIRST: &str =
      2 topped 0 0x00000000 0\n3 bug 0x44 packet 0\nstatus 1\n--\ndriver disk\ndispatch READ read\n\
      routine read dispatch\ncomplete r0 SUCCESS\nret SUCCESS\nendr\nendd\ndevice d0 disk 1\n--\n\
      0 started 0\n1 stepped\n2 topped 0 0x00000000 0\n3 finished\n4 idle\n5 idle\n6 idle\n7 idle\n\
-     8 idle\n9 idle\n10 idle\n11 idle\n12 idle\nstatus 0\n";
+     8 idle\n9 idle\n10 idle\n11 idle\n12 idle\nstatus 0\n==\ncompleted-under-a-lock\n--\n\
+     driver disk\ndispatch READ read\nroutine read dispatch\nacquire l0\ncomplete r0 SUCCESS\n\
+     release l0\nret SUCCESS\nendr\nendd\ndevice d0 disk 1\n--\nthreads 1\nissue 0 0 READ 0\n\
+     step 0 12\n--\nrefused V9 LockHeld driver 0 routine 0 at 1\nstatus 1\n--\n0 started 0\n\
+     1 stepped\n2 stepped\n3 topped 0 0x00000000 0\n4 stepped\n5 finished\n6 idle\n7 idle\n\
+     8 idle\n9 idle\n10 idle\n11 idle\n12 idle\nstatus 0\n--\ndriver disk\ndispatch READ read\n\
+     routine read dispatch\nacquire l0\nrelease l0\ncomplete r0 SUCCESS\nret SUCCESS\nendr\nendd\n\
+     device d0 disk 1\n--\n0 started 0\n1 stepped\n2 stepped\n3 stepped\n4 topped 0 0x00000000 0\n\
+     5 finished\n6 idle\n7 idle\n8 idle\n9 idle\n10 idle\n11 idle\n12 idle\nstatus 0\n";
 
 const SECOND: &str =
-    "completed-under-a-lock\n--\ndriver disk\ndispatch READ read\nroutine read dispatch\n\
-     acquire l0\ncomplete r0 SUCCESS\nrelease l0\nret SUCCESS\nendr\nendd\ndevice d0 disk 1\n--\n\
-     threads 1\nissue 0 0 READ 0\nstep 0 12\n--\nrefused V9 LockHeld driver 0 routine 0 at 1\n\
-     status 1\n--\n0 started 0\n1 stepped\n2 stepped\n3 topped 0 0x00000000 0\n4 stepped\n\
-     5 finished\n6 idle\n7 idle\n8 idle\n9 idle\n10 idle\n11 idle\n12 idle\nstatus 0\n--\n\
-     driver disk\ndispatch READ read\nroutine read dispatch\nacquire l0\nrelease l0\n\
-     complete r0 SUCCESS\nret SUCCESS\nendr\nendd\ndevice d0 disk 1\n--\n0 started 0\n1 stepped\n\
-     2 stepped\n3 stepped\n4 topped 0 0x00000000 0\n5 finished\n6 idle\n7 idle\n8 idle\n9 idle\n\
-     10 idle\n11 idle\n12 idle\nstatus 0\n==\ncompleted-while-it-waits\n--\ndriver disk\n\
-     queue waiting l0 cancelled\ndispatch READ read\ndpc done\nroutine read dispatch\nmark r0\n\
-     acquire l0\ninsert r0 waiting\narm r0 waiting\nrelease l0\ncomplete r0 SUCCESS\nret PENDING\n\
-     endr\nroutine done dpc\nacquire l0\nremove r0 waiting none\ndisarm r0 none\nrelease l0\n\
-     complete r0 SUCCESS\nret void\nnone: release l0\nret void\nendr\nroutine cancelled cancel\n\
-     relc\nacquire l0\nunlink r0 waiting\nrelease l0\ncomplete r0 CANCELLED\nret void\nendr\n\
-     endd\ndevice d0 disk 1\n--\nthreads 1\nissue 0 0 READ 0\nstep 0 12\n--\n\
+    "completed-while-it-waits\n--\ndriver disk\nqueue waiting l0 cancelled\ndispatch READ read\n\
+     dpc done\nroutine read dispatch\nmark r0\nacquire l0\ninsert r0 waiting\narm r0 waiting\n\
+     release l0\ncomplete r0 SUCCESS\nret PENDING\nendr\nroutine done dpc\nacquire l0\n\
+     remove r0 waiting none\ndisarm r0 none\nrelease l0\ncomplete r0 SUCCESS\nret void\n\
+     none: release l0\nret void\nendr\nroutine cancelled cancel\nrelc\nacquire l0\n\
+     unlink r0 waiting\nrelease l0\ncomplete r0 CANCELLED\nret void\nendr\nendd\n\
+     device d0 disk 1\n--\nthreads 1\nissue 0 0 READ 0\nstep 0 12\n--\n\
      refused V5 DoubleCompletion driver 0 routine 0 at 5\nstatus 1\n--\n0 started 0\n1 stepped\n\
      2 stepped\n3 stepped\n4 stepped\n5 stepped\n6 bug 0x48 packet 0\nstatus 1\n--\ndriver disk\n\
      queue waiting l0 cancelled\ndispatch READ read\ndpc done\nroutine read dispatch\nmark r0\n\
@@ -214,80 +156,48 @@ const SECOND: &str =
      10 idle\n11 idle\n12 idle\nstatus 0\n--\ndriver disk\ndispatch READ read\n\
      routine read dispatch\ncomplete r0 SUCCESS\nret SUCCESS\nendr\nendd\ndevice d0 disk 1\n--\n\
      0 started 0\n1 stepped\n2 topped 0 0x00000000 0\n3 finished\n4 idle\n5 idle\n6 idle\n7 idle\n\
-     8 idle\n9 idle\n10 idle\n11 idle\n12 idle\nstatus 0\n==\ndequeued-from-another-list\n--\n\
-     driver scanner\nqueue waiting l0 lost\ndispatch READ read\ndispatch WRITE write\n\
-     startio begins gone\ndpc done\nroutine read dispatch\nmark r0\nacqc\nifcancel r0 was\n\
-     start r0\nrelc\nret PENDING\nwas: relc\ncomplete r0 CANCELLED\nret PENDING\nendr\n\
-     routine write dispatch\nmark r0\nacquire l0\ninsert r0 waiting\narm r0 waiting\n\
-     ifcancel r0 was\nrelease l0\nret PENDING\nwas: disarm r0 away\nunlink r0 waiting\n\
-     release l0\ncomplete r0 CANCELLED\nret PENDING\naway: release l0\nret PENDING\nendr\n\
-     routine begins startio\nacqc\nnext\nrelc\ncomplete r0 SUCCESS\nret void\nendr\n\
-     routine done dpc\nacquire l0\nremove r0 waiting none\ndisarm r0 none\nrelease l0\n\
-     complete r0 SUCCESS\nret void\nnone: release l0\nret void\nendr\nroutine gone cancel\n\
-     dequeue r0\nrelc\ncomplete r0 CANCELLED\nret void\nendr\nroutine lost cancel\ndequeue r0\n\
-     relc\ncomplete r0 CANCELLED\nret void\nendr\nendd\ndevice s0 scanner 1\n--\nthreads 2\n\
-     issue 0 0 WRITE 1\nstep 0 7\ncancel 1 0 0\nstep 1 10\ninterrupt 0\ndpc 0 0\nstep 0 4\n--\n\
-     refused V12 CancelState driver 0 routine 5 at 0\nstatus 1\n--\n0 started 0\n1 stepped\n\
-     2 stepped\n3 stepped\n4 stepped\n5 stepped\n6 stepped\n7 finished\n8 started 0\n9 stepped\n\
-     10 stepped\n11 stepped\n12 stepped\n13 stepped\n14 stepped\n15 topped 0 0xC0000120 0\n\
-     16 finished\n17 idle\n18 idle\n19 stepped\n20 stepped\n21 stepped\n22 bug 0x0A packet 0\n\
-     status 1\n--\ndriver scanner\nqueue waiting l0 lost\ndispatch READ read\n\
-     dispatch WRITE write\nstartio begins gone\ndpc done\nroutine read dispatch\nmark r0\nacqc\n\
-     ifcancel r0 was\nstart r0\nrelc\nret PENDING\nwas: relc\ncomplete r0 CANCELLED\nret PENDING\n\
-     endr\nroutine write dispatch\nmark r0\nacquire l0\ninsert r0 waiting\narm r0 waiting\n\
-     ifcancel r0 was\nrelease l0\nret PENDING\nwas: disarm r0 away\nunlink r0 waiting\n\
-     release l0\ncomplete r0 CANCELLED\nret PENDING\naway: release l0\nret PENDING\nendr\n\
-     routine begins startio\nacqc\nnext\nrelc\ncomplete r0 SUCCESS\nret void\nendr\n\
-     routine done dpc\nacquire l0\nremove r0 waiting none\ndisarm r0 none\nrelease l0\n\
-     complete r0 SUCCESS\nret void\nnone: release l0\nret void\nendr\nroutine gone cancel\n\
-     dequeue r0\nrelc\ncomplete r0 CANCELLED\nret void\nendr\nroutine lost cancel\nacquire l0\n\
-     unlink r0 waiting\nrelease l0\nrelc\ncomplete r0 CANCELLED\nret void\nendr\nendd\n\
-     device s0 scanner 1\n--\n0 started 0\n1 stepped\n2 stepped\n3 stepped\n4 stepped\n5 stepped\n\
-     6 stepped\n7 finished\n8 started 0\n9 stepped\n10 stepped\n11 stepped\n12 stepped\n\
-     13 stepped\n14 stepped\n15 stepped\n16 stepped\n17 topped 0 0xC0000120 0\n18 finished\n\
-     19 stepped\n20 stepped\n21 stepped\n22 stepped\n23 stepped\n24 finished\nstatus 0\n==\n\
-     device-left-busy\n--\ndriver disk\ndispatch READ read\nstartio begin_one\ndpc done\n\
+     8 idle\n9 idle\n10 idle\n11 idle\n12 idle\nstatus 0\n==\ndevice-left-busy\n--\ndriver disk\n\
+     dispatch READ read\nstartio begin_one\ndpc done\nroutine read dispatch\nmark r0\nstart r0\n\
+     ret PENDING\nendr\nroutine begin_one startio\nbegin r0\nret void\nendr\nroutine done dpc\n\
+     take r0 none\ncomplete r0 SUCCESS\nret void\nnone: ret void\nendr\nendd\ndevice d0 disk 1\n\
+     --\nthreads 2\nissue 0 0 READ 0\nstep 0 3\nstartio 1 0\nstep 1 2\ninterrupt 0\ndpc 1 0\n\
+     step 1 4\nissue 0 0 READ 0\nstep 0 3\nstartio 1 0\n--\n\
+     refused V14 Token driver 0 routine 2 at 2\nstatus 1\n--\n0 started 0\n1 stepped\n2 stepped\n\
+     3 finished\n4 started 0\n5 stepped\n6 finished\n7 stepped\n8 stepped\n9 stepped\n10 stepped\n\
+     11 topped 0 0x00000000 0\n12 finished\n13 started 1\n14 stepped\n15 stepped\n16 finished\n\
+     17 idle\nstatus 0\n--\ndriver disk\ndispatch READ read\nstartio begin_one\ndpc done\n\
      routine read dispatch\nmark r0\nstart r0\nret PENDING\nendr\nroutine begin_one startio\n\
-     begin r0\nret void\nendr\nroutine done dpc\ntake r0 none\ncomplete r0 SUCCESS\nret void\n\
-     none: ret void\nendr\nendd\ndevice d0 disk 1\n--\nthreads 2\nissue 0 0 READ 0\nstep 0 3\n\
-     startio 1 0\nstep 1 2\ninterrupt 0\ndpc 1 0\nstep 1 4\nissue 0 0 READ 0\nstep 0 3\n\
-     startio 1 0\n--\nrefused V14 Token driver 0 routine 2 at 2\nstatus 1\n--\n0 started 0\n\
-     1 stepped\n2 stepped\n3 finished\n4 started 0\n5 stepped\n6 finished\n7 stepped\n8 stepped\n\
-     9 stepped\n10 stepped\n11 topped 0 0x00000000 0\n12 finished\n13 started 1\n14 stepped\n\
-     15 stepped\n16 finished\n17 idle\nstatus 0\n--\ndriver disk\ndispatch READ read\n\
-     startio begin_one\ndpc done\nroutine read dispatch\nmark r0\nstart r0\nret PENDING\nendr\n\
-     routine begin_one startio\nbegin r0\nret void\nendr\nroutine done dpc\ntake r0 none\nnext\n\
-     complete r0 SUCCESS\nret void\nnone: ret void\nendr\nendd\ndevice d0 disk 1\n--\n\
-     0 started 0\n1 stepped\n2 stepped\n3 finished\n4 started 0\n5 stepped\n6 finished\n\
-     7 stepped\n8 stepped\n9 stepped\n10 stepped\n11 stepped\n12 topped 0 0x00000000 0\n\
-     13 started 1\n14 stepped\n15 stepped\n16 finished\n17 refused\nstatus 0\n==\n\
-     ends-without-ret\n--\ndriver disk\ndispatch READ read\nroutine read dispatch\n\
-     complete r0 SUCCESS\nendr\nendd\ndevice d0 disk 1\n--\nthreads 1\nissue 0 0 READ 0\n\
-     step 0 12\n--\nrefused V1 Malformed driver 0 routine 0 at 0\nstatus 1\n--\n0 started 0\n\
-     1 stepped\n2 topped 0 0x00000000 0\n3 wrong 0.0.1\nstatus 1\n--\ndriver disk\n\
-     dispatch READ read\nroutine read dispatch\ncomplete r0 SUCCESS\nret SUCCESS\nendr\nendd\n\
-     device d0 disk 1\n--\n0 started 0\n1 stepped\n2 topped 0 0x00000000 0\n3 finished\n4 idle\n\
-     5 idle\n6 idle\n7 idle\n8 idle\n9 idle\n10 idle\n11 idle\n12 idle\nstatus 0\n==\n\
-     held-packet-dropped\n--\ndriver disk\ndispatch READ read\nroutine read dispatch\n\
-     complete r0 SUCCESS\nret SUCCESS\nendr\nendd\ndriver filter\ndispatch READ read\n\
-     routine read dispatch\nmark r0\ncall r0 after\nret PENDING\nendr\nroutine after hold\n\
-     mark r0\nret stop\nendr\nendd\ndevice d0 disk 1\ndevice f0 filter 2 d0\n--\nthreads 2\n\
-     issue 0 1 READ 0\nstep 0 10\ninterrupt 1\ndpc 1 1\nstep 1 8\n--\n\
-     refused V13 Dropped driver 1 routine 1 at 1\nstatus 1\n--\n0 started 0\n1 stepped\n\
-     2 stepped\n3 stepped\n4 stepped\n5 stepped\n6 stepped\n7 stepped\n8 finished\n9 idle\n\
-     10 idle\n11 refused\n12 refused\n13 idle\n14 idle\n15 idle\n16 idle\n17 idle\n18 idle\n\
-     19 idle\n20 idle\nstatus 0\n--\ndriver disk\ndispatch READ read\nroutine read dispatch\n\
-     complete r0 SUCCESS\nret SUCCESS\nendr\nendd\ndriver filter\nqueue held l0\n\
-     dispatch READ read\ndpc done\nroutine read dispatch\nmark r0\ncall r0 after\nret PENDING\n\
-     endr\nroutine after hold\nmark r0\nacquire l0\ninsert r0 held\nrelease l0\nret stop\nendr\n\
-     routine done dpc\nacquire l0\nremove r0 held none\nrelease l0\ncomplete r0 SUCCESS\n\
-     ret void\nnone: release l0\nret void\nendr\nendd\ndevice d0 disk 1\ndevice f0 filter 2 d0\n\
-     --\n0 started 0\n1 stepped\n2 stepped\n3 stepped\n4 stepped\n5 stepped\n6 stepped\n\
-     7 stepped\n8 stepped\n9 stepped\n10 stepped\n11 stepped\n12 stepped\n13 stepped\n14 stepped\n\
-     15 stepped\n16 stepped\n17 topped 0 0x00000000 0\n18 finished\n19 idle\n20 idle\nstatus 0\n\
-     ==\njumps-back\n--\ndriver disk\ndispatch READ read\nroutine read dispatch\n\
-     again: load r1 c0\njz r1 again\ncomplete r0 SUCCESS\nret SUCCESS\nendr\nendd\n\
+     begin r0\nret void\nendr\nroutine done dpc\ntake r0 none\nnext\ncomplete r0 SUCCESS\n\
+     ret void\nnone: ret void\nendr\nendd\ndevice d0 disk 1\n--\n0 started 0\n1 stepped\n\
+     2 stepped\n3 finished\n4 started 0\n5 stepped\n6 finished\n7 stepped\n8 stepped\n9 stepped\n\
+     10 stepped\n11 stepped\n12 topped 0 0x00000000 0\n13 started 1\n14 stepped\n15 stepped\n\
+     16 finished\n17 refused\nstatus 0\n==\nends-without-ret\n--\ndriver disk\n\
+     dispatch READ read\nroutine read dispatch\ncomplete r0 SUCCESS\nendr\nendd\n\
      device d0 disk 1\n--\nthreads 1\nissue 0 0 READ 0\nstep 0 12\n--\n\
+     refused V1 Malformed driver 0 routine 0 at 0\nstatus 1\n--\n0 started 0\n1 stepped\n\
+     2 topped 0 0x00000000 0\n3 wrong 0.0.1\nstatus 1\n--\ndriver disk\ndispatch READ read\n\
+     routine read dispatch\ncomplete r0 SUCCESS\nret SUCCESS\nendr\nendd\ndevice d0 disk 1\n--\n\
+     0 started 0\n1 stepped\n2 topped 0 0x00000000 0\n3 finished\n4 idle\n5 idle\n6 idle\n7 idle\n\
+     8 idle\n9 idle\n10 idle\n11 idle\n12 idle\nstatus 0\n==\nheld-packet-dropped\n--\n\
+     driver disk\ndispatch READ read\nroutine read dispatch\ncomplete r0 SUCCESS\nret SUCCESS\n\
+     endr\nendd\ndriver filter\ndispatch READ read\nroutine read dispatch\nmark r0\n\
+     call r0 after\nret PENDING\nendr\nroutine after hold\nmark r0\nret stop\nendr\nendd\n\
+     device d0 disk 1\ndevice f0 filter 2 d0\n--\nthreads 2\nissue 0 1 READ 0\nstep 0 10\n\
+     interrupt 1\ndpc 1 1\nstep 1 8\n--\nrefused V13 Dropped driver 1 routine 1 at 1\nstatus 1\n\
+     --\n0 started 0\n1 stepped\n2 stepped\n3 stepped\n4 stepped\n5 stepped\n6 stepped\n\
+     7 stepped\n8 finished\n9 idle\n10 idle\n11 refused\n12 refused\n13 idle\n14 idle\n15 idle\n\
+     16 idle\n17 idle\n18 idle\n19 idle\n20 idle\nstatus 0\n--\ndriver disk\ndispatch READ read\n\
+     routine read dispatch\ncomplete r0 SUCCESS\nret SUCCESS\nendr\nendd\ndriver filter\n\
+     queue held l0\ndispatch READ read\ndpc done\nroutine read dispatch\nmark r0\ncall r0 after\n\
+     ret PENDING\nendr\nroutine after hold\nmark r0\nacquire l0\ninsert r0 held\nrelease l0\n\
+     ret stop\nendr\nroutine done dpc\nacquire l0\nremove r0 held none\nrelease l0\n\
+     complete r0 SUCCESS\nret void\nnone: release l0\nret void\nendr\nendd\ndevice d0 disk 1\n\
+     device f0 filter 2 d0\n--\n0 started 0\n1 stepped\n2 stepped\n3 stepped\n4 stepped\n\
+     5 stepped\n6 stepped\n7 stepped\n8 stepped\n9 stepped\n10 stepped\n11 stepped\n12 stepped\n\
+     13 stepped\n14 stepped\n15 stepped\n16 stepped\n17 topped 0 0x00000000 0\n18 finished\n\
+     19 idle\n20 idle\nstatus 0\n==\njumps-back\n--\ndriver disk\ndispatch READ read\n\
+     routine read dispatch\nagain: load r1 c0\njz r1 again\ncomplete r0 SUCCESS\nret SUCCESS\n\
+     endr\nendd\ndevice d0 disk 1\n--\nthreads 1\nissue 0 0 READ 0\nstep 0 12\n--\n\
      refused V1 Malformed driver 0 routine 0 at 1\nstatus 1\n--\n0 started 0\n1 stepped\n\
      2 stepped\n3 stepped\n4 stepped\n5 stepped\n6 stepped\n7 stepped\n8 stepped\n9 stepped\n\
      10 stepped\n11 stepped\n12 stepped\nstatus 0\n--\ndriver disk\ndispatch READ read\n\
@@ -361,64 +271,10 @@ const THIRD: &str =
      dispatch READ read\nroutine read dispatch\ncomplete r0 SUCCESS\nret SUCCESS\nendr\nendd\n\
      device d0 disk 1\n--\n0 started 0\n1 stepped\n2 topped 0 0x00000000 0\n3 finished\n4 idle\n\
      5 idle\n6 idle\n7 idle\n8 idle\n9 idle\n10 idle\n11 idle\n12 idle\nstatus 0\n==\n\
-     next-in-a-cancel-routine\n--\ndriver scanner\ndispatch READ read\nstartio begins gone\n\
-     dpc done\nroutine read dispatch\nmark r0\nacqc\nifcancel r0 was\nstart r0\nrelc\n\
-     ret PENDING\nwas: relc\ncomplete r0 CANCELLED\nret PENDING\nendr\nroutine begins startio\n\
-     begin r0\nret void\nendr\nroutine done dpc\ntake r0 none\nacqc\nnext\nrelc\n\
-     complete r0 SUCCESS\nret void\nnone: ret void\nendr\nroutine gone cancel\ndequeue r0\nnext\n\
-     relc\ncomplete r0 CANCELLED\nret void\nendr\nendd\ndevice s0 scanner 1\n--\nthreads 2\n\
-     issue 0 0 READ 1\nstep 0 6\nissue 0 0 READ 2\nstep 0 6\nissue 0 0 READ 3\nstep 0 6\n\
-     cancel 1 1 0\nstep 1 9\nstartio 0 0\nstep 0 2\nstartio 0 0\nstep 0 2\ninterrupt 0\ndpc 0 0\n\
-     step 0 7\ninterrupt 0\ndpc 0 0\nstep 0 2\n--\nrefused V14 Token driver 0 routine 3 at 1\n\
-     status 1\n--\n0 started 0\n1 stepped\n2 stepped\n3 stepped\n4 stepped\n5 stepped\n\
-     6 finished\n7 started 1\n8 stepped\n9 stepped\n10 stepped\n11 stepped\n12 stepped\n\
-     13 finished\n14 started 2\n15 stepped\n16 stepped\n17 stepped\n18 stepped\n19 stepped\n\
-     20 finished\n21 started 1\n22 stepped\n23 stepped\n24 stepped\n25 stepped\n26 stepped\n\
-     27 stepped\n28 stepped\n29 topped 1 0xC0000120 0\n30 finished\n31 started 0\n32 stepped\n\
-     33 finished\n34 started 2\n35 stepped\n36 finished\n37 stepped\n38 stepped\n39 stepped\n\
-     40 stepped\n41 stepped\n42 stepped\n43 stepped\n44 topped 2 0x00000000 0\n45 finished\n\
-     46 stepped\n47 stepped\n48 stepped\n49 finished\nstatus 0\n--\ndriver scanner\n\
-     dispatch READ read\nstartio begins gone\ndpc done\nroutine read dispatch\nmark r0\nacqc\n\
-     ifcancel r0 was\nstart r0\nrelc\nret PENDING\nwas: relc\ncomplete r0 CANCELLED\nret PENDING\n\
-     endr\nroutine begins startio\nbegin r0\nret void\nendr\nroutine done dpc\ntake r0 none\n\
-     acqc\nnext\nrelc\ncomplete r0 SUCCESS\nret void\nnone: ret void\nendr\nroutine gone cancel\n\
-     dequeue r0\nrelc\ncomplete r0 CANCELLED\nret void\nendr\nendd\ndevice s0 scanner 1\n--\n\
-     0 started 0\n1 stepped\n2 stepped\n3 stepped\n4 stepped\n5 stepped\n6 finished\n7 started 1\n\
-     8 stepped\n9 stepped\n10 stepped\n11 stepped\n12 stepped\n13 finished\n14 started 2\n\
-     15 stepped\n16 stepped\n17 stepped\n18 stepped\n19 stepped\n20 finished\n21 started 1\n\
-     22 stepped\n23 stepped\n24 stepped\n25 stepped\n26 stepped\n27 stepped\n\
-     28 topped 1 0xC0000120 0\n29 finished\n30 idle\n31 started 0\n32 stepped\n33 finished\n\
-     34 idle\n35 idle\n36 idle\n37 stepped\n38 stepped\n39 stepped\n40 stepped\n41 stepped\n\
-     42 stepped\n43 stepped\n44 topped 0 0x00000000 0\n45 finished\n46 stepped\n47 stepped\n\
-     48 stepped\n49 finished\nstatus 0\n==\nnext-without-the-cancel-lock\n--\ndriver scanner\n\
-     dispatch READ read\nstartio begins gone\ndpc done\nroutine read dispatch\nmark r0\nacqc\n\
-     ifcancel r0 was\nstart r0\nrelc\nret PENDING\nwas: relc\ncomplete r0 CANCELLED\nret PENDING\n\
-     endr\nroutine begins startio\nbegin r0\nret void\nendr\nroutine done dpc\ntake r0 none\n\
-     next\ncomplete r0 SUCCESS\nret void\nnone: ret void\nendr\nroutine gone cancel\ndequeue r0\n\
-     relc\ncomplete r0 CANCELLED\nret void\nendr\nendd\ndevice s0 scanner 1\n--\nthreads 2\n\
-     issue 0 0 READ 1\nstep 0 6\nissue 0 0 READ 2\nstep 0 6\ncancel 1 1 0\nstep 1 3\nstartio 0 0\n\
-     step 0 2\ninterrupt 0\ndpc 0 0\nstep 0 2\nstep 1 5\nstep 0 6\nstartio 0 0\nstep 0\n--\n\
-     refused V11 Guard driver 0 routine 2 at 1\nstatus 1\n--\n0 started 0\n1 stepped\n2 stepped\n\
-     3 stepped\n4 stepped\n5 stepped\n6 finished\n7 started 1\n8 stepped\n9 stepped\n10 stepped\n\
-     11 stepped\n12 stepped\n13 finished\n14 started 1\n15 stepped\n16 stepped\n17 stepped\n\
-     18 started 0\n19 stepped\n20 finished\n21 stepped\n22 stepped\n23 stepped\n24 stepped\n\
-     25 stepped\n26 stepped\n27 stepped\n28 topped 1 0xC0000120 0\n29 finished\n30 stepped\n\
-     31 topped 0 0x00000000 0\n32 finished\n33 idle\n34 idle\n35 idle\n36 started 1\n\
-     37 bug 0x0A packet 1\nstatus 1\n--\ndriver scanner\ndispatch READ read\nstartio begins gone\n\
-     dpc done\nroutine read dispatch\nmark r0\nacqc\nifcancel r0 was\nstart r0\nrelc\n\
-     ret PENDING\nwas: relc\ncomplete r0 CANCELLED\nret PENDING\nendr\nroutine begins startio\n\
-     begin r0\nret void\nendr\nroutine done dpc\ntake r0 none\nacqc\nnext\nrelc\n\
-     complete r0 SUCCESS\nret void\nnone: ret void\nendr\nroutine gone cancel\ndequeue r0\nrelc\n\
-     complete r0 CANCELLED\nret void\nendr\nendd\ndevice s0 scanner 1\n--\n0 started 0\n\
-     1 stepped\n2 stepped\n3 stepped\n4 stepped\n5 stepped\n6 finished\n7 started 1\n8 stepped\n\
-     9 stepped\n10 stepped\n11 stepped\n12 stepped\n13 finished\n14 started 1\n15 stepped\n\
-     16 stepped\n17 stepped\n18 started 0\n19 stepped\n20 finished\n21 stepped\n22 stepped\n\
-     23 stepped\n24 waited\n25 stepped\n26 stepped\n27 stepped\n28 topped 1 0xC0000120 0\n\
-     29 finished\n30 stepped\n31 stepped\n32 stepped\n33 stepped\n34 topped 0 0x00000000 0\n\
-     35 finished\n36 idle\n37 idle\nstatus 0\n==\nno-lower-device\n--\ndriver disk\n\
-     dispatch READ read\nroutine read dispatch\ncomplete r0 SUCCESS\nret SUCCESS\nendr\nendd\n\
-     driver filter\ndispatch READ read\nroutine read dispatch\npass r0\nret lower r0\nendr\nendd\n\
-     device d0 disk 1\ndevice f0 filter 1\n--\nthreads 1\nissue 0 1 READ 0\nstep 0 8\n--\n\
+     no-lower-device\n--\ndriver disk\ndispatch READ read\nroutine read dispatch\n\
+     complete r0 SUCCESS\nret SUCCESS\nendr\nendd\ndriver filter\ndispatch READ read\n\
+     routine read dispatch\npass r0\nret lower r0\nendr\nendd\ndevice d0 disk 1\n\
+     device f0 filter 1\n--\nthreads 1\nissue 0 1 READ 0\nstep 0 8\n--\n\
      refused V18 NoLower driver 1 routine 0 at 0\nstatus 1\n--\n0 started 0\n1 wrong 1.0.0\n\
      status 1\n--\ndriver disk\ndispatch READ read\nroutine read dispatch\ncomplete r0 SUCCESS\n\
      ret SUCCESS\nendr\nendd\ndriver filter\ndispatch READ read\nroutine read dispatch\npass r0\n\
@@ -440,61 +296,29 @@ const THIRD: &str =
      driver disk\ndispatch READ read\nroutine read dispatch\nconst r1 1\nloop 2\nconst r1 1\nend\n\
      complete r0 SUCCESS\nret SUCCESS\nendr\nendd\ndevice d0 disk 1\n--\n0 started 0\n1 stepped\n\
      2 stepped\n3 stepped\n4 stepped\n5 stepped\n6 stepped\n7 stepped\n8 topped 0 0x00000000 0\n\
-     9 finished\n10 idle\n11 idle\n12 idle\nstatus 0\n==\none-cancel-routine-for-two-lists\n--\n\
-     driver scanner\nqueue waiting l0 gone\ndispatch READ read\ndispatch WRITE write\n\
-     startio begins gone\ndpc done\nroutine read dispatch\nmark r0\nacqc\nifcancel r0 was\n\
-     start r0\nrelc\nret PENDING\nwas: relc\ncomplete r0 CANCELLED\nret PENDING\nendr\n\
-     routine write dispatch\nmark r0\nacquire l0\ninsert r0 waiting\narm r0 waiting\n\
-     ifcancel r0 was\nrelease l0\nret PENDING\nwas: disarm r0 away\nunlink r0 waiting\n\
-     release l0\ncomplete r0 CANCELLED\nret PENDING\naway: release l0\nret PENDING\nendr\n\
-     routine begins startio\nacqc\nnext\nrelc\ncomplete r0 SUCCESS\nret void\nendr\n\
-     routine done dpc\nacquire l0\nremove r0 waiting none\ndisarm r0 none\nrelease l0\n\
-     complete r0 SUCCESS\nret void\nnone: release l0\nret void\nendr\nroutine gone cancel\n\
-     dequeue r0\nrelc\ncomplete r0 CANCELLED\nret void\nendr\nendd\ndevice s0 scanner 1\n--\n\
-     threads 2\nissue 0 0 WRITE 1\nstep 0 7\ncancel 1 0 0\nstep 1 10\ninterrupt 0\ndpc 0 0\n\
-     step 0 4\n--\nrefused V15 Sort driver 0 routine 4 at 0\nstatus 1\n--\n0 started 0\n\
-     1 stepped\n2 stepped\n3 stepped\n4 stepped\n5 stepped\n6 stepped\n7 finished\n8 started 0\n\
-     9 stepped\n10 stepped\n11 stepped\n12 stepped\n13 stepped\n14 stepped\n\
-     15 topped 0 0xC0000120 0\n16 finished\n17 idle\n18 idle\n19 stepped\n20 stepped\n21 stepped\n\
-     22 bug 0x0A packet 0\nstatus 1\n--\ndriver scanner\nqueue waiting l0 lost\n\
-     dispatch READ read\ndispatch WRITE write\nstartio begins gone\ndpc done\n\
-     routine read dispatch\nmark r0\nacqc\nifcancel r0 was\nstart r0\nrelc\nret PENDING\n\
-     was: relc\ncomplete r0 CANCELLED\nret PENDING\nendr\nroutine write dispatch\nmark r0\n\
-     acquire l0\ninsert r0 waiting\narm r0 waiting\nifcancel r0 was\nrelease l0\nret PENDING\n\
-     was: disarm r0 away\nunlink r0 waiting\nrelease l0\ncomplete r0 CANCELLED\nret PENDING\n\
-     away: release l0\nret PENDING\nendr\nroutine begins startio\nacqc\nnext\nrelc\n\
-     complete r0 SUCCESS\nret void\nendr\nroutine done dpc\nacquire l0\nremove r0 waiting none\n\
-     disarm r0 none\nrelease l0\ncomplete r0 SUCCESS\nret void\nnone: release l0\nret void\nendr\n\
-     routine gone cancel\ndequeue r0\nrelc\ncomplete r0 CANCELLED\nret void\nendr\n\
-     routine lost cancel\nacquire l0\nunlink r0 waiting\nrelease l0\nrelc\ncomplete r0 CANCELLED\n\
-     ret void\nendr\nendd\ndevice s0 scanner 1\n--\n0 started 0\n1 stepped\n2 stepped\n3 stepped\n\
-     4 stepped\n5 stepped\n6 stepped\n7 finished\n8 started 0\n9 stepped\n10 stepped\n11 stepped\n\
-     12 stepped\n13 stepped\n14 stepped\n15 stepped\n16 stepped\n17 topped 0 0xC0000120 0\n\
-     18 finished\n19 stepped\n20 stepped\n21 stepped\n22 stepped\n23 stepped\n24 finished\n\
-     status 0\n";
-
-const FOURTH: &str =
-    "packet-forgotten\n--\ndriver disk\ndispatch READ read\nroutine read dispatch\nret SUCCESS\n\
-     endr\nendd\ndevice d0 disk 1\n--\nthreads 1\nissue 0 0 READ 0\nstep 0 12\n--\n\
-     refused V13 Dropped driver 0 routine 0 at 0\nstatus 1\n--\n0 started 0\n1 finished\n2 idle\n\
-     3 idle\n4 idle\n5 idle\n6 idle\n7 idle\n8 idle\n9 idle\n10 idle\n11 idle\n12 idle\nstatus 0\n\
-     --\ndriver disk\ndispatch READ read\nroutine read dispatch\ncomplete r0 SUCCESS\n\
-     ret SUCCESS\nendr\nendd\ndevice d0 disk 1\n--\n0 started 0\n1 stepped\n\
-     2 topped 0 0x00000000 0\n3 finished\n4 idle\n5 idle\n6 idle\n7 idle\n8 idle\n9 idle\n\
-     10 idle\n11 idle\n12 idle\nstatus 0\n==\npacket-overwritten\n--\ndriver disk\n\
-     dispatch READ read\nroutine read dispatch\nconst r0 1\nret SUCCESS\nendr\nendd\n\
+     9 finished\n10 idle\n11 idle\n12 idle\nstatus 0\n==\npacket-forgotten\n--\ndriver disk\n\
+     dispatch READ read\nroutine read dispatch\nret SUCCESS\nendr\nendd\ndevice d0 disk 1\n--\n\
+     threads 1\nissue 0 0 READ 0\nstep 0 12\n--\nrefused V13 Dropped driver 0 routine 0 at 0\n\
+     status 1\n--\n0 started 0\n1 finished\n2 idle\n3 idle\n4 idle\n5 idle\n6 idle\n7 idle\n\
+     8 idle\n9 idle\n10 idle\n11 idle\n12 idle\nstatus 0\n--\ndriver disk\ndispatch READ read\n\
+     routine read dispatch\ncomplete r0 SUCCESS\nret SUCCESS\nendr\nendd\ndevice d0 disk 1\n--\n\
+     0 started 0\n1 stepped\n2 topped 0 0x00000000 0\n3 finished\n4 idle\n5 idle\n6 idle\n7 idle\n\
+     8 idle\n9 idle\n10 idle\n11 idle\n12 idle\nstatus 0\n==\npacket-overwritten\n--\n\
+     driver disk\ndispatch READ read\nroutine read dispatch\nconst r0 1\nret SUCCESS\nendr\nendd\n\
      device d0 disk 1\n--\nthreads 1\nissue 0 0 READ 0\nstep 0 12\n--\n\
      refused V13 Dropped driver 0 routine 0 at 0\nstatus 1\n--\n0 started 0\n1 stepped\n\
      2 finished\n3 idle\n4 idle\n5 idle\n6 idle\n7 idle\n8 idle\n9 idle\n10 idle\n11 idle\n\
      12 idle\nstatus 0\n--\ndriver disk\ndispatch READ read\nroutine read dispatch\nconst r1 1\n\
      put r0 r1\ncomplete r0 SUCCESS\nret SUCCESS\nendr\nendd\ndevice d0 disk 1\n--\n0 started 0\n\
      1 stepped\n2 stepped\n3 stepped\n4 topped 0 0x00000000 1\n5 finished\n6 idle\n7 idle\n\
-     8 idle\n9 idle\n10 idle\n11 idle\n12 idle\nstatus 0\n==\npaged-under-a-lock\n--\n\
-     driver disk\ndispatch READ read\nroutine read dispatch\nacquire l0\nloadp r1 p0\nrelease l0\n\
-     complete r0 SUCCESS\nret SUCCESS\nendr\nendd\ndevice d0 disk 1\n--\nthreads 1\n\
-     issue 0 0 READ 0\nstep 0 12\n--\nrefused V10 Level driver 0 routine 0 at 1\nstatus 1\n--\n\
-     0 started 0\n1 stepped\n2 bug 0x0A cell 0.0\nstatus 1\n--\ndriver disk\ndispatch READ read\n\
-     routine read dispatch\nloadp r1 p0\nacquire l0\nstore c0 r1\nrelease l0\n\
+     8 idle\n9 idle\n10 idle\n11 idle\n12 idle\nstatus 0\n";
+
+const FOURTH: &str =
+    "paged-under-a-lock\n--\ndriver disk\ndispatch READ read\nroutine read dispatch\nacquire l0\n\
+     loadp r1 p0\nrelease l0\ncomplete r0 SUCCESS\nret SUCCESS\nendr\nendd\ndevice d0 disk 1\n--\n\
+     threads 1\nissue 0 0 READ 0\nstep 0 12\n--\nrefused V10 Level driver 0 routine 0 at 1\n\
+     status 1\n--\n0 started 0\n1 stepped\n2 bug 0x0A cell 0.0\nstatus 1\n--\ndriver disk\n\
+     dispatch READ read\nroutine read dispatch\nloadp r1 p0\nacquire l0\nstore c0 r1\nrelease l0\n\
      complete r0 SUCCESS\nret SUCCESS\nendr\nendd\ndevice d0 disk 1\n--\n0 started 0\n1 stepped\n\
      2 stepped\n3 stepped\n4 stepped\n5 stepped\n6 topped 0 0x00000000 0\n7 finished\n8 idle\n\
      9 idle\n10 idle\n11 idle\n12 idle\nstatus 0\n==\npending-and-not-marked\n--\ndriver disk\n\
@@ -634,46 +458,18 @@ const FIFTH: &str =
      routine begin_one startio\nbegin r0\nret void\nendr\nroutine done dpc\ntake r0 none\nnext\n\
      complete r0 SUCCESS\nret void\nnone: ret void\nendr\nendd\ndevice d0 disk 1\n--\n\
      0 started 0\n1 stepped\n2 stepped\n3 finished\n4 idle\n5 idle\n6 idle\n7 idle\n8 idle\n\
-     9 idle\n10 idle\n11 idle\n12 idle\nstatus 0\n==\nstarted-without-the-cancel-lock\n--\n\
-     driver scanner\ndispatch READ read\nstartio begins gone\ndpc done\nroutine read dispatch\n\
-     mark r0\nifcancel r0 was\nstart r0\nret PENDING\nwas: complete r0 CANCELLED\nret PENDING\n\
-     endr\nroutine begins startio\nbegin r0\nret void\nendr\nroutine done dpc\ntake r0 none\n\
-     acqc\nnext\nrelc\ncomplete r0 SUCCESS\nret void\nnone: ret void\nendr\nroutine gone cancel\n\
-     dequeue r0\nrelc\ncomplete r0 CANCELLED\nret void\nendr\nendd\ndevice s0 scanner 1\n--\n\
-     threads 2\nissue 0 0 READ 1\nstep 0 6\nissue 0 0 READ 2\nstep 0 2\ncancel 1 1 0\nstep 1 3\n\
-     step 0 4\nstep 1 8\nstartio 0 0\nstep 0 2\ninterrupt 0\ndpc 0 0\nstep 0 7\nstartio 0 0\n\
-     step 0 2\ninterrupt 0\ndpc 0 0\nstep 0 7\n--\nrefused V11 Guard driver 0 routine 0 at 2\n\
-     status 1\n--\n0 started 0\n1 stepped\n2 stepped\n3 stepped\n4 finished\n5 idle\n6 idle\n\
-     7 started 1\n8 stepped\n9 stepped\n10 started 1\n11 stepped\n12 stepped\n13 finished\n\
-     14 stepped\n15 finished\n16 idle\n17 idle\n18 idle\n19 idle\n20 idle\n21 idle\n22 idle\n\
-     23 idle\n24 idle\n25 idle\n26 started 0\n27 stepped\n28 finished\n29 stepped\n30 stepped\n\
-     31 stepped\n32 stepped\n33 stepped\n34 stepped\n35 stepped\n36 topped 0 0x00000000 0\n\
-     37 finished\n38 started 1\n39 stepped\n40 finished\n41 stepped\n42 stepped\n43 stepped\n\
-     44 stepped\n45 stepped\n46 stepped\n47 stepped\n48 topped 1 0x00000000 0\n49 finished\n\
-     status 0\n--\ndriver scanner\ndispatch READ read\nstartio begins gone\ndpc done\n\
-     routine read dispatch\nmark r0\nacqc\nifcancel r0 was\nstart r0\nrelc\nret PENDING\n\
-     was: relc\ncomplete r0 CANCELLED\nret PENDING\nendr\nroutine begins startio\nbegin r0\n\
-     ret void\nendr\nroutine done dpc\ntake r0 none\nacqc\nnext\nrelc\ncomplete r0 SUCCESS\n\
-     ret void\nnone: ret void\nendr\nroutine gone cancel\ndequeue r0\nrelc\n\
-     complete r0 CANCELLED\nret void\nendr\nendd\ndevice s0 scanner 1\n--\n0 started 0\n\
-     1 stepped\n2 stepped\n3 stepped\n4 stepped\n5 stepped\n6 finished\n7 started 1\n8 stepped\n\
-     9 stepped\n10 started 1\n11 waited\n12 waited\n13 waited\n14 stepped\n15 stepped\n\
-     16 stepped\n17 finished\n18 stepped\n19 stepped\n20 stepped\n21 stepped\n22 stepped\n\
-     23 stepped\n24 topped 1 0xC0000120 0\n25 finished\n26 started 0\n27 stepped\n28 finished\n\
-     29 stepped\n30 stepped\n31 stepped\n32 stepped\n33 stepped\n34 stepped\n35 stepped\n\
-     36 topped 0 0x00000000 0\n37 finished\n38 idle\n39 idle\n40 idle\n41 stepped\n42 stepped\n\
-     43 stepped\n44 finished\n45 idle\n46 idle\n47 idle\n48 idle\n49 idle\nstatus 0\n==\n\
-     taken-without-disarming\n--\ndriver disk\nqueue waiting l0 cancelled\ndispatch READ read\n\
-     dpc done\nroutine read dispatch\nmark r0\nacquire l0\ninsert r0 waiting\narm r0 waiting\n\
-     ifcancel r0 was\nrelease l0\nret PENDING\nwas: disarm r0 lost\nunlink r0 waiting\n\
-     release l0\ncomplete r0 CANCELLED\nret PENDING\nlost: release l0\nret PENDING\nendr\n\
-     routine done dpc\nacquire l0\nremove r0 waiting none\nrelease l0\ncomplete r0 SUCCESS\n\
-     ret void\nnone: release l0\nret void\nendr\nroutine cancelled cancel\nacquire l0\n\
-     unlink r0 waiting\nrelease l0\nrelc\ncomplete r0 CANCELLED\nret void\nendr\nendd\n\
-     device d0 disk 1\n--\nthreads 2\nissue 0 0 READ 0\nstep 0 7\ninterrupt 0\ndpc 1 0\nstep 1 6\n\
-     --\nrefused V11 Guard driver 0 routine 1 at 2\nstatus 1\n--\n0 started 0\n1 stepped\n\
-     2 stepped\n3 stepped\n4 stepped\n5 stepped\n6 stepped\n7 finished\n8 stepped\n9 stepped\n\
-     10 stepped\n11 stepped\n12 stepped\n13 bug 0x48 packet 0\nstatus 1\n--\ndriver disk\n\
+     9 idle\n10 idle\n11 idle\n12 idle\nstatus 0\n==\ntaken-without-disarming\n--\ndriver disk\n\
+     queue waiting l0 cancelled\ndispatch READ read\ndpc done\nroutine read dispatch\nmark r0\n\
+     acquire l0\ninsert r0 waiting\narm r0 waiting\nifcancel r0 was\nrelease l0\nret PENDING\n\
+     was: disarm r0 lost\nunlink r0 waiting\nrelease l0\ncomplete r0 CANCELLED\nret PENDING\n\
+     lost: release l0\nret PENDING\nendr\nroutine done dpc\nacquire l0\nremove r0 waiting none\n\
+     release l0\ncomplete r0 SUCCESS\nret void\nnone: release l0\nret void\nendr\n\
+     routine cancelled cancel\nacquire l0\nunlink r0 waiting\nrelease l0\nrelc\n\
+     complete r0 CANCELLED\nret void\nendr\nendd\ndevice d0 disk 1\n--\nthreads 2\n\
+     issue 0 0 READ 0\nstep 0 7\ninterrupt 0\ndpc 1 0\nstep 1 6\n--\n\
+     refused V11 Guard driver 0 routine 1 at 2\nstatus 1\n--\n0 started 0\n1 stepped\n2 stepped\n\
+     3 stepped\n4 stepped\n5 stepped\n6 stepped\n7 finished\n8 stepped\n9 stepped\n10 stepped\n\
+     11 stepped\n12 stepped\n13 bug 0x48 packet 0\nstatus 1\n--\ndriver disk\n\
      queue waiting l0 cancelled\ndispatch READ read\ndpc done\nroutine read dispatch\nmark r0\n\
      acquire l0\ninsert r0 waiting\narm r0 waiting\nifcancel r0 was\nrelease l0\nret PENDING\n\
      was: disarm r0 lost\nunlink r0 waiting\nrelease l0\ncomplete r0 CANCELLED\nret PENDING\n\
