@@ -1,5 +1,5 @@
 -- Two numbers tell a kind.
-use Rattle.std.proofs.Common.{◌≡◌, ℕ, zero, suc, ◌<◌, ◌≤◌, Bool, true, false, ◌&&◌, ◌||◌, List, [], ◌∷◌, length, drop, get_or, eq-eqb, eqb-true, refl, sym, subst, ◌∙◌, ap}
+use Rattle.std.proofs.Common.{◌≡◌, ℕ, zero, suc, ◌<◌, ◌≤◌, Bool, true, false, ◌&&◌, ◌||◌, List, [], ◌∷◌, length, drop, set, get_or, eq-eqb, eqb-true, refl, sym, subst, ◌∙◌, ap, arith}
 use Rattle.std.proofs.Math.Seq.{drop-cons}
 use Rattle.std.proofs.lemmas.List.{drop_all}
 use Rattle.std.specs.List.{list_any}
@@ -108,6 +108,38 @@ unlisted _ none = refl
 neither : (a b : Bool) → (a || b) ≡ false → (a ≡ false) × (b ≡ false)
 neither true b none = cc
 neither false b none = record { 0 = refl; 1 = none }
+
+or_true : (a : Bool) → (a || true) ≡ true
+or_true true = refl
+or_true false = refl
+
+-- a kind that is put into a register: it names a list, or none does, or it takes the place of one
+-- that names none
+pub list_put : (kinds : List Kind) (i : ℕ) (kind : Kind) → i < length kinds
+    → has_list kind ≡ true → true ≡ list_any has_list (set kinds i kind)
+list_put [] i kind within new = absurd (omega (arith, within))
+list_put (k ∷ kinds) zero kind within new = rw new refl
+list_put (k ∷ kinds) (suc i) kind within new =
+    let rest : true ≡ list_any has_list (set kinds i kind) =
+    list_put kinds i kind (omega (arith, within)) new in
+    sym (or_true (has_list k)) ∙ ap (λ (b : Bool). has_list k || b) rest
+
+pub none_put : (kinds : List Kind) (i : ℕ) (kind : Kind) → has_list kind ≡ false
+    → list_any has_list kinds ≡ false → list_any has_list (set kinds i kind) ≡ false
+none_put [] i kind new none = none
+none_put (k ∷ kinds) zero kind new none =
+    let both = neither (has_list k) (list_any has_list kinds) none in rw (new, both.1) refl
+none_put (k ∷ kinds) (suc i) kind new none =
+    let both = neither (has_list k) (list_any has_list kinds) none in
+    rw (both.0, none_put kinds i kind new both.1) refl
+
+pub none_left : (kinds : List Kind) (i : ℕ) (kind d : Kind) → has_list kind ≡ false
+    → has_list (get_or kinds i d) ≡ false
+    → list_any has_list (set kinds i kind) ≡ list_any has_list kinds
+none_left [] i kind d new old = refl
+none_left (k ∷ kinds) zero kind d new old = rw (new, old) refl
+none_left (k ∷ kinds) (suc i) kind d new old =
+    ap (λ (b : Bool). has_list k || b) (none_left kinds i kind d new old)
 
 -- kinds that say the same name no queue where the first ones name none
 pub no_queues : (xs ys : List Kind) → same_shapes xs ys ≡ true → list_any has_list xs ≡ false

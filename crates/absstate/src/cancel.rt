@@ -18,11 +18,11 @@ ghost use Rattle.model.specs.Set.{cancel_routine_of, guard_named, has_cancel};
 
 use crate::fault::{broken_if, free_fault, least, unless};
 use crate::queues::guard_fault;
-use crate::state::{holds_guard, is_any_named, kind, set_held, set_kind};
+use crate::state::{holds_guard, is_any_named, kind};
+use crate::tracked::{Tracked, set_held, set_kind};
 use driver_set::DriverSet;
 use model::abs::{Abs, Kind, Rule};
 use model::instr::Register;
-use model::limits::REGISTERS;
 use model::set::{Guard, QueueName};
 
 /// `remove` wants the guard of the queue, a register for the packet, and no register with a packet
@@ -124,12 +124,12 @@ pub fn acquire_fault(state: &Abs, lock: &Guard) -> Option<Rule>
 }
 
 /// A lock that is released was held, and no register needs it.
-pub fn release_fault(state: &Abs, set: &DriverSet, driver: u8, lock: &Guard) -> Option<Rule>
-    ensures { result ≡ release_fault state.now set.now driver lock.now }
+pub fn release_fault(tracked: &Tracked, set: &DriverSet, driver: u8, lock: &Guard) -> Option<Rule>
+    ensures { result ≡ release_fault tracked.now set.now driver lock.now }
 {
-    let needed = is_any_in_need(&state.kinds, set, driver, lock);
+    let needed = is_any_in_need(tracked, set, driver, lock);
     least(
-        broken_if(!holds_guard(state, lock), rule_of_lock(lock)),
+        broken_if(!holds_guard(&tracked.state, lock), rule_of_lock(lock)),
         broken_if(needed, Rule::Guard),
     )
 }
@@ -232,10 +232,11 @@ fn is_name(one: QueueName, other: QueueName) -> bool
 }
 
 /// Whether a register needs a lock. Most often none names a list, and that is all.
-fn is_any_in_need(kinds: &[Kind; REGISTERS], set: &DriverSet, driver: u8, lock: &Guard) -> bool
-    ensures { result ≡ list_any (needs_guard set.now driver lock.now) kinds.now }
+#[tactic(auto, using(crate::proofs::Releasing::none_in_need))]
+fn is_any_in_need(tracked: &Tracked, set: &DriverSet, driver: u8, lock: &Guard) -> bool
+    ensures { result ≡ list_any (needs_guard set.now driver lock.now) tracked.now.kinds }
 {
-    is_any_named(kinds) && is_one_in_need(kinds, set, driver, lock)
+    tracked.named && is_one_in_need(&tracked.state.kinds, set, driver, lock)
 }
 
 fn is_one_in_need(kinds: &[Kind], set: &DriverSet, driver: u8, lock: &Guard) -> bool
@@ -285,64 +286,67 @@ fn is_same_lock(one: &Guard, other: &Guard) -> bool
 
 /// Puts the packet in a register into a queue. It stays the routine's own while it holds the guard,
 /// unless the queue is plain.
-pub fn insert(state: &mut Abs, register: Register, set: &DriverSet, driver: u8, queue: u8)
-    ensures { state.new
-        ≡ with_kind state.old register
+pub fn insert(tracked: &mut Tracked, register: Register, set: &DriverSet, driver: u8, queue: u8)
+    ensures { tracked.new
+        ≡ with_kind tracked.old register
         (kind_inserted (cancel_routine_of set.now driver queue) (QueueName.Declared queue)) }
 {
     let kind = match set.cancel_routine(driver, queue) {
         Some(_) => Kind::Listed(QueueName::Declared(queue)),
         None => Kind::Blank,
     };
-    set_kind(state, register, kind);
+    set_kind(tracked, register, kind);
 }
 
 /// Takes the first packet off a queue into a register. It may be cancelled until its cancel routine
 /// is exchanged, unless the queue is plain.
-pub fn remove(state: &mut Abs, register: Register, set: &DriverSet, driver: u8, queue: u8)
-    ensures { state.new
-        ≡ with_kind state.old register
+pub fn remove(tracked: &mut Tracked, register: Register, set: &DriverSet, driver: u8, queue: u8)
+    ensures { tracked.new
+        ≡ with_kind tracked.old register
         (kind_removed (cancel_routine_of set.now driver queue) (QueueName.Declared queue)) }
 {
     let kind = match set.cancel_routine(driver, queue) {
         Some(_) => Kind::Taken(QueueName::Declared(queue)),
         None => Kind::Own,
     };
-    set_kind(state, register, kind);
+    set_kind(tracked, register, kind);
 }
 
 /// Notes that the cancel routine of the packet in a register was set, so that IoCancelIrp won't
 /// call it any more.
-pub fn disarm(state: &mut Abs, register: Register)
-    ensures { state.new
-        ≡ with_kind state.old register (kind_disarmed (kind_of state.old register)) }
+pub fn disarm(tracked: &mut Tracked, register: Register)
+    ensures { tracked.new
+        ≡ with_kind tracked.old register (kind_disarmed (kind_of tracked.old register)) }
 {
-    let kind = match kind(state, register) {
+    let kind = match kind(&tracked.state, register) {
         Kind::Armed(name) => Kind::Listed(name),
         Kind::Taken(_) => Kind::Own,
         kind => kind,
     };
-    set_kind(state, register, kind);
+    set_kind(tracked, register, kind);
 }
 
 /// Releases a lock: a packet in a list that it guards, whose cancel routine is set, belongs to
 /// whoever comes first then.
-pub fn release(state: &mut Abs, set: &DriverSet, driver: u8, lock: &Guard)
-    ensures { state.new ≡ released state.old set.now driver lock.now }
+pub fn release(tracked: &mut Tracked, set: &DriverSet, driver: u8, lock: &Guard)
+    ensures { tracked.new ≡ released tracked.old set.now driver lock.now }
 {
-    armed_let_go(&mut state.kinds, set, driver, lock);
-    set_held(state, lock, false);
+    armed_let_go(tracked, set, driver, lock);
+    set_held(tracked, lock, false);
 }
 
-/// Lets the registers go, of which most often none names a list.
+/// Lets the registers go, of which most often none names a list; else it is looked at again
+/// whether one still does.
 #[tactic(auto, using(crate::proofs::Releasing::none_let_go))]
-fn armed_let_go(kinds: &mut [Kind; REGISTERS], set: &DriverSet, driver: u8, lock: &Guard)
-    ensures { kinds.new ≡ all_let_go set.now driver lock.now kinds.old }
+fn armed_let_go(tracked: &mut Tracked, set: &DriverSet, driver: u8, lock: &Guard)
+    ensures { tracked.new
+        ≡ record tracked.old { kinds = all_let_go set.now driver lock.now tracked.old.kinds } }
 {
-    if !is_any_named(kinds) {
+    if !tracked.named {
         return;
     }
-    all_let_go(kinds, set, driver, lock);
+    all_let_go(&mut tracked.state.kinds, set, driver, lock);
+    tracked.named = is_any_named(&tracked.state.kinds);
 }
 
 fn all_let_go(kinds: &mut [Kind], set: &DriverSet, driver: u8, lock: &Guard)

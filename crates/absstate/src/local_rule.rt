@@ -16,7 +16,10 @@ use crate::fault::{
 use crate::forwarding::{call_fault, pass_fault};
 use crate::queues::{begin_fault, insert_fault, next_fault, start_fault, take_fault};
 use crate::returns::return_fault;
-use crate::state::{begin, complete, give_down, kind, mark, move_kind, set_held, set_kind, take};
+use crate::state::kind;
+use crate::tracked::{
+    Tracked, begin, complete, give_down, mark, move_kind, set_held, set_kind, take,
+};
 use driver_set::DriverSet;
 use model::abs::{Abs, Kind, Outs, Rule, Settled};
 use model::instr::{Instr, Register};
@@ -33,22 +36,24 @@ pub fn transfer(
 ) -> Result<Outs, Rule>
     ensures { result ≡ local_rule state.now instr.now sort set.now driver }
 {
-    match broken_rule(state, instr, sort, set, driver) {
+    let tracked = Tracked::of(*state);
+    match broken_rule(&tracked, instr, sort, set, driver) {
         Some(rule) => Err(rule),
-        None => Ok(outs_after(state, instr, set, driver)),
+        None => Ok(outs_after(&tracked, instr, set, driver)),
     }
 }
 
 /// The least rule that an instruction breaks in a state.
 pub fn broken_rule(
-    state: &Abs,
+    tracked: &Tracked,
     instr: &Instr,
     sort: Sort,
     set: &DriverSet,
     driver: u8,
 ) -> Option<Rule>
-    ensures { result ≡ refuses state.now instr.now sort set.now driver }
+    ensures { result ≡ refuses tracked.now instr.now sort set.now driver }
 {
+    let state = tracked.state();
     match *instr {
         Instr::Const(to, _) | Instr::Move(to, _) | Instr::Clear(to) | Instr::Load(to, _) => {
             free_fault(state, to)
@@ -66,9 +71,9 @@ pub fn broken_rule(
         Instr::Put(packet, from) => least(packet_fault(state, packet), number_fault(state, from)),
         Instr::Mark(register) => mark_fault(state.settled, kind(state, register)),
         Instr::Acquire(lock) => acquire_fault(state, &Guard::DeviceLock(lock)),
-        Instr::Release(lock) => release_fault(state, set, driver, &Guard::DeviceLock(lock)),
+        Instr::Release(lock) => release_fault(tracked, set, driver, &Guard::DeviceLock(lock)),
         Instr::AcquireCancel => acquire_fault(state, &Guard::CancelLock),
-        Instr::ReleaseCancel => release_fault(state, set, driver, &Guard::CancelLock),
+        Instr::ReleaseCancel => release_fault(tracked, set, driver, &Guard::CancelLock),
         Instr::Insert(register, queue) => insert_fault(state, register, set, driver, queue),
         Instr::Remove(to, queue, _) => remove_fault(state, to, set, driver, queue),
         Instr::Unlink(register, queue) => unlink_fault(state, register, set, driver, queue),
@@ -91,17 +96,17 @@ pub fn broken_rule(
 }
 
 /// The states that an instruction hands on, where it breaks no rule.
-fn outs_after(state: &Abs, instr: &Instr, set: &DriverSet, driver: u8) -> Outs
-    ensures { result ≡ outs set.now driver state.now instr.now }
+fn outs_after(tracked: &Tracked, instr: &Instr, set: &DriverSet, driver: u8) -> Outs
+    ensures { result ≡ outs set.now driver tracked.now instr.now }
 {
-    let jump = jumped(state, instr);
+    let jump = jumped(tracked, instr);
     match *instr {
         Instr::Jump(_) | Instr::Ret(_) => Outs { next: None, jump },
         _ => {
-            let mut next = *state;
+            let mut next = *tracked;
             advance(&mut next, instr, set, driver);
             Outs {
-                next: Some(next),
+                next: Some(next.state),
                 jump,
             }
         }
@@ -109,69 +114,74 @@ fn outs_after(state: &Abs, instr: &Instr, set: &DriverSet, driver: u8) -> Outs
 }
 
 /// The one at the label, if there is a label.
-fn jumped(state: &Abs, instr: &Instr) -> Option<Abs>
+fn jumped(tracked: &Tracked, instr: &Instr) -> Option<Abs>
     ensures { result
-        ≡ option_map (λ label. handed_at_label state.now instr.now) (label_of instr.now) }
+        ≡ option_map (λ label. handed_at_label tracked.now instr.now) (label_of instr.now) }
 {
     match instr.label() {
-        Some(_) => Some(state_at_label(state, instr)),
+        Some(_) => Some(state_at_label(tracked, instr).state),
         None => None,
     }
 }
 
 /// Takes the state before an instruction of a driver of a set to the one at the next position.
-pub fn advance(state: &mut Abs, instr: &Instr, set: &DriverSet, driver: u8)
-    ensures { state.new ≡ handed set.now driver state.old instr.now }
+pub fn advance(tracked: &mut Tracked, instr: &Instr, set: &DriverSet, driver: u8)
+    ensures { tracked.new ≡ handed set.now driver tracked.old instr.now }
 {
     match *instr {
         Instr::Const(to, _) | Instr::Load(to, _) | Instr::LoadPaged(to, _) | Instr::Get(to, _, _) =>
-            { set_kind(state, to, Kind::Num) }
-        Instr::Move(to, from) => move_kind(state, to, from),
-        Instr::Clear(register) | Instr::Start(register) => set_kind(state, register, Kind::Blank),
-        Instr::Insert(register, queue) => insert(state, register, set, driver, queue),
-        Instr::Remove(to, queue, _) => remove(state, to, set, driver, queue),
+            { set_kind(tracked, to, Kind::Num) }
+        Instr::Move(to, from) => move_kind(tracked, to, from),
+        Instr::Clear(register) | Instr::Start(register) => set_kind(tracked, register, Kind::Blank),
+        Instr::Insert(register, queue) => insert(tracked, register, set, driver, queue),
+        Instr::Remove(to, queue, _) => remove(tracked, to, set, driver, queue),
         Instr::Unlink(register, _) | Instr::Dequeue(register) => {
-            set_kind(state, register, Kind::Own)
+            set_kind(tracked, register, Kind::Own)
         }
         Instr::Arm(register, queue) => {
-            set_kind(state, register, Kind::Armed(QueueName::Declared(queue)))
+            set_kind(tracked, register, Kind::Armed(QueueName::Declared(queue)))
         }
-        Instr::Disarm(register, _) => disarm(state, register),
-        Instr::Take(to, _) => take(state, to),
-        Instr::Begin(register) => begin(state, register),
-        Instr::Next => state.token = false,
-        Instr::Mark(register) => mark(state, register),
-        Instr::Acquire(lock) => set_held(state, &Guard::DeviceLock(lock), true),
-        Instr::Release(lock) => release(state, set, driver, &Guard::DeviceLock(lock)),
-        Instr::AcquireCancel => set_held(state, &Guard::CancelLock, true),
-        Instr::ReleaseCancel => release(state, set, driver, &Guard::CancelLock),
-        Instr::Pass(register) | Instr::Call(register, _) => give_down(state, register),
-        Instr::Complete(register, _) => complete(state, register),
-        Instr::IfPending(..) => state.settled = Settled::Settled,
+        Instr::Disarm(register, _) => disarm(tracked, register),
+        Instr::Take(to, _) => take(tracked, to),
+        Instr::Begin(register) => begin(tracked, register),
+        Instr::Next => tracked.state.token = false,
+        Instr::Mark(register) => mark(tracked, register),
+        Instr::Acquire(lock) => set_held(tracked, &Guard::DeviceLock(lock), true),
+        Instr::Release(lock) => release(tracked, set, driver, &Guard::DeviceLock(lock)),
+        Instr::AcquireCancel => set_held(tracked, &Guard::CancelLock, true),
+        Instr::ReleaseCancel => release(tracked, set, driver, &Guard::CancelLock),
+        Instr::Pass(register) | Instr::Call(register, _) => give_down(tracked, register),
+        Instr::Complete(register, _) => complete(tracked, register),
+        Instr::IfPending(..) => tracked.state.settled = Settled::Settled,
         _ => {}
     }
 }
 
 /// The state at the label, from the one before the instruction.
-pub fn state_at_label(state: &Abs, instr: &Instr) -> Abs
-    ensures { result ≡ handed_at_label state.now instr.now }
+pub fn state_at_label(tracked: &Tracked, instr: &Instr) -> Tracked
+    ensures { result ≡ handed_at_label tracked.now instr.now }
 {
     match *instr {
-        Instr::IfPending(..) => Abs {
-            settled: Settled::NeedMark,
-            ..*state
-        },
+        Instr::IfPending(..) => looked_at(*tracked),
         Instr::Remove(to, _, _) | Instr::Disarm(to, _) | Instr::Take(to, _) => {
-            without(*state, to)
+            without(*tracked, to)
         }
-        _ => *state,
+        _ => *tracked,
     }
 }
 
-/// The state with nothing in a register: no packet was there to be put into it.
-fn without(mut state: Abs, register: Register) -> Abs
-    ensures { result ≡ with_kind state register Kind.Blank }
+/// The state of a completion routine that has seen Irp->PendingReturned set.
+fn looked_at(mut tracked: Tracked) -> Tracked
+    ensures { result ≡ record tracked { settled = Settled.NeedMark } }
 {
-    set_kind(&mut state, register, Kind::Blank);
-    state
+    tracked.state.settled = Settled::NeedMark;
+    tracked
+}
+
+/// The state with nothing in a register: no packet was there to be put into it.
+fn without(mut tracked: Tracked, register: Register) -> Tracked
+    ensures { result ≡ with_kind tracked register Kind.Blank }
+{
+    set_kind(&mut tracked, register, Kind::Blank);
+    tracked
 }

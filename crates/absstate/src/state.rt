@@ -1,12 +1,8 @@
-//! Abstract states: the one at a routine's entry, their parts and changes, and their equality.
+//! Abstract states: the one at a routine's entry, their parts, and their equality.
 
 ghost use Rattle.std.specs.Prelude.{◌≡◌, ◌↔◌, IsTrue, true, false};
 ghost use Rattle.model.specs.LocalRule.{entry_of_sort, entry_of_cancel, entered_with};
-ghost use Rattle.model.specs.LocalRule.{kind_of, with_kind};
-ghost use Rattle.model.specs.LocalRule.{holds_guard, with_held, moved};
-ghost use Rattle.model.specs.Kinds.{left_behind};
-ghost use Rattle.model.specs.LocalRule.{marked, given_down};
-ghost use Rattle.model.specs.Kinds.{duty_completed};
+ghost use Rattle.model.specs.LocalRule.{holds_guard, kind_of};
 ghost use Rattle.std.specs.List.{list_any};
 ghost use Rattle.absstate.specs.Same.{has_list, name_number, queue_number, shape};
 ghost use Rattle.absstate.specs.Same.{same_queues, same_shapes};
@@ -68,7 +64,16 @@ fn entered_with(first: Kind, duty: Duty, settled: Settled, token: bool) -> Abs
 pub fn are_same(a: &Abs, b: &Abs) -> bool
     ensures { IsTrue result ↔ (a.now ≡ b.now) }
 {
-    same_kinds(&a.kinds, &b.kinds)
+    are_same_where(is_any_named(&a.kinds), a, b)
+}
+
+/// Whether two states are the same, if it is known whether a register of the first names a list.
+#[inline(always)]
+pub fn are_same_where(named: bool, a: &Abs, b: &Abs) -> bool
+    requires { named ≡ list_any has_list a.now.kinds }
+    ensures { IsTrue result ↔ (a.now ≡ b.now) }
+{
+    same_kinds(named, &a.kinds, &b.kinds)
         && same_locks(&a.locks, &b.locks)
         && a.cancel == b.cancel
         && a.duty == b.duty
@@ -79,10 +84,11 @@ pub fn are_same(a: &Abs, b: &Abs) -> bool
 /// Whether registers have the same kinds, by two numbers of each. What they say is compared first,
 /// without a branch for each; most often none of them names a list, and that is all.
 #[tactic(auto, using(crate::proofs::Same::kinds_same, crate::proofs::Same::kinds_alike, crate::proofs::Same::no_queues))]
-fn same_kinds(a: &[Kind; REGISTERS], b: &[Kind; REGISTERS]) -> bool
+fn same_kinds(named: bool, a: &[Kind; REGISTERS], b: &[Kind; REGISTERS]) -> bool
+    requires { named ≡ list_any has_list a.now }
     ensures { IsTrue result ↔ (a.now ≡ b.now) }
 {
-    same_shapes(a, b) && (!is_any_named(a) || same_queues(a, b))
+    same_shapes(a, b) && (!named || same_queues(a, b))
 }
 
 /// Whether registers say the same, their lists apart.
@@ -129,8 +135,9 @@ pub fn is_any_named(kinds: &[Kind; REGISTERS]) -> bool
     named
 }
 
+/// Whether a kind names a list.
 #[inline(always)]
-fn has_list(kind: Kind) -> bool
+pub fn has_list(kind: Kind) -> bool
     ensures { result ≡ has_list kind }
 {
     matches!(
@@ -200,13 +207,6 @@ pub fn kind(state: &Abs, register: Register) -> Kind
     state.kinds[register.index()]
 }
 
-/// Puts another kind into a register.
-pub fn set_kind(state: &mut Abs, register: Register, kind: Kind)
-    ensures { state.new ≡ with_kind state.old register kind }
-{
-    state.kinds[register.index()] = kind;
-}
-
 /// Whether the thread holds a spin lock of the device, or the system cancel spin lock.
 pub fn holds_guard(state: &Abs, guard: &Guard) -> bool
     ensures { result ≡ holds_guard state.now guard.now }
@@ -215,93 +215,4 @@ pub fn holds_guard(state: &Abs, guard: &Guard) -> bool
         Guard::DeviceLock(lock) => state.locks[lock.index()],
         Guard::CancelLock => state.cancel,
     }
-}
-
-/// Notes that one of these locks is held, or not.
-pub fn set_held(state: &mut Abs, guard: &Guard, held: bool)
-    ensures { state.new ≡ with_held state.old guard.now held }
-{
-    match *guard {
-        Guard::DeviceLock(lock) => state.locks[lock.index()] = held,
-        Guard::CancelLock => state.cancel = held,
-    }
-}
-
-/// Moves what is in a register to another one: a number is there as well then.
-pub fn move_kind(state: &mut Abs, to: Register, from: Register)
-    ensures { state.new ≡ moved state.old to from }
-{
-    let kind = kind(state, from);
-    set_kind(state, to, kind);
-    set_kind(state, from, left_behind(kind));
-}
-
-/// What is in a register after it was moved away.
-fn left_behind(kind: Kind) -> Kind
-    ensures { result ≡ left_behind kind }
-{
-    match kind {
-        Kind::Num => Kind::Num,
-        _ => Kind::Blank,
-    }
-}
-
-/// Marks the packet in a register: the routine owns it, and has to return STATUS_PENDING; a
-/// completion routine has carried the mark up.
-pub fn mark(state: &mut Abs, register: Register)
-    ensures { state.new ≡ marked state.old register (kind_of state.old register) }
-{
-    match kind(state, register) {
-        Kind::New => {
-            set_kind(state, register, Kind::Own);
-            state.duty = Duty::Pending;
-        }
-        Kind::View => state.settled = Settled::Settled,
-        _ => {}
-    }
-}
-
-/// Gives the packet in a register to the lower driver: one that wasn't marked leaves the status
-/// that this returned.
-pub fn give_down(state: &mut Abs, register: Register)
-    ensures { state.new ≡ given_down state.old register (kind_of state.old register) }
-{
-    match kind(state, register) {
-        Kind::New => {
-            set_kind(state, register, Kind::Lower);
-            state.duty = Duty::GivenDown;
-        }
-        Kind::Own => set_kind(state, register, Kind::Blank),
-        _ => {}
-    }
-}
-
-/// Completes the packet in a register: it is gone, and the duty to one that wasn't marked has
-/// ended.
-pub fn complete(state: &mut Abs, register: Register)
-    ensures { state.new
-        ≡ record (with_kind state.old register Kind.Blank) {
-          duty = duty_completed (kind_of state.old register) state.old.duty;
-        } }
-{
-    if let Kind::New = kind(state, register) {
-        state.duty = Duty::Finished;
-    }
-    set_kind(state, register, Kind::Blank);
-}
-
-/// Takes the current packet of the device into a register: the routine owns it, and has the token.
-pub fn take(state: &mut Abs, register: Register)
-    ensures { state.new ≡ record (with_kind state.old register Kind.Own) { token = true } }
-{
-    set_kind(state, register, Kind::Own);
-    state.token = true;
-}
-
-/// Makes the packet in a register the current one of the device, which gets the token with it.
-pub fn begin(state: &mut Abs, register: Register)
-    ensures { state.new ≡ record (with_kind state.old register Kind.Blank) { token = false } }
-{
-    set_kind(state, register, Kind::Blank);
-    state.token = false;
 }

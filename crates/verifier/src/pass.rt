@@ -10,7 +10,7 @@ use crate::loops::{Place, survey};
 use crate::malformed::is_malformed;
 use crate::seen::{Arrivals, arrive, is_only, keep};
 use crate::table::Table;
-use absstate::{Abs, Rule, broken_rule};
+use absstate::{Abs, Rule, Tracked, broken_rule};
 use driver_set::DriverSet;
 use model::instr::Instr;
 use model::limits::MAX_CERTIFICATE;
@@ -36,7 +36,7 @@ pub struct Pass<'a> {
     /// How many states arrive there.
     arrivals: Arrivals,
     /// The state that does, if it is one.
-    state: Abs,
+    state: Tracked,
 }
 
 impl<'a> Model for Pass<'a> {
@@ -91,7 +91,7 @@ impl<'a> Pass<'a> {
             sums,
             at: 0,
             arrivals: Arrivals::Alone,
-            state: entry,
+            state: Tracked::of(entry),
         })
     }
 
@@ -163,7 +163,7 @@ impl<'a> Pass<'a> {
 
     /// Whether an `end` at its position is reached in the state in which its `loop` is. Anything
     /// else closes no loop.
-    fn closes_alike(&self, state: &Abs) -> bool
+    fn closes_alike(&self, state: &Tracked) -> bool
         requires within { self.now.at < length self.now.member.routine.code }
         requires formed { is_malformed self.now.member.routine.code self.now.at ≡ false }
         ensures alike { IsTrue result → ClosesAlike self.now.member self.now.at state.now

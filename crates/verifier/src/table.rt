@@ -5,7 +5,7 @@ ghost use Rattle.std.specs.Prelude.{◌≡◌, ◌<◌, [], length, replicate, s
 ghost use Rattle.std.specs.Prelude.{OnOk};
 
 use crate::seen::Seen;
-use absstate::Abs;
+use absstate::Tracked;
 use std::alloc::{AllocError, Global};
 use std::marker::Model;
 
@@ -87,9 +87,10 @@ impl Table {
         self.noted[at] = true;
         self.kept[at] = seen;
     }
+
     /// Notes that a state and no other has been seen at a position.
     #[tactic(auto, using(crate::proofs::Tables::where_long, crate::proofs::Tables::where_put))]
-    pub fn put_one(&mut self, at: usize, state: &Abs)
+    pub fn put_one(&mut self, at: usize, state: &Tracked)
         requires { at < length self.old }
         ensures { self.new ≡ slice_set self.old at (Seen.One state.now) }
     {
