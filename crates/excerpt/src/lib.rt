@@ -4,6 +4,10 @@
 
 mod lines;
 mod quote;
+mod spot;
+mod spots;
 
 pub use lines::SourceLines;
 pub use quote::{add_bytes, add_excerpt, add_line};
+pub use spot::Spot;
+pub use spots::Spots;
