@@ -1,6 +1,10 @@
 //! Where a line stands in its text.
 
-ghost use Rattle.std.specs.Prelude.{◌≡◌, ◌+◌, ◌<◌, ◌^◌};
+ghost use Rattle.std.specs.Prelude.{◌≡◌, ◌+◌, ◌<◌, ◌∷◌, ◌^◌, [], List, ℕ, MatchOption, drop};
+ghost use Rattle.text.specs.Cut.{lines_of};
+
+use memchr::memrchr;
+use text::cut::Lines;
 
 /// Where a line stands in its text.
 #[derive(Clone, Copy)]
@@ -32,4 +36,30 @@ impl Spot {
             start: self.start.saturating_add(line.len()).saturating_add(1),
         }
     }
+
+    /// Where the line before it stands in a text; the same for the first one.
+    pub(crate) fn before(self, text: &[u8]) -> Spot {
+        let head = match self.start.checked_sub(1) {
+            Some(end) => text.get(..end).unwrap_or(text),
+            None => return self,
+        };
+        let start = match memrchr(b'\n', head) {
+            Some(end) => end + 1,
+            None => 0,
+        };
+        Spot {
+            number: self.number.saturating_sub(1),
+            start,
+        }
+    }
+}
+
+/// The line of a text behind so many bytes, if there is one.
+pub fn line_at(text: &[u8], start: usize) -> Option<&[u8]>
+    ensures { MatchOption result (lines_of (drop start text.now) ≡ [])
+        (λ line. (later : List (List ℕ))
+        × (lines_of (drop start text.now) ≡ line.now ∷ later)) }
+{
+    let rest = text.get(start..)?;
+    Lines::of(rest).next()
 }

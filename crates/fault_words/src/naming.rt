@@ -49,10 +49,10 @@ fn add_given_before(
 ) -> Result<(), AllocError> {
     prose.push_str("at fault: ")?;
     add_token(prose, name)?;
-    let names = names_of(alloc, thing, &line.source, &line.scope, line.number)?;
+    let names = names_of(alloc, thing, line)?;
     let word = thing.word();
     match found(&names, name) {
-        Some(given) if given.line < line.number => {
+        Some(given) if given.line < line.spot.number => {
             write!(
                 prose,
                 ", which line {} gave to a {word} before\n",
@@ -80,7 +80,7 @@ pub(crate) fn add_unknown_name(
     let mut place: usize = 0;
     for operand in form.operands {
         if let (Some(thing), Some(name)) = (Thing::of(*operand), line.parts.operand(place)) {
-            let names = names_of(alloc, thing, &line.source, &line.scope, line.number)?;
+            let names = names_of(alloc, thing, line)?;
             if found(&names, name).is_none() {
                 return add_unknown(prose, thing, name, &names);
             }
