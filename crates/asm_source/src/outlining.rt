@@ -1,14 +1,14 @@
 //! The lines that a text is made of beside its instructions.
 
-ghost use Rattle.std.specs.Prelude.{◌≡◌, IfOk, false};
+ghost use Rattle.std.specs.Prelude.{◌≡◌, All, IfOk, false};
 ghost use Rattle.asm_source.specs.Outline.{begins_outline, is_outline_word, may_begin, outline_lines, outlines};
 ghost use Rattle.asm_source.specs.Source.{body_on};
+ghost use Rattle.excerpt.specs.Places.{IsIn, numbers};
 
 use asm_line::{Body, read_line};
-use excerpt::{Spot, Spots};
+use excerpt::{PlacedLines, Spots};
 use std::alloc::{AllocError, Global};
 use text::class::is;
-use text::cut::Lines;
 use text::token::Tokens;
 
 /// Where the lines stand that begin or end a driver or a routine, or add a queue or a device, in
@@ -18,16 +18,15 @@ use text::token::Tokens;
 ///
 /// When memory runs out.
 pub fn outline(alloc: Global, text: &[u8]) -> Result<Spots, AllocError>
-    ensures { IfOk result (λ spots. spots ≡ outline_lines text.now) }
+    ensures lines { IfOk result (λ spots. numbers spots ≡ outline_lines text.now) }
+    ensures there { IfOk result (λ spots. All (IsIn 0 text.now) spots) }
 {
-    let mut left = Lines::of(text);
+    let mut left = PlacedLines::of(text);
     let mut found = Spots::new(alloc);
-    let mut spot = Spot::first();
     while let Some(raw) = left.next() {
         if may_outline(raw) && outlines(&body_on(raw)) {
-            found.push(spot)?;
+            found.push(left.spot())?;
         }
-        spot = spot.after(raw);
     }
     Ok(found)
 }

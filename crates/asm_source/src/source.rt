@@ -1,16 +1,16 @@
 //! The lines of a routine's instructions.
 
-ghost use Rattle.std.specs.Prelude.{◌≡◌, IfOk, false, true};
+ghost use Rattle.std.specs.Prelude.{◌≡◌, All, IfOk, false, true};
 ghost use Rattle.asm_source.specs.Outline.{outline_lines, outlines};
 ghost use Rattle.asm_source.specs.Source.{body_on, instruction_lines, past, seeks_end};
 ghost use Rattle.asm_source.specs.Standing.{AreLinesOf};
+ghost use Rattle.excerpt.specs.Places.{IsIn, numbers};
 
 use crate::outlining::{body_on, may_outline, outlines};
 use asm::laws::code_is_of_its_lines;
 use asm_line::Body;
-use excerpt::{Spot, Spots};
+use excerpt::{PlacedLines, Spots};
 use std::alloc::{AllocError, Global};
-use text::cut::Lines;
 
 /// What is sought in the lines that are left.
 #[derive(Clone, Copy)]
@@ -83,28 +83,29 @@ pub fn routine_source(
     routine: u8,
 ) -> Result<RoutineSource, AllocError>
     ensures lines { IfOk result
-        (λ source. source.lines ≡ instruction_lines driver routine text.now) }
-    ensures stand { IfOk result (λ source. AreLinesOf text.now driver routine source.lines) }
-    ensures outline { IfOk result (λ source. source.outline ≡ outline_lines text.now) }
+        (λ source. numbers source.lines ≡ instruction_lines driver routine text.now) }
+    ensures stand { IfOk result
+        (λ source. AreLinesOf text.now driver routine (numbers source.lines)) }
+    ensures outline { IfOk result (λ source. numbers source.outline ≡ outline_lines text.now) }
+    ensures there { IfOk result (λ source. All (IsIn 0 text.now) source.lines
+        × All (IsIn 0 text.now) source.outline) }
 {
     code_is_of_its_lines();
-    let mut left = Lines::of(text);
+    let mut left = PlacedLines::of(text);
     let mut sought = Sought::Driver(driver);
     let mut lines = Spots::new(alloc);
     let mut outline = Spots::new(alloc);
-    let mut spot = Spot::first();
     while let Some(raw) = left.next() {
         if !is_passed(sought, raw) {
             let body = body_on(raw);
             if let (Sought::End, Body::Step(_, _)) = (sought, &body) {
-                lines.push(spot)?;
+                lines.push(left.spot())?;
             }
             if outlines(&body) {
-                outline.push(spot)?;
+                outline.push(left.spot())?;
             }
             sought = sought.past(routine, &body);
         }
-        spot = spot.after(raw);
     }
     Ok(RoutineSource { lines, outline })
 }

@@ -2,10 +2,12 @@
 //! code, which takes what memory it needs and writes nothing itself.
 #![tactic(auto)]
 
+mod placed;
 mod quote;
 mod spot;
 mod spots;
 
+pub use placed::PlacedLines;
 pub use quote::{add_bytes, add_excerpt, add_line};
 pub use spot::{Spot, line_at};
 pub use spots::Spots;

@@ -1,8 +1,7 @@
 //! Parts of a text, quoted.
 
-use crate::spot::{Spot, line_at};
+use crate::spot::{Spot, line_at, lines_round};
 use std::alloc::AllocError;
-use text::cut::Lines;
 
 /// Adds bytes of a text, where they are letters.
 ///
@@ -22,7 +21,7 @@ pub fn add_bytes(prose: &mut String, bytes: &[u8]) -> Result<(), AllocError> {
 ///
 /// When memory runs out.
 pub fn add_line(prose: &mut String, text: &[u8], spot: Spot) -> Result<(), AllocError> {
-    match line_at(text, spot.start) {
+    match line_at(text, spot) {
         Some(line) => add_bytes(prose, line),
         None => prose.push_str("(no line)"),
     }
@@ -34,12 +33,9 @@ pub fn add_line(prose: &mut String, text: &[u8], spot: Spot) -> Result<(), Alloc
 ///
 /// When memory runs out.
 pub fn add_excerpt(prose: &mut String, text: &[u8], spot: Spot) -> Result<(), AllocError> {
-    let first = spot.before(text).before(text);
-    let mut left = match text.get(first.start..) {
-        Some(rest) => Lines::of(rest),
-        None => return Ok(()),
-    };
-    for number in first.number..spot.number.saturating_add(3) {
+    let mut left = lines_round(text, spot);
+    let first = spot.number.saturating_sub(2).max(1);
+    for number in first..spot.number.saturating_add(3) {
         let Some(line) = left.next() else {
             return Ok(());
         };

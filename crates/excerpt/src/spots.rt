@@ -1,23 +1,25 @@
 //! Where several lines stand.
 
-ghost use Rattle.std.specs.Prelude.{◌≡◌, ◌++◌, ◌∷◌, [], IfOk, OnOk, map, option_map, slice_get};
+ghost use Rattle.std.specs.Prelude.{◌≡◌, ◌++◌, ◌∷◌, [], IfOk, OnOk, slice_get};
+ghost use Rattle.excerpt.specs.Places.{numbers};
 
 use crate::spot::Spot;
 use std::alloc::{AllocError, Global};
 use std::marker::Model;
 
-/// Where several lines of a text stand. Contracts see their numbers.
+/// Where several lines of a text stand.
 #[derive(Drop)]
 pub struct Spots {
     spots: Vec<Spot>,
 }
 
 impl Model for Spots {
-    ghost use Rattle.std.specs.Prelude.{List, ℕ, map};
+    ghost use Rattle.std.specs.Prelude.{List};
+    ghost use Rattle.excerpt.specs.declared.spot.Spot.{Spot};
 
-    ghost Value = { List ℕ };
+    ghost Value = { List Spot };
 
-    ghost view = { λ all. map (λ spot. spot.number) all.spots.items };
+    ghost view = { λ all. all.spots.items };
 }
 
 impl Spots {
@@ -36,7 +38,7 @@ impl Spots {
     ///
     /// When memory runs out.
     pub fn push(&mut self, spot: Spot) -> Result<(), AllocError>
-        ensures { OnOk result (self.new ≡ self.old ++ spot.number ∷ []) }
+        ensures { OnOk result (self.new ≡ self.old ++ spot ∷ []) }
     {
         self.spots.push(spot)?;
         Ok(())
@@ -44,14 +46,14 @@ impl Spots {
 
     /// The one of an index, from 0.
     pub fn get(&self, index: usize) -> Option<Spot>
-        ensures { option_map (λ spot. spot.number) result ≡ slice_get self.now index }
+        ensures { result ≡ slice_get self.now index }
     {
         self.spots.get(index).copied()
     }
 
     /// All of them, in order.
     pub fn as_slice(&self) -> &[Spot]
-        ensures { map (λ spot. spot.number) result.now ≡ self.now }
+        ensures { result.now ≡ self.now }
     {
         self.spots.as_slice()
     }
@@ -62,7 +64,7 @@ impl Spots {
     ///
     /// When memory runs out.
     pub fn numbers(&self, alloc: Global) -> Result<Vec<u64>, AllocError>
-        ensures { IfOk result (λ numbers. numbers.items ≡ self.now) }
+        ensures { IfOk result (λ all. all.items ≡ numbers self.now) }
     {
         self.spots.iter().map(|spot| spot.number).collect(alloc)
     }

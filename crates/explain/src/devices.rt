@@ -61,7 +61,7 @@ fn add_device(
     match device_line(scene, number) {
         Some(line) => {
             write!(prose, "{title}, line {}: ", line.number)?;
-            add_line(prose, scene.text(), line)?;
+            add_line(prose, scene.others.bytes(), line)?;
             prose.push_str("\n")
         }
         None => Ok(()),
@@ -72,7 +72,7 @@ fn add_device(
 fn device_line(scene: &Scene<'_>, before: usize) -> Option<Spot> {
     let mut left = before;
     for spot in scene.outline.as_slice() {
-        if is_device(line_at(scene.text(), spot.start)?) {
+        if is_device(line_at(scene.others.bytes(), *spot)?) {
             if left == 0 {
                 return Some(*spot);
             }

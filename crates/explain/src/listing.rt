@@ -1,96 +1,109 @@
-//! The part of a set's listing that tells of a routine. The whole listing isn't written for it: the
-//! numbers of lines are counted.
+//! The parts of a set's listing that tell of a routine and of the devices. The whole listing isn't
+//! written for them: the numbers of lines are counted.
 
 use asm_listing::Entry;
 use driver_set::DriverSet;
-use excerpt::{Spot, Spots};
+use excerpt::{PlacedLines, Spots};
 use model::instr::Instr;
 use model::set::{Driver, Routine};
 use model::status::Major;
 use std::alloc::{AllocError, Global};
 
-/// Lines of a listing: that before a routine, those of the routine, that behind it, and those of
-/// the devices.
+/// More lines than stand in a listing.
+const MOST: u64 = 1 << 32;
+
+/// Lines of a listing.
 #[derive(Drop)]
-pub(crate) struct ListedRoutine {
+pub(crate) struct ListedPart {
     pub(crate) text: String,
-    /// Where the lines of its instructions stand: by their numbers in the whole listing, and by
-    /// the bytes of this part.
-    pub(crate) lines: Spots,
-    /// Where the lines of the devices stand, likewise.
-    pub(crate) devices: Spots,
+    /// Where lines of it stand: by their numbers in the whole listing, and by the bytes of this
+    /// part.
+    pub(crate) spots: Spots,
 }
 
-impl ListedRoutine {
-    /// Those of the routine of a number in the driver of a number.
-    pub(crate) fn of(
-        alloc: Global,
-        set: &DriverSet,
-        driver: u8,
-        routine: u8,
-    ) -> Result<ListedRoutine, AllocError> {
-        let mut listed = ListedRoutine {
-            text: String::new(alloc),
-            lines: Spots::new(alloc),
-            devices: Spots::new(alloc),
-        };
-        if let Some(its) = set.drivers().get(driver as usize) {
-            let before = lines_of_drivers(set.drivers(), driver);
-            listed.add_routine(alloc, before, driver, its, routine)?;
-        }
-        let before = lines_of_drivers(set.drivers(), u8::MAX);
-        for (number, device) in set.devices().iter().enumerate() {
-            let start = listed.text.len();
-            Entry::Device(number, *device).write(&mut listed.text)?;
-            let number = before.saturating_add(number as u64).saturating_add(1);
-            listed.devices.push(Spot { number, start })?;
-        }
-        Ok(listed)
-    }
-
-    /// Adds a routine of a driver before which so many lines stand, with a line on each side.
-    fn add_routine(
-        &mut self,
-        alloc: Global,
-        before: u64,
-        driver: u8,
-        its: &Driver,
-        number: u8,
-    ) -> Result<(), AllocError> {
+/// The lines of the routine of a number in the driver of a number, with a line on each side, and
+/// where its instructions stand.
+pub(crate) fn listed_routine(
+    alloc: Global,
+    set: &DriverSet,
+    driver: u8,
+    routine: u8,
+) -> Result<ListedPart, AllocError> {
+    let mut text = String::new(alloc);
+    let mut count = 0;
+    let mut before = 0;
+    if let Some(its) = set.drivers().get(driver as usize) {
         let routines = its.routines.as_slice();
-        let Some(routine) = routines.get(number as usize) else {
-            return Ok(());
-        };
-        let before = before
+        if let Some(found) = routines.get(routine as usize) {
+            write_round(alloc, &mut text, driver, its, routine, found)?;
+            count = found.code.as_slice().len();
+        }
+        before = lines_of_drivers(set.drivers(), driver)
             .saturating_add(lines_of_head(its))
-            .saturating_add(lines_of_routines(routines, number));
-        line_before(driver, its, number).write(&mut self.text)?;
-        Entry::Routine(number as usize, routine.sort).write(&mut self.text)?;
-        self.add_code(alloc, before.saturating_add(1), routine.code.as_slice())?;
-        Entry::EndRoutine.write(&mut self.text)?;
-        match routines.get((number as usize).saturating_add(1)) {
-            Some(next) => {
-                Entry::Routine((number as usize).saturating_add(1), next.sort).write(&mut self.text)
-            }
-            None => Entry::EndDriver.write(&mut self.text),
-        }
+            .saturating_add(lines_of_routines(routines, routine));
     }
+    let spots = spots_of(alloc, text.as_bytes(), before.saturating_sub(1), 2, count)?;
+    Ok(ListedPart { text, spots })
+}
 
-    /// Adds the lines of instructions before which so many lines stand.
-    fn add_code(&mut self, alloc: Global, before: u64, code: &[Instr]) -> Result<(), AllocError> {
-        let marks = marks_of(alloc, code)?;
-        for (position, instr) in code.iter().enumerate() {
-            let label = match marks.get(position) {
-                Some(true) => Some(position),
-                _ => None,
-            };
-            let start = self.text.len();
-            Entry::Step(label, *instr).write(&mut self.text)?;
-            let number = before.saturating_add(position as u64).saturating_add(1);
-            self.lines.push(Spot { number, start })?;
-        }
-        Ok(())
+/// The lines of the devices of a set, and where they stand.
+pub(crate) fn listed_devices(alloc: Global, set: &DriverSet) -> Result<ListedPart, AllocError> {
+    let mut text = String::new(alloc);
+    for (number, device) in set.devices().iter().enumerate() {
+        Entry::Device(number, *device).write(&mut text)?;
     }
+    let before = lines_of_drivers(set.drivers(), u8::MAX);
+    let spots = spots_of(alloc, text.as_bytes(), before, 0, set.devices().len())?;
+    Ok(ListedPart { text, spots })
+}
+
+/// Where so many lines stand, from the one of an index on, in a text before which so many stand.
+fn spots_of(
+    alloc: Global,
+    text: &[u8],
+    skipped: u64,
+    first: usize,
+    count: usize,
+) -> Result<Spots, AllocError> {
+    let mut left = PlacedLines::behind(text, skipped.min(MOST));
+    let mut spots = Spots::new(alloc);
+    let mut index: usize = 0;
+    while let Some(_) = left.next() {
+        if first <= index && index - first < count {
+            spots.push(left.spot())?;
+        }
+        index = index.saturating_add(1);
+    }
+    Ok(spots)
+}
+
+/// Adds the lines of a routine of a driver, with a line on each side.
+fn write_round(
+    alloc: Global,
+    text: &mut String,
+    driver: u8,
+    its: &Driver,
+    number: u8,
+    routine: &Routine,
+) -> Result<(), AllocError> {
+    line_before(driver, its, number).write(text)?;
+    Entry::Routine(number as usize, routine.sort).write(text)?;
+    write_code(alloc, text, routine.code.as_slice())?;
+    Entry::EndRoutine.write(text)?;
+    line_behind(its.routines.as_slice(), number).write(text)
+}
+
+/// Adds the lines of instructions.
+fn write_code(alloc: Global, text: &mut String, code: &[Instr]) -> Result<(), AllocError> {
+    let marks = marks_of(alloc, code)?;
+    for (position, instr) in code.iter().enumerate() {
+        let label = match marks.get(position) {
+            Some(true) => Some(position),
+            _ => None,
+        };
+        Entry::Step(label, *instr).write(text)?;
+    }
+    Ok(())
 }
 
 /// Marks the positions that instructions jump to.
@@ -120,6 +133,15 @@ fn line_before(number: u8, driver: &Driver, routine: u8) -> Entry {
     match last_handler(driver) {
         Some(handler) => handler,
         None => last_queue(number, driver),
+    }
+}
+
+/// The line behind that of a routine of a driver with these.
+fn line_behind(routines: &[Routine], routine: u8) -> Entry {
+    let next = (routine as usize).saturating_add(1);
+    match routines.get(next) {
+        Some(found) => Entry::Routine(next, found.sort),
+        None => Entry::EndDriver,
     }
 }
 

@@ -32,7 +32,7 @@ impl<'a> SetNames<'a> {
     ) -> Result<SetNames<'a>, AllocError> {
         let mut drivers = Vec::new(alloc);
         for spot in outline.as_slice() {
-            if let Some(raw) = line_at(text, spot.start) {
+            if let Some(raw) = line_at(text, *spot) {
                 note(alloc, &mut drivers, raw)?;
             }
         }

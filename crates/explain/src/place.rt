@@ -20,23 +20,27 @@ pub(crate) enum Source<'a> {
 pub(crate) struct Scene<'a> {
     pub(crate) refusal: Refusal,
     pub(crate) sort: Sort,
+    /// What has its lines.
     pub(crate) source: Source<'a>,
     pub(crate) names: SetNames<'a>,
     /// Where the lines of its instructions stand.
     pub(crate) lines: Spots,
-    /// Where other lines stand, those of all devices among them.
+    /// What has other lines, those of all devices among them, and where they stand.
+    pub(crate) others: Source<'a>,
     pub(crate) outline: Spots,
 }
 
-impl<'a> Scene<'a> {
-    /// The text that is quoted.
-    pub(crate) fn text(&self) -> &[u8] {
-        match &self.source {
+impl Source<'_> {
+    /// Its bytes.
+    pub(crate) fn bytes(&self) -> &[u8] {
+        match self {
             Source::Text(text) => *text,
             Source::Listing(text) => text.as_bytes(),
         }
     }
+}
 
+impl<'a> Scene<'a> {
     /// What the driver and the things in it are called.
     pub(crate) fn names(&self) -> Names<'_, 'a> {
         self.names.in_driver(self.refusal.driver)
@@ -52,7 +56,7 @@ impl<'a> Scene<'a> {
         match self.line_at(at) {
             Some(line) => {
                 write!(prose, "at {at}, line {}: ", line.number)?;
-                add_line(prose, self.text(), line)
+                add_line(prose, self.source.bytes(), line)
             }
             None => write!(prose, "at {at}"),
         }
@@ -75,7 +79,7 @@ impl<'a> Scene<'a> {
         match self.line_at(at) {
             Some(line) => {
                 write!(prose, ", position {at}, line {}:\n", line.number)?;
-                add_excerpt(prose, self.text(), line)
+                add_excerpt(prose, self.source.bytes(), line)
             }
             None => write!(prose, ", position {at}\n"),
         }

@@ -5,7 +5,7 @@ ghost use Rattle.model.specs.Typable.{IsFirstFault, IsFirstFaultOf, at_start};
 
 use crate::devices::add_devices;
 use crate::history::{add_blanking, add_loops};
-use crate::listing::ListedRoutine;
+use crate::listing::{listed_devices, listed_routine};
 use crate::names::{Names, SetNames};
 use crate::path::add_path;
 use crate::place::{Scene, Source};
@@ -170,18 +170,21 @@ fn scene_of<'t>(
                 source: Source::Text(text),
                 names,
                 lines: found.lines,
+                others: Source::Text(text),
                 outline: found.outline,
             })
         }
         Origin::Image => {
-            let listed = ListedRoutine::of(alloc, set, refusal.driver, refusal.routine)?;
+            let listed = listed_routine(alloc, set, refusal.driver, refusal.routine)?;
+            let devices = listed_devices(alloc, set)?;
             Ok(Scene {
                 refusal: *refusal,
                 sort: routine.sort,
                 source: Source::Listing(listed.text),
                 names: SetNames::Listed,
-                lines: listed.lines,
-                outline: listed.devices,
+                lines: listed.spots,
+                others: Source::Listing(devices.text),
+                outline: devices.spots,
             })
         }
     }

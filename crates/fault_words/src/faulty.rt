@@ -24,7 +24,7 @@ impl<'a> FaultyLine<'a> {
     ) -> Result<FaultyLine<'a>, AllocError> {
         let mut scope = Scope::new(alloc);
         let spot = scope.pass_lines(text, number)?;
-        let parts = Parts::of(alloc, line_at(text, spot.start).unwrap_or(&[]))?;
+        let parts = Parts::of(alloc, line_at(text, spot).unwrap_or(&[]))?;
         Ok(FaultyLine {
             text,
             scope,
@@ -35,7 +35,7 @@ impl<'a> FaultyLine<'a> {
 
     /// Its bytes; none where it is behind the last line.
     pub(crate) fn bytes(&self) -> &'a [u8] {
-        line_at(self.text, self.spot.start).unwrap_or(&[])
+        line_at(self.text, self.spot).unwrap_or(&[])
     }
 
     /// Adds where it stands, and the lines round it.

@@ -3,7 +3,7 @@
 use crate::faulty::FaultyLine;
 use crate::operand::Operand;
 use crate::scope::Opened;
-use excerpt::Spot;
+use excerpt::{PlacedLines, Spot};
 use std::alloc::{AllocError, Global};
 use text::class::{is, label_name};
 use text::cut::Lines;
@@ -24,7 +24,8 @@ pub(crate) enum Thing {
 #[derive(Drop)]
 pub(crate) struct Given<'a> {
     /// The number of that line.
-    pub(crate) line: u64,
+    pub(crate) number: u64,
+    pub(crate) line: Piece<'a>,
     pub(crate) name: Piece<'a>,
 }
 
@@ -131,17 +132,17 @@ pub(crate) fn names_of<'a>(
         Thing::Driver => again(alloc, scope.drivers.as_slice()),
         Thing::Device => again(alloc, scope.devices.as_slice()),
         Thing::Routine | Thing::Queue => {
-            names_from(alloc, thing, line.text, begin_of(&scope.driver), b"endd")
+            names_from(alloc, thing, line.text, begin_of(line.text, &scope.driver), b"endd")
         }
-        Thing::Label => names_from(alloc, thing, line.text, begin_of(&scope.routine), b"endr"),
+        Thing::Label => names_from(alloc, thing, line.text, begin_of(line.text, &scope.routine), b"endr"),
     }
 }
 
 /// Where what is open began; the first line where nothing is.
-fn begin_of(opened: &Option<Opened<'_>>) -> Spot {
+fn begin_of(text: &[u8], opened: &Option<Opened<'_>>) -> Spot {
     match opened {
         Some(opened) => opened.spot,
-        None => Spot::first(),
+        None => PlacedLines::of(text).end(),
     }
 }
 
@@ -150,7 +151,8 @@ fn again<'a>(alloc: Global, names: &[Given<'a>]) -> Result<Vec<Given<'a>>, Alloc
     let mut all = Vec::new(alloc);
     for given in names {
         all.push(Given {
-            line: given.line,
+            number: given.number,
+            line: given.line.again(),
             name: given.name.again(),
         })?;
     }
@@ -167,14 +169,18 @@ fn names_from<'a>(
 ) -> Result<Vec<Given<'a>>, AllocError> {
     let mut names = Vec::new(alloc);
     let mut left = Lines::of(text.get(first.start..).unwrap_or(&[]));
-    let mut line = first.number;
+    let mut number = first.number;
     while let Some(raw) = left.next() {
         match thing.said_by(raw, closing) {
             Said::Nothing => {}
-            Said::Name(name) => names.push(Given { line, name })?,
+            Said::Name(name) => names.push(Given {
+                number,
+                line: Piece::of(raw),
+                name,
+            })?,
             Said::End => break,
         }
-        line = line.saturating_add(1);
+        number = number.saturating_add(1);
     }
     Ok(names)
 }

@@ -3,10 +3,9 @@
 
 use crate::form::Place;
 use crate::names::Given;
-use excerpt::Spot;
+use excerpt::{PlacedLines, Spot};
 use std::alloc::{AllocError, Global};
 use text::class::is;
-use text::cut::Lines;
 use text::piece::Piece;
 use text::token::Tokens;
 
@@ -45,18 +44,17 @@ impl<'a> Scope<'a> {
     /// Passes the lines before that of a number, and answers where that one stands. Where there
     /// are fewer lines, it passes all, and answers where the next one would stand.
     pub(crate) fn pass_lines(&mut self, text: &'a [u8], number: u64) -> Result<Spot, AllocError> {
-        let mut left = Lines::of(text);
-        let mut spot = Spot::first();
+        let mut left = PlacedLines::of(text);
         while let Some(raw) = left.next() {
+            let spot = left.spot();
             if spot.number >= number {
-                break;
+                return Ok(spot);
             }
             if may_matter(raw) {
                 self.pass(spot, raw)?;
             }
-            spot = spot.after(raw);
         }
-        Ok(spot)
+        Ok(left.end())
     }
 
     /// Passes a line that isn't at fault.
@@ -68,10 +66,10 @@ impl<'a> Scope<'a> {
         let name = tokens.next();
         if is(word, b"driver") {
             self.driver = opened_by(spot, name);
-            return add_given(&mut self.drivers, spot, name);
+            return add_given(&mut self.drivers, spot, raw, name);
         }
         if is(word, b"device") {
-            return add_given(&mut self.devices, spot, name);
+            return add_given(&mut self.devices, spot, raw, name);
         }
         if is(word, b"endd") {
             self.driver = None;
@@ -112,11 +110,13 @@ fn opened_by<'a>(spot: Spot, name: Option<&'a [u8]>) -> Option<Opened<'a>> {
 fn add_given<'a>(
     names: &mut Vec<Given<'a>>,
     spot: Spot,
+    raw: &'a [u8],
     name: Option<&'a [u8]>,
 ) -> Result<(), AllocError> {
     if let Some(name) = name {
         names.push(Given {
-            line: spot.number,
+            number: spot.number,
+            line: Piece::of(raw),
             name: Piece::of(name),
         })?;
     }
