@@ -1,9 +1,8 @@
 -- How many bytes stand before a line.
-use Rattle.std.proofs.Common.{◌≡◌, ◌+◌, ◌≤◌, ℕ, zero, suc, Option, Some, None, List, [], ◌∷◌, ◌++◌, ap, arith, drop, length, length-append, nat_eq, refl, sym, take}
-use Rattle.std.specs.Prelude.{slice_get}
+use Rattle.std.proofs.Common.{◌≡◌, ◌∙◌, ◌+◌, ◌-◌, ◌≤◌, ℕ, zero, suc, Bor, MatchOption, Option, Some, None, List, [], ◌∷◌, ◌++◌, arith, drop, length, length-append, length-drop, nat_eq, option_map, refl, slice_get, sym, take}
 use Rattle.std.proofs.lemmas.Bool.{cond_both}
-use Rattle.std.proofs.lemmas.List.{drop-drop}
-use Rattle.text.specs.Cut.{closed, lines_from, lines_of}
+use Rattle.std.proofs.lemmas.List.{drop-drop, drop_all, take_all}
+use Rattle.text.specs.Cut.{lines_from, lines_of}
 use Rattle.excerpt.specs.Places.{bytes_before, bytes_of}
 
 -- the first line has so many bytes beside those held, and behind its LF the rest begins
@@ -20,11 +19,13 @@ cut_here held bs raw b rest e =
 
 cut_later : (held bs raw : List ℕ) (b : ℕ) (rest : List (List ℕ))
     → Cut (held ++ b ∷ []) bs raw rest → Cut held (b ∷ bs) raw rest
-cut_later held bs raw b rest c = record {
-  on = suc c.on;
-  long = omega (arith, c.long, length-append held (b ∷ []));
-  behind = c.behind;
-}
+cut_later held bs raw b rest c =
+    let next : suc c.on + 1 ≡ suc (c.on + 1) = omega arith in
+    record {
+      on = suc c.on;
+      long = omega (arith, c.long, length-append held (b ∷ []));
+      behind = rw next c.behind;
+    }
 
 first_cut : (held bytes raw : List ℕ) (rest : List (List ℕ)) → lines_from held bytes ≡ raw ∷ rest
     → Cut held bytes raw rest
@@ -42,7 +43,7 @@ pub behind_first : (text raw : List ℕ) (rest : List (List ℕ)) → lines_of t
     → lines_of (drop (length raw + 1) text) ≡ rest
 behind_first text raw rest e =
     let c = first_cut [] text raw rest e in
-    let long : length raw ≡ c.on = c.long in
+    let long : length raw ≡ c.on = omega (arith, c.long) in
     rw long c.behind
 
 -- behind the bytes of the first lines the others stand
@@ -76,7 +77,32 @@ pub rest_of : {A : Type 0} (xs ys : List A) (x : A) (k : ℕ) → drop k xs ≡ 
 rest_of [] ys x zero e = cc
 rest_of [] ys x (suc k) e = cc
 rest_of (z ∷ zs) ys x zero e = cc
-rest_of (z ∷ zs) ys x (suc k) e = rest_of zs ys x k e
+rest_of (z ∷ zs) ys x (suc k) e =
+    let next : suc k + 1 ≡ suc (k + 1) = omega arith in
+    rw next (rest_of zs ys x k e)
+
+-- the bytes from an index on
+pub all_rest : (text : List ℕ) (i : ℕ) → take (length text - i) (drop i text) ≡ drop i text
+all_rest text i = take_all (length text - i) (drop i text) (omega (arith, length-drop i text))
+
+-- the first line of those from an index on
+pub first_line : (lines old new : List (List ℕ)) (k : ℕ) (r : Option (Bor (List ℕ)))
+    → drop k lines ≡ old
+    → MatchOption r ((old ≡ []) × (new ≡ [])) (λ line. old ≡ line.now ∷ new)
+    → option_map (λ line. line.now) r ≡ slice_get lines k
+first_line lines old new k None e m = sym (none_of lines k (e ∙ m.0))
+first_line lines old new k (Some l) e m = sym (first_of lines new l.now k (e ∙ m))
+
+-- the lines of what stands behind the bytes of so many, and of nothing
+pub there : (text rest : List ℕ) (k start : ℕ) → start ≡ bytes_before text k
+    → rest ≡ drop start text → drop k (lines_of text) ≡ lines_of rest
+there text rest k start is cut = rw (cut, is) (sym (behind_bytes text k))
+
+pub past : (text : List ℕ) (k start : ℕ) → start ≡ bytes_before text k → length text ≤ start
+    → drop k (lines_of text) ≡ []
+past text k start is ended =
+    let none : drop start text ≡ [] = drop_all start text ended in
+    there text [] k start is (sym none)
 
 -- with one more line
 pub grown : (lines left : List (List ℕ)) (raw : List ℕ) (k : ℕ) → drop k lines ≡ raw ∷ left
@@ -86,7 +112,9 @@ grown [] left raw (suc k) e = cc
 grown (l ∷ ls) left raw zero e =
     let same : raw ≡ l = cc in
     rw same (omega arith)
-grown (l ∷ ls) left raw (suc k) e = omega (arith, grown ls left raw k e)
+grown (l ∷ ls) left raw (suc k) e =
+    let next : suc k + 1 ≡ suc (k + 1) = omega arith in
+    rw next (omega (arith, grown ls left raw k e))
 
 -- lines have no more bytes than their text, but for an LF that it may lack
 few_from : (held bytes : List ℕ)

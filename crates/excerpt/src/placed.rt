@@ -32,10 +32,10 @@ impl<'a> Model for PlacedLines<'a> {
     ghost Value = { Reading };
 
     ghost view = { λ p. record {
-        text = p.text.now;
-        skipped = p.skipped;
-        taken = p.taken;
-        left = p.left;
+      text = p.text.now;
+      skipped = p.skipped;
+      taken = p.taken;
+      left = p.left;
     } };
 
     ghost invariant = { λ p. (p.left ≡ drop p.taken (lines_of p.text.now))
@@ -44,17 +44,18 @@ impl<'a> Model for PlacedLines<'a> {
         × (p.before ≡ bytes_before p.text.now (p.taken - 2))
         × (p.earlier ≡ bytes_before p.text.now (p.taken - 3))
         × (p.taken + length p.left ≡ length (lines_of p.text.now))
-        × (p.skipped + p.taken + length p.left + 1 < 2 ^ 64) };
+        × (p.skipped + p.taken + length p.left + 1 < 2 ^ 64)
+        × (length p.text.now + 1 < 2 ^ 64) };
 }
 
 impl<'a> PlacedLines<'a> {
     /// A whole text, whose first line has the number 1.
     pub fn of(text: &'a [u8]) -> PlacedLines<'a>
         ensures { result ≡ record {
-            text = text.now;
-            skipped = 0;
-            taken = 0;
-            left = lines_of text.now;
+          text = text.now;
+          skipped = 0;
+          taken = 0;
+          left = lines_of text.now;
         } }
     {
         PlacedLines {
@@ -73,10 +74,10 @@ impl<'a> PlacedLines<'a> {
     pub fn behind(text: &'a [u8], skipped: u64) -> PlacedLines<'a>
         requires { skipped < 2 ^ 63 }
         ensures { result ≡ record {
-            text = text.now;
-            skipped = skipped;
-            taken = 0;
-            left = lines_of text.now;
+          text = text.now;
+          skipped = skipped;
+          taken = 0;
+          left = lines_of text.now;
         } }
     {
         PlacedLines {

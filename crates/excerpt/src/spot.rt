@@ -23,7 +23,7 @@ pub struct Spot {
 pub fn line_at(text: &[u8], spot: Spot) -> Option<&[u8]>
     ensures { (skipped : ℕ) → IsIn skipped text.now spot
         → option_map (λ line. line.now) result
-            ≡ slice_get (lines_of text.now) (spot.number - skipped - 1) }
+        ≡ slice_get (lines_of text.now) (spot.number - skipped - 1) }
 {
     let rest = text.get(spot.start..)?;
     Lines::of(rest).next()
