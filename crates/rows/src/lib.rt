@@ -47,6 +47,8 @@ mod limits;
 #[cfg(test)]
 mod links;
 #[cfg(test)]
+mod listed;
+#[cfg(test)]
 mod listings;
 #[cfg(test)]
 mod overlap;
