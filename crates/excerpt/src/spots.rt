@@ -38,7 +38,8 @@ impl Spots {
     ///
     /// When memory runs out.
     pub fn push(&mut self, spot: Spot) -> Result<(), AllocError>
-        ensures { OnOk result (self.new ≡ self.old ++ spot ∷ []) }
+        ensures spots { OnOk result (self.new ≡ self.old ++ spot ∷ []) }
+        ensures numbers { OnOk result (numbers self.new ≡ numbers self.old ++ spot.number ∷ []) }
     {
         self.spots.push(spot)?;
         Ok(())
