@@ -67,12 +67,10 @@ fn spots_of(
 ) -> Result<Spots, AllocError> {
     let mut left = PlacedLines::behind(text, skipped.min(MOST));
     let mut spots = Spots::new(alloc);
-    let mut index: usize = 0;
-    while let Some(_) = left.next() {
-        if first <= index && index - first < count {
+    for index in 0..first.saturating_add(count) {
+        if left.next().is_some() && index >= first {
             spots.push(left.spot())?;
         }
-        index = index.saturating_add(1);
     }
     Ok(spots)
 }

@@ -1,6 +1,10 @@
 //! What stands before a line: the driver and the routine that are open there, and the names of
 //! drivers and devices.
 
+ghost use Rattle.std.specs.Prelude.{◌≡◌, ◌+◌, IfOk, length, max, min};
+ghost use Rattle.text.specs.Cut.{lines_of};
+ghost use Rattle.excerpt.specs.Places.{IsIn};
+
 use crate::form::Place;
 use crate::names::Given;
 use excerpt::{PlacedLines, Spot};
@@ -43,7 +47,11 @@ impl<'a> Scope<'a> {
 
     /// Passes the lines before that of a number, and answers where that one stands. Where there
     /// are fewer lines, it passes all, and answers where the next one would stand.
-    pub(crate) fn pass_lines(&mut self, text: &'a [u8], number: u64) -> Result<Spot, AllocError> {
+    pub(crate) fn pass_lines(&mut self, text: &'a [u8], number: u64) -> Result<Spot, AllocError>
+        ensures there { IfOk result (IsIn 0 text.now) }
+        ensures number { IfOk result
+            (λ spot. spot.number ≡ min (max 1 number) (length (lines_of text.now) + 1)) }
+    {
         let mut left = PlacedLines::of(text);
         while let Some(raw) = left.next() {
             let spot = left.spot();
