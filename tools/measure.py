@@ -2,7 +2,7 @@
 """measure.py [--runs N] [--encoder ENCODER] PROGRAM OTHER ..: times programs that answer the same commands, on
 inputs at the limits, each writing to /dev/null, in turn. Prints the least of N times of each (5 if left out), in
 milliseconds, and its ratio to that of the first; at the end, how many times what `trace` takes for as many
-events `host` takes with one worker. All must answer the same bytes, but where several workers serve
+events `host` takes with one worker, and how many times what `check` takes `explain` takes of each input that both get. All must answer the same bytes, but where several workers serve
 commands in an order of their own: then as many lines, and histories that agree. The images are those that 'ENCODER
 encode TEXT IMAGE' makes of texts; without an encoder the rows of images are left out. With --only WORD the rows whose
 names have this word. Rows with more than 1,000 packets live, or with 64 threads or workers, are of the second limits."""
@@ -177,6 +177,47 @@ def image_cases():
     yield 'check of the image of a quarter of it', large_set(2, routine)
     yield 'check of the image, with loops and jumps', largest_branching_set()
 
+def refused_at_its_end(lines):
+    """The same set, but the last routine completes its packet twice."""
+    last = len(lines) - 1 - lines[::-1].index('complete r0 SUCCESS')
+    return lines[:last - 1] + [lines[last]] + lines[last:]
+
+def commented(lines):
+    """A text of 4 MB, most of it comments, with these lines behind them."""
+    return ['; ' + 'x' * 78] * 50000 + lines
+
+def explained_texts():
+    """Of each text that `check` and `explain` get its name, and its lines."""
+    small = one_routine(['const r1 0', 'complete r0 SUCCESS', 'ret SUCCESS'])
+    yield 'the largest set', largest_set()
+    yield 'the largest set, with loops and jumps', largest_branching_set()
+    yield 'the largest set, refused at its end', refused_at_its_end(largest_set())
+    yield 'the same with loops and jumps', refused_at_its_end(largest_branching_set())
+    yield 'the largest set, faulty at its end', largest_set()[:-1] + ['device v nothing 1']
+    yield 'comments and a small set', commented(small)
+    yield 'the same, refused', commented(refused_at_its_end(small))
+    yield 'the same, faulty at its end', commented(small[:-2])
+
+def explained_images():
+    """Of each image that both get its name, and the text of its set."""
+    yield 'the image of the largest set', largest_set()
+    yield 'the same, refused at its end', refused_at_its_end(largest_set())
+    yield 'the image with loops and jumps', largest_branching_set()
+    yield 'the same with them, refused at its end', refused_at_its_end(largest_branching_set())
+
+def explained_rows(name, file):
+    """The rows of a file that `check` and `explain` get, under this name."""
+    for command in 'check', 'explain':
+        yield '%s: %s' % (command, name), [command, file]
+
+def print_explained(taken):
+    """Of each program and input, how many times what `check` takes `explain` takes."""
+    for name in taken:
+        checked = name.replace('explain: ', 'check: ', 1)
+        if checked != name:
+            ratios = ', '.join('%.2f' % (explain / check) for explain, check in zip(taken[name], taken[checked]))
+            print('explain of %s, in times of check: %s' % (name[len('explain: '):], ratios))
+
 def spent(program, words):
     begin = time.perf_counter()
     subprocess.run([program] + words, stdin=subprocess.DEVNULL, stdout=subprocess.DEVNULL, stderr=subprocess.DEVNULL)
@@ -218,6 +259,13 @@ def rows(folder, encoder):
             image = os.path.join(folder, 'image')
             subprocess.run([os.path.abspath(encoder), 'encode', written(folder, 'set', text), image], check=True)
             yield name, ['check', image]
+    for name, text in explained_texts():
+        yield from explained_rows(name, written(folder, 'set', text))
+    if encoder is not None:
+        for name, text in explained_images():
+            image = os.path.join(folder, 'image')
+            subprocess.run([os.path.abspath(encoder), 'encode', written(folder, 'set', text), image], check=True)
+            yield from explained_rows(name, image)
 
 def main():
     parser = argparse.ArgumentParser(description=__doc__)
@@ -241,6 +289,7 @@ def main():
             differ = differ or not same
             print('%-54s %8.1f ms%s  %s' % (name, times[0], others, 'same answer' if same else 'ANSWERS DIFFER'), flush=True)
     print_ratios(taken)
+    print_explained(taken)
     sys.exit(1 if differ else 0)
 
 main()

@@ -1,1 +1,3 @@
-mod Standing
+pub mod Passing
+pub mod Standing
+pub mod Words

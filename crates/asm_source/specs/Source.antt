@@ -1,5 +1,5 @@
 -- Where the instructions of a routine stand in a text: the numbers of their lines.
-use Rattle.std.specs.Prelude.{ℕ, zero, suc, ◌+◌, List, [], ◌∷◌, Result, Ok, Err}
+use Rattle.std.specs.Prelude.{ℕ, zero, suc, ◌+◌, Bool, true, false, List, [], ◌∷◌, Result, Ok, Err}
 use Rattle.text.specs.Cut.{lines_of}
 use Rattle.asm_line.specs.declared.line.Body.{Body}
 use Rattle.asm_line.specs.declared.line.Body.TheVariants.{Blank, OpenDriver, CloseDriver, OpenRoutine, CloseRoutine, Step}
@@ -39,6 +39,13 @@ past routine (Driver driver) body = past_driver routine driver body
 past routine (Routine before) body = past_routine before body
 past routine End body = past_step body
 past routine Nothing body = Nothing
+
+-- the end of the routine is sought
+abbrev pub seeks_end : Sought → Bool
+seeks_end (Driver driver) = false
+seeks_end (Routine before) = false
+seeks_end End = true
+seeks_end Nothing = false
 
 -- the number of a line that is an instruction, before those of the lines after it, where the end of
 -- the routine is sought

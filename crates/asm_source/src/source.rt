@@ -1,13 +1,16 @@
 //! The lines of a routine's instructions.
 
-ghost use Rattle.std.specs.Prelude.{◌≡◌, IfOk};
-ghost use Rattle.asm_source.specs.Source.{body_on, instruction_lines, past};
+ghost use Rattle.std.specs.Prelude.{◌≡◌, All, IfOk, false, true};
+ghost use Rattle.asm_source.specs.Outline.{outline_lines, outlines};
+ghost use Rattle.asm_source.specs.Source.{body_on, instruction_lines, past, seeks_end};
 ghost use Rattle.asm_source.specs.Standing.{AreLinesOf};
+ghost use Rattle.excerpt.specs.Places.{IsIn, numbers};
 
+use crate::outlining::{body_on, may_outline, outlines};
 use asm::laws::code_is_of_its_lines;
-use asm_line::{Body, read_line};
+use asm_line::Body;
+use excerpt::{PlacedLines, Spots};
 use std::alloc::{AllocError, Global};
-use text::cut::Lines;
 
 /// What is sought in the lines that are left.
 #[derive(Clone, Copy)]
@@ -40,14 +43,71 @@ impl Sought {
     }
 }
 
-/// What a line says; one of no form says nothing.
-fn body_on(raw: &[u8]) -> Body<'_>
-    ensures { result ≡ body_on raw.now }
+/// Whether a line is passed without being read, where this is sought: it isn't in the routine, and
+/// begins and ends none.
+fn is_passed(sought: Sought, raw: &[u8]) -> bool
+    ensures sought { result ≡ true → seeks_end sought ≡ false }
+    ensures outline { result ≡ true → outlines (body_on raw.now) ≡ false }
 {
-    match read_line(raw) {
-        Ok(line) => line.body,
-        Err(_) => Body::Blank,
+    !seeks_end(sought) && !may_outline(raw)
+}
+
+/// Whether the end of the routine is sought.
+fn seeks_end(sought: Sought) -> bool
+    ensures { result ≡ seeks_end sought }
+{
+    matches!(sought, Sought::End)
+}
+
+/// A routine in its text.
+#[derive(Drop)]
+pub struct RoutineSource {
+    /// Where the lines of its instructions stand, in order.
+    pub lines: Spots,
+    /// Where the lines of the whole text stand that begin or end a driver or a routine, or add a
+    /// queue or a device, in order.
+    pub outline: Spots,
+}
+
+/// Where the instructions of a routine stand in a text: of the routine of a number in the driver of
+/// a number, both counted from 0 in the order of the text. In the set that the text names, each
+/// instruction of that routine is what its line says. The outline of the text is found on the way.
+///
+/// # Errors
+///
+/// When memory runs out.
+pub fn routine_source(
+    alloc: Global,
+    text: &[u8],
+    driver: u8,
+    routine: u8,
+) -> Result<RoutineSource, AllocError>
+    ensures lines { IfOk result
+        (λ source. numbers source.lines ≡ instruction_lines driver routine text.now) }
+    ensures stand { IfOk result
+        (λ source. AreLinesOf text.now driver routine (numbers source.lines)) }
+    ensures outline { IfOk result (λ source. numbers source.outline ≡ outline_lines text.now) }
+    ensures there { IfOk result (λ source. All (IsIn 0 text.now) source.lines
+        × All (IsIn 0 text.now) source.outline) }
+{
+    code_is_of_its_lines();
+    let mut left = PlacedLines::of(text);
+    let mut sought = Sought::Driver(driver);
+    let mut lines = Spots::new(alloc);
+    let mut outline = Spots::new(alloc);
+    while let Some(raw) = left.next() {
+        if !is_passed(sought, raw) {
+            let body = body_on(raw);
+            if let (Sought::End, Body::Step(_, _)) = (sought, &body) {
+                lines.push(left.spot())?;
+            }
+            if outlines(&body) {
+                outline.push(left.spot())?;
+            }
+            sought = sought.past(routine, &body);
+        }
     }
+    Ok(RoutineSource { lines, outline })
 }
 
 /// The numbers of the lines, from 1, on which the instructions of a routine stand, in order: those
@@ -67,18 +127,6 @@ pub fn instruction_lines(
         (λ lines. lines.items ≡ instruction_lines driver routine text.now) }
     ensures stand { IfOk result (λ lines. AreLinesOf text.now driver routine lines.items) }
 {
-    code_is_of_its_lines();
-    let mut left = Lines::of(text);
-    let mut sought = Sought::Driver(driver);
-    let mut lines = Vec::new(alloc);
-    let mut number: u64 = 1;
-    while let Some(raw) = left.next() {
-        let body = body_on(raw);
-        if let (Sought::End, Body::Step(_, _)) = (sought, &body) {
-            lines.push(number)?;
-        }
-        sought = sought.past(routine, &body);
-        number += 1;
-    }
-    Ok(lines)
+    let source = routine_source(alloc, text, driver, routine)?;
+    source.lines.numbers(alloc)
 }

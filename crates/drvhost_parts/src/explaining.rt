@@ -12,8 +12,8 @@ use crate::device::{Sink, Source};
 use crate::fault::{End, Fault, finish, no_memory, say};
 use crate::reading::{begins_image, set_of};
 use crate::transfer::{read_whole, write_lines, write_words};
-use asm::{AsmFault, disassemble};
-use explain::{Told, explanation, explanations, roll};
+use asm::AsmFault;
+use explain::{Origin, Told, explanation, explanations, roll};
 use fault_words::fault_words;
 use image::DriverSet;
 use model::abs::{Refusal, Rule};
@@ -165,58 +165,25 @@ fn explain_set<O: Sink>(
     ensures reads { reads_failed result ≡ 0 }
     ensures writes { O.failures out.new ≡ O.failures out.old + writes_failed result }
 {
-    let end = explain_named(alloc, extent, bytes, set, lines, out)?;
+    let end = explain_named(alloc, extent, origin_of(bytes), set, lines, out)?;
     write_lines(lines, out)?;
     Ok(end)
 }
 
-/// Explains the verdict on a set that an image spells or a text names.
-fn explain_named<O: Sink>(
-    alloc: Global,
-    extent: Extent,
-    bytes: &[u8],
-    set: DriverSet,
-    lines: &mut Lines,
-    out: &mut O,
-) -> Result<End, Fault>
-    requires out { CanCount (O.failures out.old) }
-    requires empty { lines.old ≡ [] }
-    ensures goes { Goes (IsExplained set) (O.contents out.old) (O.contents out.new) [] lines.new
-        result }
-    ensures reads { reads_failed result ≡ 0 }
-    ensures writes { O.failures out.new ≡ O.failures out.old + writes_failed result }
-{
+/// What the set was read from that these bytes spell or name.
+fn origin_of(bytes: &[u8]) -> Origin<'_> {
     if begins_image(bytes) {
-        explain_image(alloc, extent, set, lines, out)
+        Origin::Image
     } else {
-        explain_text(alloc, extent, bytes, set, lines, out)
+        Origin::Text(bytes)
     }
 }
 
-/// Explains the verdict on the set of an image, over its listing.
-fn explain_image<O: Sink>(
+/// Explains the verdict on a set, by what it was read from.
+fn explain_named<O: Sink>(
     alloc: Global,
     extent: Extent,
-    set: DriverSet,
-    lines: &mut Lines,
-    out: &mut O,
-) -> Result<End, Fault>
-    requires out { CanCount (O.failures out.old) }
-    requires empty { lines.old ≡ [] }
-    ensures goes { Goes (IsExplained set) (O.contents out.old) (O.contents out.new) [] lines.new
-        result }
-    ensures reads { reads_failed result ≡ 0 }
-    ensures writes { O.failures out.new ≡ O.failures out.old + writes_failed result }
-{
-    let listing = disassemble(alloc, &set)?;
-    explain_text(alloc, extent, listing.as_bytes(), set, lines, out)
-}
-
-/// Explains the verdict on a set, over a text that names it.
-fn explain_text<O: Sink>(
-    alloc: Global,
-    extent: Extent,
-    text: &[u8],
+    origin: Origin<'_>,
     set: DriverSet,
     lines: &mut Lines,
     out: &mut O,
@@ -229,8 +196,8 @@ fn explain_text<O: Sink>(
     ensures writes { O.failures out.new ≡ O.failures out.old + writes_failed result }
 {
     match verify(alloc, set) {
-        Ok(accepted) => explain_acceptance(alloc, text, &accepted, lines, out),
-        Err((set, refusal)) => explain_refusal(alloc, extent, text, &set, &refusal, lines, out),
+        Ok(accepted) => explain_acceptance(alloc, origin, &accepted, lines, out),
+        Err((set, refusal)) => explain_refusal(alloc, extent, origin, &set, &refusal, lines, out),
     }
 }
 
@@ -238,7 +205,7 @@ fn explain_text<O: Sink>(
 /// there before anything goes out.
 fn explain_acceptance<O: Sink>(
     alloc: Global,
-    text: &[u8],
+    origin: Origin<'_>,
     accepted: &Accepted,
     lines: &mut Lines,
     out: &mut O,
@@ -250,7 +217,7 @@ fn explain_acceptance<O: Sink>(
     ensures reads { reads_failed result ≡ 0 }
     ensures writes { O.failures out.new ≡ O.failures out.old + writes_failed result }
 {
-    let words = roll(alloc, text, accepted.set())?;
+    let words = roll(alloc, origin, accepted.set())?;
     accept(accepted, lines, out)?;
     write_words(lines, words.as_bytes(), out)?;
     Ok(End::Complete)
@@ -261,7 +228,7 @@ fn explain_acceptance<O: Sink>(
 fn explain_refusal<O: Sink>(
     alloc: Global,
     extent: Extent,
-    text: &[u8],
+    origin: Origin<'_>,
     set: &DriverSet,
     refusal: &Refusal,
     lines: &mut Lines,
@@ -275,7 +242,7 @@ fn explain_refusal<O: Sink>(
     ensures reads { reads_failed result ≡ 0 }
     ensures writes { O.failures out.new ≡ O.failures out.old + writes_failed result }
 {
-    let words = refusal_words(alloc, extent, text, set, refusal)?;
+    let words = refusal_words(alloc, extent, origin, set, refusal)?;
     let end = refuse(refusal, lines)?;
     write_words(lines, words.as_slice(), out)?;
     Ok(end)
@@ -285,15 +252,15 @@ fn explain_refusal<O: Sink>(
 fn refusal_words(
     alloc: Global,
     extent: Extent,
-    text: &[u8],
+    origin: Origin<'_>,
     set: &DriverSet,
     refusal: &Refusal,
 ) -> Result<Vec<u8>, AllocError>
     requires { (refusal.now ≡ at_start Rule.Memory) ⊎ IsFirstFault set.now refusal.now }
 {
     match extent {
-        Extent::First => Ok(explanation(alloc, text, set, refusal)?.into_bytes()),
-        Extent::Each => one_by_one(alloc, explanations(alloc, text, set)?.as_slice()),
+        Extent::First => Ok(explanation(alloc, origin, set, refusal)?.into_bytes()),
+        Extent::Each => one_by_one(alloc, explanations(alloc, origin, set)?.as_slice()),
     }
 }
 

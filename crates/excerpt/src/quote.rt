@@ -1,6 +1,6 @@
 //! Parts of a text, quoted.
 
-use crate::lines::SourceLines;
+use crate::spot::{Spot, line_at, lines_round};
 use std::alloc::AllocError;
 
 /// Adds bytes of a text, where they are letters.
@@ -20,13 +20,9 @@ pub fn add_bytes(prose: &mut String, bytes: &[u8]) -> Result<(), AllocError> {
 /// # Errors
 ///
 /// When memory runs out.
-pub fn add_line(
-    prose: &mut String,
-    source: &SourceLines<'_>,
-    number: u64,
-) -> Result<(), AllocError> {
-    match source.line(number) {
-        Some(line) => add_bytes(prose, line.bytes()),
+pub fn add_line(prose: &mut String, text: &[u8], spot: Spot) -> Result<(), AllocError> {
+    match line_at(text, spot) {
+        Some(line) => add_bytes(prose, line),
         None => prose.push_str("(no line)"),
     }
 }
@@ -36,19 +32,17 @@ pub fn add_line(
 /// # Errors
 ///
 /// When memory runs out.
-pub fn add_excerpt(
-    prose: &mut String,
-    source: &SourceLines<'_>,
-    line: u64,
-) -> Result<(), AllocError> {
-    let first = line.saturating_sub(2);
-    for number in first..line.saturating_add(3) {
-        if source.line(number).is_some() {
-            let sign = if number == line { ">" } else { " " };
-            write!(prose, "  {sign} {number}  ")?;
-            add_line(prose, source, number)?;
-            prose.push_str("\n")?;
-        }
+pub fn add_excerpt(prose: &mut String, text: &[u8], spot: Spot) -> Result<(), AllocError> {
+    let mut left = lines_round(text, spot);
+    let first = spot.number.saturating_sub(2).max(1);
+    for number in first..spot.number.saturating_add(3) {
+        let Some(line) = left.next() else {
+            return Ok(());
+        };
+        let sign = if number == spot.number { ">" } else { " " };
+        write!(prose, "  {sign} {number}  ")?;
+        add_bytes(prose, line)?;
+        prose.push_str("\n")?;
     }
     Ok(())
 }

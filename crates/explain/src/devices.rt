@@ -3,7 +3,7 @@
 use crate::place::Scene;
 use asm_line::{Body, read_line};
 use driver_set::DriverSet;
-use excerpt::{SourceLines, add_line};
+use excerpt::{Spot, add_line, line_at};
 use model::abs::Rule;
 use model::instr::Instr;
 use model::set::Device;
@@ -58,25 +58,23 @@ fn add_device(
     title: &str,
     number: usize,
 ) -> Result<(), AllocError> {
-    match device_line(&scene.source, number) {
+    match device_line(scene, number) {
         Some(line) => {
-            write!(prose, "{title}, line {line}: ")?;
-            add_line(prose, &scene.source, line)?;
+            write!(prose, "{title}, line {}: ", line.number)?;
+            add_line(prose, scene.others.bytes(), line)?;
             prose.push_str("\n")
         }
         None => Ok(()),
     }
 }
 
-/// The line before which so many others are devices', and which is one.
-fn device_line(source: &SourceLines<'_>, before: usize) -> Option<u64> {
+/// Where the line stands before which so many others are devices', and which is one.
+fn device_line(scene: &Scene<'_>, before: usize) -> Option<Spot> {
     let mut left = before;
-    let mut number: u64 = 0;
-    for line in source.all() {
-        number = number.saturating_add(1);
-        if is_device(line.bytes()) {
+    for spot in scene.outline.as_slice() {
+        if is_device(line_at(scene.others.bytes(), *spot)?) {
             if left == 0 {
-                return Some(number);
+                return Some(*spot);
             }
             left = left.saturating_sub(1);
         }

@@ -7,6 +7,7 @@
 mod devices;
 mod history;
 mod kinds;
+mod listing;
 mod names;
 pub mod pages;
 mod path;
@@ -16,4 +17,4 @@ mod state;
 mod telling;
 
 pub use pages::rule_words;
-pub use telling::{Told, explanation, explanations, roll};
+pub use telling::{Origin, Told, explanation, explanations, roll};

@@ -1,88 +1,136 @@
-//! The names that a text gives to what is in a driver.
+//! What things are called: as a text names them, or by their numbers, as a listing does.
 
 use asm_line::{Body, read_line};
-use excerpt::{SourceLines, add_bytes};
+use excerpt::{Spots, add_bytes, line_at};
 use model::set::QueueName;
 use std::alloc::{AllocError, Global};
 use text::piece::Piece;
 
 /// The name of a driver, and those of its routines and queues, in order.
 #[derive(Drop)]
-pub(crate) struct Names<'a> {
-    pub(crate) driver: Option<Piece<'a>>,
-    pub(crate) routines: Vec<Piece<'a>>,
-    pub(crate) queues: Vec<Piece<'a>>,
+pub(crate) struct DriverNames<'a> {
+    driver: Piece<'a>,
+    routines: Vec<Piece<'a>>,
+    queues: Vec<Piece<'a>>,
 }
 
-impl<'a> Names<'a> {
-    /// The names of the driver before which so many others begin in a text.
+/// What the drivers of a set are called, and the things in them.
+#[derive(Drop)]
+pub(crate) enum SetNames<'a> {
+    /// As a text names them.
+    Given(Vec<DriverNames<'a>>),
+    /// By a letter and their numbers.
+    Listed,
+}
+
+impl<'a> SetNames<'a> {
+    /// As the lines of a text name them that are its outline.
     pub(crate) fn of(
         alloc: Global,
-        source: &SourceLines<'a>,
-        before: u8,
-    ) -> Result<Names<'a>, AllocError> {
-        let mut names = Names {
-            driver: None,
-            routines: Vec::new(alloc),
-            queues: Vec::new(alloc),
-        };
-        let mut before = Some(before);
-        for line in source.all() {
-            before = names.note(line, before)?;
+        text: &'a [u8],
+        outline: &Spots,
+    ) -> Result<SetNames<'a>, AllocError> {
+        let mut drivers = Vec::new(alloc);
+        for spot in outline.as_slice() {
+            if let Some(raw) = line_at(text, *spot) {
+                note(alloc, &mut drivers, raw)?;
+            }
         }
-        Ok(names)
+        Ok(SetNames::Given(drivers))
     }
 
-    /// Notes the name that a line gives, where so many drivers begin before the one that is asked
-    /// for: nothing is asked for after its end. Answers how many begin before it from there on.
-    fn note(&mut self, line: &Piece<'a>, before: Option<u8>) -> Result<Option<u8>, AllocError> {
-        let Some(count) = before else {
-            return Ok(None);
-        };
-        if !may_name(line.bytes()) {
-            return Ok(before);
+    /// The names in the driver of a number.
+    pub(crate) fn in_driver(&self, driver: u8) -> Names<'_, 'a> {
+        match self {
+            SetNames::Given(drivers) => Names::Given(drivers.get(driver as usize)),
+            SetNames::Listed => Names::Listed,
         }
-        let Ok(read) = read_line(line.bytes()) else {
-            return Ok(before);
-        };
-        match read.body {
-            Body::OpenDriver(name) => {
-                if self.driver.is_none() && count == 0 {
-                    self.driver = Some(name);
-                }
-                Ok(Some(count.saturating_sub(1)))
+    }
+}
+
+/// Notes what a line of an outline names.
+fn note<'a>(
+    alloc: Global,
+    drivers: &mut Vec<DriverNames<'a>>,
+    raw: &'a [u8],
+) -> Result<(), AllocError> {
+    let Ok(line) = read_line(raw) else {
+        return Ok(());
+    };
+    match line.body {
+        Body::OpenDriver(driver) => drivers.push(DriverNames {
+            driver,
+            routines: Vec::new(alloc),
+            queues: Vec::new(alloc),
+        })?,
+        Body::OpenRoutine(routine, _) => {
+            if let Some(names) = drivers.last_mut() {
+                names.routines.push(routine)?;
             }
-            Body::CloseDriver if self.driver.is_some() => Ok(None),
-            Body::OpenRoutine(name, _) if self.driver.is_some() => {
-                self.routines.push(name)?;
-                Ok(before)
+        }
+        Body::AddQueue(queue, _, _) => {
+            if let Some(names) = drivers.last_mut() {
+                names.queues.push(queue)?;
             }
-            Body::AddQueue(name, _, _) if self.driver.is_some() => {
-                self.queues.push(name)?;
-                Ok(before)
-            }
-            _ => Ok(before),
+        }
+        _ => {}
+    }
+    Ok(())
+}
+
+/// What a driver and the things in it are called.
+#[derive(Clone, Copy)]
+pub(crate) enum Names<'n, 'a> {
+    /// As a text names them, if it has the driver.
+    Given(Option<&'n DriverNames<'a>>),
+    /// By a letter and their numbers.
+    Listed,
+}
+
+impl Names<'_, '_> {
+    /// Adds the name of the driver, which has this number.
+    pub(crate) fn add_driver(self, prose: &mut String, number: u8) -> Result<(), AllocError> {
+        match self {
+            Names::Given(Some(names)) => add_name(prose, Some(&names.driver), "driver", number),
+            Names::Given(None) => add_name(prose, None, "driver", number),
+            Names::Listed => write!(prose, "driver d{number}"),
         }
     }
 
     /// Adds the name of a queue, or that it is the device queue.
-    pub(crate) fn add_queue(&self, prose: &mut String, name: QueueName) -> Result<(), AllocError> {
+    pub(crate) fn add_queue(self, prose: &mut String, name: QueueName) -> Result<(), AllocError> {
         match name {
-            QueueName::Declared(number) => {
-                add_name(prose, self.queues.get(number as usize), "queue", number)
-            }
+            QueueName::Declared(number) => self.add_declared(prose, number),
             QueueName::DeviceQueue => prose.push_str("the device queue"),
         }
     }
 
+    /// Adds the name of the queue of a number.
+    fn add_declared(self, prose: &mut String, number: u8) -> Result<(), AllocError> {
+        match self {
+            Names::Given(Some(names)) => {
+                add_name(prose, names.queues.get(number as usize), "queue", number)
+            }
+            Names::Given(None) => add_name(prose, None, "queue", number),
+            Names::Listed => write!(prose, "queue q{number}"),
+        }
+    }
+
     /// Adds the name of a routine.
-    pub(crate) fn add_routine(&self, prose: &mut String, number: u8) -> Result<(), AllocError> {
-        add_name(prose, self.routines.get(number as usize), "routine", number)
+    pub(crate) fn add_routine(self, prose: &mut String, number: u8) -> Result<(), AllocError> {
+        match self {
+            Names::Given(Some(names)) => {
+                let name = names.routines.get(number as usize);
+                add_name(prose, name, "routine", number)
+            }
+            Names::Given(None) => add_name(prose, None, "routine", number),
+            Names::Listed => write!(prose, "routine f{number}"),
+        }
     }
 }
 
 /// Adds a thing with its name, or its number where it has none.
-pub(crate) fn add_name(
+fn add_name(
     prose: &mut String,
     name: Option<&Piece<'_>>,
     thing: &str,
@@ -93,17 +141,4 @@ pub(crate) fn add_name(
         Some(name) => add_bytes(prose, name.bytes()),
         None => write!(prose, "{number}"),
     }
-}
-
-/// Whether a line may begin or end a driver, or name a queue or a routine: such a line begins with
-/// one of four letters, behind blanks.
-fn may_name(line: &[u8]) -> bool {
-    for byte in line {
-        match *byte {
-            b' ' | b'\t' | b'\r' => {}
-            b'd' | b'e' | b'q' | b'r' => return true,
-            _ => return false,
-        }
-    }
-    false
 }

@@ -1,34 +1,62 @@
 //! Where a refusal stands.
 
-use crate::names::{Names, add_name};
-use excerpt::{SourceLines, add_excerpt, add_line};
+use crate::names::{Names, SetNames};
+use excerpt::{Spot, Spots, add_excerpt, add_line};
 use model::abs::Refusal;
 use model::set::Sort;
 use std::alloc::AllocError;
+
+/// A text that is quoted.
+#[derive(Drop)]
+pub(crate) enum Source<'a> {
+    /// The one that names the set.
+    Text(&'a [u8]),
+    /// Lines of the set's listing.
+    Listing(String),
+}
 
 /// A routine that is refused, as its text has it.
 #[derive(Drop)]
 pub(crate) struct Scene<'a> {
     pub(crate) refusal: Refusal,
     pub(crate) sort: Sort,
-    pub(crate) source: SourceLines<'a>,
-    pub(crate) names: Names<'a>,
-    /// The numbers of the lines of its instructions.
-    pub(crate) lines: Vec<u64>,
+    /// What has its lines.
+    pub(crate) source: Source<'a>,
+    pub(crate) names: SetNames<'a>,
+    /// Where the lines of its instructions stand.
+    pub(crate) lines: Spots,
+    /// What has other lines, those of all devices among them, and where they stand.
+    pub(crate) others: Source<'a>,
+    pub(crate) outline: Spots,
 }
 
-impl Scene<'_> {
-    /// The line on which the instruction of a position stands.
-    pub(crate) fn line_at(&self, at: u16) -> Option<u64> {
-        self.lines.get(at as usize).copied()
+impl Source<'_> {
+    /// Its bytes.
+    pub(crate) fn bytes(&self) -> &[u8] {
+        match self {
+            Source::Text(text) => *text,
+            Source::Listing(text) => text.as_bytes(),
+        }
+    }
+}
+
+impl<'a> Scene<'a> {
+    /// What the driver and the things in it are called.
+    pub(crate) fn names(&self) -> Names<'_, 'a> {
+        self.names.in_driver(self.refusal.driver)
+    }
+
+    /// Where the line stands that has the instruction of a position.
+    pub(crate) fn line_at(&self, at: u16) -> Option<Spot> {
+        self.lines.get(at as usize)
     }
 
     /// Adds a position with its line.
     pub(crate) fn add_position(&self, prose: &mut String, at: u16) -> Result<(), AllocError> {
         match self.line_at(at) {
             Some(line) => {
-                write!(prose, "at {at}, line {line}: ")?;
-                add_line(prose, &self.source, line)
+                write!(prose, "at {at}, line {}: ", line.number)?;
+                add_line(prose, self.source.bytes(), line)
             }
             None => write!(prose, "at {at}"),
         }
@@ -43,14 +71,15 @@ impl Scene<'_> {
             rule: _,
         } = self.refusal;
         prose.push_str("\nin ")?;
-        add_name(prose, self.names.driver.as_ref(), "driver", driver)?;
+        let names = self.names();
+        names.add_driver(prose, driver)?;
         prose.push_str(", ")?;
-        self.names.add_routine(prose, routine)?;
+        names.add_routine(prose, routine)?;
         write!(prose, " ({})", self.sort.as_str())?;
         match self.line_at(at) {
             Some(line) => {
-                write!(prose, ", position {at}, line {line}:\n")?;
-                add_excerpt(prose, &self.source, line)
+                write!(prose, ", position {at}, line {}:\n", line.number)?;
+                add_excerpt(prose, self.source.bytes(), line)
             }
             None => write!(prose, ", position {at}\n"),
         }

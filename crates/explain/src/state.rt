@@ -8,7 +8,7 @@ use std::alloc::AllocError;
 /// and the token; or that it says nothing.
 pub(crate) fn add_state(
     prose: &mut String,
-    names: &Names<'_>,
+    names: Names<'_, '_>,
     state: &Abs,
 ) -> Result<(), AllocError> {
     let before = prose.len();
@@ -30,7 +30,7 @@ pub(crate) fn add_state(
 /// Adds what a register holds.
 pub(crate) fn add_kind(
     prose: &mut String,
-    names: &Names<'_>,
+    names: Names<'_, '_>,
     kind: Kind,
 ) -> Result<(), AllocError> {
     match kind {
@@ -105,7 +105,7 @@ fn settled_words(settled: Settled) -> &'static str {
 /// Adds what differs between two states, register by register and lock by lock.
 pub(crate) fn add_differences(
     prose: &mut String,
-    names: &Names<'_>,
+    names: Names<'_, '_>,
     one: &Abs,
     other: &Abs,
 ) -> Result<(), AllocError> {

@@ -5,22 +5,31 @@ ghost use Rattle.model.specs.Typable.{IsFirstFault, IsFirstFaultOf, at_start};
 
 use crate::devices::add_devices;
 use crate::history::{add_blanking, add_loops};
-use crate::names::Names;
+use crate::listing::{listed_devices, listed_routine};
+use crate::names::{Names, SetNames};
 use crate::path::add_path;
-use crate::place::Scene;
+use crate::place::{Scene, Source};
 use crate::rules::{Lesson, lesson_of, not_entered, of_set};
 use crate::state::{add_differences, add_state};
 use absstate::Abs;
-use asm_source::instruction_lines;
+use asm_source::{outline, routine_source};
 use driver_set::DriverSet;
 use evidence::{Evidence, Path, Subject, evidence_at, evidence_of};
-use excerpt::SourceLines;
 use model::abs::{Refusal, Rule};
 use model::instr::Instr;
 use model::set::{Driver, Routine};
 use std::alloc::{AllocError, Global};
 
-/// A refusal of a set that a text names, told in words: where it stands in the text, the path that
+/// What a set was read from, which is quoted.
+#[derive(Clone, Copy)]
+pub enum Origin<'a> {
+    /// A text, which names what is in the set.
+    Text(&'a [u8]),
+    /// An image: the listing of the set is quoted.
+    Image,
+}
+
+/// A refusal of a set, told in words: where it stands in the text, the path that
 /// leads there with the state that arrives, and why the rule is broken.
 ///
 /// # Errors
@@ -28,7 +37,7 @@ use std::alloc::{AllocError, Global};
 /// When memory runs out.
 pub fn explanation(
     alloc: Global,
-    text: &[u8],
+    origin: Origin<'_>,
     set: &DriverSet,
     refusal: &Refusal,
 ) -> Result<String, AllocError>
@@ -40,7 +49,7 @@ pub fn explanation(
         return Ok(prose);
     };
     if let Some(routine) = routine_of(set, refusal) {
-        let scene = scene_of(alloc, text, refusal, routine)?;
+        let scene = scene_of(alloc, origin, set, refusal, routine)?;
         add_evidence(alloc, &mut prose, &scene, set, routine, &evidence)?;
     }
     Ok(prose)
@@ -53,13 +62,17 @@ pub struct Told {
     pub words: String,
 }
 
-/// The first fault of each routine of a set that a text names, told in words as [`explanation`]
+/// The first fault of each routine of a set, told in words as [`explanation`]
 /// tells a refusal: the set's own first, if it has no device, and then in order.
 ///
 /// # Errors
 ///
 /// When memory runs out.
-pub fn explanations(alloc: Global, text: &[u8], set: &DriverSet) -> Result<Vec<Told>, AllocError> {
+pub fn explanations(
+    alloc: Global,
+    origin: Origin<'_>,
+    set: &DriverSet,
+) -> Result<Vec<Told>, AllocError> {
     let mut all = Vec::new(alloc);
     if set.devices().is_empty() {
         let mut words = String::new(alloc);
@@ -71,7 +84,7 @@ pub fn explanations(alloc: Global, text: &[u8], set: &DriverSet) -> Result<Vec<T
     }
     let mut number: u8 = 0;
     for driver in set.drivers() {
-        add_faults(alloc, &mut all, text, set, number, driver)?;
+        add_faults(alloc, &mut all, origin, set, number, driver)?;
         number = number.saturating_add(1);
     }
     Ok(all)
@@ -91,7 +104,7 @@ fn at_start(rule: Rule) -> Refusal {
 fn add_faults(
     alloc: Global,
     all: &mut Vec<Told>,
-    text: &[u8],
+    origin: Origin<'_>,
     set: &DriverSet,
     number: u8,
     driver: &Driver,
@@ -106,7 +119,7 @@ fn add_faults(
                     at: fault.at,
                     rule: fault.rule,
                 };
-                let words = fault_words(alloc, text, set, subject, routine, &refusal)?;
+                let words = fault_words(alloc, origin, set, subject, routine, &refusal)?;
                 all.push(Told { refusal, words })?;
             }
         }
@@ -118,7 +131,7 @@ fn add_faults(
 /// The first fault of a routine in words.
 fn fault_words(
     alloc: Global,
-    text: &[u8],
+    origin: Origin<'_>,
     set: &DriverSet,
     subject: Subject<'_>,
     routine: &Routine,
@@ -128,7 +141,7 @@ fn fault_words(
 {
     let mut prose = String::new(alloc);
     let evidence = evidence_at(alloc, subject, refusal.at, refusal.rule)?;
-    let scene = scene_of(alloc, text, refusal, routine)?;
+    let scene = scene_of(alloc, origin, set, refusal, routine)?;
     add_evidence(alloc, &mut prose, &scene, set, routine, &evidence)?;
     Ok(prose)
 }
@@ -142,20 +155,39 @@ fn routine_of<'s>(set: &'s DriverSet, refusal: &Refusal) -> Option<&'s Routine> 
 /// The routine of a refusal as its text has it.
 fn scene_of<'t>(
     alloc: Global,
-    text: &'t [u8],
+    origin: Origin<'t>,
+    set: &DriverSet,
     refusal: &Refusal,
     routine: &Routine,
 ) -> Result<Scene<'t>, AllocError> {
-    let source = SourceLines::of(alloc, text)?;
-    let names = Names::of(alloc, &source, refusal.driver)?;
-    let lines = instruction_lines(alloc, text, refusal.driver, refusal.routine)?;
-    Ok(Scene {
-        refusal: *refusal,
-        sort: routine.sort,
-        source,
-        names,
-        lines,
-    })
+    match origin {
+        Origin::Text(text) => {
+            let found = routine_source(alloc, text, refusal.driver, refusal.routine)?;
+            let names = SetNames::of(alloc, text, &found.outline)?;
+            Ok(Scene {
+                refusal: *refusal,
+                sort: routine.sort,
+                source: Source::Text(text),
+                names,
+                lines: found.lines,
+                others: Source::Text(text),
+                outline: found.outline,
+            })
+        }
+        Origin::Image => {
+            let listed = listed_routine(alloc, set, refusal.driver, refusal.routine)?;
+            let devices = listed_devices(alloc, set)?;
+            Ok(Scene {
+                refusal: *refusal,
+                sort: routine.sort,
+                source: Source::Listing(listed.text),
+                names: SetNames::Listed,
+                lines: listed.spots,
+                others: Source::Listing(devices.text),
+                outline: devices.spots,
+            })
+        }
+    }
 }
 
 /// Adds where a refusal stands, what leads there, and why the rule is broken.
@@ -188,13 +220,13 @@ fn add_evidence(
         Evidence::Differing(one, other) => {
             add_arrival(prose, scene, "one path there:\n", one)?;
             add_arrival(prose, scene, "another path there:\n", other)?;
-            add_differences(prose, &scene.names, &one.last.state, &other.last.state)?;
+            add_differences(prose, scene.names(), &one.last.state, &other.last.state)?;
             add_why(prose, scene, routine, None)
         }
         Evidence::Unlike(start, end) => {
             add_arrival(prose, scene, "the path to the loop:\n", start)?;
             add_arrival(prose, scene, "the path to its end:\n", end)?;
-            add_differences(prose, &scene.names, &start.last.state, &end.last.state)?;
+            add_differences(prose, scene.names(), &start.last.state, &end.last.state)?;
             add_why(prose, scene, routine, None)
         }
     }
@@ -229,7 +261,7 @@ fn add_arrival(
     prose.push_str(title)?;
     add_path(prose, scene, path)?;
     prose.push_str("what is known where it arrives:\n")?;
-    add_state(prose, &scene.names, &path.last.state)
+    add_state(prose, scene.names(), &path.last.state)
 }
 
 /// Adds why the rule is broken by the instruction at the place.
@@ -254,35 +286,41 @@ fn add_lesson(prose: &mut String, lesson: Lesson) -> Result<(), AllocError> {
     write!(prose, "mend it: {mend}\n")
 }
 
-/// The routines of a set that a text names, a line each: where they stand, their sort and their
-/// names.
+/// The routines of a set, a line each: where they stand, their sort and their names.
 ///
 /// # Errors
 ///
 /// When memory runs out.
-pub fn roll(alloc: Global, text: &[u8], set: &DriverSet) -> Result<String, AllocError> {
+pub fn roll(alloc: Global, origin: Origin<'_>, set: &DriverSet) -> Result<String, AllocError> {
     let mut prose = String::new(alloc);
-    let source = SourceLines::of(alloc, text)?;
+    let names = names_of(alloc, origin)?;
     let mut number: u8 = 0;
     for driver in set.drivers() {
-        let names = Names::of(alloc, &source, number)?;
-        add_roll(&mut prose, &names, number, driver)?;
+        add_roll(&mut prose, names.in_driver(number), number, driver)?;
         number = number.saturating_add(1);
     }
     Ok(prose)
 }
 
+/// What the things in a set are called.
+fn names_of<'t>(alloc: Global, origin: Origin<'t>) -> Result<SetNames<'t>, AllocError> {
+    match origin {
+        Origin::Text(text) => SetNames::of(alloc, text, &outline(alloc, text)?),
+        Origin::Image => Ok(SetNames::Listed),
+    }
+}
+
 /// Adds the lines of a driver's routines.
 fn add_roll(
     prose: &mut String,
-    names: &Names<'_>,
+    names: Names<'_, '_>,
     number: u8,
     driver: &Driver,
 ) -> Result<(), AllocError> {
     let mut place: u8 = 0;
     for routine in driver.routines.as_slice() {
         write!(prose, "driver {number} routine {place}: ")?;
-        crate::names::add_name(prose, names.driver.as_ref(), "driver", number)?;
+        names.add_driver(prose, number)?;
         prose.push_str(", ")?;
         names.add_routine(prose, place)?;
         write!(prose, " ({})\n", routine.sort.as_str())?;

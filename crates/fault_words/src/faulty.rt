@@ -2,17 +2,16 @@
 
 use crate::scope::{Opened, Scope};
 use crate::token::Parts;
-use excerpt::{SourceLines, add_bytes, add_excerpt};
+use excerpt::{Spot, add_bytes, add_excerpt, line_at};
 use std::alloc::{AllocError, Global};
-use text::piece::Piece;
 
 /// A faulty line in its text.
 #[derive(Drop)]
 pub(crate) struct FaultyLine<'a> {
-    pub(crate) source: SourceLines<'a>,
+    pub(crate) text: &'a [u8],
     pub(crate) scope: Scope<'a>,
-    /// Its number, from 1; one past the last line's where the text ends too early.
-    pub(crate) number: u64,
+    /// Where it stands; behind the last line where the text ends too early.
+    pub(crate) spot: Spot,
     pub(crate) parts: Parts<'a>,
 }
 
@@ -23,20 +22,20 @@ impl<'a> FaultyLine<'a> {
         text: &'a [u8],
         number: u64,
     ) -> Result<FaultyLine<'a>, AllocError> {
-        let source = SourceLines::of(alloc, text)?;
-        let scope = Scope::at(&source, number);
-        let parts = Parts::of(alloc, bytes_of(source.line(number)))?;
+        let mut scope = Scope::new(alloc);
+        let spot = scope.pass_lines(text, number)?;
+        let parts = Parts::of(alloc, line_at(text, spot).unwrap_or(&[]))?;
         Ok(FaultyLine {
-            source,
+            text,
             scope,
-            number,
+            spot,
             parts,
         })
     }
 
-    /// Its bytes; none where it is past the last line.
+    /// Its bytes; none where it is behind the last line.
     pub(crate) fn bytes(&self) -> &'a [u8] {
-        bytes_of(self.source.line(self.number))
+        line_at(self.text, self.spot).unwrap_or(&[])
     }
 
     /// Adds where it stands, and the lines round it.
@@ -44,15 +43,8 @@ impl<'a> FaultyLine<'a> {
         prose.push_str("\nin ")?;
         add_opened(prose, "driver", &self.scope.driver)?;
         add_opened(prose, "routine", &self.scope.routine)?;
-        write!(prose, "line {}:\n", self.number)?;
-        add_excerpt(prose, &self.source, self.number)
-    }
-}
-
-fn bytes_of<'a>(line: Option<&Piece<'a>>) -> &'a [u8] {
-    match line {
-        Some(line) => line.bytes(),
-        None => &[],
+        write!(prose, "line {}:\n", self.spot.number)?;
+        add_excerpt(prose, self.text, self.spot)
     }
 }
 

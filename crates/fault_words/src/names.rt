@@ -1,10 +1,12 @@
 //! The names that a text gives to things of one kind, within the reach of a line.
 
+use crate::faulty::FaultyLine;
 use crate::operand::Operand;
-use crate::scope::Scope;
-use excerpt::SourceLines;
+use crate::scope::Opened;
+use excerpt::{PlacedLines, Spot};
 use std::alloc::{AllocError, Global};
 use text::class::{is, label_name};
+use text::cut::Lines;
 use text::piece::Piece;
 use text::token::Tokens;
 
@@ -21,7 +23,9 @@ pub(crate) enum Thing {
 /// A name, and the line that gives it.
 #[derive(Drop)]
 pub(crate) struct Given<'a> {
-    pub(crate) line: u64,
+    /// The number of that line.
+    pub(crate) number: u64,
+    pub(crate) line: Piece<'a>,
     pub(crate) name: Piece<'a>,
 }
 
@@ -73,87 +77,108 @@ impl Thing {
         }
     }
 
-    /// The lines on which names of its kind stand that the line of a number may use: from one up
-    /// to the end of what is open, or up to that line.
-    fn lines(self, scope: &Scope<'_>, line: u64) -> Span {
+    /// Whether a line may say something of such things, by its first byte: one that names a routine
+    /// or a queue, or ends a driver, begins with a blank or as its word does.
+    fn may_concern(self, raw: &[u8]) -> bool {
         match self {
-            Thing::Driver | Thing::Device => Span {
-                first: 1,
-                end: Some(line),
-                closing: b"",
-            },
-            Thing::Routine | Thing::Queue => Span {
-                first: line_of(scope.driver.as_ref().map(|open| open.line)),
-                end: None,
-                closing: b"endd",
-            },
-            Thing::Label => Span {
-                first: line_of(scope.routine.as_ref().map(|open| open.line)),
-                end: None,
-                closing: b"endr",
-            },
+            Thing::Label => true,
+            _ => matches!(raw.first(), Some(b'\t' | b'\r' | b' ' | b'e' | b'q' | b'r')),
         }
     }
 
-    /// The name that a line gives to such a thing, if it gives one.
-    fn named_by<'a>(self, raw: &'a [u8]) -> Option<Piece<'a>> {
+    /// What a line says of such things, where they are known up to a line with a word.
+    fn said_by<'a>(self, raw: &'a [u8], closing: &[u8]) -> Said<'a> {
+        if !self.may_concern(raw) {
+            return Said::Nothing;
+        }
         let mut tokens = Tokens::of(raw);
-        let first = tokens.next()?;
-        match self {
-            Thing::Label => Some(Piece::of(label_name(first)?)),
-            _ if is(first, self.word().as_bytes()) => Some(Piece::of(tokens.next()?)),
-            _ => None,
-        }
-    }
-}
-
-/// Some lines, one after another.
-#[derive(Clone, Copy)]
-struct Span {
-    first: u64,
-    /// The line before which they end.
-    end: Option<u64>,
-    /// The word of the line with which they end.
-    closing: &'static [u8],
-}
-
-impl Span {
-    /// Whether they end before a line.
-    fn ends_before(&self, number: u64, raw: &[u8]) -> bool {
-        let past = match self.end {
-            Some(end) => number >= end,
-            None => false,
+        let Some(first) = tokens.next() else {
+            return Said::Nothing;
         };
-        past || match Tokens::of(raw).next() {
-            Some(word) => is(word, self.closing),
-            None => false,
+        if is(first, closing) {
+            return Said::End;
+        }
+        let name = match self {
+            Thing::Label => label_name(first),
+            _ if is(first, self.word().as_bytes()) => tokens.next(),
+            _ => None,
+        };
+        match name {
+            Some(name) => Said::Name(Piece::of(name)),
+            None => Said::Nothing,
         }
     }
 }
 
-fn line_of(opened: Option<u64>) -> u64 {
-    opened.unwrap_or(1)
+/// What a line says of things of a kind.
+enum Said<'a> {
+    /// Nothing.
+    Nothing,
+    /// It gives a name to one.
+    Name(Piece<'a>),
+    /// Their names aren't known behind it.
+    End,
 }
 
-/// The names of such things that the line of a number may use, in order.
+/// The names of such things that a line may use, in order: of drivers and devices those before it,
+/// of others those from where what is open began up to its end.
 pub(crate) fn names_of<'a>(
     alloc: Global,
     thing: Thing,
-    source: &SourceLines<'a>,
-    scope: &Scope<'_>,
-    line: u64,
+    line: &FaultyLine<'a>,
 ) -> Result<Vec<Given<'a>>, AllocError> {
-    let span = thing.lines(scope, line);
+    let scope = &line.scope;
+    match thing {
+        Thing::Driver => again(alloc, scope.drivers.as_slice()),
+        Thing::Device => again(alloc, scope.devices.as_slice()),
+        Thing::Routine | Thing::Queue => {
+            names_from(alloc, thing, line.text, begin_of(line.text, &scope.driver), b"endd")
+        }
+        Thing::Label => names_from(alloc, thing, line.text, begin_of(line.text, &scope.routine), b"endr"),
+    }
+}
+
+/// Where what is open began; the first line where nothing is.
+fn begin_of(text: &[u8], opened: &Option<Opened<'_>>) -> Spot {
+    match opened {
+        Some(opened) => opened.spot,
+        None => PlacedLines::of(text).end(),
+    }
+}
+
+/// The same names once more.
+fn again<'a>(alloc: Global, names: &[Given<'a>]) -> Result<Vec<Given<'a>>, AllocError> {
+    let mut all = Vec::new(alloc);
+    for given in names {
+        all.push(Given {
+            number: given.number,
+            line: given.line.again(),
+            name: given.name.again(),
+        })?;
+    }
+    Ok(all)
+}
+
+/// The names that lines give to such things, from one on up to one with a word.
+fn names_from<'a>(
+    alloc: Global,
+    thing: Thing,
+    text: &'a [u8],
+    first: Spot,
+    closing: &[u8],
+) -> Result<Vec<Given<'a>>, AllocError> {
     let mut names = Vec::new(alloc);
-    let mut number = 1;
-    for raw in source.all() {
-        if number >= span.first {
-            if span.ends_before(number, raw.bytes()) {
-                break;
-            }
-            if let Some(name) = thing.named_by(raw.bytes()) {
-                names.push(Given { line: number, name })?;
-            }
+    let mut left = Lines::of(text.get(first.start..).unwrap_or(&[]));
+    let mut number = first.number;
+    while let Some(raw) = left.next() {
+        match thing.said_by(raw, closing) {
+            Said::Nothing => {}
+            Said::Name(name) => names.push(Given {
+                number,
+                line: Piece::of(raw),
+                name,
+            })?,
+            Said::End => break,
         }
         number = number.saturating_add(1);
     }

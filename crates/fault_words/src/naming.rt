@@ -49,14 +49,14 @@ fn add_given_before(
 ) -> Result<(), AllocError> {
     prose.push_str("at fault: ")?;
     add_token(prose, name)?;
-    let names = names_of(alloc, thing, &line.source, &line.scope, line.number)?;
+    let names = names_of(alloc, thing, line)?;
     let word = thing.word();
     match found(&names, name) {
-        Some(given) if given.line < line.number => {
+        Some(given) if given.number < line.spot.number => {
             write!(
                 prose,
                 ", which line {} gave to a {word} before\n",
-                given.line
+                given.number
             )?;
         }
         _ => write!(prose, ", which was given to a {word} before\n")?,
@@ -80,7 +80,7 @@ pub(crate) fn add_unknown_name(
     let mut place: usize = 0;
     for operand in form.operands {
         if let (Some(thing), Some(name)) = (Thing::of(*operand), line.parts.operand(place)) {
-            let names = names_of(alloc, thing, &line.source, &line.scope, line.number)?;
+            let names = names_of(alloc, thing, line)?;
             if found(&names, name).is_none() {
                 return add_unknown(prose, thing, name, &names);
             }
@@ -195,25 +195,16 @@ fn begins_packets(alloc: Global, line: &FaultyLine<'_>) -> Result<bool, AllocErr
     let Some(name) = line.parts.operand(0) else {
         return Ok(false);
     };
-    let names = names_of(
-        alloc,
-        Thing::Routine,
-        &line.source,
-        &line.scope,
-        line.number,
-    )?;
+    let names = names_of(alloc, Thing::Routine, line)?;
     match found(&names, name) {
-        Some(given) => Ok(is_startio(line.source.line(given.line))),
+        Some(given) => Ok(is_startio(given.line.bytes())),
         None => Ok(false),
     }
 }
 
 /// Whether a `routine` line is of sort `startio`.
-fn is_startio(line: Option<&Piece<'_>>) -> bool {
-    let Some(line) = line else {
-        return false;
-    };
-    let mut tokens = Tokens::of(line.bytes());
+fn is_startio(line: &[u8]) -> bool {
+    let mut tokens = Tokens::of(line);
     let (_, _) = (tokens.next(), tokens.next());
     match tokens.next() {
         Some(sort) => is(sort, b"startio"),

@@ -24,6 +24,8 @@ mod limits;
 #[cfg(test)]
 mod links;
 #[cfg(test)]
+mod listed;
+#[cfg(test)]
 mod overlap;
 #[cfg(test)]
 mod prose;

@@ -4,7 +4,7 @@
 use crate::evidences::refused;
 use asm::assemble;
 use asm_source::instruction_lines;
-use explain::{explanation, roll};
+use explain::{Origin, explanation, roll};
 use std::alloc::Global;
 
 /// Two routines; the second completes its packet twice.
@@ -35,7 +35,7 @@ const ROLL: &str = "driver 0 routine 0: driver disk, routine read (dispatch)\n\
 /// Whether the refusal of a text is told by these words, and then by a reason.
 fn is_told(alloc: Global, text: &str, told: &str) -> Option<bool> {
     let (set, refusal) = refused(alloc, text)?;
-    let prose = explanation(alloc, text.as_bytes(), &set, &refusal).ok()?;
+    let prose = explanation(alloc, Origin::Text(text.as_bytes()), &set, &refusal).ok()?;
     let (place, reason) = prose.split_once("why: ")?;
     Some(place == told && reason.ends_with("\n"))
 }
@@ -43,7 +43,7 @@ fn is_told(alloc: Global, text: &str, told: &str) -> Option<bool> {
 /// Whether the routines of the set that a text names are told by these words.
 fn is_rolled(alloc: Global, text: &str, told: &str) -> Option<bool> {
     let set = assemble(alloc, text.as_bytes()).ok()?;
-    let prose = roll(alloc, text.as_bytes(), &set).ok()?;
+    let prose = roll(alloc, Origin::Text(text.as_bytes()), &set).ok()?;
     Some(prose.as_str() == told)
 }
 
