@@ -1,9 +1,10 @@
 //! What is told of an image, for which parts of its listing are written, is what is told of the
-//! whole listing.
+//! whole listing: over the examples of the rules.
 
-use crate::wrong_drivers::wrong_drivers;
 use asm::{assemble, disassemble};
+use explain::pages::page_of;
 use explain::{Origin, Told, explanations, roll};
+use model::abs::Rule;
 use std::alloc::Global;
 
 /// Whether the same is told of the same faults.
@@ -35,19 +36,43 @@ fn is_told_as_listed(alloc: Global, text: &str) -> Option<bool> {
     )
 }
 
-/// The driver of a record of the gallery.
-fn driver_of(record: &str) -> Option<&str> {
-    let (_name, texts) = record.split_once("--\n")?;
-    let (driver, _others) = texts.split_once("--\n")?;
-    Some(driver)
+/// The examples of a rule's page, where there are any.
+fn are_examples_told_as_listed(alloc: Global, rule: Rule) -> Option<bool> {
+    let Some(example) = page_of(rule).example else {
+        return Some(true);
+    };
+    let refused = is_told_as_listed(alloc, example.refused)?;
+    Some(refused && is_told_as_listed(alloc, example.mended)?)
 }
+
+/// The rules that a routine may break, in their order.
+const RULES: [Rule; 20] = [
+    Rule::Malformed,
+    Rule::Unreachable,
+    Rule::StatesDiffer,
+    Rule::WrongKind,
+    Rule::DoubleCompletion,
+    Rule::MarkIrpPending,
+    Rule::CancelSpinLock,
+    Rule::SpinLock,
+    Rule::LockHeld,
+    Rule::Level,
+    Rule::Guard,
+    Rule::CancelState,
+    Rule::Dropped,
+    Rule::Token,
+    Rule::Sort,
+    Rule::Completion,
+    Rule::StackTooSmall,
+    Rule::NoLower,
+    Rule::TooLong,
+    Rule::Memory,
+];
 
 #[test]
 fn images_are_explained_as_their_listings(rt: HostRuntime) {
-    for part in wrong_drivers() {
-        for record in part.split("==\n") {
-            let driver = driver_of(record).unwrap_or("");
-            assert!(rt; is_told_as_listed(rt.alloc(), driver) == Some(true), "{driver}");
-        }
+    for rule in RULES {
+        let name = rule.as_str();
+        assert!(rt; are_examples_told_as_listed(rt.alloc(), rule) == Some(true), "{name}");
     }
 }
