@@ -5,7 +5,7 @@ ghost use Rattle.drvhost_parts.specs.Device.{Unknown};
 
 use command_line::answer::answer;
 use command_line::files::{Files, Output};
-use drvhost_parts::device::{Reader, Source, Writer};
+use drvhost_parts::device::{Reader, Sink, Source, Writer};
 use std::alloc::{AllocError, Global};
 use std::io::ErrorKind;
 use std::sync::Wait;

@@ -8,7 +8,7 @@ use crate::failures::TEXT;
 use crate::images::{OLD_ONE_READ, ONE_READ};
 use command_line::answer::answer;
 use command_line::files::{Files, Output};
-use drvhost_parts::device::{Reader, Source, Writer};
+use drvhost_parts::device::{Reader, Sink, Source, Writer};
 use std::alloc::Global;
 use std::sync::Wait;
 use std::thread::Threads;

@@ -4,7 +4,7 @@ ghost use Rattle.std.specs.Prelude.{◌≡◌};
 ghost use Rattle.drvhost_parts.specs.Device.{Unknown};
 
 use command_line::files::{Files, Output};
-use drvhost_parts::device::{Reader, Source};
+use drvhost_parts::device::{Reader, Sink, Source};
 use std::fs::{self, File};
 
 /// The files of a system, which counts those that are opened, and the reads and writes of them that
