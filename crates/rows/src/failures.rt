@@ -382,7 +382,7 @@ fn each_read_of_the_set_of_a_run_fails_in_turn(rt: HostRuntime) {
 fn calls_of_orders(case: &Case) -> usize {
     match case.job {
         Job::Trace(orders, _) | Job::Host(orders) => orders.len().saturating_add(1),
-        Job::Check | Job::Explain(_) | Job::List => 0,
+        Job::Check | Job::Explain(_) | Job::List | Job::Rewrite => 0,
     }
 }
 
