@@ -124,6 +124,7 @@ pub fn acquire_fault(state: &Abs, lock: &Guard) -> Option<Rule>
 }
 
 /// A lock that is released was held, and no register needs it.
+#[inline(always)]
 pub fn release_fault(tracked: &Tracked, set: &DriverSet, driver: u8, lock: &Guard) -> Option<Rule>
     ensures { result ≡ release_fault tracked.now set.now driver lock.now }
 {
@@ -232,7 +233,7 @@ fn is_name(one: QueueName, other: QueueName) -> bool
 }
 
 /// Whether a register needs a lock. Most often none names a list, and that is all.
-#[tactic(auto, using(crate::proofs::Releasing::none_in_need))]
+#[inline(always)]
 fn is_any_in_need(tracked: &Tracked, set: &DriverSet, driver: u8, lock: &Guard) -> bool
     ensures { result ≡ list_any (needs_guard set.now driver lock.now) tracked.now.kinds }
 {
@@ -328,6 +329,7 @@ pub fn disarm(tracked: &mut Tracked, register: Register)
 
 /// Releases a lock: a packet in a list that it guards, whose cancel routine is set, belongs to
 /// whoever comes first then.
+#[inline(always)]
 pub fn release(tracked: &mut Tracked, set: &DriverSet, driver: u8, lock: &Guard)
     ensures { tracked.new ≡ released tracked.old set.now driver lock.now }
 {
@@ -335,16 +337,23 @@ pub fn release(tracked: &mut Tracked, set: &DriverSet, driver: u8, lock: &Guard)
     set_held(tracked, lock, false);
 }
 
-/// Lets the registers go, of which most often none names a list; else it is looked at again
-/// whether one still does.
+/// Lets the registers go, of which most often none names a list.
+#[inline(always)]
 #[tactic(auto, using(crate::proofs::Releasing::none_let_go))]
 fn armed_let_go(tracked: &mut Tracked, set: &DriverSet, driver: u8, lock: &Guard)
     ensures { tracked.new
         ≡ record tracked.old { kinds = all_let_go set.now driver lock.now tracked.old.kinds } }
 {
-    if !tracked.named {
-        return;
+    if tracked.named {
+        each_let_go(tracked, set, driver, lock);
     }
+}
+
+/// Lets the registers go one by one, and looks again whether one still names a list.
+fn each_let_go(tracked: &mut Tracked, set: &DriverSet, driver: u8, lock: &Guard)
+    ensures { tracked.new
+        ≡ record tracked.old { kinds = all_let_go set.now driver lock.now tracked.old.kinds } }
+{
     all_let_go(&mut tracked.state.kinds, set, driver, lock);
     tracked.named = is_any_named(&tracked.state.kinds);
 }

@@ -208,6 +208,7 @@ pub fn kind(state: &Abs, register: Register) -> Kind
 }
 
 /// Whether the thread holds a spin lock of the device, or the system cancel spin lock.
+#[inline(always)]
 pub fn holds_guard(state: &Abs, guard: &Guard) -> bool
     ensures { result ≡ holds_guard state.now guard.now }
 {

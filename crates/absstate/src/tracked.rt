@@ -79,6 +79,7 @@ pub fn set_kind(tracked: &mut Tracked, register: Register, kind: Kind)
 }
 
 /// Notes that one of these locks is held, or not.
+#[inline(always)]
 pub fn set_held(tracked: &mut Tracked, guard: &Guard, held: bool)
     ensures { tracked.new ≡ with_held tracked.old guard.now held }
 {

@@ -1,4 +1,4 @@
-use Rattle.std.proofs.Common.{◌≡◌, ◌∙◌, sym, ap, false, List}
+use Rattle.std.proofs.Common.{◌≡◌, ◌∙◌, sym, false}
 use Rattle.std.specs.List.{list_any}
 use Rattle.absstate.specs.Same.{has_list}
 use Rattle.absstate.proofs.Releasing.{none_in_need}
