@@ -1,5 +1,5 @@
-//! Verdicts, explanations, listings, images and runs of texts and of images, and scripts that one worker
-//! serves, over devices that move few bytes a call, or fail at each call in turn.
+//! Verdicts, explanations, listings, images and runs of texts and of images, and scripts that one
+//! worker serves, over devices that move few bytes a call, or fail at each call in turn.
 
 ghost use Rattle.std.specs.Prelude.{◌≡◌};
 
