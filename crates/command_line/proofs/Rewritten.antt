@@ -1,7 +1,7 @@
 -- What the file has that an image was written to.
-use Rattle.std.proofs.Common.{◌≡◌, ◌∙◌, ◌+◌, ◌++◌, ◌⊎◌, ℕ, List, [], Option, None, Some, Result, Ok, Err, ap, inl, inr, refl, subst, sym, take}
+use Rattle.std.proofs.Common.{◌≡◌, ◌∙◌, ◌+◌, ◌⊎◌, ℕ, List, [], Option, None, Some, ap, inl, inr, refl, subst, sym}
 use Rattle.std.proofs.lemmas.List.{append-nil}
-use Rattle.std.specs.Io.KnownBytes.{Appends, Keeps, WriteAppends}
+use Rattle.std.specs.Io.KnownBytes.{Appends}
 use Rattle.drvhost_parts.specs.declared.fault.End.TheVariants.{Complete}
 use Rattle.drvhost_parts.specs.Answer.{Answer, ended}
 use Rattle.drvhost_parts.specs.Device.{Bytes, Closed, IsSuppliedAs, Supply, TakesBeginning, Unknown}
@@ -75,18 +75,6 @@ pub unopened_target : {A N M : Type 0} (f : A → Option (List ℕ)) (k : N → 
     → contents_of f (k a b) file ≡ blank (k c d)
 unopened_target f k a c b d file p q r =
     ap (contents_of f (k a b)) r ∙ ap (λ x. blank (k x b)) p ∙ ap (λ x. blank (k c x)) q
-
--- what a write to a file does that was opened for it
-pub writes_later : {E : Type 0} (a b c : Option (List ℕ)) (r : Result ℕ E) (bytes : List ℕ)
-    → Keeps a b → WriteAppends b c r bytes → WriteAppends a c r bytes
-writes_later None b c (Ok count) bytes keeps w = tt
-writes_later None b c (Err e) bytes keeps w = tt
-writes_later (Some xs) None c r bytes keeps w = absurd keeps
-writes_later (Some xs) (Some ys) None (Ok count) bytes keeps w = w
-writes_later (Some xs) (Some ys) None (Err e) bytes keeps w = w
-writes_later (Some xs) (Some ys) (Some zs) (Ok count) bytes keeps w =
-    w ∙ ap (λ l. l ++ take count bytes) keeps
-writes_later (Some xs) (Some ys) (Some zs) (Err e) bytes keeps w = w ∙ keeps
 
 module _ (known supply : Supply) (h : IsSuppliedAs known supply) (name : List ℕ)
     (before after : List ℕ → Supply) (b n : Option (List ℕ)) (old new status : ℕ)

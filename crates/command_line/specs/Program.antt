@@ -98,7 +98,8 @@ abbrev pub IsProgram : (List ℕ → Supply) → Result (Vec (String Global)) Er
 IsProgram supply (Ok words) answer = IsAnswerTo supply (arguments words) answer
 IsProgram supply (Err kind) answer = IsAnswerToLost kind answer
 
--- how many files the program opens to read them, for these words: none, or those of a job that they name
+-- how many files the program opens to read them, for these words: none, or those of a job that they
+-- name
 abbrev pub OpensFor : (List ℕ → Supply) → List Text → ℕ → Type 0
 OpensFor supply words count =
     (count ≡ 0) ⊎ ((job : Job) × NamesJob words job × Opens supply job count)

@@ -28,5 +28,5 @@ returns-clause-image g c =
     let holds = subst (λ (bytes : List ℕ). Holds held bytes) (sym c.as_slice.ensures.value)
     c.in_ok-bytes.ensures.bytes in
     let read = set_read held c.as_slice.result.now (Ok c.in_ok-set.set) holds c.in_ok-set.ensures.set in
-    image_read held c.in_ok-set.set c.in_ok-image.image read c.drivers-_sound.ensures.sound
+    image_read held c.in_ok-set.set c.in_ok-image.image read c.drivers-sound.ensures.sound
     c.in_ok-image.ensures.1
