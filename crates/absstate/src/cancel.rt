@@ -18,8 +18,8 @@ ghost use Rattle.model.specs.Set.{cancel_routine_of, guard_named, has_cancel};
 
 use crate::fault::{broken_if, free_fault, least, unless};
 use crate::queues::guard_fault;
-use crate::state::{holds_guard, is_any_named, kind};
-use crate::tracked::{Tracked, set_held, set_kind};
+use crate::state::{holds_guard, kind};
+use crate::tracked::{Tracked, is_one_left, set_held, set_kind};
 use driver_set::DriverSet;
 use model::abs::{Abs, Kind, Rule};
 use model::instr::Register;
@@ -355,7 +355,7 @@ fn each_let_go(tracked: &mut Tracked, set: &DriverSet, driver: u8, lock: &Guard)
         ≡ record tracked.old { kinds = all_let_go set.now driver lock.now tracked.old.kinds } }
 {
     all_let_go(&mut tracked.state.kinds, set, driver, lock);
-    tracked.named = is_any_named(&tracked.state.kinds);
+    tracked.named = is_one_left(&tracked.state.kinds);
 }
 
 fn all_let_go(kinds: &mut [Kind], set: &DriverSet, driver: u8, lock: &Guard)

@@ -2,6 +2,8 @@
 //! routines name none, and then nothing that asks for the lists of registers has to look at them.
 
 ghost use Rattle.std.specs.Prelude.{◌≡◌, ◌↔◌, IsTrue, true, false};
+ghost use Rattle.std.specs.List.{list_any};
+ghost use Rattle.absstate.specs.Same.{has_list};
 ghost use Rattle.model.specs.LocalRule.{kind_of, with_kind};
 ghost use Rattle.model.specs.LocalRule.{with_held, moved};
 ghost use Rattle.model.specs.Kinds.{left_behind};
@@ -11,6 +13,7 @@ ghost use Rattle.model.specs.Kinds.{duty_completed};
 use crate::state::{are_same_where, has_list, is_any_named, kind};
 use model::abs::{Abs, Duty, Kind, Settled};
 use model::instr::Register;
+use model::limits::REGISTERS;
 use model::set::Guard;
 use std::marker::Model;
 
@@ -65,6 +68,7 @@ impl Tracked {
 
 /// Puts another kind into a register. Whether one names a list still has to be looked for where
 /// this one did.
+#[inline(always)]
 #[tactic(auto, using(crate::proofs::Same::list_put, crate::proofs::Same::none_put, crate::proofs::Same::none_left))]
 pub fn set_kind(tracked: &mut Tracked, register: Register, kind: Kind)
     ensures { tracked.new ≡ with_kind tracked.old register kind }
@@ -74,8 +78,16 @@ pub fn set_kind(tracked: &mut Tracked, register: Register, kind: Kind)
     if has_list(kind) {
         tracked.named = true;
     } else if tracked.named && has_list(before) {
-        tracked.named = is_any_named(&tracked.state.kinds);
+        tracked.named = is_one_left(&tracked.state.kinds);
     }
+}
+
+/// Whether a register still names a list, where this is seldom asked.
+#[inline(never)]
+pub fn is_one_left(kinds: &[Kind; REGISTERS]) -> bool
+    ensures { result ≡ list_any has_list kinds.now }
+{
+    is_any_named(kinds)
 }
 
 /// Notes that one of these locks is held, or not.
