@@ -1,8 +1,6 @@
--- The image of a set is written, and a rewrite of an image gives that image.
-use Rattle.std.proofs.Common.{◌≡◌, ◌∙◌, ℕ, List, [], Option, Ok, Err, inr, ap, refl, subst, sym}
-use Rattle.std.proofs.lemmas.List.{append-nil}
+-- The image of a set, which has some bytes, and which a rewrite leaves as it is.
+use Rattle.std.proofs.Common.{◌≡◌, ◌∙◌, ℕ, List, [], Ok, Err, inr, ap, refl, subst, sym}
 use Rattle.std.specs.Global.{Vec}
-use Rattle.std.specs.Io.KnownBytes.{Appends}
 use Rattle.image.specs.declared.edition.Edition.TheVariants.{Current}
 use Rattle.image.specs.Laws.{BytesSpellOne, ImagesAreFaultless}
 use Rattle.image.specs.Spelling.{spelling}
@@ -12,7 +10,7 @@ use Rattle.drvhost_parts.specs.declared.fault.End.TheVariants.{Complete}
 use Rattle.drvhost_parts.specs.Answer.{Answer, IsRewrite, IsRewritten, ended}
 use Rattle.drvhost_parts.specs.Device.{Supply}
 use Rattle.drvhost_parts.specs.Ends.{IsRewriteOf}
-use Rattle.drvhost_parts.specs.Fault.{Goes, ReadsImage, ReadsSet}
+use Rattle.drvhost_parts.specs.Fault.{ReadsImage, ReadsSet}
 use Rattle.drvhost_parts.specs.Laws.{RewritingIsStable}
 use Rattle.drvhost_parts.proofs.Jobs.{right_on}
 
@@ -21,16 +19,6 @@ pub image_read : (held : Supply) (set : Set) (image : Vec ℕ) → ReadsSet held
     → image.items ≡ spelling Current set → ReadsImage held (Ok image)
 image_read held set image read sound is =
     right_on IsRewritten held set read (ended Complete image.items) (sound, ap (ended Complete) is)
-
--- it is written, or a beginning of it
-pub image_written : (held : Supply) (b n : Option (List ℕ)) (image : List ℕ)
-    → IsRewriteOf held (ended Complete image) → Appends b n image
-    → Goes (IsRewriteOf held) b n [] [] (Ok Complete)
-image_written held b n image right written = (
-  image,
-  right,
-  record { written = image; appended = written; whole = sym (append-nil image) },
-)
 
 -- an image has some bytes
 pub image_some : (held : Supply) (answer : Answer) → IsRewriteOf held answer → answer.status ≡ 0

@@ -1,7 +1,6 @@
-use Rattle.std.proofs.Common.{[], Err, inl, inr, refl}
+use Rattle.std.proofs.Common.{[]}
 use Rattle.std.proofs.lemmas.Result.{err_from_is_err_and}
 use Rattle.drvhost_parts.specs.Answer.{IsRewritten}
-use Rattle.drvhost_parts.proofs.Images.{image_written}
 use Rattle.drvhost_parts.proofs.Jobs.{set_unread}
 use Rattle.drvhost_parts.proofs.rewriting.rewrite_set.Goals as goal
 
