@@ -24,8 +24,6 @@ mod limits;
 #[cfg(test)]
 mod links;
 #[cfg(test)]
-mod listed;
-#[cfg(test)]
 mod overlap;
 #[cfg(test)]
 mod prose;
