@@ -5,6 +5,8 @@ use Rattle.model.specs.declared.status.Major.{Major}
 use Rattle.asm_line.specs.declared.line.Body.{Body}
 use Rattle.asm_line.specs.declared.line.Body.TheVariants.{Blank, OpenDriver, CloseDriver, AddQueue, Handle, HandleStartIo, HandleDpc, OpenRoutine, CloseRoutine, AddDevice, Step}
 use Rattle.asm_line.specs.declared.line.UsedNames.{UsedNames}
+use Rattle.excerpt.specs.Places.{IsIn}
+use Rattle.excerpt.specs.declared.spot.Spot.{Spot}
 use Rattle.asm_source.specs.declared.source.Sought.{Sought}
 use Rattle.asm_source.specs.declared.source.Sought.TheVariants.{Driver as InDriver, Routine as InRoutine, End, Nothing}
 use Rattle.asm_source.specs.Outline.{outline_from, outlines}
@@ -76,3 +78,8 @@ passed routine sought n raw raws e q =
 pub unlisted : (n : ℕ) (raw : List ℕ) (raws : List (List ℕ)) → outlines (body_on raw) ≡ false
     → outline_from n (raw ∷ raws) ≡ outline_from (n + 1) raws
 unlisted n raw raws q = rw q refl
+
+-- a place, where no lines stand before the text
+pub moved : (skipped : ℕ) (text all : List ℕ) (spot : Spot) → skipped ≡ 0 → text ≡ all
+    → IsIn skipped text spot → IsIn 0 all spot
+moved skipped text all spot none same is = rw (none, same) at is
