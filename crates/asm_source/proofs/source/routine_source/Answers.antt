@@ -67,12 +67,12 @@ loop-raw-preserved-then-not-is_passed c =
     let outline_there : All Is c.if-outlines.outline =
     elim c.if-outlines.branch [
       | then-outlines+in_ok-push-2 w ↦
-          let is = moved new.skipped new.text c.args.text.now w.spot-2.result whole text
-          w.spot-2.ensures.there in
-          let grown : c.if-outlines.outline ≡ c.loop-raw.outline ++ w.spot-2.result ∷ [] =
+          let is = moved new.skipped new.text c.args.text.now w.spot-then-outlines.result whole text
+          w.spot-then-outlines.ensures.there in
+          let grown : c.if-outlines.outline ≡ c.loop-raw.outline ++ w.spot-then-outlines.result ∷ [] =
           search rules in
           rw grown
-          (All-push Is c.loop-raw.outline w.spot-2.result c.loop-raw.invariant.outline_there is)
+          (All-push Is c.loop-raw.outline w.spot-then-outlines.result c.loop-raw.invariant.outline_there is)
       | else-outlines w ↦ search rules
     ] in
     record {
