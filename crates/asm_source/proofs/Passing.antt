@@ -5,6 +5,8 @@ use Rattle.model.specs.declared.status.Major.{Major}
 use Rattle.asm_line.specs.declared.line.Body.{Body}
 use Rattle.asm_line.specs.declared.line.Body.TheVariants.{Blank, OpenDriver, CloseDriver, AddQueue, Handle, HandleStartIo, HandleDpc, OpenRoutine, CloseRoutine, AddDevice, Step}
 use Rattle.asm_line.specs.declared.line.UsedNames.{UsedNames}
+use Rattle.excerpt.specs.Places.{IsIn}
+use Rattle.excerpt.specs.declared.spot.Spot.{Spot}
 use Rattle.asm_source.specs.declared.source.Sought.{Sought}
 use Rattle.asm_source.specs.declared.source.Sought.TheVariants.{Driver as InDriver, Routine as InRoutine, End, Nothing}
 use Rattle.asm_source.specs.Outline.{outline_from, outlines}
@@ -13,7 +15,7 @@ use Rattle.asm_source.specs.Source.{body_on, counted, lines_from, past, seeks_en
 -- what holds of each other line
 of_others : (P : Body → Type 0) → P Blank
     → ((major : Major) (handler : List ℕ) → P (Handle major handler))
-    → ((handler : List ℕ) → P (HandleStartIo handler))
+    → ((handler : List ℕ) (cancel : Option (List ℕ)) → P (HandleStartIo handler cancel))
     → ((handler : List ℕ) → P (HandleDpc handler))
     → ((instr : Option Instr) (used : UsedNames) → P (Step instr used))
     → (b : Body) → outlines b ≡ false → P b
@@ -22,7 +24,7 @@ of_others P blank handle startio dpc step (OpenDriver name) e = cc
 of_others P blank handle startio dpc step CloseDriver e = cc
 of_others P blank handle startio dpc step (AddQueue name guard cancel) e = cc
 of_others P blank handle startio dpc step (Handle major handler) e = handle major handler
-of_others P blank handle startio dpc step (HandleStartIo handler) e = startio handler
+of_others P blank handle startio dpc step (HandleStartIo handler cancel) e = startio handler cancel
 of_others P blank handle startio dpc step (HandleDpc handler) e = dpc handler
 of_others P blank handle startio dpc step (OpenRoutine name sort) e = cc
 of_others P blank handle startio dpc step CloseRoutine e = cc
@@ -33,19 +35,19 @@ in_driver : (routine before : ℕ) (b : Body) → outlines b ≡ false
     → past routine (InDriver before) b ≡ InDriver before
 in_driver routine zero b e =
     of_others (λ b. past routine (InDriver zero) b ≡ InDriver zero) refl (λ major handler. refl)
-    (λ handler. refl) (λ handler. refl) (λ instr used. refl) b e
+    (λ handler cancel. refl) (λ handler. refl) (λ instr used. refl) b e
 in_driver routine (suc before) b e =
     of_others (λ b. past routine (InDriver (suc before)) b ≡ InDriver (suc before)) refl
-    (λ major handler. refl) (λ handler. refl) (λ handler. refl) (λ instr used. refl) b e
+    (λ major handler. refl) (λ handler cancel. refl) (λ handler. refl) (λ instr used. refl) b e
 
 in_routine : (routine before : ℕ) (b : Body) → outlines b ≡ false
     → past routine (InRoutine before) b ≡ InRoutine before
 in_routine routine zero b e =
     of_others (λ b. past routine (InRoutine zero) b ≡ InRoutine zero) refl (λ major handler. refl)
-    (λ handler. refl) (λ handler. refl) (λ instr used. refl) b e
+    (λ handler cancel. refl) (λ handler. refl) (λ instr used. refl) b e
 in_routine routine (suc before) b e =
     of_others (λ b. past routine (InRoutine (suc before)) b ≡ InRoutine (suc before)) refl
-    (λ major handler. refl) (λ handler. refl) (λ handler. refl) (λ instr used. refl) b e
+    (λ major handler. refl) (λ handler cancel. refl) (λ handler. refl) (λ instr used. refl) b e
 
 same_sought : (routine : ℕ) (sought : Sought) (b : Body) → seeks_end sought ≡ false
     → outlines b ≡ false → past routine sought b ≡ sought
@@ -76,3 +78,8 @@ passed routine sought n raw raws e q =
 pub unlisted : (n : ℕ) (raw : List ℕ) (raws : List (List ℕ)) → outlines (body_on raw) ≡ false
     → outline_from n (raw ∷ raws) ≡ outline_from (n + 1) raws
 unlisted n raw raws q = rw q refl
+
+-- a place, where no lines stand before the text
+pub moved : (skipped : ℕ) (text all : List ℕ) (spot : Spot) → skipped ≡ 0 → text ≡ all
+    → IsIn skipped text spot → IsIn 0 all spot
+moved skipped text all spot none same is = rw (none, same) at is

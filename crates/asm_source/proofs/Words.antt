@@ -13,7 +13,7 @@ use Rattle.asm_line.specs.declared.line.Body.{Body}
 use Rattle.asm_line.specs.declared.line.Body.TheVariants.{Blank, OpenDriver, CloseDriver, AddQueue, Handle, HandleStartIo, HandleDpc, OpenRoutine, CloseRoutine, AddDevice, Step}
 use Rattle.asm_line.specs.declared.line.Line.{Line}
 use Rattle.asm_line.specs.declared.line.LineFault.TheVariants.{Lex, UnknownWord}
-use Rattle.asm_line.specs.Cursor.{Reading, beginning, major, name, one, so_far, then_read, two}
+use Rattle.asm_line.specs.Cursor.{Reading, beginning, major, name, one, optional_name, so_far, then_read, two}
 use Rattle.asm_line.specs.Instruction.{instruction}
 use Rattle.asm_line.specs.Line.{body, body_of, ended, if_ended, if_in_range, labelled, line_of, line_with, step}
 use Rattle.asm_source.specs.Outline.{begins_outline, is_outline_word, outlines}
@@ -89,7 +89,7 @@ body_quiet t c e =
     (either (bytes_eq t (codes "dispatch")) _ _
     (two_quiet (λ m h. Handle m h) (λ m h. refl) major name c)
     (either (bytes_eq t (codes "startio")) _ _
-    (one_quiet (λ h. HandleStartIo h) (λ h. refl) name c)
+    (two_quiet (λ h k. HandleStartIo h k) (λ h k. refl) name optional_name c)
     (either (bytes_eq t (codes "dpc")) _ _ (one_quiet (λ h. HandleDpc h) (λ h. refl) name c)
     (unless _ _ _ not_routine
     (unless _ _ _ not_endr (unless _ _ _ not_device (step_quiet t c)))))))))
@@ -108,7 +108,7 @@ labelled_quiet label (OpenDriver name) = tt
 labelled_quiet label CloseDriver = tt
 labelled_quiet label (AddQueue name guard cancel) = tt
 labelled_quiet label (Handle major handler) = tt
-labelled_quiet label (HandleStartIo handler) = tt
+labelled_quiet label (HandleStartIo handler cancel) = tt
 labelled_quiet label (HandleDpc handler) = tt
 labelled_quiet label (OpenRoutine name sort) = tt
 labelled_quiet label CloseRoutine = tt

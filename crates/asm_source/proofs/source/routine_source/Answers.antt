@@ -1,68 +1,122 @@
-use Rattle.std.proofs.Common.{rules, ◌≡◌, ◌∙◌, ◌+◌, ◌++◌, ◌∷◌, ℕ, List, [], true, ap, subst, sym}
+use Rattle.std.proofs.Common.{rules, ◌≡◌, ◌∙◌, ◌+◌, ◌++◌, ◌∷◌, ℕ, List, [], true, arith, subst, sym}
+use Rattle.std.specs.Prelude.{All}
 use Rattle.std.proofs.lemmas.List.{append-nil, append_assoc}
+use Rattle.std.proofs.lemmas.List.Elements.{All-push}
+use Rattle.excerpt.specs.Places.{IsIn, numbers}
 use Rattle.asm_source.specs.Outline.{outline_from}
 use Rattle.asm_source.specs.Source.{instruction_lines, lines_from}
 use Rattle.asm_source.specs.Standing.{AreLinesOf}
-use Rattle.asm_source.proofs.Passing.{passed, unlisted}
+use Rattle.asm_source.proofs.Passing.{moved, passed, unlisted}
 use Rattle.asm_source.proofs.Standing.{are_lines_of}
 use Rattle.asm_source.proofs.source.routine_source.Goals as goal
-use Rattle.asm_source.proofs.source.routine_source.Goals.{then-not-is_passed, in-End-Step+in_ok-push, in-End+in-Blank-1, in-Driver-1, then-outlines+in_ok-push-2, else-outlines, else-not-is_passed}
+use Rattle.asm_source.proofs.source.routine_source.Goals.{in-End-Step+in_ok-push, in-End+in-Blank-1, in-Driver-1, then-outlines+in_ok-push-2, else-outlines}
 
--- what is found with a line, and behind it, is what is found from the line on
+-- what is found with a line that is read, and behind it, is what is found from the line on
+pub loop-raw-preserved-then-not-is_passed : goal.loop-raw-preserved-then-not-is_passed
+loop-raw-preserved-then-not-is_passed c =
+    let routine = c.args.routine in
+    let raw = c.in-Some.raw.now in
+    let old = c.loop-raw.left in
+    let new = c.next.new.self in
+    let left = new.left in
+    let n = new.skipped + new.taken in
+    let cut : old.left ≡ raw ∷ left = search rules in
+    let text : new.text ≡ c.args.text.now = search rules in
+    let whole : new.skipped ≡ 0 = search rules in
+    let taken : new.taken ≡ old.taken + 1 = search rules in
+    let before : old.taken + 1 ≡ n = omega (arith, whole, taken) in
+    let next : new.taken + 1 ≡ n + 1 = omega (arith, whole) in
+    let Is = IsIn 0 c.args.text.now in
+    let lines : numbers c.match-sought.lines
+    ++ lines_from routine c.past-sought.result (n + 1) left
+    ≡ numbers c.loop-raw.lines ++ lines_from routine c.loop-raw.sought n (raw ∷ left) =
+    elim c.match-sought.branch [
+      | in-End-Step+in_ok-push w ↦
+          let later = lines_from routine c.past-sought.result (n + 1) left in
+          let grown : numbers c.match-sought.lines ≡ numbers c.loop-raw.lines ++ n ∷ [] =
+          search rules in
+          let found : lines_from routine c.loop-raw.sought n (raw ∷ left) ≡ n ∷ later =
+          search rules in
+          rw (grown, found) (append_assoc (numbers c.loop-raw.lines) (n ∷ []) later)
+      | in-End+in-Blank-1 w ↦ search rules
+      | in-Driver-1 w ↦ search rules
+    ] in
+    let outline : numbers c.if-outlines.outline ++ outline_from (n + 1) left
+    ≡ numbers c.loop-raw.outline ++ outline_from n (raw ∷ left) =
+    elim c.if-outlines.branch [
+      | then-outlines+in_ok-push-2 w ↦
+          let later = outline_from (n + 1) left in
+          let grown : numbers c.if-outlines.outline ≡ numbers c.loop-raw.outline ++ n ∷ [] =
+          search rules in
+          let found : outline_from n (raw ∷ left) ≡ n ∷ later = search rules in
+          rw (grown, found) (append_assoc (numbers c.loop-raw.outline) (n ∷ []) later)
+      | else-outlines w ↦ search rules
+    ] in
+    let lines_there : All Is c.match-sought.lines =
+    elim c.match-sought.branch [
+      | in-End-Step+in_ok-push w ↦
+          let is = moved new.skipped new.text c.args.text.now w.spot.result whole text
+          w.spot.ensures.there in
+          let grown : c.match-sought.lines ≡ c.loop-raw.lines ++ w.spot.result ∷ [] =
+          search rules in
+          rw grown
+          (All-push Is c.loop-raw.lines w.spot.result c.loop-raw.invariant.lines_there is)
+      | in-End+in-Blank-1 w ↦ search rules
+      | in-Driver-1 w ↦ search rules
+    ] in
+    let outline_there : All Is c.if-outlines.outline =
+    elim c.if-outlines.branch [
+      | then-outlines+in_ok-push-2 w ↦
+          let is = moved new.skipped new.text c.args.text.now w.spot-then-outlines.result whole text
+          w.spot-then-outlines.ensures.there in
+          let grown : c.if-outlines.outline ≡ c.loop-raw.outline ++ w.spot-then-outlines.result ∷ [] =
+          search rules in
+          rw grown
+          (All-push Is c.loop-raw.outline w.spot-then-outlines.result c.loop-raw.invariant.outline_there is)
+      | else-outlines w ↦ search rules
+    ] in
+    record {
+      same = rw next (lines ∙ (rw (before, cut) at c.loop-raw.invariant.same));
+      outlined = rw next (outline ∙ (rw (before, cut) at c.loop-raw.invariant.outlined));
+      text = text;
+      whole = whole;
+      lines_there = lines_there;
+      outline_there = outline_there;
+    }
+
+-- a line that is passed changes nothing
 pub loop-raw-preserved : goal.loop-raw-preserved
 loop-raw-preserved c =
     let routine = c.args.routine in
     let raw = c.in-Some.raw.now in
-    let left = c.next.new.self in
-    let n = c.loop-raw.spot.number in
-    let lines : c.if-not-is_passed.lines
-    ++ lines_from routine c.if-not-is_passed.sought (n + 1) left
-    ≡ c.loop-raw.lines ++ lines_from routine c.loop-raw.sought n (raw ∷ left) =
-    elim c.if-not-is_passed.branch [
-      | then-not-is_passed w ↦ elim w.match-sought.branch [
-        | in-End-Step+in_ok-push w' ↦
-            let later = lines_from routine c.if-not-is_passed.sought (n + 1) left in
-            let grown : c.if-not-is_passed.lines ≡ c.loop-raw.lines ++ n ∷ [] = search rules in
-            let found : lines_from routine c.loop-raw.sought n (raw ∷ left) ≡ n ∷ later =
-            search rules in
-            rw (grown, found) (append_assoc c.loop-raw.lines (n ∷ []) later)
-        | in-End+in-Blank-1 w' ↦ search rules
-        | in-Driver-1 w' ↦ search rules
-      ]
-      | else-not-is_passed w ↦
-          let is : c.is_passed.result ≡ true = search rules in
-          let same = passed routine c.loop-raw.sought n raw left (c.is_passed.ensures.sought is)
-          (c.is_passed.ensures.outline is) in
-          rw (w.lines-is, w.sought-is) (ap (λ later. c.loop-raw.lines ++ later) (sym same))
-    ] in
-    let outline : c.if-not-is_passed.outline ++ outline_from (n + 1) left
-    ≡ c.loop-raw.outline ++ outline_from n (raw ∷ left) =
-    elim c.if-not-is_passed.branch [
-      | then-not-is_passed w ↦ elim w.if-outlines.branch [
-        | then-outlines+in_ok-push-2 w' ↦
-            let later = outline_from (n + 1) left in
-            let grown : c.if-not-is_passed.outline ≡ c.loop-raw.outline ++ n ∷ [] = search rules in
-            let found : outline_from n (raw ∷ left) ≡ n ∷ later = search rules in
-            rw (grown, found) (append_assoc c.loop-raw.outline (n ∷ []) later)
-        | else-outlines w' ↦ search rules
-      ]
-      | else-not-is_passed w ↦
-          let is : c.is_passed.result ≡ true = search rules in
-          let same = unlisted n raw left (c.is_passed.ensures.outline is) in
-          rw w.outline-is (ap (λ later. c.loop-raw.outline ++ later) (sym same))
-    ] in
-    let next : c.after-spot.result.number ≡ n + 1 = c.after-spot.ensures in
-    let cut : c.loop-raw.left ≡ raw ∷ left = search rules in
+    let old = c.loop-raw.left in
+    let new = c.next.new.self in
+    let n = new.skipped + new.taken in
+    let cut : old.left ≡ raw ∷ new.left = search rules in
+    let whole : new.skipped ≡ 0 = search rules in
+    let taken : new.taken ≡ old.taken + 1 = search rules in
+    let before : old.taken + 1 ≡ n = omega (arith, whole, taken) in
+    let next : new.taken + 1 ≡ n + 1 = omega (arith, whole) in
+    let is : c.is_passed.result ≡ true = search rules in
+    let outline = c.is_passed.ensures.outline is in
+    let same = passed routine c.loop-raw.sought n raw new.left (c.is_passed.ensures.sought is)
+    outline in
+    let less = unlisted n raw new.left outline in
     record {
-      same = rw next (lines ∙ (rw cut at c.loop-raw.invariant.same));
-      outlined = rw next (outline ∙ (rw cut at c.loop-raw.invariant.outlined));
-      counted = search rules;
+      same =
+          rw (next, sym same) (rw (before, cut) at c.loop-raw.invariant.same);
+      outlined =
+          rw (next, sym less) (rw (before, cut) at c.loop-raw.invariant.outlined);
+      text = search rules;
+      whole = whole;
+      lines_there = c.loop-raw.invariant.lines_there;
+      outline_there = c.loop-raw.invariant.outline_there;
     }
 
 pub returns-clause-stand : goal.returns-clause-stand
 returns-clause-stand c =
     let text = c.args.text.now in
-    let lines = c.loop-raw.lines in
+    let lines = numbers c.loop-raw.lines in
     let all : lines ≡ instruction_lines c.args.driver c.args.routine text =
     sym (append-nil lines) ∙ (rw c.in_default.ensures.0 at c.loop-raw.invariant.same) in
     let Are : List ℕ → Type 0 = AreLinesOf text c.args.driver c.args.routine in
