@@ -291,7 +291,7 @@ fn of_cancellation(instr: &Instr, sort: Sort, state: Option<&Abs>) -> Lesson {
         _ if state.is_some_and(|state| waits(state)) => Lesson::of(
             "the packet still stands in the device queue, so it isn't the cancel routine's own",
             source,
-            "`dequeue` it under the system cancel lock, and `relc` first",
+            "`dequeue` it first, under the system cancel lock",
         ),
         _ if matches!(sort, Sort::Cancel) => Lesson::of(
             "the packet may still stand in its queue, so it isn't the cancel routine's own",
@@ -441,7 +441,7 @@ pub(crate) fn not_entered() -> Lesson {
     Lesson::of(
         "not exactly one queue or startio line names this cancel routine",
         "the Driver Kit on cancel routines",
-        "name it on one `queue` line, or take it out",
+        "name it on one `queue` or `startio` line, or take it out",
     )
 }
 
