@@ -132,9 +132,21 @@ pub(crate) fn names_of<'a>(
         Thing::Driver => again(alloc, scope.drivers.as_slice()),
         Thing::Device => again(alloc, scope.devices.as_slice()),
         Thing::Routine | Thing::Queue => {
-            names_from(alloc, thing, line.text, begin_of(line.text, &scope.driver), b"endd")
+            names_from(
+                alloc,
+                thing,
+                line.text,
+                begin_of(line.text, &scope.driver),
+                b"endd",
+            )
         }
-        Thing::Label => names_from(alloc, thing, line.text, begin_of(line.text, &scope.routine), b"endr"),
+        Thing::Label => names_from(
+            alloc,
+            thing,
+            line.text,
+            begin_of(line.text, &scope.routine),
+            b"endr",
+        ),
     }
 }
 
