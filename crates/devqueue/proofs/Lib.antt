@@ -4,4 +4,5 @@ pub mod Paths
 pub mod Shown
 pub mod Linking
 pub mod Free
+pub mod Next
 pub mod Seen

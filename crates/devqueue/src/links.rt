@@ -1,7 +1,8 @@
 //! Lists of slots that are linked through the slots.
 
-ghost use Rattle.std.specs.Prelude.{◌≡◌, ◌+◌, ◌<◌, ◌^◌, ℕ, [], IfOk, IfSome, IsTrue, None, length, replicate, true};
+ghost use Rattle.std.specs.Prelude.{◌≡◌, ◌+◌, ◌<◌, ◌^◌, ℕ, [], IfOk, IfSome, IsTrue, None, Some, false, length, replicate, slice_get, true};
 ghost use Rattle.model.specs.Queues.{head_of, inserted, is_linked, unlinked, without_head};
+ghost use Rattle.devqueue.specs.Linked.{IsOnce};
 ghost use Rattle.devqueue.specs.Lists.{entries_of, is_free, with_entries};
 
 use crate::rings::Rings;
@@ -75,6 +76,27 @@ impl Links {
         } else {
             None
         }
+    }
+
+    /// The slot after one that is in a list, which both stay there: none where it is the last.
+    pub fn next(&self, slot: usize) -> Option<usize>
+        requires { is_free self.now slot ≡ false }
+        ensures { (list place : ℕ) → slice_get (entries_of self.now list) place ≡ Some slot
+            → result ≡ slice_get (entries_of self.now list) (place + 1) }
+    {
+        let next = self.rings.next(slot);
+        if next < self.list_of.len() {
+            Some(next)
+        } else {
+            None
+        }
+    }
+
+    /// No slot stands in a list twice: a law of all lists, which runs nothing.
+    pub fn slots_stand_once(&self)
+        ensures { (list : ℕ) → IsOnce (entries_of self.now list) }
+    {
+        let _slots = self.list_of.len();
     }
 
     /// A slot that is in no list goes to the back of a list.
