@@ -11,11 +11,11 @@ use Rattle.devqueue.specs.Linked.{AreLinked, IsOnce, Path, is_list}
 use Rattle.devqueue.proofs.Paths.{joins, leaves, not_head, stays_joined, stays_left}
 use Rattle.devqueue.proofs.Shown.{in_tail, list_within, listed_at, listed_within}
 
-apart_eq : (a b : ℕ) → a ≢ b → nat_eq a b ≡ false
+pub apart_eq : (a b : ℕ) → a ≢ b → nat_eq a b ≡ false
 apart_eq a b h = elim (eqb_tells a b) [ inl p ↦ absurd (h p.1) | inr p ↦ p.0 ]
 
 -- a list that a number was taken off
-unlinked_other : (xs : List ℕ) (s t : ℕ) → nat_eq s t ≡ false
+pub unlinked_other : (xs : List ℕ) (s t : ℕ) → nat_eq s t ≡ false
     → is_linked (unlinked xs s) t ≡ is_linked xs t
 unlinked_other [] s t h = refl
 unlinked_other (x ∷ xs) s t h =
@@ -44,12 +44,12 @@ unlinked_once (x ∷ xs) s once =
     ]
 
 -- a list that a number was put to the back of
-pushed_other : (xs : List ℕ) (s t : ℕ) → nat_eq s t ≡ false
+pub pushed_other : (xs : List ℕ) (s t : ℕ) → nat_eq s t ≡ false
     → is_linked (xs ++ s ∷ []) t ≡ is_linked xs t
 pushed_other [] s t h = rw h refl
 pushed_other (x ∷ xs) s t h = ap (λ (b : Bool). nat_eq x t || b) (pushed_other xs s t h)
 
-pushed_self : (xs : List ℕ) (s : ℕ) → is_linked (xs ++ s ∷ []) s ≡ true
+pub pushed_self : (xs : List ℕ) (s : ℕ) → is_linked (xs ++ s ∷ []) s ≡ true
 pushed_self [] s = rw (eq-eqb s s refl) refl
 pushed_self (x ∷ xs) s = in_tail (nat_eq x s) _ (pushed_self xs s)
 

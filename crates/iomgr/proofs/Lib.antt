@@ -1,4 +1,8 @@
 pub mod Places
 pub mod Slots
-pub mod Walks
+pub mod Order
 pub mod Used
+pub mod Numbered
+pub mod Found
+pub mod Search
+pub mod Walks

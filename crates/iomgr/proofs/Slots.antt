@@ -127,26 +127,6 @@ hold_set old new key p u (first ∷ keys) h =
     by (inr other) = rw (u.others first other) h.0
 
 -- without the packet of a place
-pub remove_past : {A : Type 0} (xs : List A) (place : ℕ) → length xs ≤ place → remove xs place ≡ xs
-remove_past [] zero past = refl
-remove_past [] (suc place) past = refl
-remove_past (x ∷ xs) zero past = absurd (omega arith)
-remove_past {A} (x ∷ xs) (suc place) past =
-    ap (λ (ys : List A). x ∷ ys) (remove_past xs place (omega arith))
-
--- what is left of a list, whether there was something at the place or not
-pub left_numbers : {D : Type 0} (items : D → List ℕ) (removed : Option ℕ) (old new : D) (place : ℕ)
-    → OnSome removed (items new ≡ remove (items old) place)
-    → (place < length (items old) → IsSome removed) → IfNone removed (new ≡ old)
-    → items new ≡ remove (items old) place
-left_numbers items (Some n) old new place taken there unchanged = taken
-left_numbers items None old new place taken there unchanged =
-    let past : length (items old) ≤ place = elim (cases_lt place (length (items old))) [
-      | inl within ↦ absurd (false≢true (there within))
-      | inr behind ↦ behind
-    ] in
-    ap items unchanged ∙ sym (remove_past (items old) place past)
-
 lacks_removed : (key : ℕ) (keys : List ℕ) (place : ℕ) → Lacks key keys
     → Lacks key (remove keys place)
 lacks_removed key [] zero l = tt

@@ -2,8 +2,8 @@
 #![tactic(auto)]
 
 mod actions;
+mod buckets;
 mod lending;
-mod numbers;
 mod packet_list;
 pub mod packet_table;
 pub mod walk;

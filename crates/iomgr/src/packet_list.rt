@@ -1,26 +1,27 @@
 //! A list of packets that don't move.
 
-ghost use Rattle.std.specs.Prelude.{◌≡◌, ◌≤◌, ◌<◌, [], IfOk, IfSome, Some, length, option_map, slice_get};
+ghost use Rattle.std.specs.Prelude.{◌≡◌, ◌≤◌, ◌<◌, [], IfOk, Some, length, option_map, slice_get};
 ghost use Rattle.model.specs.declared.limits.TheConstants.{MAX_LIVE_PACKETS};
 
+use devqueue::Links;
 use irp::Packet;
 use model::limits::MAX_LIVE_PACKETS;
 use slab::Slab;
 use std::alloc::{AllocError, Global};
-use std::collections::VecDeque;
 use std::marker::Model;
 
 /// Packets in order, with room for all that may live at once. Each stays in one slot while it is in
-/// the list: a packet is long, and what moves where one is taken from the middle are the keys of
-/// the slots.
+/// the list, and the keys of the slots are linked in that order: so nothing moves where one is taken
+/// from the middle.
 #[derive(Drop)]
 pub struct PacketList {
     slots: Slab<Packet>,
-    keys: VecDeque<usize>,
+    /// One list, of the keys.
+    keys: Links,
 }
 
 impl Model for PacketList {
-    ghost use Rattle.std.specs.VecDeque.{deque_capacity};
+    ghost use Rattle.devqueue.specs.Lists.{entries_of};
     ghost use Rattle.iomgr.specs.PacketList.{IsSound};
     ghost use Rattle.iomgr.specs.Slots.{Slots, packets_in};
 
@@ -28,11 +29,11 @@ impl Model for PacketList {
 
     ghost view = { λ l. record {
       lying = l.slots.slots;
-      order = l.keys.items;
-      packets = packets_in l.slots.slots l.keys.items;
+      order = entries_of l.keys 0;
+      packets = packets_in l.slots.slots (entries_of l.keys 0);
     } };
 
-    ghost invariant = { λ l. IsSound l.slots l.keys.items (deque_capacity l.keys) };
+    ghost invariant = { λ l. IsSound l.slots l.keys };
 }
 
 /// Free slots, as many as packets that may live at once and no more: a key is below that number, so
@@ -60,7 +61,7 @@ impl PacketList {
     {
         Ok(PacketList {
             slots: free_slots(alloc)?,
-            keys: VecDeque::with_capacity(alloc, MAX_LIVE_PACKETS)?,
+            keys: Links::new(alloc, MAX_LIVE_PACKETS, 1)?,
         })
     }
 
@@ -76,35 +77,18 @@ impl PacketList {
     pub fn len(&self) -> usize
         ensures { result ≡ length self.now.packets }
     {
-        self.keys.len()
+        self.slots.len()
     }
 
     /// Puts a packet at the end, and answers its key.
     pub fn push(&mut self, packet: Packet) -> usize
         requires { length self.old.packets < MAX_LIVE_PACKETS }
-        ensures { IsFilled self.old result packet self.new }
+        ensures filled { IsFilled self.old result packet self.new }
+        ensures low { result < MAX_LIVE_PACKETS }
     {
         let key = self.slots.insert_reserved(packet);
-        self.keys.push_back_reserved(key);
+        self.keys.push_back(0, key);
         key
-    }
-
-    /// The key of the packet at a place, if there is one.
-    pub fn key(&self, place: usize) -> Option<usize>
-        ensures key { result ≡ slice_get self.now.order place }
-        ensures packet { option_map (packet_at self.now) result
-            ≡ slice_get self.now.packets place }
-        ensures holds { IfSome result (Holds self.now) }
-        ensures place { IfSome result (λ key. place_at self.now key ≡ place) }
-    {
-        Some(*self.keys.get(place)?)
-    }
-
-    /// The packet at a place, if there is one.
-    pub fn get(&self, place: usize) -> Option<&Packet>
-        ensures { option_map (λ p. p.now) result ≡ slice_get self.now.packets place }
-    {
-        self.slots.get(*self.keys.get(place)?)
     }
 
     /// The packet in a slot, if it has one.
@@ -118,6 +102,7 @@ impl PacketList {
     pub fn packet(&self, key: usize) -> &Packet
         requires { Holds self.now key }
         ensures packet { result.now ≡ packet_at self.now key }
+        ensures lies { lies_at self.now key ≡ Some result.now }
         ensures listed { slice_get self.now.packets (place_at self.now key) ≡ Some result.now }
     {
         &self.slots[key]
@@ -128,18 +113,18 @@ impl PacketList {
         requires { Holds self.old key }
         ensures* writes_back { sem 𝓛 (LendsSlot self.entry key result) }
         ensures packet { result.now ≡ packet_at self.old key }
+        ensures lies { lies_at self.old key ≡ Some result.now }
         ensures listed { slice_get self.old.packets (place_at self.old key) ≡ Some result.now }
     {
         &mut self.slots[key]
     }
 
-    /// Takes the packet of a key out, which stands at this place; those behind it move up.
-    pub fn remove(&mut self, key: usize, place: usize)
-        requires held { Holds self.old key }
-        requires place { place_at self.old key ≡ place }
+    /// Takes the packet of a key out; the others keep their order.
+    pub fn remove(&mut self, key: usize)
+        requires { Holds self.old key }
         ensures { self.new ≡ without_slot self.old key }
     {
-        let _key = self.keys.remove(place);
+        let _listed = self.keys.unlink(0, key);
         let _packet = self.slots.remove(key);
     }
 }

@@ -3,14 +3,14 @@
 ghost use Rattle.std.specs.Prelude.{◌≡◌, ◌≤◌, ◌<◌, IfOk, IfSome, IsSome, IsTrue, Some, option_map, slice_get};
 ghost use Rattle.model.specs.declared.limits.TheConstants.{MAX_LIVE_PACKETS, MAX_STACK};
 
-use crate::numbers::number_place;
+use crate::buckets::{bucket_of, empty_buckets, slot_of};
 use crate::packet_list::PacketList;
+use devqueue::Links;
 use irp::Packet;
 use model::limits::{MAX_ISSUED, MAX_LIVE_PACKETS};
 use model::status::Major;
 use model::world::Value;
 use std::alloc::{AllocError, Global};
-use std::collections::VecDeque;
 use std::marker::Model;
 
 /// The key of a live packet: it is the packet's while that lives, and may be another's afterwards.
@@ -50,26 +50,24 @@ impl Key {
 /// many were ever issued. A packet is found by its number, and read and changed by its key, so that
 /// its number stays.
 ///
-/// Their numbers stand in a list of their own too, where a search finds one without looking at
-/// packets.
+/// Their slots are in buckets by their numbers too, so that one is found without a search through
+/// all, and taken out without moving others.
 #[derive(Drop)]
 pub struct PacketTable {
     pub(crate) live: PacketList,
-    numbers: VecDeque<u64>,
+    buckets: Links,
     issued_count: u64,
 }
 
 impl Model for PacketTable {
-    ghost use Rattle.std.specs.VecDeque.{deque_capacity};
-    ghost use Rattle.iomgr.specs.Numbers.{IsNumbered};
+    ghost use Rattle.iomgr.specs.Buckets.{IsNumbered};
     ghost use Rattle.iomgr.specs.Slots.{SlotTable};
 
     ghost Value = { SlotTable };
 
     ghost view = { λ t. record { live = t.live; issued = t.issued_count } };
 
-    ghost invariant = { λ t.
-        IsNumbered t.live.packets t.numbers.items t.issued_count (deque_capacity t.numbers) };
+    ghost invariant = { λ t. IsNumbered t.live t.buckets t.issued_count };
 }
 
 impl PacketTable {
@@ -85,7 +83,7 @@ impl PacketTable {
     {
         Ok(PacketTable {
             live: PacketList::new(alloc)?,
-            numbers: VecDeque::with_capacity(alloc, MAX_LIVE_PACKETS)?,
+            buckets: empty_buckets(alloc, MAX_LIVE_PACKETS)?,
             issued_count: 0,
         })
     }
@@ -126,7 +124,7 @@ impl PacketTable {
         let slot = self
             .live
             .push(Packet::new(number, device, major, argument, stack));
-        self.numbers.push_back_reserved(number);
+        self.buckets.push_back(bucket_of(number), slot);
         self.issued_count += 1;
         Key::of(slot)
     }
@@ -141,13 +139,6 @@ impl PacketTable {
         }
     }
 
-    /// The place of a packet among the live ones, or their number where it isn't live.
-    fn place(&self, n: u64) -> usize
-        ensures { result ≡ place_of self.now.live.packets n }
-    {
-        number_place(&self.numbers, n)
-    }
-
     /// The key of the live packet of a number.
     pub fn find(&self, n: u64) -> Option<Key>
         ensures key { result ≡ key_of self.now n }
@@ -157,7 +148,8 @@ impl PacketTable {
         ensures place { IfSome result (λ key.
             place_at self.now.live key ≡ place_of self.now.live.packets n) }
     {
-        let slot = self.live.key(self.place(n))?;
+        self.live.slots_are_in_order();
+        let slot = slot_of(&self.buckets, &self.live, n)?;
         Some(Key::of(slot))
     }
 
@@ -183,7 +175,8 @@ impl PacketTable {
     pub fn live_packet(&self, n: u64) -> Option<&Packet>
         ensures { option_map (λ p. p.now) result ≡ live_packet (table_in self.now) n }
     {
-        self.live.get(self.place(n))
+        let key = self.find(n)?;
+        Some(self.live.packet(key.slot()))
     }
 
     /// The packet of a key.
@@ -202,8 +195,8 @@ impl PacketTable {
         ensures { self.new ≡ without_packet_at self.old key }
     {
         let slot = key.slot();
-        let place = self.place(self.live.packet(slot).number());
-        self.live.remove(slot, place);
-        let _number = self.numbers.remove(place);
+        let bucket = bucket_of(self.live.packet(slot).number());
+        let _listed = self.buckets.unlink(bucket, slot);
+        self.live.remove(slot);
     }
 }
