@@ -69,7 +69,7 @@ module _ (live : Slots) (buckets : Lists) (issued : ℕ) (numbered : IsNumbered 
     nowhere place found =
         let few : place < length live.order =
         omega (arith, slice_get_within (numbers_of live.packets) place n found,
-        length-map (λ (p : Packet). p.number) live.packets, many) in
+        length-map live.packets (λ (p : Packet). p.number), many) in
         let key = get_or live.order place 0 in
         let at = slice_get-get_or live.order place 0 few in
         let p = packet_at live key in
@@ -86,7 +86,7 @@ module _ (live : Slots) (buckets : Lists) (issued : ℕ) (numbered : IsNumbered 
     past : place_of live.packets n ≡ length live.packets
     past =
         numbered_place live.packets n ∙ missing_place (numbers_of live.packets) n nowhere
-        ∙ length-map (λ (p : Packet). p.number) live.packets
+        ∙ length-map live.packets (λ (p : Packet). p.number)
 
     pub missing_key : None ≡ slice_get live.order (place_of live.packets n)
     missing_key = sym (slice_get_past live.order (place_of live.packets n) (omega (arith, past, many)))

@@ -38,7 +38,7 @@ once_place (first ∷ slots) (suc place) slot once at =
     elim (eqb_tells first slot) [
       | inl e ↦
           let twice : is_linked slots first ≡ true = rw (← e.1) at (place_linked slots place slot at) in
-          let no = once.0 in
+          let missing = once.0 in
           absurd (cc)
       | inr e ↦ rw e.0 (ap suc (once_place slots place slot once.1 at))
     ]
@@ -69,52 +69,57 @@ module _ (slots : List ℕ) (live : Slots) (n : ℕ) where
         none = λ before slot few at. absurd (omega (arith, few));
       }
 
-  module _ (slot : ℕ) (next : Option ℕ) (so_far : IsSearched slots live n (Some slot))
-      (is : next ≡ slice_get slots (so_far.place + 1)) where
-    pub search_goes_on : has_number (lies_at live slot) n ≡ false → IsSearched slots live n next
-    search_goes_on no =
-        record {
-          once = so_far.once;
-          place = so_far.place + 1;
-          at = sym is;
-          none = λ before other few at. elim (cases_lt before so_far.place) [
-            | inl earlier ↦ so_far.none before other earlier at
-            | inr last ↦
-                let here : before ≡ so_far.place = omega (arith, few, last) in
-                let there : slice_get slots so_far.place ≡ Some other = rw here at at in
-                let now = so_far.at in
-                let same : slot ≡ other = cc in
-                rw (← same) no
-          ];
-        }
+  module _ (now : Option ℕ) (so_far : IsSearched slots live n now) where
+    module _ (slot : ℕ) (there : now ≡ Some slot) (next : Option ℕ)
+        (is : next ≡ slice_get slots (so_far.place + 1)) where
+      here : slice_get slots so_far.place ≡ Some slot
+      here = so_far.at ∙ there
 
-    pub search_shrinks : left slots next < left slots (Some slot)
-    search_shrinks =
-        let here = once_place slots so_far.place slot so_far.once so_far.at in
-        let few = slice_get_within slots so_far.place slot so_far.at in
-        by next is here few
-      where
-        by : (found : Option ℕ) → found ≡ slice_get slots (so_far.place + 1)
-            → number_place slots slot ≡ so_far.place → so_far.place < length slots
-            → left slots found < left slots (Some slot)
-        by None at here few = omega (arith, here, few)
-        by (Some other) at here few =
-            let after = once_place slots (so_far.place + 1) other so_far.once (sym at) in
-            let less = slice_get_within slots (so_far.place + 1) other (sym at) in
-            omega (arith, here, few, after, less)
+      pub search_goes_on : has_number (lies_at live slot) n ≡ false
+          → IsSearched slots live n next
+      search_goes_on misses =
+          record {
+            once = so_far.once;
+            place = so_far.place + 1;
+            at = sym is;
+            none = λ before other few at. elim (cases_lt before so_far.place) [
+              | inl earlier ↦ so_far.none before other earlier at
+              | inr last ↦
+                  let last_place : before ≡ so_far.place = omega (arith, few, last) in
+                  let now_at : slice_get slots so_far.place ≡ Some other = rw last_place at at in
+                  let found = here in
+                  let same : slot ≡ other = cc in
+                  rw (← same) misses
+            ];
+          }
 
-  pub search_ends : IsSearched slots live n None → (slot : ℕ) → is_linked slots slot ≡ true
-      → has_number (lies_at live slot) n ≡ false
-  search_ends so_far slot linked =
-      let few = linked_within slots slot linked in
-      let at = key_there slots slot few in
-      elim (cases_lt (number_place slots slot) so_far.place) [
-        | inl before ↦ so_far.none (number_place slots slot) slot before at
-        | inr past ↦
-            let some = slice_get-get_or slots so_far.place 0 (omega (arith, few, past)) in
-            let none = so_far.at in
-            absurd (cc)
-      ]
+      pub search_shrinks : left slots next < left slots now
+      search_shrinks =
+          let stands = once_place slots so_far.place slot so_far.once here in
+          let few = slice_get_within slots so_far.place slot here in
+          rw there (by next is stands few)
+        where
+          by : (found : Option ℕ) → found ≡ slice_get slots (so_far.place + 1)
+              → number_place slots slot ≡ so_far.place → so_far.place < length slots
+              → left slots found < left slots (Some slot)
+          by None at stands few = omega (arith, stands, few)
+          by (Some other) at stands few =
+              let after = once_place slots (so_far.place + 1) other so_far.once (sym at) in
+              let less = slice_get_within slots (so_far.place + 1) other (sym at) in
+              omega (arith, stands, few, after, less)
+
+    pub search_ends : now ≡ None → (slot : ℕ) → is_linked slots slot ≡ true
+        → has_number (lies_at live slot) n ≡ false
+    search_ends gone slot linked =
+        let few = linked_within slots slot linked in
+        let at = key_there slots slot few in
+        elim (cases_lt (number_place slots slot) so_far.place) [
+          | inl before ↦ so_far.none (number_place slots slot) slot before at
+          | inr past ↦
+              let some = slice_get-get_or slots so_far.place 0 (omega (arith, few, past)) in
+              let none = so_far.at ∙ gone in
+              absurd (cc)
+        ]
 
 -- a slot at a place of a bucket isn't free
 pub search_linked : (buckets : Lists) (bucket place slot : ℕ)
