@@ -1,21 +1,20 @@
 -- The packet of a number is found in the number's bucket, where it is live.
-use Rattle.std.proofs.Common.{◌≡◌, ◌≢◌, ◌<◌, ◌≤◌, ◌+◌, ◌-◌, ◌%◌, ℕ, zero, suc, Bool, true, false, List, [], ◌∷◌, Option, Some, None, get_or, inl, inr, length, nat_eq, ap, sym, ◌∙◌, refl, arith}
-use Rattle.std.specs.Prelude.{IsSome, slice_get}
-use Rattle.std.proofs.lemmas.Bool.{cases_eq, cases_lt, eq-eqb, false≢true}
-use Rattle.std.proofs.lemmas.Bool.Decides.{eqb_tells, nat_tests}
+use Rattle.std.proofs.Common.{◌≡◌, ◌≢◌, ◌<◌, ℕ, true, false, Option, Some, None, get_or, length, ap, sym, ◌∙◌, refl, arith}
+use Rattle.std.specs.Prelude.{slice_get}
+use Rattle.std.proofs.lemmas.Bool.{eq-eqb, false≢true}
+use Rattle.std.proofs.lemmas.Bool.Decides.{nat_tests}
 use Rattle.std.proofs.lemmas.List.{length-map}
 use Rattle.std.proofs.lemmas.Option.{slice_get-get_or, slice_get_past, slice_get_within}
 use Rattle.model.specs.declared.world.Packet.{Packet}
-use Rattle.model.specs.Queues.{head_of, is_linked}
+use Rattle.model.specs.Queues.{is_linked}
 use Rattle.model.specs.World.{place_of}
 use Rattle.slab.specs.Slab.{Slab}
-use Rattle.devqueue.specs.Linked.{IsOnce}
 use Rattle.devqueue.specs.Lists.{Lists, entries_of}
 use Rattle.iomgr.proofs.Places.{found_place, missing_place, number_there, numbered_place}
 use Rattle.iomgr.proofs.Slots.{key_held, key_there, length_in, packet_at as packet_there, some_packet}
 use Rattle.iomgr.proofs.Used.{used_held}
 use Rattle.iomgr.specs.Buckets.{IsNumbered, bucket_of, has_number}
-use Rattle.iomgr.specs.Numbers.{number_place, numbers_of}
+use Rattle.iomgr.specs.Numbers.{numbers_of}
 use Rattle.iomgr.specs.Slots.{Holds, IsOrdered, Slots, lies_at, packet_at, place_at}
 
 -- what has a number is its packet
@@ -68,8 +67,12 @@ module _ (live : Slots) (buckets : Lists) (issued : ℕ) (numbered : IsNumbered 
     nowhere : (place : ℕ) → slice_get (numbers_of live.packets) place ≢ Some n
     nowhere place found =
         let few : place < length live.order =
-        omega (arith, slice_get_within (numbers_of live.packets) place n found,
-        length-map live.packets (λ (p : Packet). p.number), many) in
+        omega (
+          arith,
+          slice_get_within (numbers_of live.packets) place n found,
+          length-map live.packets (λ (p : Packet). p.number),
+          many,
+        ) in
         let key = get_or live.order place 0 in
         let at = slice_get-get_or live.order place 0 few in
         let p = packet_at live key in

@@ -1,9 +1,9 @@
 -- The slots of live packets stay in the buckets of the packets' numbers.
-use Rattle.std.proofs.Common.{◌≡◌, ◌≢◌, ◌<◌, ◌≤◌, ◌+◌, ◌%◌, ℕ, zero, suc, Bool, true, false, IsTrue, List, [], ◌∷◌, ◌++◌, Option, Some, None, get_or, inl, inr, length, nat_eq, replicate, ap, sym, ◌∙◌, refl, arith, mod-lt}
-use Rattle.std.specs.Prelude.{IsSome, not, slice_get, slice_set}
+use Rattle.std.proofs.Common.{◌≡◌, ◌≢◌, ◌<◌, ◌+◌, ℕ, zero, suc, Bool, true, false, IsTrue, List, [], ◌∷◌, Option, Some, None, get_or, inl, inr, length, replicate, ap, sym, ◌∙◌, refl, arith, mod-lt}
+use Rattle.std.specs.Prelude.{not, slice_get}
 use Rattle.std.proofs.lemmas.Bool.{cases_eq, eq-eqb}
 use Rattle.std.proofs.lemmas.Bool.Decides.{eqb_tells}
-use Rattle.std.proofs.lemmas.List.{get_or-set_same, get_or-set_other, get_or_past, length-replicate, length-set, map-append}
+use Rattle.std.proofs.lemmas.List.{get_or-set_same, get_or-set_other, length-replicate, length-set, map-append}
 use Rattle.model.specs.declared.limits.TheConstants.{MAX_LIVE_PACKETS}
 use Rattle.model.specs.declared.world.Packet.{Packet}
 use Rattle.model.specs.Queues.{inserted, is_linked, unlinked}

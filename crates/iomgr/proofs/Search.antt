@@ -1,12 +1,11 @@
 -- The search through a bucket, slot by slot.
-use Rattle.std.proofs.Common.{◌≡◌, ◌≢◌, ◌<◌, ◌≤◌, ◌+◌, ◌-◌, ℕ, zero, suc, Bool, true, false, List, [], ◌∷◌, Option, Some, None, inl, inr, length, nat_eq, ap, sym, ◌∙◌, refl, arith}
+use Rattle.std.proofs.Common.{◌≡◌, ◌<◌, ◌+◌, ◌-◌, ℕ, zero, suc, true, false, List, [], ◌∷◌, Option, Some, None, inl, inr, length, ap, sym, ◌∙◌, refl, arith}
 use Rattle.std.specs.Prelude.{not, slice_get}
 use Rattle.std.proofs.lemmas.Bool.{cases_lt}
 use Rattle.std.proofs.lemmas.Bool.Decides.{eqb_tells}
 use Rattle.std.proofs.lemmas.Option.{slice_get-get_or, slice_get_within}
 use Rattle.model.specs.Queues.{head_of, is_linked}
 use Rattle.devqueue.proofs.Free.{one_has}
-use Rattle.devqueue.proofs.Linking.{apart_eq}
 use Rattle.devqueue.proofs.Next.{place_linked}
 use Rattle.devqueue.specs.Linked.{IsOnce}
 use Rattle.devqueue.specs.Lists.{Lists, entries_of, is_free}
@@ -59,39 +58,11 @@ first_at [] = refl
 first_at (slot ∷ slots) = refl
 
 module _ (slots : List ℕ) (live : Slots) (n : ℕ) where
-  pub search_starts : (next : Option ℕ) → IsOnce slots → next ≡ head_of slots
-      → IsSearched slots live n next
-  search_starts next once is =
-      record {
-        once = once;
-        place = 0;
-        at = first_at slots ∙ sym is;
-        none = λ before slot few at. absurd (omega (arith, few));
-      }
-
   module _ (now : Option ℕ) (so_far : IsSearched slots live n now) where
     module _ (slot : ℕ) (there : now ≡ Some slot) (next : Option ℕ)
         (is : next ≡ slice_get slots (so_far.place + 1)) where
       here : slice_get slots so_far.place ≡ Some slot
       here = so_far.at ∙ there
-
-      pub search_goes_on : has_number (lies_at live slot) n ≡ false
-          → IsSearched slots live n next
-      search_goes_on misses =
-          record {
-            once = so_far.once;
-            place = so_far.place + 1;
-            at = sym is;
-            none = λ before other few at. elim (cases_lt before so_far.place) [
-              | inl earlier ↦ so_far.none before other earlier at
-              | inr last ↦
-                  let last_place : before ≡ so_far.place = omega (arith, few, last) in
-                  let now_at : slice_get slots so_far.place ≡ Some other = rw last_place at at in
-                  let found = here in
-                  let same : slot ≡ other = cc in
-                  rw (← same) misses
-            ];
-          }
 
       pub search_shrinks : left slots next < left slots now
       search_shrinks =

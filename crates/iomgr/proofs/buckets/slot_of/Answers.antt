@@ -1,4 +1,4 @@
-use Rattle.std.proofs.Common.{◌≡◌, ◌∙◌, sym}
+use Rattle.std.proofs.Common.{◌∙◌}
 use Rattle.devqueue.specs.Lists.{entries_of}
 use Rattle.iomgr.proofs.Search.{search_ends, search_linked, search_shrinks}
 use Rattle.iomgr.specs.Buckets.{bucket_of}
@@ -21,4 +21,4 @@ pub returns-clause-missing : goal.returns-clause-missing
 returns-clause-missing c =
     let bucket = bucket_of c.args.n in
     search_ends (entries_of c.args.buckets.now bucket) c.args.live.now c.args.n _
-    c.loop-next.invariant ?
+    c.loop-next.invariant c.in_default.is

@@ -1,7 +1,4 @@
-use Rattle.std.proofs.Common.{◌≡◌, ◌∙◌, sym, true}
 use Rattle.iomgr.proofs.Found.{found_at, found_holds, found_key, found_packet, missing_key, missing_packet}
-use Rattle.iomgr.specs.Buckets.{has_number}
-use Rattle.iomgr.specs.Slots.{lies_at}
 use Rattle.iomgr.proofs.packet_table.PacketTable.find.Goals as goal
 
 pub returns-in_err-slot-clause-key : goal.returns-in_err-slot-clause-key
