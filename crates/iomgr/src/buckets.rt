@@ -1,7 +1,7 @@
-//! The search for the packet of a number.
+//! The search for the live packet of a number.
 //!
-//! The slot of a live packet is in the bucket of the remainder that the packet's number leaves. As
-//! numbers count up, few slots share a bucket.
+//! The slot of a live packet is in the bucket of its number's remainder. As numbers count up, packets
+//! that are live together mostly have a bucket of their own each.
 
 ghost use Rattle.std.specs.Prelude.{◌≡◌, ◌<◌, ◌^◌, ℕ, IfNone, IfOk, IfSome, false, length, true};
 ghost use Rattle.model.specs.Queues.{is_linked};
@@ -15,7 +15,7 @@ use devqueue::Links;
 use model::limits::MAX_LIVE_PACKETS;
 use std::alloc::{AllocError, Global};
 
-/// So many empty buckets for as many slots. An error where memory is refused.
+/// So many empty buckets for as many slots. An error where memory for them is refused.
 pub fn empty_buckets(alloc: Global, count: usize) -> Result<Links, AllocError>
     requires { count < 2 ^ 32 }
     ensures { IfOk result (AreEmpty count) }
