@@ -9,6 +9,8 @@ ghost use Rattle.model.specs.View.{due_at, packet_at, thread_at};
 ghost use Rattle.run_laws.specs.Rules.{KeepsTheRules};
 
 use crate::state::State;
+use crate::thread::Thread;
+use checked_parts::Shared;
 use driver_set::DriverSet;
 use model::event::{Event, Reply};
 use model::memory::OutOfMemory;
@@ -73,6 +75,27 @@ impl Checked {
         ensures { result ≡ self.now.stopped }
     {
         self.state.stopped()
+    }
+
+    /// The set that it runs.
+    pub fn set(&self) -> &DriverSet
+        ensures { result.now ≡ self.now.set }
+    {
+        &self.driver_set
+    }
+
+    /// The threads, by their numbers.
+    pub fn threads(&self) -> &[Thread]
+        ensures { result.now ≡ self.now.world.threads }
+    {
+        self.state.threads()
+    }
+
+    /// What the threads share.
+    pub fn shared(&self) -> &Shared
+        ensures { result.now ≡ self.now.world.shared }
+    {
+        self.state.shared()
     }
 
     /// What there is to tell of a thread, if there is one of this number.

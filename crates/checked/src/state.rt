@@ -8,6 +8,8 @@ ghost use Rattle.model.specs.View.{due_at, packet_at, thread_at};
 ghost use Rattle.model.specs.World.{opening};
 
 use crate::system::System;
+use crate::thread::Thread;
+use checked_parts::Shared;
 use driver_set::DriverSet;
 use irql_locks::owning_tells;
 use model::event::{Event, Reply};
@@ -79,6 +81,20 @@ impl State {
         ensures { result ≡ self.now.stopped }
     {
         self.halted
+    }
+
+    /// The threads, by their numbers.
+    pub fn threads(&self) -> &[Thread]
+        ensures { result.now ≡ self.now.world.threads }
+    {
+        self.current.threads()
+    }
+
+    /// What the threads share.
+    pub fn shared(&self) -> &Shared
+        ensures { result.now ≡ self.now.world.shared }
+    {
+        self.current.shared()
     }
 
     /// What there is to tell of a thread, if there is one of this number.

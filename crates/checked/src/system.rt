@@ -70,6 +70,20 @@ impl System {
         })
     }
 
+    /// The threads, by their numbers.
+    pub fn threads(&self) -> &[Thread]
+        ensures { result.now ≡ self.now.threads }
+    {
+        self.thread_list.as_slice()
+    }
+
+    /// What the threads share.
+    pub fn shared(&self) -> &Shared
+        ensures { result.now ≡ self.now.shared }
+    {
+        &self.shared
+    }
+
     /// What an event does, and its reply. After a bug check or a wrong operand nothing has changed.
     pub fn perform(&mut self, set: &DriverSet, event: &Event) -> Reply
         ensures { record { world = self.new; reply = result }

@@ -78,6 +78,13 @@ impl Thread {
         }
     }
 
+    /// Its frames, the lowest first.
+    pub fn frames(&self) -> &[Frame]
+        ensures { result.now ≡ self.now.frames.items }
+    {
+        self.frames.as_slice()
+    }
+
     /// A frame is put on an idle thread, at a level.
     pub fn begin(&mut self, level: Irql, root: Frame)
         requires { is_idle self.old ≡ true }
