@@ -1,7 +1,7 @@
 //! The search for the live packet of a number.
 //!
-//! The slot of a live packet is in the bucket of its number's remainder. As numbers count up, packets
-//! that are live together mostly have a bucket of their own each.
+//! The slot of a live packet is in the bucket of its number's remainder. As numbers count up,
+//! packets that are live together mostly have a bucket of their own each.
 
 ghost use Rattle.std.specs.Prelude.{◌≡◌, ◌<◌, ◌^◌, ℕ, IfNone, IfOk, IfSome, false, length, true};
 ghost use Rattle.model.specs.Queues.{is_linked};

@@ -11,8 +11,8 @@ use std::alloc::{AllocError, Global};
 use std::marker::Model;
 
 /// Packets in order, with room for all that may live at once. Each stays in one slot while it is in
-/// the list, and the keys of the slots are linked in that order: so nothing moves where one is taken
-/// from the middle.
+/// the list, and the keys of the slots are linked in that order: so nothing moves where one is
+/// taken from the middle.
 #[derive(Drop)]
 pub struct PacketList {
     slots: Slab<Packet>,
