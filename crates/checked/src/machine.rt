@@ -1,14 +1,16 @@
 //! The reference machine.
 
-ghost use Rattle.std.specs.Prelude.{◌≡◌, ◌≤◌, [], IfOk, IfErr};
+ghost use Rattle.std.specs.Prelude.{◌≡◌, ◌≤◌, [], IfOk, IfErr, length, option_map, slice_get};
 ghost use Rattle.model.specs.declared.limits.TheConstants.{MAX_THREADS};
 ghost use Rattle.model.specs.Machine.{ShowsWhole, AppliesWhole};
+ghost use Rattle.model.specs.Run.{frames_on};
 ghost use Rattle.model.specs.Sound.{IsSound};
 ghost use Rattle.model.specs.Typable.{IsTypable};
 ghost use Rattle.model.specs.View.{due_at, packet_at, thread_at};
 ghost use Rattle.run_laws.specs.Rules.{KeepsTheRules};
 
 use crate::state::State;
+use checked_parts::{Frame, Shared};
 use driver_set::DriverSet;
 use model::event::{Event, Reply};
 use model::memory::OutOfMemory;
@@ -73,6 +75,34 @@ impl Checked {
         ensures { result ≡ self.now.stopped }
     {
         self.state.stopped()
+    }
+
+    /// The set that it runs.
+    pub fn set(&self) -> &DriverSet
+        ensures { result.now ≡ self.now.set }
+    {
+        &self.driver_set
+    }
+
+    /// How many threads there are.
+    pub fn threads(&self) -> usize
+        ensures { result ≡ length self.now.world.threads }
+    {
+        self.state.threads()
+    }
+
+    /// The frame of a thread at a place, the lowest first: none where there are no more.
+    pub fn frame(&self, thread: u8, place: usize) -> Option<&Frame>
+        ensures { option_map (λ f. f.now) result ≡ slice_get (frames_on self.now.world thread) place }
+    {
+        self.state.frame(thread, place)
+    }
+
+    /// What the threads share.
+    pub fn shared(&self) -> &Shared
+        ensures { result.now ≡ self.now.world.shared }
+    {
+        self.state.shared()
     }
 
     /// What there is to tell of a thread, if there is one of this number.

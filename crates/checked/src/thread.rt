@@ -1,6 +1,6 @@
 //! A thread: its frames, and their steps.
 
-ghost use Rattle.std.specs.Prelude.{◌≡◌, ◌-◌, ◌∷◌, [], Some, true, length, take};
+ghost use Rattle.std.specs.Prelude.{◌≡◌, ◌-◌, ◌∷◌, [], Some, true, length, option_map, slice_get, take};
 ghost use Rattle.checked.specs.Step.{thread_now};
 ghost use Rattle.model.specs.Effect.{told_to};
 ghost use Rattle.model.specs.Events.{is_idle, with_stack, finished_or};
@@ -76,6 +76,13 @@ impl Thread {
             frames: self.frames.len(),
             top,
         }
+    }
+
+    /// The frame at a place, the lowest first: none where there are no more.
+    pub fn frame(&self, place: usize) -> Option<&Frame>
+        ensures { option_map (λ f. f.now) result ≡ slice_get self.now.frames.items place }
+    {
+        self.frames.get(place)
     }
 
     /// A frame is put on an idle thread, at a level.

@@ -32,3 +32,9 @@ abbrev pub walked_packet : Frame → Option ℕ
 walked_packet (Walk n) = Some n
 walked_packet (Routine a) = None
 walked_packet (Cancel c) = None
+
+-- the routine that runs, where a frame is a routine's
+abbrev pub activation_of : Frame → Option Activation
+activation_of (Routine a) = Some a
+activation_of (Walk n) = None
+activation_of (Cancel c) = None

@@ -1,6 +1,6 @@
 //! The frames of a thread.
 
-ghost use Rattle.std.specs.Prelude.{◌≡◌, None};
+ghost use Rattle.std.specs.Prelude.{◌≡◌, None, option_map};
 ghost use Rattle.std.specs.Borrow.{sem};
 ghost use Rattle.checked_parts.specs.Ran.{frame_over as frame_over_of, is_last as is_last_over};
 
@@ -50,7 +50,7 @@ impl Default for Frame {
 
 impl Frame {
     ghost use Rattle.model.specs.declared.world.Frame.TheVariants.{Routine as RoutineFrame};
-    ghost use Rattle.checked_parts.specs.Frames.{manager_of, walked_packet};
+    ghost use Rattle.checked_parts.specs.Frames.{activation_of, manager_of, walked_packet};
     ghost use Rattle.checked_parts.specs.Lending.{LendsActivation};
     ghost use Rattle.model.specs.View.{frame_view};
 
@@ -113,6 +113,16 @@ impl Frame {
         ensures { result ≡ manager_of self.now }
     {
         self.manager
+    }
+
+    /// The routine that runs, where the frame is a routine's.
+    pub fn activation(&self) -> Option<&Activation>
+        ensures { option_map (λ a. a.now) result ≡ activation_of self.now }
+    {
+        match self.manager {
+            Some(_) => None,
+            None => Some(&self.activation),
+        }
     }
 
     /// The routine of a frame that is a routine's, to be stepped where it stands.

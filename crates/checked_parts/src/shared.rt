@@ -1,6 +1,6 @@
 //! What the threads of a run share.
 
-ghost use Rattle.std.specs.Prelude.{◌≡◌, ◌≤◌, [], IfOk, IsSome, IsTrue, Some, nat_lt, option_map, replicate};
+ghost use Rattle.std.specs.Prelude.{◌≡◌, ◌≤◌, [], IfOk, IsSome, IsTrue, Some, nat_lt, option_map, replicate, slice_get};
 ghost use Rattle.model.specs.declared.limits.TheConstants.{MAX_QUEUES, MAX_STACK};
 ghost use Rattle.model.specs.Queues.{StartState, idle, without_first_to_start};
 
@@ -8,7 +8,9 @@ use crate::ran::Runner;
 use devqueue::{DeviceQueue, Guarded};
 use driver_set::Device;
 use iomgr::PacketTable;
+use irp::Packet;
 use irql_locks::LockTable;
+use model::event::Lock;
 use model::limits::{CELLS, MAX_QUEUES};
 use model::status::Major;
 use model::view::{LiveView, PacketView};
@@ -82,7 +84,7 @@ fn idle_devices(alloc: Global, devices: usize) -> Result<Vec<DeviceQueue>, Alloc
 
 impl Shared {
     ghost use Rattle.model.specs.Events.{can_issue, with_new_packet};
-    ghost use Rattle.model.specs.World.{unused, packet_in, start_of, with_start, is_queued, with_dpc};
+    ghost use Rattle.model.specs.World.{unused, owner_of, packet_in, packet_of, start_of, with_start, is_queued, with_dpc};
     ghost use Rattle.checked_parts.specs.Left.{is_gone, is_raised};
     ghost use Rattle.model.specs.View.{packet_view, due_view};
 
@@ -188,6 +190,34 @@ impl Shared {
         ensures { result ≡ is_gone self.now n }
     {
         self.is_issued(n) && self.packet_table.find(n).is_none()
+    }
+
+    /// How many packets were ever issued.
+    pub fn issued(&self) -> u64
+        ensures { result ≡ self.now.issued }
+    {
+        self.packet_table.issued()
+    }
+
+    /// The live packet of a number.
+    pub fn live_packet(&self, n: u64) -> Option<&Packet>
+        ensures { option_map (λ p. p.now) result ≡ packet_of self.now n }
+    {
+        self.packet_table.live_packet(n)
+    }
+
+    /// The live packet at a place, in the order of issue: none where there are no more.
+    pub fn live(&self, place: usize) -> Option<&Packet>
+        ensures { option_map (λ p. p.now) result ≡ slice_get self.now.packets place }
+    {
+        self.packet_table.live(place)
+    }
+
+    /// The owner of a lock, if there is such a lock: none while it is free.
+    pub fn owner(&self, lock: Lock) -> Option<Option<u8>>
+        ensures { result ≡ owner_of self.now.locks lock }
+    {
+        self.lock_table.owner(lock)
     }
 
     /// What there is to tell of the packet of a number.

@@ -100,6 +100,20 @@ impl DeviceQueue {
         }
     }
 
+    /// The packets for which StartIo has to begin, in that order.
+    pub fn start_list(&self) -> &Guarded
+        ensures { result.now ≡ self.now.start_list }
+    {
+        &self.start_list
+    }
+
+    /// The packets that wait while the device is busy, in that order.
+    pub fn waiting(&self) -> &Guarded
+        ensures { result.now ≡ self.now.device_queue }
+    {
+        &self.device_queue
+    }
+
     /// The first packet of the device queue, which stays: none where that queue is empty.
     pub fn first_waiting(&self) -> Option<u64>
         ensures { result ≡ head_of self.now.device_queue }

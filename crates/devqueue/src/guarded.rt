@@ -1,6 +1,6 @@
 //! A queue that a spin lock guards.
 
-ghost use Rattle.std.specs.Prelude.{◌≡◌, ◌≤◌, ◌<◌, [], IfOk, IfSome, length, nat_eq, position};
+ghost use Rattle.std.specs.Prelude.{◌≡◌, ◌≤◌, ◌<◌, [], IfOk, IfSome, length, nat_eq, position, slice_get};
 ghost use Rattle.model.specs.declared.limits.TheConstants.{MAX_ENTRIES};
 ghost use Rattle.model.specs.Queues.{is_full, inserted, head_of, without_head};
 ghost use Rattle.model.specs.Queues.{is_linked, unlinked};
@@ -69,6 +69,13 @@ impl Guarded {
         ensures { result ≡ head_of self.now }
     {
         self.entries.front().copied()
+    }
+
+    /// The entry at a place, from the front: none where there are no more.
+    pub fn entry(&self, place: usize) -> Option<u64>
+        ensures { result ≡ slice_get self.now place }
+    {
+        self.entries.get(place).copied()
     }
 
     /// Takes the first entry off. None where the queue is empty, and then nothing has changed.

@@ -186,6 +186,13 @@ impl PacketTable {
         self.live.get(self.place(n))
     }
 
+    /// The live packet at a place, in the order of issue: none where there are no more.
+    pub fn live(&self, place: usize) -> Option<&Packet>
+        ensures { option_map (λ p. p.now) result ≡ slice_get self.now.live.packets place }
+    {
+        self.live.get(place)
+    }
+
     /// The packet of a key.
     pub fn packet(&self, key: Key) -> &Packet
         requires { Holds self.now.live key }

@@ -86,6 +86,13 @@ impl Location {
         }
     }
 
+    /// The device that is asked.
+    pub fn device(&self) -> u8
+        ensures { result ≡ self.now.device }
+    {
+        self.device
+    }
+
     /// The major function that is asked for.
     pub fn major(&self) -> Option<Major>
         ensures { result ≡ self.now.major }

@@ -1,6 +1,6 @@
 //! A live packet, and the calls that change it.
 
-ghost use Rattle.std.specs.Prelude.{◌≡◌, ◌≤◌, ◌<◌, ◌-◌, ◌∷◌, true, false, length, nat_lt, option_map, replicate};
+ghost use Rattle.std.specs.Prelude.{◌≡◌, ◌≤◌, ◌<◌, ◌-◌, ◌∷◌, true, false, length, nat_lt, option_map, replicate, slice_get};
 ghost use Rattle.model.specs.declared.limits.TheConstants.{MAX_STACK};
 ghost use Rattle.model.specs.World.{unused_location};
 
@@ -157,6 +157,13 @@ impl Packet {
         ensures { result ≡ self.now.armer }
     {
         self.armer
+    }
+
+    /// The location at a place, that of the top driver first: none where it has no more.
+    pub fn location(&self, place: usize) -> Option<&Location>
+        ensures { option_map (λ l. l.now) result ≡ slice_get self.now.locations.items place }
+    {
+        self.stack.get(place)
     }
 
     /// The place of its current location.

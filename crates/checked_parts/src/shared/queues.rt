@@ -16,7 +16,7 @@ impl Shared {
     ghost use Rattle.model.specs.World.{packet_in, queue_of, register};
 
     /// A queue of a device, if there is such a queue.
-    fn queue(&self, device: u8, queue: u8) -> Option<&Guarded>
+    pub fn queue(&self, device: u8, queue: u8) -> Option<&Guarded>
         ensures { option_map (λ queue. queue.now) result ≡ queue_of self.now device queue }
     {
         let queues = self.queue_list.get(device as usize)?;
