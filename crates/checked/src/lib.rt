@@ -12,3 +12,4 @@ mod thread;
 
 pub use machine::Checked;
 pub use state::State;
+pub use thread::Thread;

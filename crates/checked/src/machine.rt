@@ -1,16 +1,16 @@
 //! The reference machine.
 
-ghost use Rattle.std.specs.Prelude.{◌≡◌, ◌≤◌, [], IfOk, IfErr, length, option_map, slice_get};
+ghost use Rattle.std.specs.Prelude.{◌≡◌, ◌≤◌, [], IfOk, IfErr};
 ghost use Rattle.model.specs.declared.limits.TheConstants.{MAX_THREADS};
 ghost use Rattle.model.specs.Machine.{ShowsWhole, AppliesWhole};
-ghost use Rattle.model.specs.Run.{frames_on};
 ghost use Rattle.model.specs.Sound.{IsSound};
 ghost use Rattle.model.specs.Typable.{IsTypable};
 ghost use Rattle.model.specs.View.{due_at, packet_at, thread_at};
 ghost use Rattle.run_laws.specs.Rules.{KeepsTheRules};
 
 use crate::state::State;
-use checked_parts::{Frame, Shared};
+use crate::thread::Thread;
+use checked_parts::Shared;
 use driver_set::DriverSet;
 use model::event::{Event, Reply};
 use model::memory::OutOfMemory;
@@ -84,18 +84,11 @@ impl Checked {
         &self.driver_set
     }
 
-    /// How many threads there are.
-    pub fn threads(&self) -> usize
-        ensures { result ≡ length self.now.world.threads }
+    /// The threads, by their numbers.
+    pub fn threads(&self) -> &[Thread]
+        ensures { result.now ≡ self.now.world.threads }
     {
         self.state.threads()
-    }
-
-    /// The frame of a thread at a place, the lowest first: none where there are no more.
-    pub fn frame(&self, thread: u8, place: usize) -> Option<&Frame>
-        ensures { option_map (λ f. f.now) result ≡ slice_get (frames_on self.now.world thread) place }
-    {
-        self.state.frame(thread, place)
     }
 
     /// What the threads share.

@@ -1,15 +1,15 @@
 //! What a machine holds beside the set that it runs.
 
-ghost use Rattle.std.specs.Prelude.{◌≡◌, ◌≤◌, false, length, IfOk, option_map, slice_get};
+ghost use Rattle.std.specs.Prelude.{◌≡◌, ◌≤◌, false, length, IfOk};
 ghost use Rattle.checked.specs.Step.{machine_of, state_now};
 ghost use Rattle.model.specs.Machine.{AppliesWhole};
-ghost use Rattle.model.specs.Run.{frames_on};
 ghost use Rattle.model.specs.Sound.{IsSound};
 ghost use Rattle.model.specs.View.{due_at, packet_at, thread_at};
 ghost use Rattle.model.specs.World.{opening};
 
 use crate::system::System;
-use checked_parts::{Frame, Shared};
+use crate::thread::Thread;
+use checked_parts::Shared;
 use driver_set::DriverSet;
 use irql_locks::owning_tells;
 use model::event::{Event, Reply};
@@ -83,18 +83,11 @@ impl State {
         self.halted
     }
 
-    /// How many threads there are.
-    pub fn threads(&self) -> usize
-        ensures { result ≡ length self.now.world.threads }
+    /// The threads, by their numbers.
+    pub fn threads(&self) -> &[Thread]
+        ensures { result.now ≡ self.now.world.threads }
     {
         self.current.threads()
-    }
-
-    /// The frame of a thread at a place, the lowest first: none where there are no more.
-    pub fn frame(&self, thread: u8, place: usize) -> Option<&Frame>
-        ensures { option_map (λ f. f.now) result ≡ slice_get (frames_on self.now.world thread) place }
-    {
-        self.current.frame(thread, place)
     }
 
     /// What the threads share.

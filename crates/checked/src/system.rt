@@ -1,10 +1,9 @@
 //! The I/O system of a run, and what an event does to it.
 
-ghost use Rattle.std.specs.Prelude.{◌≡◌, ◌≤◌, IfOk, IfSome, length, option_map, slice_get};
+ghost use Rattle.std.specs.Prelude.{◌≡◌, ◌≤◌, IfOk, IfSome, slice_get};
 ghost use Rattle.model.specs.declared.limits.TheConstants.{MAX_STACK};
 ghost use Rattle.checked.specs.Step.{ended, event_now, step_now};
 ghost use Rattle.model.specs.Events.{cancel_on, irql_of};
-ghost use Rattle.model.specs.Run.{frames_on};
 ghost use Rattle.model.specs.View.{due_at, packet_at, thread_at};
 ghost use Rattle.model.specs.World.{opening};
 
@@ -71,18 +70,11 @@ impl System {
         })
     }
 
-    /// How many threads there are.
-    pub fn threads(&self) -> usize
-        ensures { result ≡ length self.now.threads }
+    /// The threads, by their numbers.
+    pub fn threads(&self) -> &[Thread]
+        ensures { result.now ≡ self.now.threads }
     {
-        self.thread_list.len()
-    }
-
-    /// The frame of a thread at a place, the lowest first: none where there are no more.
-    pub fn frame(&self, thread: u8, place: usize) -> Option<&Frame>
-        ensures { option_map (λ f. f.now) result ≡ slice_get (frames_on self.now thread) place }
-    {
-        self.thread_list.get(thread as usize)?.frame(place)
+        self.thread_list.as_slice()
     }
 
     /// What the threads share.

@@ -1,6 +1,6 @@
 //! A thread: its frames, and their steps.
 
-ghost use Rattle.std.specs.Prelude.{◌≡◌, ◌-◌, ◌∷◌, [], Some, true, length, option_map, slice_get, take};
+ghost use Rattle.std.specs.Prelude.{◌≡◌, ◌-◌, ◌∷◌, [], Some, true, length, take};
 ghost use Rattle.checked.specs.Step.{thread_now};
 ghost use Rattle.model.specs.Effect.{told_to};
 ghost use Rattle.model.specs.Events.{is_idle, with_stack, finished_or};
@@ -78,11 +78,11 @@ impl Thread {
         }
     }
 
-    /// The frame at a place, the lowest first: none where there are no more.
-    pub fn frame(&self, place: usize) -> Option<&Frame>
-        ensures { option_map (λ f. f.now) result ≡ slice_get self.now.frames.items place }
+    /// Its frames, the lowest first.
+    pub fn frames(&self) -> &[Frame]
+        ensures { result.now ≡ self.now.frames.items }
     {
-        self.frames.get(place)
+        self.frames.as_slice()
     }
 
     /// A frame is put on an idle thread, at a level.

@@ -213,6 +213,20 @@ impl Shared {
         self.packet_table.live(place)
     }
 
+    /// The queues, by device and by their numbers.
+    pub fn queues(&self) -> &[[Guarded; MAX_QUEUES]]
+        ensures { result.now ≡ self.now.queues }
+    {
+        self.queue_list.as_slice()
+    }
+
+    /// What devices have for StartIo, by their numbers.
+    pub fn starts(&self) -> &[DeviceQueue]
+        ensures { result.now ≡ self.now.starts }
+    {
+        self.start_list.as_slice()
+    }
+
     /// The owner of a lock, if there is such a lock: none while it is free.
     pub fn owner(&self, lock: Lock) -> Option<Option<u8>>
         ensures { result ≡ owner_of self.now.locks lock }

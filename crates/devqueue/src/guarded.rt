@@ -78,6 +78,13 @@ impl Guarded {
         self.entries.get(place).copied()
     }
 
+    /// Whether a packet has an entry.
+    pub fn has(&self, n: u64) -> bool
+        ensures { result ≡ is_linked self.now n }
+    {
+        self.entries.iter().any(|entry| *entry == n)
+    }
+
     /// Takes the first entry off. None where the queue is empty, and then nothing has changed.
     pub fn remove_head(&mut self) -> Option<u64>
         ensures head { result ≡ head_of self.old }

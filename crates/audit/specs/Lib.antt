@@ -1,0 +1,4 @@
+pub mod Left
+pub mod Naming
+pub mod Refusal
+pub mod Ring
