@@ -1,0 +1,14 @@
+//! A run told event by event: which frame acts, where it stands in the text, and in words what its
+//! step changed. What acts and where is by contract; the words are plain code round it.
+#![tactic(auto)]
+
+mod acting;
+mod book;
+mod change;
+mod columns;
+mod line;
+mod words;
+
+pub use acting::{Acting, acting_in};
+pub use book::Book;
+pub use line::{Moment, add_event, is_quiet};
