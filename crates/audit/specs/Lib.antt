@@ -2,3 +2,4 @@ pub mod Left
 pub mod Naming
 pub mod Refusal
 pub mod Ring
+pub mod Sites

@@ -7,3 +7,4 @@ pub mod left;
 pub mod naming;
 pub mod refusal;
 pub mod ring;
+pub mod sites;

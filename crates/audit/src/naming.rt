@@ -1,18 +1,19 @@
 //! Packets that no place names.
 
 ghost use Rattle.std.specs.Prelude.{◌≡◌, IfOk};
+ghost use Rattle.std.specs.List.{list_any};
 ghost use Rattle.audit.specs.Naming.{frame_names, has_word, is_named, lost_packets, queues_name, slot_names, start_names, thread_names, value_names};
 ghost use Rattle.model.specs.World.{packet_of};
 
 use checked::{Checked, Thread};
 use checked_parts::Frame;
 use devqueue::{DeviceQueue, Guarded};
-use model::limits::MAX_QUEUES;
+use model::limits::{MAX_QUEUES, REGISTERS};
 use model::world::Value;
 use std::alloc::{AllocError, Global};
 
 /// Whether a register's value names a packet.
-fn value_names(n: u64, value: Value) -> bool
+pub(crate) fn value_names(n: u64, value: Value) -> bool
     ensures { result ≡ value_names n value }
 {
     match value {
@@ -21,12 +22,19 @@ fn value_names(n: u64, value: Value) -> bool
     }
 }
 
+/// Whether a register of a routine names a packet.
+fn registers_name(n: u64, registers: &[Value; REGISTERS]) -> bool
+    ensures { result ≡ list_any (value_names n) registers.now }
+{
+    registers.iter().any(|value| value_names(n, *value))
+}
+
 /// Whether a frame names a packet: in a register, or since the I/O manager completes it there.
 fn frame_names(n: u64, frame: &Frame) -> bool
     ensures { result ≡ frame_names n frame.now }
 {
     match frame.activation() {
-        Some(a) => a.registers.iter().any(|value| value_names(n, *value)),
+        Some(a) => registers_name(n, &a.registers),
         None => frame.completed_packet() == Some(n),
     }
 }
@@ -62,14 +70,35 @@ fn has_word(machine: &Checked, n: u64) -> bool
     }
 }
 
+/// Whether a frame of one of the threads names a packet.
+fn any_thread(n: u64, threads: &[Thread]) -> bool
+    ensures { result ≡ list_any (thread_names n) threads.now }
+{
+    threads.iter().any(|thread| thread_names(n, thread))
+}
+
+/// Whether a packet stands in a queue of one of the devices.
+fn any_queue(n: u64, queues: &[[Guarded; MAX_QUEUES]]) -> bool
+    ensures { result ≡ list_any (queues_name n) queues.now }
+{
+    queues.iter().any(|queues| queues_name(n, queues))
+}
+
+/// Whether a packet stands in what one of the devices has for StartIo.
+fn any_start(n: u64, starts: &[DeviceQueue]) -> bool
+    ensures { result ≡ list_any (start_names n) starts.now }
+{
+    starts.iter().any(|start| start_names(n, start))
+}
+
 /// Whether some place of the machine's world names a packet: a register, a frame of the I/O manager
 /// that completes it, a queue, what a device has for StartIo, or its cancel word.
 pub fn is_named(machine: &Checked, n: u64) -> bool
     ensures { result ≡ is_named machine.now.world n }
 {
-    machine.threads().iter().any(|thread| thread_names(n, thread))
-        || machine.shared().queues().iter().any(|queues| queues_name(n, queues))
-        || machine.shared().starts().iter().any(|start| start_names(n, start))
+    any_thread(n, machine.threads())
+        || any_queue(n, machine.shared().queues())
+        || any_start(n, machine.shared().starts())
         || has_word(machine, n)
 }
 
@@ -82,12 +111,12 @@ pub fn lost_packets(alloc: Global, machine: &Checked) -> Result<Vec<u64>, AllocE
     ensures { IfOk result (λ lost. lost.items ≡ lost_packets machine.now.world) }
 {
     let mut lost = Vec::new(alloc);
-    let mut place = 0;
-    while let Some(packet) = machine.shared().live(place) {
-        if !is_named(machine, packet.number()) {
-            lost.push(packet.number())?;
+    for place in 0..machine.shared().live_count() {
+        if let Some(packet) = machine.shared().live(place) {
+            if !is_named(machine, packet.number()) {
+                lost.push(packet.number())?;
+            }
         }
-        place += 1;
     }
     Ok(lost)
 }

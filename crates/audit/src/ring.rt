@@ -61,7 +61,6 @@ pub fn waits_for(machine: &Checked, thread: u8) -> Option<u8>
 /// Whether a thread is met again within so many steps from one to the thread that it waits for.
 fn is_met(machine: &Checked, thread: u8, steps: usize, next: Option<u8>) -> bool
     ensures { result ≡ is_met machine.now.set machine.now.world thread steps next }
-    decreases { steps }
 {
     let Some(next) = next else {
         return false;

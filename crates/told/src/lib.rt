@@ -3,6 +3,7 @@
 #![tactic(auto)]
 
 mod acting;
+mod audited;
 mod book;
 mod change;
 mod columns;
@@ -10,5 +11,6 @@ mod line;
 mod words;
 
 pub use acting::{Acting, acting_in};
+pub use audited::{Audited, add_audit};
 pub use book::Book;
 pub use line::{Moment, add_event, is_quiet};
