@@ -1,7 +1,7 @@
 -- Which packets the places of a world name, whatever right goes with a place. In the run of a set
 -- that was refused no register has a right: who names a packet may still come to it. A packet that
 -- no place names is lost: nothing that can happen reaches it.
-use Rattle.std.specs.Prelude.{ℕ, ◌||◌, Bool, false, List, [], ◌∷◌, Option, None, Some, is_some, nat_eq, if◌then◌else◌}
+use Rattle.std.specs.Prelude.{ℕ, ◌||◌, ◌++◌, zero, suc, Bool, false, List, [], ◌∷◌, length, Option, None, Some, is_some, nat_eq, slice_get, if◌then◌else◌}
 use Rattle.std.specs.List.{list_any}
 use Rattle.model.specs.declared.world.Frame.{Frame}
 use Rattle.model.specs.declared.world.Frame.TheVariants.{Routine, Walk, Cancel as CancelFrame}
@@ -52,11 +52,14 @@ is_named w n =
     list_any (thread_names n) w.threads || list_any (queues_name n) w.shared.queues
     || list_any (start_names n) w.shared.starts || has_word (packet_of w.shared n)
 
--- the live packets that no place names, in the order of issue
-abbrev pub lost_among : World → List Packet → List ℕ
-lost_among w [] = []
-lost_among w (p ∷ packets) =
-    if is_named w p.number then lost_among w packets else p.number ∷ lost_among w packets
+-- a live packet that no place names; so many in the order of issue, and all of them
+abbrev pub lost_at : World → Option Packet → List ℕ
+lost_at w None = []
+lost_at w (Some p) = if is_named w p.number then [] else p.number ∷ []
+
+abbrev pub lost_below : World → ℕ → List ℕ
+lost_below w zero = []
+lost_below w (suc k) = lost_below w k ++ lost_at w (slice_get w.shared.packets k)
 
 abbrev pub lost_packets : World → List ℕ
-lost_packets w = lost_among w w.shared.packets
+lost_packets w = lost_below w (length w.shared.packets)

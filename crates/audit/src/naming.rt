@@ -1,8 +1,8 @@
 //! Packets that no place names.
 
-ghost use Rattle.std.specs.Prelude.{◌≡◌, IfOk};
+ghost use Rattle.std.specs.Prelude.{◌≡◌, ◌++◌, IfOk, OnOk, slice_get};
 ghost use Rattle.std.specs.List.{list_any};
-ghost use Rattle.audit.specs.Naming.{frame_names, has_word, is_named, lost_packets, queues_name, slot_names, start_names, thread_names, value_names};
+ghost use Rattle.audit.specs.Naming.{frame_names, has_word, is_named, lost_at, lost_packets, queues_name, slot_names, start_names, thread_names, value_names};
 ghost use Rattle.model.specs.World.{packet_of};
 
 use checked::{Checked, Thread};
@@ -102,6 +102,19 @@ pub fn is_named(machine: &Checked, n: u64) -> bool
         || has_word(machine, n)
 }
 
+/// Adds the number of a live packet, if no place names it.
+fn add_lost(lost: &mut Vec<u64>, machine: &Checked, place: usize) -> Result<(), AllocError>
+    ensures { OnOk result (lost.new.items ≡ lost.old.items
+        ++ lost_at machine.now.world (slice_get machine.now.world.shared.packets place)) }
+{
+    if let Some(packet) = machine.shared().live(place) {
+        if !is_named(machine, packet.number()) {
+            lost.push(packet.number())?;
+        }
+    }
+    Ok(())
+}
+
 /// The numbers of the live packets that no place names, in the order of issue.
 ///
 /// # Errors
@@ -112,11 +125,7 @@ pub fn lost_packets(alloc: Global, machine: &Checked) -> Result<Vec<u64>, AllocE
 {
     let mut lost = Vec::new(alloc);
     for place in 0..machine.shared().live_count() {
-        if let Some(packet) = machine.shared().live(place) {
-            if !is_named(machine, packet.number()) {
-                lost.push(packet.number())?;
-            }
-        }
+        add_lost(&mut lost, machine, place)?;
     }
     Ok(lost)
 }

@@ -1,6 +1,6 @@
 //! Threads that wait for each other in a ring.
 
-ghost use Rattle.std.specs.Prelude.{◌≡◌};
+ghost use Rattle.std.specs.Prelude.{◌≡◌, Some};
 ghost use Rattle.audit.specs.Ring.{acquired_by, is_in_ring, is_met, other_owner, sought_by, waits_for};
 
 use checked::Checked;
@@ -12,10 +12,10 @@ use model::limits::MAX_THREADS;
 use model::world::{Activation, CancelStep};
 
 /// The lock that an instruction acquires, for the device of an activation.
-fn acquired_by(a: &Activation, instr: Option<Instr>) -> Option<Lock>
-    ensures { result ≡ acquired_by a.now instr }
+fn acquired_by(a: &Activation, instr: &Instr) -> Option<Lock>
+    ensures { result ≡ acquired_by a.now (Some instr.now) }
 {
-    match instr? {
+    match *instr {
         Instr::Acquire(lock) => Some(spin_lock(a, lock)),
         Instr::AcquireCancel => Some(Lock::SystemCancel),
         _ => None,
@@ -27,8 +27,10 @@ fn sought_by(machine: &Checked, frame: &Frame) -> Option<Lock>
     ensures { result ≡ sought_by machine.now.set frame.now }
 {
     if let Some(a) = frame.activation() {
-        let instr = machine.set().instruction(a.driver, a.routine, a.position);
-        return acquired_by(a, instr);
+        return match machine.set().instruction(a.driver, a.routine, a.position) {
+            Some(instr) => acquired_by(a, &instr),
+            None => None,
+        };
     }
     match frame.manager()? {
         Managing::Completes(_) => None,

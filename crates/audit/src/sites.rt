@@ -1,6 +1,6 @@
 //! All the places that name a packet.
 
-ghost use Rattle.std.specs.Prelude.{◌≡◌, ◌++◌, IfOk, OnOk, Some, length};
+ghost use Rattle.std.specs.Prelude.{◌≡◌, ◌++◌, IfOk, ◌<◌, OnOk, Some, length, slice_get};
 ghost use Rattle.model.specs.Run.{frames_on};
 ghost use Rattle.model.specs.World.{packet_of, queue_of, start_of};
 ghost use Rattle.audit.specs.Sites.{devices_below, frame_sites, frames_below, queue_sites, queues_below, registers_below, site_if, sites_of, start_sites, threads_below, word_sites};
@@ -101,6 +101,21 @@ fn add_frame(
     }
 }
 
+/// Adds the places in the frame at a place of a thread, if there is one.
+fn add_place(
+    sites: &mut Vec<Site>,
+    n: u64,
+    thread: usize,
+    place: usize,
+    frames: &[Frame],
+) -> Result<(), AllocError>
+    requires { place < length frames.now }
+    ensures { OnOk result (sites.new.items
+        ≡ sites.old.items ++ frame_sites n thread place (slice_get frames.now place)) }
+{
+    add_frame(sites, n, thread, place, &frames[place])
+}
+
 /// The frames of a thread: none where there is no such thread.
 fn frames_of(machine: &Checked, thread: usize) -> &[Frame]
     ensures { result.now ≡ frames_on machine.now.world thread }
@@ -123,7 +138,7 @@ fn add_frames(
 {
     let frames = frames_of(machine, thread);
     for place in 0..frames.len() {
-        add_frame(sites, n, thread, place, &frames[place])?;
+        add_place(sites, n, thread, place, frames)?;
     }
     Ok(())
 }
@@ -176,6 +191,37 @@ fn add_start(
     add_if(sites, start.current() == Some(n), Site::Slot { device })
 }
 
+/// Adds the places in what a device has for StartIo, if there is such a device.
+fn add_start_of(
+    sites: &mut Vec<Site>,
+    machine: &Checked,
+    n: u64,
+    device: u8,
+) -> Result<(), AllocError>
+    ensures { OnOk result (sites.new.items ≡ sites.old.items
+        ++ start_sites n device (start_of machine.now.world.shared device)) }
+{
+    match machine.shared().start_of(device) {
+        Some(start) => add_start(sites, n, device, start),
+        None => Ok(()),
+    }
+}
+
+/// Adds the places of a device that name a packet.
+fn add_device(
+    sites: &mut Vec<Site>,
+    machine: &Checked,
+    n: u64,
+    device: u8,
+) -> Result<(), AllocError>
+    ensures { OnOk result (sites.new.items ≡ sites.old.items
+        ++ (queues_below machine.now.world n device MAX_QUEUES
+        ++ start_sites n device (start_of machine.now.world.shared device))) }
+{
+    add_queues(sites, machine, n, device)?;
+    add_start_of(sites, machine, n, device)
+}
+
 /// Adds the places of devices that name a packet.
 fn add_devices(
     sites: &mut Vec<Site>,
@@ -187,10 +233,7 @@ fn add_devices(
         ≡ sites.old.items ++ devices_below machine.now.world n devices) }
 {
     for device in 0..devices {
-        add_queues(sites, machine, n, device)?;
-        if let Some(start) = machine.shared().start_of(device) {
-            add_start(sites, n, device, start)?;
-        }
+        add_device(sites, machine, n, device)?;
     }
     Ok(())
 }

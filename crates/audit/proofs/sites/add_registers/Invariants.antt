@@ -3,4 +3,4 @@ use Rattle.audit.specs.Sites.{devices_below, frame_sites, frames_below, queue_si
 use Rattle.audit.proofs.sites.add_registers.Given as goal
 
 abbrev pub invariant-loop-register : goal.invariant-loop-register
-invariant-loop-register l = l.sites.items ≡ l.initial.sites.items ++ registers_below l.n l.thread l.frame l.a.now l.register
+invariant-loop-register l = l.sites.items ≡ l.initial.sites.items ++ registers_below l.n l.thread l.frame l.a l.register
