@@ -1,6 +1,6 @@
 //! Which frame acts in an event, where it stands, and the packet that its step is about.
 
-ghost use Rattle.std.specs.Prelude.{◌≡◌};
+ghost use Rattle.std.specs.Prelude.{◌≡◌, Some, option_and_then};
 ghost use Rattle.model.specs.World.{packet_in, register};
 ghost use Rattle.told.specs.Acting.{acting_by, acting_in, instruction_of, packet_about, packet_by, packet_register};
 
@@ -31,10 +31,10 @@ fn instruction_of(set: &DriverSet, frame: &Frame) -> Option<Instr>
 }
 
 /// The register with the packet that an instruction is about.
-fn packet_register(instr: Instr) -> Option<Register>
-    ensures { result ≡ packet_register instr }
+fn packet_register(instr: &Instr) -> Option<Register>
+    ensures { result ≡ packet_register instr.now }
 {
-    match instr {
+    match *instr {
         Instr::Get(_, r, _)
         | Instr::Put(r, _)
         | Instr::Mark(r)
@@ -54,25 +54,34 @@ fn packet_register(instr: Instr) -> Option<Register>
     }
 }
 
-/// The packet that a routine's instruction is about.
-fn packet_by(machine: &Checked, a: &Activation, instr: Option<Instr>) -> Option<u64>
-    ensures { result ≡ packet_by machine.now.world.shared a.now instr }
+/// The packet that a value refers to: one that was issued.
+fn packet_in(machine: &Checked, value: Value) -> Option<u64>
+    ensures { result ≡ packet_in machine.now.world.shared value }
 {
-    match instr? {
-        Instr::Remove(_, queue, _) => machine.shared().queue(a.device, queue)?.head(),
-        Instr::Take(_, _) => machine.shared().start_of(a.device)?.current(),
-        Instr::Next => machine.shared().start_of(a.device)?.first_waiting(),
-        other => packet_in(machine, a, packet_register(other)?),
+    match value {
+        Value::Ref(n) if machine.shared().is_issued(n) => Some(n),
+        _ => None,
     }
 }
 
-/// The packet in a register of a routine.
-fn packet_in(machine: &Checked, a: &Activation, r: Register) -> Option<u64>
-    ensures { result ≡ packet_in machine.now.world.shared (register a.now r) }
+/// The packet in the register that an instruction is about.
+fn packet_read(machine: &Checked, a: &Activation, instr: &Instr) -> Option<u64>
+    ensures { result ≡ option_and_then (λ r. packet_in machine.now.world.shared (register a.now r))
+        (packet_register instr.now) }
 {
-    match a.registers[r.index()] {
-        Value::Ref(n) if machine.shared().is_issued(n) => Some(n),
-        _ => None,
+    let r = packet_register(instr)?;
+    packet_in(machine, a.registers[r.index()])
+}
+
+/// The packet that a routine's instruction is about.
+fn packet_by(machine: &Checked, a: &Activation, instr: &Instr) -> Option<u64>
+    ensures { result ≡ packet_by machine.now.world.shared a.now (Some instr.now) }
+{
+    match *instr {
+        Instr::Remove(_, queue, _) => machine.shared().queue(a.device, queue)?.head(),
+        Instr::Take(_, _) => machine.shared().start_of(a.device)?.current(),
+        Instr::Next => machine.shared().start_of(a.device)?.first_waiting(),
+        _ => packet_read(machine, a, instr),
     }
 }
 
@@ -81,8 +90,10 @@ fn packet_about(machine: &Checked, frame: &Frame) -> Option<u64>
     ensures { result ≡ packet_about machine.now.set machine.now.world.shared frame.now }
 {
     if let Some(a) = frame.activation() {
-        let instr = machine.set().instruction(a.driver, a.routine, a.position);
-        return packet_by(machine, a, instr);
+        return match machine.set().instruction(a.driver, a.routine, a.position) {
+            Some(instr) => packet_by(machine, a, &instr),
+            None => None,
+        };
     }
     match frame.manager()? {
         Managing::Completes(n) => Some(n),

@@ -82,7 +82,10 @@ impl<'a> Book<'a> {
             return Ok(());
         };
         for routine in 0..count {
-            let source = routine_source(alloc, self.text, driver as u8, routine as u8)?;
+            let (Ok(driver), Ok(routine)) = (u8::try_from(driver), u8::try_from(routine)) else {
+                return Ok(());
+            };
+            let source = routine_source(alloc, self.text, driver, routine)?;
             page.lines.push(source.lines)?;
         }
         Ok(())

@@ -26,7 +26,7 @@ pub(crate) fn add_columns(
     let threads = machine.threads();
     let acts = thread_of(event);
     for (number, thread) in threads.iter().enumerate() {
-        if acts == Some(number as u8) {
+        if is_number(acts, number) {
             write!(words, "{number}")?;
         } else {
             words.push_str(if thread.is_idle() { "." } else { "|" })?;
@@ -36,4 +36,12 @@ pub(crate) fn add_columns(
         }
     }
     Ok(())
+}
+
+/// Whether a thread has this number.
+fn is_number(thread: Option<u8>, number: usize) -> bool {
+    match thread {
+        Some(thread) => thread as usize == number,
+        None => false,
+    }
 }
