@@ -1,3 +1,4 @@
+pub mod Laws
 pub mod Left
 pub mod Naming
 pub mod Refusal
