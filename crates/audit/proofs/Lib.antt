@@ -1,1 +1,2 @@
 pub mod Holding
+pub mod Refusals

@@ -1,6 +1,6 @@
 //! Laws of the audit. Nothing runs here.
 
-ghost use Rattle.audit.specs.Laws.{AcceptedRunsLoseNoPacket};
+ghost use Rattle.audit.specs.Laws.{AcceptedRunsLoseNoPacket, RefusalsHaveReasons};
 
 use run_laws::packets_have_one_holder;
 
@@ -10,3 +10,8 @@ pub fn accepted_runs_lose_no_packet()
 {
     packets_have_one_holder();
 }
+
+/// An event that is no step of a thread is refused, in any world, exactly where there is a reason.
+pub fn refusals_have_reasons()
+    ensures { RefusalsHaveReasons }
+{}
