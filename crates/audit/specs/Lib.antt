@@ -1,6 +1,7 @@
 pub mod Laws
 pub mod Left
 pub mod Naming
+pub mod Pending
 pub mod Refusal
 pub mod Ring
 pub mod Sites

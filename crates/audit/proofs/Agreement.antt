@@ -1,0 +1,65 @@
+-- No use disagrees exactly where pending agreement holds.
+use Rattle.std.proofs.Common.{◌≡◌, List, [], ◌∷◌, Bool, true, false, refl, sym, ◌∙◌}
+use Rattle.std.specs.Prelude.{◌↔◌, ◌||◌, All, not}
+use Rattle.std.specs.List.{list_any}
+use Rattle.model.specs.declared.status.Status.{Status}
+use Rattle.model.specs.LocalRule.{is_pending}
+use Rattle.model.specs.PendingAgreement.{Agrees, PendingAgree, marks_left, statuses_returned}
+use Rattle.model.specs.Trace.{Entry, Serving}
+use Rattle.audit.specs.Pending.{AgreementTells, differs, disagrees, disagrees_on}
+
+neither : (a b : Bool) → (a || b) ≡ false → (a ≡ false) × (b ≡ false)
+neither true b h = cc
+neither false b h = (refl, h)
+
+both : (a b : Bool) → a ≡ false → b ≡ false → (a || b) ≡ false
+both true b p q = cc
+both false b p q = q
+
+same : (a b : Bool) → differs a b ≡ false → a ≡ b
+same true true h = refl
+same true false h = cc
+same false true h = cc
+same false false h = refl
+
+not_different : (a b : Bool) → a ≡ b → differs a b ≡ false
+not_different true true h = refl
+not_different true false h = cc
+not_different false true h = cc
+not_different false false h = refl
+
+agreed_on : (marks : List Bool) (status : Status) → disagrees_on marks status ≡ false
+    → Agrees marks status
+agreed_on [] status h = tt
+agreed_on (m ∷ marks) status h =
+    let parts : (differs (is_pending status) m ≡ false) × (disagrees_on marks status ≡ false) =
+    neither (differs (is_pending status) m) (disagrees_on marks status) h in
+    (same (is_pending status) m parts.0, agreed_on marks status parts.1)
+
+on_agreed : (marks : List Bool) (status : Status) → Agrees marks status
+    → disagrees_on marks status ≡ false
+on_agreed [] status h = refl
+on_agreed (m ∷ marks) status h =
+    both (differs (is_pending status) m) (disagrees_on marks status)
+    (not_different (is_pending status) m h.0) (on_agreed marks status h.1)
+
+agreed : (marks : List Bool) (statuses : List Status)
+    → list_any (disagrees_on marks) statuses ≡ false → All (Agrees marks) statuses
+agreed marks [] h = tt
+agreed marks (status ∷ statuses) h =
+    let parts : (disagrees_on marks status ≡ false)
+    × (list_any (disagrees_on marks) statuses ≡ false) =
+    neither (disagrees_on marks status) (list_any (disagrees_on marks) statuses) h in
+    (agreed_on marks status parts.0, agreed marks statuses parts.1)
+
+agreeing : (marks : List Bool) (statuses : List Status) → All (Agrees marks) statuses
+    → list_any (disagrees_on marks) statuses ≡ false
+agreeing marks [] h = refl
+agreeing marks (status ∷ statuses) h =
+    both (disagrees_on marks status) (list_any (disagrees_on marks) statuses)
+    (on_agreed marks status h.0) (agreeing marks statuses h.1)
+
+pub agreement : AgreementTells
+agreement past =
+    (λ none u. agreed (marks_left past u) (statuses_returned past u) (none u),
+        λ agree u. agreeing (marks_left past u) (statuses_returned past u) (agree u))
