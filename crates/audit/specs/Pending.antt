@@ -8,6 +8,11 @@ use Rattle.model.specs.Action.{Action, Issues, Calls}
 use Rattle.model.specs.LocalRule.{is_pending}
 use Rattle.model.specs.PendingAgreement.{PendingAgree, marks_left, statuses_returned}
 use Rattle.model.specs.Trace.{Entry, Serving}
+use Rattle.model.specs.declared.event.Event.{Event}
+use Rattle.model.specs.Run.{run}
+use Rattle.model.specs.Set.{Set}
+use Rattle.model.specs.Sound.{IsSound}
+use Rattle.model.specs.Typable.{IsTypable}
 
 -- the uses that an entry opens: one, of an issue and of a call
 abbrev pub use_with : ℕ → Option ℕ → List Serving
@@ -44,3 +49,9 @@ disagreeing past (u ∷ uses) =
 abbrev pub AgreementTells : Type 0
 AgreementTells =
     (past : List Entry) → ((u : Serving) → disagrees past u ≡ false) ↔ PendingAgree past
+
+-- and no use of an accepted set's run does
+abbrev pub AcceptedRunsShowNoDisagreement : Type 0
+AcceptedRunsShowNoDisagreement =
+    (set : Set) → IsTypable set → IsSound set → (threads : ℕ) (events : List Event)
+    → disagreeing (run set threads events).past (uses_of (run set threads events).past) ≡ []

@@ -1,8 +1,9 @@
 //! Laws of the audit. Nothing runs here.
 
 ghost use Rattle.audit.specs.Laws.{AcceptedRunsLoseNoPacket, RefusalsHaveReasons};
+ghost use Rattle.audit.specs.Pending.{AcceptedRunsShowNoDisagreement, AgreementTells};
 
-use run_laws::packets_have_one_holder;
+use run_laws::{pending_returns_agree, packets_have_one_holder};
 
 /// No run of an accepted set loses a packet.
 pub fn accepted_runs_lose_no_packet()
@@ -15,3 +16,15 @@ pub fn accepted_runs_lose_no_packet()
 pub fn refusals_have_reasons()
     ensures { RefusalsHaveReasons }
 {}
+
+/// No use of a stack location disagrees exactly where pending agreement holds of the trace.
+pub fn agreement_tells()
+    ensures { AgreementTells }
+{}
+
+/// Of a run of an accepted set the list of uses that disagree is empty.
+pub fn accepted_runs_show_no_disagreement()
+    ensures { AcceptedRunsShowNoDisagreement }
+{
+    pending_returns_agree();
+}
