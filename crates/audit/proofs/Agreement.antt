@@ -1,15 +1,13 @@
 -- No use disagrees exactly where pending agreement holds.
 use Rattle.std.proofs.Common.{◌≡◌, List, [], ◌∷◌, Bool, true, false, refl, cond}
-use Rattle.std.specs.Prelude.{◌↔◌, ◌||◌, All, not}
+use Rattle.std.specs.Prelude.{◌||◌, All}
 use Rattle.std.specs.List.{list_any}
 use Rattle.std.proofs.lemmas.List.Elements.{All-cons, All-head, All-nil, All-tail}
 use Rattle.model.specs.declared.status.Status.{Status}
 use Rattle.model.specs.LocalRule.{is_pending}
-use Rattle.model.specs.PendingAgreement.{Agrees, PendingAgree, marks_left, statuses_returned}
+use Rattle.model.specs.PendingAgreement.{Agrees, marks_left, statuses_returned}
 use Rattle.model.specs.Trace.{Entry, Serving}
-use Rattle.model.specs.declared.event.Event.{Event}
 use Rattle.model.specs.Run.{run}
-use Rattle.model.specs.Set.{Set}
 use Rattle.run_laws.specs.PendingReturns.{AcceptedRunsAgreeOnPending}
 use Rattle.audit.specs.Pending.{AcceptedRunsShowNoDisagreement, AgreementTells, differs, disagreeing, disagrees, disagrees_on, uses_of}
 
@@ -70,9 +68,10 @@ agreeing marks (status ∷ statuses) h =
     (agreeing marks statuses (All-tail (Agrees marks) status statuses h))
 
 pub agreement : AgreementTells
-agreement past =
-    (λ none u. agreed (marks_left past u) (statuses_returned past u) (none u),
-        λ agree u. agreeing (marks_left past u) (statuses_returned past u) (agree u))
+agreement past = (
+  λ none u. agreed (marks_left past u) (statuses_returned past u) (none u),
+  λ agree u. agreeing (marks_left past u) (statuses_returned past u) (agree u),
+)
 
 -- so no use of an accepted set's run disagrees
 skipped : (b : Bool) (xs ys : List Serving) → b ≡ false → ys ≡ []

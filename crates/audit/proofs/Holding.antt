@@ -15,14 +15,12 @@ use Rattle.model.specs.Kinds.{is_right}
 use Rattle.model.specs.Queues.{StartState, is_linked}
 use Rattle.model.specs.Run.{run}
 use Rattle.model.specs.Set.{Set, cancel_routine_of}
-use Rattle.model.specs.Sound.{IsSound}
-use Rattle.model.specs.Typable.{IsTypable}
 use Rattle.model.specs.Effect.{routine_of_device}
 use Rattle.model.specs.World.{World, packet_of, place_of}
 use Rattle.run_laws.specs.ArrivingStates.{States}
 use Rattle.run_laws.specs.Holder.{HasOneHolder, PacketsHaveOneHolder, alive, all_walking, frame_rights, frame_walks, holders, is_lent, is_live, named_as, named_in, names, stack_sum, thread_sum, times_at, times_in, times_in_slot, times_named, times_plain, times_plain_on, times_started, times_waiting, waits_cancelable, walking}
 use Rattle.audit.specs.Laws.{AcceptedRunsLoseNoPacket}
-use Rattle.audit.specs.Naming.{frame_names, has_word, is_named, lost_at, lost_below, lost_packets, queues_name, slot_names, start_names, thread_names, value_names}
+use Rattle.audit.specs.Naming.{frame_names, has_word, is_named, lost_at, lost_below, queues_name, slot_names, start_names, thread_names, value_names}
 
 neither : (a b : Bool) → (a || b) ≡ false → (a ≡ false) × (b ≡ false)
 neither true b h = cc

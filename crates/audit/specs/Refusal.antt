@@ -1,12 +1,11 @@
 -- Why a run refuses an event that is no step of a thread: what would have to be otherwise.
-use Rattle.std.specs.Prelude.{ℕ, ◌≡◌, ◌↔◌, not, Bool, Option, None, Some, IsSome, is_none, nat_lt, slice_get, if◌then◌else◌}
+use Rattle.std.specs.Prelude.{ℕ, not, Option, None, Some, nat_lt, slice_get, if◌then◌else◌}
 use Rattle.model.specs.declared.event.Event.{Event}
 use Rattle.model.specs.declared.event.Event.TheVariants.{Issue, Cancel as CancelEvent, Interrupt, Dpc as DpcEvent, StartIo as StartIoEvent, Step}
-use Rattle.model.specs.declared.event.Reply.TheVariants.{Refused}
 use Rattle.model.specs.declared.set.Device.{Device}
 use Rattle.model.specs.declared.world.Irql.{Irql}
 use Rattle.model.specs.declared.world.Thread.{Thread}
-use Rattle.model.specs.Events.{can_issue, effect, irql_of, is_idle}
+use Rattle.model.specs.Events.{can_issue, irql_of, is_idle}
 use Rattle.model.specs.Set.{Set, dpc_of, startio_of}
 use Rattle.model.specs.World.{Shared, World, start_of}
 use Rattle.model.specs.Queues.{StartState}

@@ -1,5 +1,5 @@
 -- Threads that wait for each other in a ring.
-use Rattle.std.specs.Prelude.{ℕ, ◌||◌, zero, suc, Bool, false, List, Option, None, Some, option_and_then, nat_eq, if◌then◌else◌}
+use Rattle.std.specs.Prelude.{ℕ, ◌||◌, zero, suc, Bool, false, Option, None, Some, option_and_then, nat_eq, if◌then◌else◌}
 use Rattle.model.specs.declared.event.Lock.{Lock}
 use Rattle.model.specs.declared.event.Lock.TheVariants.{SystemCancel}
 use Rattle.model.specs.declared.instr.Instr.{Instr}

@@ -3,7 +3,7 @@
 ghost use Rattle.audit.specs.Laws.{AcceptedRunsLoseNoPacket, RefusalsHaveReasons};
 ghost use Rattle.audit.specs.Pending.{AcceptedRunsShowNoDisagreement, AgreementTells};
 
-use run_laws::{pending_returns_agree, packets_have_one_holder};
+use run_laws::{packets_have_one_holder, pending_returns_agree};
 
 /// No run of an accepted set loses a packet.
 pub fn accepted_runs_lose_no_packet()

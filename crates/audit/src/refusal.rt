@@ -116,7 +116,11 @@ pub fn why_refused(machine: &Checked, event: &Event) -> Option<Reason>
 {
     match *event {
         Event::Issue { thread, device, .. } => why_no_issue(machine, thread, device),
-        Event::Cancel { thread, packet, level } => why_no_cancel(machine, thread, packet, level),
+        Event::Cancel {
+            thread,
+            packet,
+            level,
+        } => why_no_cancel(machine, thread, packet, level),
         Event::Interrupt { device } => match machine.set().dpc(device) {
             Some(_) => None,
             None => Some(Reason::NoDpc),

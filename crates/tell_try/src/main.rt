@@ -7,10 +7,9 @@ use checked::Checked;
 use interleave::parse::parse_schedule;
 use model::event::Reply;
 use std::alloc::Global;
-use std::env;
 use std::fs::{self, Files};
-use std::io;
 use std::io::{Error, ErrorKind, Write};
+use std::{env, io};
 use told::{Audited, Book, Moment, add_audit, add_event, is_quiet};
 
 fn main(rt: HostRuntime) -> io::Result<()> {
@@ -56,7 +55,9 @@ fn told_run(alloc: Global, text: &[u8], events: &[u8], quiet: bool) -> io::Resul
             let moment = Moment::before(&machine, &run.event);
             let reply = machine.apply(&run.event);
             if !quiet || !is_quiet(&reply) {
-                add_event(&mut told, &book, number, &run.event, &moment, &reply, &machine)?;
+                add_event(
+                    &mut told, &book, number, &run.event, &moment, &reply, &machine,
+                )?;
             }
             audited.note(number, &moment, &reply)?;
             number = number.wrapping_add(1);

@@ -80,7 +80,11 @@ pub fn add_audit(
     words.push_str("\naudit\n")?;
     for top in audited.topped.iter() {
         let name = status_name(top.status);
-        write!(words, "packet {} topped out with {name}, information {}\n", top.packet, top.info)?;
+        write!(
+            words,
+            "packet {} topped out with {name}, information {}\n",
+            top.packet, top.info
+        )?;
     }
     for place in 0..machine.shared().live_count() {
         if let Some(packet) = machine.shared().live(place) {
@@ -94,7 +98,11 @@ pub fn add_audit(
     let left = left_locks(alloc, machine)?;
     for lock in left.iter() {
         add_lock(words, book, lock.lock)?;
-        write!(words, " is left behind: thread {} owns it and is idle\n", lock.thread)?;
+        write!(
+            words,
+            " is left behind: thread {} owns it and is idle\n",
+            lock.thread
+        )?;
     }
     for thread in 0..machine.threads().len().min(255) as u8 {
         if is_in_ring(machine, thread) {
@@ -129,7 +137,11 @@ fn add_live(
         if let Some(location) = packet.location(place as usize) {
             write!(words, ", {} ", (place as u16).saturating_add(1))?;
             book.add_device(words, location.device())?;
-            words.push_str(if location.is_marked() { " marked" } else { " unmarked" })?;
+            words.push_str(if location.is_marked() {
+                " marked"
+            } else {
+                " unmarked"
+            })?;
         }
     }
     let sites = sites_of(alloc, machine, n)?;
@@ -184,12 +196,7 @@ fn add_site(
 }
 
 /// Adds a list of a device.
-fn add_list(
-    words: &mut String,
-    book: &Book<'_>,
-    name: &str,
-    device: u8,
-) -> Result<(), AllocError> {
+fn add_list(words: &mut String, book: &Book<'_>, name: &str, device: u8) -> Result<(), AllocError> {
     write!(words, "in the {name} of ")?;
     book.add_device(words, device)
 }

@@ -36,14 +36,19 @@ pub(crate) fn add_change(
             let cause = cause_of(bug.check, bug.subject);
             write!(words, "{}: {}: {cause}", check_name(bug.check), bug.subject)
         }
-        Reply::Wrong(_) => words.push_str("an operand is of a wrong kind, or the routine has ended"),
+        Reply::Wrong(_) => words.push_str(
+            "an operand is of a wrong kind, or the routine has ended",
+        ),
         Reply::Topped {
             packet,
             status,
             info,
         } => {
             let name = status_name(status);
-            write!(words, "packet {packet}: tops out with {name}, information {info}")
+            write!(
+                words,
+                "packet {packet}: tops out with {name}, information {info}"
+            )
         }
         Reply::Stepped | Reply::Finished => add_step(words, book, event, moment, machine),
     }
@@ -64,11 +69,17 @@ fn add_start(
             ..
         } => {
             let major = major_name(major);
-            write!(words, "packet {packet}: a {major} with {argument} is issued to ")?;
+            write!(
+                words,
+                "packet {packet}: a {major} with {argument} is issued to "
+            )?;
             book.add_device(words, device)
         }
         Event::Cancel { .. } => write!(words, "packet {packet}: IoCancelIrp begins"),
-        _ => write!(words, "packet {packet}: taken off the start list, StartIo begins"),
+        _ => write!(
+            words,
+            "packet {packet}: taken off the start list, StartIo begins"
+        ),
     }
 }
 
@@ -174,7 +185,10 @@ fn add_cancelling(
     match step {
         CancelStep::Acquire => words.push_str("owns the system cancel spin lock"),
         CancelStep::SetFlag if released => {
-            write!(words, "packet {n}: has topped out; the system cancel spin lock is free")
+            write!(
+                words,
+                "packet {n}: has topped out; the system cancel spin lock is free"
+            )
         }
         CancelStep::SetFlag => write!(words, "packet {n}: Irp->Cancel is set"),
         CancelStep::Exchange if released => write!(
@@ -235,7 +249,11 @@ fn add_about(
         Instr::Dequeue(_) => words.push_str("taken off the device queue"),
         Instr::Pass(_) | Instr::Call(_, _) => add_sent(words, book, machine, device, n),
         Instr::Complete(_, status) => {
-            write!(words, "IoCompleteRequest is called with {}", status_name(status))
+            write!(
+                words,
+                "IoCompleteRequest is called with {}",
+                status_name(status)
+            )
         }
         Instr::IfPending(_, _) => words.push_str("PendingReturned is looked at"),
         _ => Ok(()),

@@ -16,6 +16,7 @@ use std::alloc::AllocError;
 
 /// Where the columns, the place and the words begin, if what stands before them is no longer.
 const COLUMNS: usize = 26;
+
 const PLACE: usize = 44;
 
 /// What is told of an event, as it is before the event.
@@ -36,9 +37,12 @@ impl Moment {
     {
         let acting = acting_in(machine, event);
         let packet = match acting {
-            Some(Acting {
-                packet: Some(n), ..
-            }) => Some(machine.packet(n)),
+            Some(
+                Acting {
+                    packet: Some(n),
+                    ..
+                },
+            ) => Some(machine.packet(n)),
             _ => None,
         };
         Moment {

@@ -1,4 +1,3 @@
-use Rattle.std.proofs.Common.{◌≡◌}
 use Rattle.audit.proofs.Holding.{none_lost}
 use Rattle.audit.proofs.laws.accepted_runs_lose_no_packet.Goals as goal
 

@@ -1,4 +1,3 @@
-use Rattle.std.proofs.Common.{◌≡◌}
 use Rattle.audit.proofs.Agreement.{no_disagreement}
 use Rattle.audit.proofs.laws.accepted_runs_show_no_disagreement.Goals as goal
 

@@ -1,4 +1,3 @@
-use Rattle.std.proofs.Common.{◌≡◌}
 use Rattle.audit.proofs.Agreement.{agreement}
 use Rattle.audit.proofs.laws.agreement_tells.Goals as goal
 

@@ -1,4 +1,3 @@
-use Rattle.std.proofs.Common.{◌≡◌}
 use Rattle.audit.proofs.Refusals.{reasons}
 use Rattle.audit.proofs.laws.refusals_have_reasons.Goals as goal
 

@@ -1,6 +1,5 @@
-use Rattle.std.proofs.Common.{◌≡◌, ◌++◌, ◌≤◌, IfOk, OnOk, length, ℕ, ◌+◌, ◌-◌, ◌*◌, ◌<◌}
-use Rattle.audit.specs.Left.{left_at, left_below, left_before, left_locks}
-use Rattle.model.specs.View.{busy_at}
+use Rattle.std.proofs.Common.{◌≡◌, ◌++◌}
+use Rattle.audit.specs.Left.{left_below}
 use Rattle.audit.proofs.left.add_device.Given as goal
 
 abbrev pub invariant-loop-number : goal.invariant-loop-number

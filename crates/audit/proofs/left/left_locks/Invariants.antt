@@ -1,6 +1,6 @@
-use Rattle.std.proofs.Common.{◌≡◌, ◌++◌, ◌≤◌, IfOk, OnOk, length, ℕ, ◌+◌, ◌-◌, ◌*◌, ◌<◌}
+use Rattle.std.proofs.Common.{◌≡◌, ◌++◌}
 use Rattle.model.specs.declared.event.Lock.TheVariants.{SystemCancel}
-use Rattle.audit.specs.Left.{left_at, left_below, left_before, left_locks}
+use Rattle.audit.specs.Left.{left_at, left_before}
 use Rattle.audit.proofs.left.left_locks.Given as goal
 
 abbrev pub invariant-loop-device : goal.invariant-loop-device

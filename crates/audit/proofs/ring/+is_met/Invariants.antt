@@ -1,4 +1,3 @@
-use Rattle.std.proofs.Common.{◌≡◌, ℕ, ◌+◌, ◌-◌, ◌*◌, ◌<◌, ◌≤◌, length}
 use Rattle.audit.proofs.ring.+is_met.Given as goal
 
 abbrev pub decreases-is_met : goal.decreases-is_met
