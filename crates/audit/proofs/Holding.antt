@@ -200,76 +200,50 @@ no_holder set states w n h =
     let e : times_named (packet_of w.shared n) ≡ 0 = no_word (packet_of w.shared n) x.1 in
     omega arith
 
--- a packet that is listed is found
-step_found : (q : Packet) (ps : List Packet) (b : Bool) (place : ℕ)
-    → (b ≡ false → alive (slice_get ps place) ≡ 1)
-    → alive (slice_get (q ∷ ps) (if b then 0 else suc place)) ≡ 1
-step_found q ps true place h = refl
-step_found q ps false place h = h refl
-
-same_number : (q p : Packet) → Some q ≡ Some p → nat_eq q.number p.number ≡ true
-same_number q p h =
-    elim (eqb_tells q.number p.number) [
-      | inl e ↦ e.0
-      | inr e ↦ absurd (e.1 (ap (λ (r : Packet). r.number) (some_same q p h)))
-    ]
-
-found : (ps : List Packet) (k : ℕ) (p : Packet) → slice_get ps k ≡ Some p
-    → alive (slice_get ps (place_of ps p.number)) ≡ 1
-found [] zero p h = cc
-found [] (suc k) p h = cc
-found (q ∷ ps) zero p h =
-    step_found q ps (nat_eq q.number p.number) (place_of ps p.number)
-    (λ other. let no : true ≡ false = sym (same_number q p h) ∙ other in cc)
-found (q ∷ ps) (suc k) p h =
-    step_found q ps (nat_eq q.number p.number) (place_of ps p.number)
-    (λ other. found ps k p h)
-
 one_is_none : (a b l : ℕ) → a ≡ 1 → a ≡ l → b ≡ l → b ≡ 0 → (xs : List ℕ) → xs ≡ []
 one_is_none a b l p q r s xs = absurd (omega arith)
 
 -- so it isn't lost
 named_or_not : (set : Set) (states : States) (threads : ℕ) (events : List Event)
-    → HasOneHolder set states threads events → (k : ℕ) (p : Packet)
-    → slice_get (run set threads events).world.shared.packets k ≡ Some p
-    → (b : Bool) → is_named (run set threads events).world p.number ≡ b
-    → cond {A = List ℕ} b [] (p.number ∷ []) ≡ []
-named_or_not set states threads events has k p h true named = refl
-named_or_not set states threads events has k p h false unnamed =
-    let live : ℕ = if is_live (run set threads events) p.number then 1 else 0 in
-    let none : holders set states (run set threads events).world.threads p.number
-    + times_waiting set (run set threads events).world.shared p.number ≡ 0 =
-    no_holder set states (run set threads events).world p.number unnamed in
-    let there : alive (packet_of (run set threads events).world.shared p.number) ≡ 1 =
-    found (run set threads events).world.shared.packets k p h in
-    one_is_none (alive (packet_of (run set threads events).world.shared p.number))
-    (holders set states (run set threads events).world.threads p.number
-    + times_waiting set (run set threads events).world.shared p.number) live there
-    (has.listed p.number) (has.one p.number) none (p.number ∷ [])
+    → HasOneHolder set states threads events → (n : ℕ) (p : Packet)
+    → packet_of (run set threads events).world.shared n ≡ Some p
+    → (b : Bool) → is_named (run set threads events).world n ≡ b
+    → cond {A = List ℕ} b [] (n ∷ []) ≡ []
+named_or_not set states threads events has n p h true named = refl
+named_or_not set states threads events has n p h false unnamed =
+    let live : ℕ = if is_live (run set threads events) n then 1 else 0 in
+    let none : holders set states (run set threads events).world.threads n
+    + times_waiting set (run set threads events).world.shared n ≡ 0 =
+    no_holder set states (run set threads events).world n unnamed in
+    let there : alive (packet_of (run set threads events).world.shared n) ≡ 1 = ap alive h in
+    one_is_none (alive (packet_of (run set threads events).world.shared n))
+    (holders set states (run set threads events).world.threads n
+    + times_waiting set (run set threads events).world.shared n) live there
+    (has.listed n) (has.one n) none (n ∷ [])
 
 not_lost : (set : Set) (states : States) (threads : ℕ) (events : List Event)
-    → HasOneHolder set states threads events → (k : ℕ) (o : Option Packet)
-    → slice_get (run set threads events).world.shared.packets k ≡ o
-    → lost_at (run set threads events).world o ≡ []
-not_lost set states threads events has k None h = refl
-not_lost set states threads events has k (Some p) h =
-    named_or_not set states threads events has k p h
-    (is_named (run set threads events).world p.number) refl
+    → HasOneHolder set states threads events → (n : ℕ) (o : Option Packet)
+    → packet_of (run set threads events).world.shared n ≡ o
+    → lost_at (run set threads events).world n o ≡ []
+not_lost set states threads events has n None h = refl
+not_lost set states threads events has n (Some p) h =
+    named_or_not set states threads events has n p h
+    (is_named (run set threads events).world n) refl
 
 none_below : (set : Set) (states : States) (threads : ℕ) (events : List Event)
-    → HasOneHolder set states threads events → (k : ℕ)
-    → lost_below (run set threads events).world k ≡ []
+    → HasOneHolder set states threads events → (n : ℕ)
+    → lost_below (run set threads events).world n ≡ []
 none_below set states threads events has zero = refl
-none_below set states threads events has (suc k) =
-    both_empty (lost_below (run set threads events).world k)
-    (lost_at (run set threads events).world
-    (slice_get (run set threads events).world.shared.packets k))
-    (none_below set states threads events has k)
-    (not_lost set states threads events has k
-    (slice_get (run set threads events).world.shared.packets k) refl)
+none_below set states threads events has (suc n) =
+    both_empty (lost_below (run set threads events).world n)
+    (lost_at (run set threads events).world n
+    (packet_of (run set threads events).world.shared n))
+    (none_below set states threads events has n)
+    (not_lost set states threads events has n
+    (packet_of (run set threads events).world.shared n) refl)
 
 pub none_lost : PacketsHaveOneHolder → AcceptedRunsLoseNoPacket
 none_lost law set typable sound threads events =
     none_below set (law set typable sound).0 threads events
     ((law set typable sound).2 threads events)
-    (length (run set threads events).world.shared.packets)
+    (run set threads events).world.shared.issued

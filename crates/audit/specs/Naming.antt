@@ -52,14 +52,14 @@ is_named w n =
     list_any (thread_names n) w.threads || list_any (queues_name n) w.shared.queues
     || list_any (start_names n) w.shared.starts || has_word (packet_of w.shared n)
 
--- a live packet that no place names; so many in the order of issue, and all of them
-abbrev pub lost_at : World → Option Packet → List ℕ
-lost_at w None = []
-lost_at w (Some p) = if is_named w p.number then [] else p.number ∷ []
+-- a live packet that no place names; those of so many numbers, and all of them
+abbrev pub lost_at : World → ℕ → Option Packet → List ℕ
+lost_at w n None = []
+lost_at w n (Some p) = if is_named w n then [] else n ∷ []
 
 abbrev pub lost_below : World → ℕ → List ℕ
 lost_below w zero = []
-lost_below w (suc k) = lost_below w k ++ lost_at w (slice_get w.shared.packets k)
+lost_below w (suc n) = lost_below w n ++ lost_at w n (packet_of w.shared n)
 
 abbrev pub lost_packets : World → List ℕ
-lost_packets w = lost_below w (length w.shared.packets)
+lost_packets w = lost_below w w.shared.issued

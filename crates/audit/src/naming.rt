@@ -1,6 +1,6 @@
 //! Packets that no place names.
 
-ghost use Rattle.std.specs.Prelude.{◌≡◌, ◌++◌, IfOk, OnOk, slice_get};
+ghost use Rattle.std.specs.Prelude.{◌≡◌, ◌++◌, IfOk, OnOk};
 ghost use Rattle.std.specs.List.{list_any};
 ghost use Rattle.audit.specs.Naming.{frame_names, has_word, is_named, lost_at, lost_packets, queues_name, slot_names, start_names, thread_names, value_names};
 ghost use Rattle.model.specs.World.{packet_of};
@@ -102,20 +102,18 @@ pub fn is_named(machine: &Checked, n: u64) -> bool
         || has_word(machine, n)
 }
 
-/// Adds the number of a live packet, if no place names it.
-fn add_lost(lost: &mut Vec<u64>, machine: &Checked, place: usize) -> Result<(), AllocError>
+/// Adds the number of a packet, if it is live and no place names it.
+fn add_lost(lost: &mut Vec<u64>, machine: &Checked, packet: u64) -> Result<(), AllocError>
     ensures { OnOk result (lost.new.items ≡ lost.old.items
-        ++ lost_at machine.now.world (slice_get machine.now.world.shared.packets place)) }
+        ++ lost_at machine.now.world packet (packet_of machine.now.world.shared packet)) }
 {
-    if let Some(packet) = machine.shared().live(place) {
-        if !is_named(machine, packet.number()) {
-            lost.push(packet.number())?;
-        }
+    if machine.shared().live_packet(packet).is_some() && !is_named(machine, packet) {
+        lost.push(packet)?;
     }
     Ok(())
 }
 
-/// The numbers of the live packets that no place names, in the order of issue.
+/// The numbers of the live packets that no place names, the lowest first.
 ///
 /// # Errors
 ///
@@ -124,8 +122,8 @@ pub fn lost_packets(alloc: Global, machine: &Checked) -> Result<Vec<u64>, AllocE
     ensures { IfOk result (λ lost. lost.items ≡ lost_packets machine.now.world) }
 {
     let mut lost = Vec::new(alloc);
-    for place in 0..machine.shared().live_count() {
-        add_lost(&mut lost, machine, place)?;
+    for packet in 0..machine.shared().issued() {
+        add_lost(&mut lost, machine, packet)?;
     }
     Ok(lost)
 }

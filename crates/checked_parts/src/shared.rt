@@ -1,6 +1,6 @@
 //! What the threads of a run share.
 
-ghost use Rattle.std.specs.Prelude.{◌≡◌, ◌≤◌, [], IfOk, IsSome, IsTrue, Some, length, nat_lt, option_map, replicate, slice_get};
+ghost use Rattle.std.specs.Prelude.{◌≡◌, ◌≤◌, [], IfOk, IsSome, IsTrue, Some, nat_lt, option_map, replicate};
 ghost use Rattle.model.specs.declared.limits.TheConstants.{MAX_QUEUES, MAX_STACK};
 ghost use Rattle.model.specs.Queues.{StartState, idle, without_first_to_start};
 
@@ -204,20 +204,6 @@ impl Shared {
         ensures { option_map (λ p. p.now) result ≡ packet_of self.now n }
     {
         self.packet_table.live_packet(n)
-    }
-
-    /// How many packets live.
-    pub fn live_count(&self) -> usize
-        ensures { result ≡ length self.now.packets }
-    {
-        self.packet_table.live_count()
-    }
-
-    /// The live packet at a place, in the order of issue: none where there are no more.
-    pub fn live(&self, place: usize) -> Option<&Packet>
-        ensures { option_map (λ p. p.now) result ≡ slice_get self.now.packets place }
-    {
-        self.packet_table.live(place)
     }
 
     /// The queues, by device and by their numbers.

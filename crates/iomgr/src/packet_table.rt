@@ -1,6 +1,6 @@
 //! The table of live packets.
 
-ghost use Rattle.std.specs.Prelude.{◌≡◌, ◌≤◌, ◌<◌, IfOk, IfSome, IsSome, IsTrue, Some, length, option_map, slice_get};
+ghost use Rattle.std.specs.Prelude.{◌≡◌, ◌≤◌, ◌<◌, IfOk, IfSome, IsSome, IsTrue, Some, option_map, slice_get};
 ghost use Rattle.model.specs.declared.limits.TheConstants.{MAX_LIVE_PACKETS, MAX_STACK};
 
 use crate::numbers::number_place;
@@ -184,20 +184,6 @@ impl PacketTable {
         ensures { option_map (λ p. p.now) result ≡ live_packet (table_in self.now) n }
     {
         self.live.get(self.place(n))
-    }
-
-    /// How many packets live.
-    pub fn live_count(&self) -> usize
-        ensures { result ≡ length self.now.live.packets }
-    {
-        self.live.len()
-    }
-
-    /// The live packet at a place, in the order of issue: none where there are no more.
-    pub fn live(&self, place: usize) -> Option<&Packet>
-        ensures { option_map (λ p. p.now) result ≡ slice_get self.now.live.packets place }
-    {
-        self.live.get(place)
     }
 
     /// The packet of a key.

@@ -86,8 +86,8 @@ pub fn add_audit(
             top.packet, top.info
         )?;
     }
-    for place in 0..machine.shared().live_count() {
-        if let Some(packet) = machine.shared().live(place) {
+    for number in 0..machine.shared().issued() {
+        if let Some(packet) = machine.shared().live_packet(number) {
             add_live(alloc, words, book, machine, packet)?;
         }
     }
