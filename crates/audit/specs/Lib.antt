@@ -1,3 +1,4 @@
+pub mod Findings
 pub mod Laws
 pub mod Left
 pub mod Naming

@@ -3,6 +3,7 @@
 //! what a definition over its world says.
 #![tactic(auto)]
 
+pub mod findings;
 pub mod laws;
 pub mod left;
 pub mod naming;

@@ -3,10 +3,9 @@
 use crate::book::Book;
 use crate::line::Moment;
 use crate::words::{add_lock, reason_words, status_name};
-use audit::left::left_locks;
-use audit::naming::lost_packets;
+use audit::findings::Findings;
 use audit::refusal::Reason;
-use audit::ring::{is_in_ring, waits_for};
+use audit::ring::waits_for;
 use audit::sites::{Site, sites_of};
 use checked::Checked;
 use irp::Packet;
@@ -24,26 +23,27 @@ struct Refused {
 
 /// What is noted of a run while it goes: packets that topped out, and events that were refused.
 #[derive(Drop)]
-pub struct Audited {
+pub(crate) struct Audited {
+    /// How many events there were.
+    events: u64,
     topped: Vec<TopOut>,
     refused: Vec<Refused>,
 }
 
 impl Audited {
     /// Of a run without events.
-    pub fn new(alloc: Global) -> Audited {
+    pub(crate) fn new(alloc: Global) -> Audited {
         Audited {
+            events: 0,
             topped: Vec::new(alloc),
             refused: Vec::new(alloc),
         }
     }
 
-    /// Notes the reply to the event of a number.
-    ///
-    /// # Errors
-    ///
-    /// When memory runs out.
-    pub fn note(&mut self, number: u64, moment: &Moment, reply: &Reply) -> Result<(), AllocError> {
+    /// Notes the reply to the next event.
+    pub(crate) fn note(&mut self, moment: &Moment, reply: &Reply) -> Result<(), AllocError> {
+        let number = self.events;
+        self.events = number.wrapping_add(1);
         match *reply {
             Reply::Topped {
                 packet,
@@ -64,20 +64,32 @@ impl Audited {
     }
 }
 
-/// Adds the audit of a run: what topped out, what lives and where it is named, the locks that idle
-/// threads own, the threads that wait in a ring, and the events that were refused.
-///
-/// # Errors
-///
-/// When memory runs out.
-pub fn add_audit(
+/// Adds the audit of a run: what topped out, what lives and where it is named, what was found amiss,
+/// and the events that were refused.
+pub(crate) fn add_audit(
     alloc: Global,
     words: &mut String,
     book: &Book<'_>,
     machine: &Checked,
     audited: &Audited,
+    found: &Findings,
 ) -> Result<(), AllocError> {
-    words.push_str("\naudit\n")?;
+    add_topped(words, audited)?;
+    for number in 0..machine.shared().issued() {
+        if let Some(packet) = machine.shared().live_packet(number) {
+            add_live(alloc, words, book, machine, packet)?;
+        }
+    }
+    add_findings(words, book, machine, found)?;
+    add_refused(words, audited)?;
+    if !found.any() {
+        words.push_str("nothing is amiss\n")?;
+    }
+    Ok(())
+}
+
+/// Adds the packets that topped out, in order.
+fn add_topped(words: &mut String, audited: &Audited) -> Result<(), AllocError> {
     for top in audited.topped.iter() {
         let name = status_name(top.status);
         write!(
@@ -86,17 +98,20 @@ pub fn add_audit(
             top.packet, top.info
         )?;
     }
-    for number in 0..machine.shared().issued() {
-        if let Some(packet) = machine.shared().live_packet(number) {
-            add_live(alloc, words, book, machine, packet)?;
-        }
-    }
-    let lost = lost_packets(alloc, machine)?;
-    for packet in lost.iter() {
+    Ok(())
+}
+
+/// Adds what was found amiss.
+fn add_findings(
+    words: &mut String,
+    book: &Book<'_>,
+    machine: &Checked,
+    found: &Findings,
+) -> Result<(), AllocError> {
+    for packet in found.lost.iter() {
         write!(words, "packet {packet} is lost: no place names it\n")?;
     }
-    let left = left_locks(alloc, machine)?;
-    for lock in left.iter() {
+    for lock in found.left.iter() {
         add_lock(words, book, lock.lock)?;
         write!(
             words,
@@ -104,15 +119,18 @@ pub fn add_audit(
             lock.thread
         )?;
     }
-    for thread in 0..machine.threads().len().min(255) as u8 {
-        if is_in_ring(machine, thread) {
-            write!(words, "thread {thread} waits in a ring")?;
-            if let Some(owner) = waits_for(machine, thread) {
-                write!(words, ", for thread {owner}")?;
-            }
-            words.push_str("\n")?;
+    for thread in found.ringed.iter() {
+        write!(words, "thread {thread} waits in a ring")?;
+        if let Some(owner) = waits_for(machine, *thread) {
+            write!(words, ", for thread {owner}")?;
         }
+        words.push_str("\n")?;
     }
+    Ok(())
+}
+
+/// Adds the events that were refused, and why.
+fn add_refused(words: &mut String, audited: &Audited) -> Result<(), AllocError> {
     for refused in audited.refused.iter() {
         let why = match refused.reason {
             Some(reason) => reason_words(reason),

@@ -18,7 +18,7 @@ struct DriverPage<'a> {
 
 /// The names and the lines of a text.
 #[derive(Drop)]
-pub struct Book<'a> {
+pub(crate) struct Book<'a> {
     text: &'a [u8],
     drivers: Vec<DriverPage<'a>>,
     devices: Vec<Piece<'a>>,
@@ -26,11 +26,11 @@ pub struct Book<'a> {
 
 impl<'a> Book<'a> {
     /// Those of a text that names a set.
-    ///
-    /// # Errors
-    ///
-    /// When memory runs out.
-    pub fn of(alloc: Global, text: &'a [u8], set: &DriverSet) -> Result<Book<'a>, AllocError> {
+    pub(crate) fn of(
+        alloc: Global,
+        text: &'a [u8],
+        set: &DriverSet,
+    ) -> Result<Book<'a>, AllocError> {
         let mut book = Book {
             text,
             drivers: Vec::new(alloc),

@@ -8,9 +8,9 @@ mod book;
 mod change;
 mod columns;
 mod line;
+mod teller;
 mod words;
 
 pub use acting::{Acting, acting_in};
-pub use audited::{Audited, add_audit};
-pub use book::Book;
-pub use line::{Moment, add_event, is_quiet};
+pub use line::Moment;
+pub use teller::Teller;

@@ -1,15 +1,14 @@
-//! The line of an event.
+//! The words of an event.
 
 ghost use Rattle.std.specs.Prelude.{◌≡◌};
 ghost use Rattle.told.specs.Acting.{acting_in};
 
 use crate::acting::{Acting, acting_in};
 use crate::book::Book;
-use crate::change::add_change;
 use crate::columns::add_columns;
 use audit::refusal::{Reason, why_refused};
 use checked::Checked;
-use model::event::{Event, Reply};
+use model::event::Event;
 use model::view::{FrameView, PacketView};
 use model::world::CancelStep;
 use std::alloc::AllocError;
@@ -53,41 +52,32 @@ impl Moment {
     }
 }
 
-/// Whether an event only stepped, or found nothing to do.
-pub fn is_quiet(reply: &Reply) -> bool {
-    matches!(reply, Reply::Stepped | Reply::Idle)
-}
-
-/// Adds the line of the event of a number: what it was before, what the machine replied, and the
-/// machine after it.
-///
-/// # Errors
-///
-/// When memory runs out.
-pub fn add_event(
+/// Adds the columns and the place of an event behind a head of so many bytes, its number and the
+/// reply; and behind them what it changed, if these words say anything.
+pub(crate) fn add_event(
     words: &mut String,
+    head: usize,
     book: &Book<'_>,
-    number: u64,
     event: &Event,
     moment: &Moment,
-    reply: &Reply,
     machine: &Checked,
+    change: &str,
 ) -> Result<(), AllocError> {
-    let start = words.len();
-    write!(words, "{number} {reply}")?;
-    pad(words, start, COLUMNS)?;
+    pad(words, head, COLUMNS)?;
     add_columns(words, machine, event)?;
     words.push_str("  ")?;
-    let place = words.len();
+    let start = words.len();
     add_place(words, book, moment)?;
+    if change.is_empty() {
+        return Ok(());
+    }
+    let place = words.len().saturating_sub(start);
     pad(words, place, PLACE)?;
-    add_change(words, book, event, moment, reply, machine)?;
-    words.push_str("\n")
+    words.push_str(change)
 }
 
-/// Adds blanks up to a width, and one at least.
-fn pad(words: &mut String, start: usize, width: usize) -> Result<(), AllocError> {
-    let has = words.len().saturating_sub(start);
+/// Adds blanks behind so many bytes, up to a width, and one at least.
+fn pad(words: &mut String, has: usize, width: usize) -> Result<(), AllocError> {
     for _ in 0..width.saturating_sub(has).max(1) {
         words.push_str(" ")?;
     }

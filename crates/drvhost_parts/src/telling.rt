@@ -1,0 +1,182 @@
+//! Runs that are told in words.
+
+ghost use Rattle.std.specs.Prelude.{◌≡◌, ◌+◌, ◌++◌, ◌∷◌, ◌<◌, ◌≤◌, ◌^◌, ◌×◌, ◌||◌, List, ℕ, [], IfOk, IfSome, MatchOption, OnOk, if◌then◌else◌};
+ghost use Rattle.interleave.specs.Listing.{IsWithinLimits};
+ghost use Rattle.model.specs.Machine.{AppliesWhole, ShowsWhole};
+ghost use Rattle.drvhost_parts.specs.Answer.{ended};
+ghost use Rattle.drvhost_parts.specs.Repeats.{awaited};
+ghost use Rattle.drvhost_parts.specs.Told.{HasTold, IsRunTold, is_left_out, told_line};
+
+use crate::fault::End;
+use crate::follow::{is_last, next_run, next_single, rest_of};
+use audit::findings::Findings;
+use checked::Checked;
+use interleave::events::Upcoming;
+use interleave::read::Repeated;
+use interleave::schedule::Schedule;
+use model::event::{Event, Reply};
+use report::event_number::EventNumber;
+use report::lines::Lines;
+use std::alloc::{AllocError, Global};
+use told::{Moment, Teller};
+
+/// Of which events of a run a line is told.
+#[derive(Clone, Copy, Debug, PartialEq, Eq)]
+pub enum Detail {
+    /// Of each.
+    Whole,
+    /// Of those that do more than make a step or find nothing to do.
+    Quiet,
+}
+
+/// What stands before the words of the audit.
+const AUDIT: &[u8] = b"\naudit\n";
+
+/// A text, and how the job ends of which it tells.
+#[derive(Drop)]
+pub(crate) struct Told {
+    pub(crate) text: Vec<u8>,
+    pub(crate) end: End,
+}
+
+/// Tells the run of a machine by a schedule, up to an event that stops it, and its audit: with the
+/// names and the lines of a text that names its set.
+pub(crate) fn tell_run(
+    alloc: Global,
+    source: &[u8],
+    machine: &mut Checked,
+    schedule: &Schedule,
+    detail: Detail,
+    lines: &mut Lines,
+) -> Result<Told, AllocError>
+    requires begun { ShowsWhole machine.old schedule.now.threads [] }
+    requires limits { IsWithinLimits schedule.now }
+    ensures { IfOk result (λ told. IsRunTold detail machine.old.set schedule.now.threads
+        schedule.now.events (ended told.end told.text.items)) }
+{
+    let mut teller = Teller::of(alloc, source, machine.set())?;
+    let mut text = Vec::new(alloc);
+    let stopped = tell_events(&mut teller, machine, schedule, detail, lines, &mut text)?;
+    let found = Findings::of(alloc, machine)?;
+    teller.tell_audit(alloc, machine, &found)?;
+    text.extend_from_slice(AUDIT)?;
+    text.extend_from_slice(teller.words())?;
+    Ok(Told {
+        text,
+        end: end_of(stopped, found.any()),
+    })
+}
+
+/// How a run ends that has stopped or not, and of which something was found amiss or not.
+fn end_of(stopped: bool, amiss: bool) -> End
+    ensures { result ≡ (if stopped || amiss then End.Stopped else End.Complete) }
+{
+    if stopped || amiss {
+        End::Stopped
+    } else {
+        End::Complete
+    }
+}
+
+/// Tells the events of a schedule, up to one that stops the run, and answers whether one did.
+fn tell_events(
+    teller: &mut Teller<'_>,
+    machine: &mut Checked,
+    schedule: &Schedule,
+    detail: Detail,
+    lines: &mut Lines,
+    text: &mut Vec<u8>,
+) -> Result<bool, AllocError>
+    requires begun { ShowsWhole machine.old schedule.now.threads [] }
+    requires limits { IsWithinLimits schedule.now }
+    requires empty { text.old.items ≡ [] }
+    ensures { IfOk result (λ stopped. HasTold detail machine.old.set schedule.now.threads
+        schedule.now.events machine.new.set machine.new.world stopped text.new.items) }
+{
+    let mut number = EventNumber::first();
+    let mut upcoming = schedule.events.upcoming();
+    let mut rest = None;
+    while let Some(next) = next_event(rest, &mut upcoming) {
+        let reply = tell_event(teller, machine, &mut number, &next.event, detail, lines, text)?;
+        if is_last(&reply) {
+            return Ok(true);
+        }
+        rest = next.rest;
+    }
+    Ok(false)
+}
+
+/// An event that comes next, and what is left of a run of equal ones behind it.
+struct Next {
+    event: Event,
+    rest: Option<Repeated>,
+}
+
+/// The event that comes next, if there is one.
+fn next_event(rest: Option<Repeated>, upcoming: &mut Upcoming<'_>) -> Option<Next>
+    requires { IfSome rest (λ run. 1 ≤ run.count) }
+    ensures next { MatchOption result (awaited rest upcoming.old ≡ []) (λ next.
+        awaited rest upcoming.old ≡ next.event ∷ awaited next.rest upcoming.new) }
+    ensures some { IfSome result (λ next. IfSome next.rest (λ run. 1 ≤ run.count)) }
+{
+    if let Some(event) = next_single(&rest, upcoming) {
+        return Some(Next { event, rest: None });
+    }
+    let Repeated { event, count } = next_run(rest, upcoming)?;
+    Some(Next {
+        event,
+        rest: rest_of(event, count - 1),
+    })
+}
+
+/// Runs an event, and adds what is told of it.
+fn tell_event(
+    teller: &mut Teller<'_>,
+    machine: &mut Checked,
+    number: &mut EventNumber,
+    event: &Event,
+    detail: Detail,
+    lines: &mut Lines,
+    text: &mut Vec<u8>,
+) -> Result<Reply, AllocError>
+    requires { number.old + 1 < 2 ^ 64 }
+    ensures number { OnOk result (number.new ≡ number.old + 1) }
+    ensures applied { IfOk result (λ reply. AppliesWhole machine.old event.now machine.new reply) }
+    ensures told { IfOk result (λ reply. (words : List ℕ) × (text.new.items
+        ≡ text.old.items ++ told_line detail number.old reply words)) }
+{
+    let moment = Moment::before(machine, event);
+    let reply = machine.apply(event);
+    teller.note(&moment, &reply)?;
+    if !is_left_out(detail, &reply) {
+        lines.clear();
+        lines.reply(number, &reply);
+        let line = lines.bytes();
+        let head = &line[..line.len().saturating_sub(1)];
+        teller.tell(head.len(), event, &moment, &reply, machine)?;
+        add_line(head, teller.words(), text)?;
+    }
+    number.advance();
+    Ok(reply)
+}
+
+/// Adds a line of a head and words behind it.
+fn add_line(head: &[u8], words: &[u8], text: &mut Vec<u8>) -> Result<(), AllocError>
+    ensures { OnOk result
+        (text.new.items ≡ text.old.items ++ (head.now ++ (words.now ++ 10 ∷ []))) }
+{
+    text.extend_from_slice(head)?;
+    text.extend_from_slice(words)?;
+    text.push(b'\n')?;
+    Ok(())
+}
+
+/// Whether nothing is told of an event with this reply.
+fn is_left_out(detail: Detail, reply: &Reply) -> bool
+    ensures { result ≡ is_left_out detail reply.now }
+{
+    match detail {
+        Detail::Whole => false,
+        Detail::Quiet => matches!(reply, Reply::Stepped | Reply::Idle),
+    }
+}
