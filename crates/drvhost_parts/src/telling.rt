@@ -54,7 +54,7 @@ pub(crate) fn tell_run(
     ensures { IfOk result (λ told. IsRunTold detail machine.old.set schedule.now.threads
         schedule.now.events (ended told.end told.text.items)) }
 {
-    let mut teller = Teller::of(alloc, source, machine.set())?;
+    let mut teller = Teller::of(alloc, source)?;
     let mut text = Vec::new(alloc);
     let stopped = tell_events(&mut teller, machine, schedule, detail, lines, &mut text)?;
     let found = Findings::of(alloc, machine)?;

@@ -1,9 +1,7 @@
 //! What things are called and where instructions stand, as a text has it.
 
 use asm_line::{Body, read_line};
-use asm_source::routine_source;
-use driver_set::DriverSet;
-use excerpt::{Spot, Spots, add_bytes, line_at};
+use excerpt::{PlacedLines, Spot, Spots, add_bytes, line_at};
 use std::alloc::{AllocError, Global};
 use text::piece::Piece;
 
@@ -16,40 +14,41 @@ struct DriverPage<'a> {
     lines: Vec<Spots>,
 }
 
+impl DriverPage<'_> {
+    /// Notes a line that is an instruction, of the last routine.
+    fn note_line(&mut self, spot: Spot) -> Result<(), AllocError> {
+        match self.lines.last_mut() {
+            Some(lines) => lines.push(spot),
+            None => Ok(()),
+        }
+    }
+}
+
 /// The names and the lines of a text.
 #[derive(Drop)]
-pub(crate) struct Book<'a> {
+pub struct Book<'a> {
     text: &'a [u8],
     drivers: Vec<DriverPage<'a>>,
     devices: Vec<Piece<'a>>,
 }
 
 impl<'a> Book<'a> {
-    /// Those of a text that names a set.
-    pub(crate) fn of(
-        alloc: Global,
-        text: &'a [u8],
-        set: &DriverSet,
-    ) -> Result<Book<'a>, AllocError> {
+    /// Those of a text.
+    pub fn of(alloc: Global, text: &'a [u8]) -> Result<Book<'a>, AllocError> {
         let mut book = Book {
             text,
             drivers: Vec::new(alloc),
             devices: Vec::new(alloc),
         };
-        let outline = asm_source::outline(alloc, text)?;
-        for spot in outline.as_slice() {
-            if let Some(raw) = line_at(text, *spot) {
-                book.note(alloc, raw)?;
-            }
-        }
-        for (number, driver) in set.drivers().iter().enumerate() {
-            book.find_lines(alloc, number, driver.routines.as_slice().len())?;
+        let mut left = PlacedLines::of(text);
+        while let Some(raw) = left.next() {
+            book.note(alloc, raw, left.spot())?;
         }
         Ok(book)
     }
 
-    /// Notes what a line of the outline names.
-    fn note(&mut self, alloc: Global, raw: &'a [u8]) -> Result<(), AllocError> {
+    /// Notes what a line names, or that it is an instruction.
+    fn note(&mut self, alloc: Global, raw: &'a [u8], spot: Spot) -> Result<(), AllocError> {
         let Ok(line) = read_line(raw) else {
             return Ok(());
         };
@@ -63,6 +62,7 @@ impl<'a> Book<'a> {
             Body::OpenRoutine(name, _) => {
                 if let Some(page) = self.drivers.last_mut() {
                     page.routines.push(name)?;
+                    page.lines.push(Spots::new(alloc))?;
                 }
             }
             Body::AddQueue(name, _, _) => {
@@ -71,22 +71,12 @@ impl<'a> Book<'a> {
                 }
             }
             Body::AddDevice(name, _, _, _) => self.devices.push(name)?,
+            Body::Step(_, _) => {
+                if let Some(page) = self.drivers.last_mut() {
+                    page.note_line(spot)?;
+                }
+            }
             _ => {}
-        }
-        Ok(())
-    }
-
-    /// Finds the lines of so many routines of a driver.
-    fn find_lines(&mut self, alloc: Global, driver: usize, count: usize) -> Result<(), AllocError> {
-        let Some(page) = self.drivers.get_mut(driver) else {
-            return Ok(());
-        };
-        for routine in 0..count {
-            let (Ok(driver), Ok(routine)) = (u8::try_from(driver), u8::try_from(routine)) else {
-                return Ok(());
-            };
-            let source = routine_source(alloc, self.text, driver, routine)?;
-            page.lines.push(source.lines)?;
         }
         Ok(())
     }

@@ -12,5 +12,6 @@ mod teller;
 mod words;
 
 pub use acting::{Acting, acting_in};
+pub use book::Book;
 pub use line::Moment;
 pub use teller::Teller;

@@ -6,7 +6,6 @@ use crate::change::add_change;
 use crate::line::{Moment, add_event};
 use audit::findings::Findings;
 use checked::Checked;
-use driver_set::DriverSet;
 use model::event::{Event, Reply};
 use std::alloc::{AllocError, Global};
 
@@ -22,15 +21,14 @@ pub struct Teller<'a> {
 }
 
 impl<'a> Teller<'a> {
-    /// That of a run of this set, before the first event, with the names and lines of a text that
-    /// names the set.
+    /// That of a run before the first event, with the names and the lines of the text of its set.
     ///
     /// # Errors
     ///
     /// When memory runs out.
-    pub fn of(alloc: Global, text: &'a [u8], set: &DriverSet) -> Result<Teller<'a>, AllocError> {
+    pub fn of(alloc: Global, text: &'a [u8]) -> Result<Teller<'a>, AllocError> {
         Ok(Teller {
-            book: Book::of(alloc, text, set)?,
+            book: Book::of(alloc, text)?,
             audited: Audited::new(alloc),
             words: String::new(alloc),
             change: String::new(alloc),
