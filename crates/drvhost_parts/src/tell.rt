@@ -1,6 +1,6 @@
 //! A run told for people, and its audit.
 
-ghost use Rattle.std.specs.Prelude.{◌≡◌, ◌≢◌, ◌+◌, ◌⊎◌, ◌×◌, [], IfErr, IfOk};
+ghost use Rattle.std.specs.Prelude.{◌≡◌, ◌≢◌, ◌+◌, ◌⊎◌, [], IfErr, IfOk};
 ghost use Rattle.model.specs.Typable.{IsTypable};
 ghost use Rattle.report.specs.Verdict.{refusal_line};
 ghost use Rattle.drvhost_parts.specs.Answer.{IsIfAccepted, IsToRun, IsTraced};

@@ -1,6 +1,6 @@
 //! Runs that are told in words.
 
-ghost use Rattle.std.specs.Prelude.{◌≡◌, ◌+◌, ◌++◌, ◌∷◌, ◌<◌, ◌≤◌, ◌^◌, ◌×◌, ◌||◌, List, ℕ, [], IfOk, IfSome, MatchOption, OnOk, if◌then◌else◌};
+ghost use Rattle.std.specs.Prelude.{◌≡◌, ◌+◌, ◌++◌, ◌∷◌, ◌<◌, ◌≤◌, ◌^◌, ◌||◌, List, ℕ, [], IfOk, IfSome, MatchOption, OnOk, codes, if◌then◌else◌};
 ghost use Rattle.interleave.specs.Listing.{IsWithinLimits};
 ghost use Rattle.model.specs.Machine.{AppliesWhole, ShowsWhole};
 ghost use Rattle.drvhost_parts.specs.Answer.{ended};
@@ -59,8 +59,7 @@ pub(crate) fn tell_run(
     let stopped = tell_events(&mut teller, machine, schedule, detail, lines, &mut text)?;
     let found = Findings::of(alloc, machine)?;
     teller.tell_audit(alloc, machine, &found)?;
-    text.extend_from_slice(AUDIT)?;
-    text.extend_from_slice(teller.words())?;
+    add_audit(teller.words(), &mut text)?;
     Ok(Told {
         text,
         end: end_of(stopped, found.any()),
@@ -107,6 +106,7 @@ fn tell_events(
 }
 
 /// An event that comes next, and what is left of a run of equal ones behind it.
+#[derive(Clone, Copy)]
 struct Next {
     event: Event,
     rest: Option<Repeated>,
@@ -148,16 +148,53 @@ fn tell_event(
     let moment = Moment::before(machine, event);
     let reply = machine.apply(event);
     teller.note(&moment, &reply)?;
-    if !is_left_out(detail, &reply) {
-        lines.clear();
-        lines.reply(number, &reply);
-        let line = lines.bytes();
-        let head = &line[..line.len().saturating_sub(1)];
-        teller.tell(head.len(), event, &moment, &reply, machine)?;
-        add_line(head, teller.words(), text)?;
-    }
+    let happened = Happened {
+        event: *event,
+        moment,
+        reply,
+    };
+    add_event(teller, machine, number, &happened, detail, lines, text)?;
     number.advance();
     Ok(reply)
+}
+
+/// An event that has happened, and what is told of it as it was before.
+#[derive(Clone, Copy)]
+struct Happened {
+    event: Event,
+    moment: Moment,
+    reply: Reply,
+}
+
+/// Adds what is told of an event: a line, unless it is left out.
+fn add_event(
+    teller: &mut Teller<'_>,
+    machine: &Checked,
+    number: &mut EventNumber,
+    happened: &Happened,
+    detail: Detail,
+    lines: &mut Lines,
+    text: &mut Vec<u8>,
+) -> Result<(), AllocError>
+    ensures number { number.new ≡ number.old }
+    ensures told { OnOk result ((words : List ℕ) × (text.new.items
+        ≡ text.old.items ++ told_line detail number.old happened.now.reply words)) }
+{
+    let Happened {
+        event,
+        moment,
+        reply,
+    } = *happened;
+    if is_left_out(detail, &reply) {
+        return Ok(());
+    }
+    lines.clear();
+    lines.reply(number, &reply);
+    let line = lines.bytes();
+    let head = &line[..line.len().saturating_sub(1)];
+    teller.tell(head.len(), &event, &moment, &reply, machine)?;
+    add_line(head, teller.words(), text)?;
+    Ok(())
 }
 
 /// Adds a line of a head and words behind it.
@@ -168,6 +205,16 @@ fn add_line(head: &[u8], words: &[u8], text: &mut Vec<u8>) -> Result<(), AllocEr
     text.extend_from_slice(head)?;
     text.extend_from_slice(words)?;
     text.push(b'\n')?;
+    Ok(())
+}
+
+/// Adds the audit of a run: that it is one, and words on it.
+fn add_audit(words: &[u8], text: &mut Vec<u8>) -> Result<(), AllocError>
+    ensures { OnOk result
+        (text.new.items ≡ text.old.items ++ (codes "\naudit\n" ++ words.now)) }
+{
+    text.extend_from_slice(AUDIT)?;
+    text.extend_from_slice(words)?;
     Ok(())
 }
 

@@ -5,7 +5,7 @@ use Rattle.drvhost_parts.specs.Device.{Holds}
 use Rattle.drvhost_parts.specs.Told.{IsTellOf, IsToldRunOf}
 use Rattle.drvhost_parts.proofs.Files.{set_read}
 use Rattle.drvhost_parts.proofs.Jobs.{bytes_unread, right_on, set_unread}
-use Rattle.drvhost_parts.proofs.Telling.{holds_run, tells_rightly, told_broken, told_written, untold}
+use Rattle.drvhost_parts.proofs.ToldRuns.{holds_run, tells_rightly, told_broken, told_written, untold}
 use Rattle.drvhost_parts.proofs.tell.tell_set.Goals as goal
 
 pub returns-in_err-bytes-clause-goes : goal.returns-in_err-bytes-clause-goes

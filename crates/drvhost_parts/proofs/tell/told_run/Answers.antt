@@ -1,5 +1,5 @@
 use Rattle.std.proofs.lemmas.Result.{err_from_is_err_and}
-use Rattle.drvhost_parts.proofs.Telling.{schedule_told, schedule_unread}
+use Rattle.drvhost_parts.proofs.ToldRuns.{schedule_told, schedule_unread}
 use Rattle.drvhost_parts.proofs.tell.told_run.Goals as goal
 
 pub returns-in_err-schedule-clause-tells : goal.returns-in_err-schedule-clause-tells

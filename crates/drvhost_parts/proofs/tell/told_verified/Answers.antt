@@ -2,7 +2,7 @@ use Rattle.std.proofs.Common.{inl, inr, subst}
 use Rattle.model.specs.Set.{Set}
 use Rattle.drvhost_parts.specs.Answer.{IsIfAccepted, IsRefused}
 use Rattle.drvhost_parts.specs.Told.{IsToldRunOf, Tells}
-use Rattle.drvhost_parts.proofs.Telling.{refusal_told, tells_rightly}
+use Rattle.drvhost_parts.proofs.ToldRuns.{refusal_told, tells_rightly}
 use Rattle.drvhost_parts.proofs.tell.told_verified.Goals as goal
 
 pub returns-in-Ok-clause-tells : goal.returns-in-Ok-clause-tells

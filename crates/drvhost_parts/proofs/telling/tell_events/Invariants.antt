@@ -1,7 +1,7 @@
 use Rattle.std.proofs.Common.{◌≡◌, ◌+◌, ◌≤◌, length}
 use Rattle.std.specs.Prelude.{IfSome}
 use Rattle.drvhost_parts.specs.Repeats.{awaited}
-use Rattle.drvhost_parts.proofs.Telling.{Telling}
+use Rattle.drvhost_parts.proofs.ToldRuns.{Telling}
 use Rattle.drvhost_parts.proofs.telling.tell_events.Given as goal
 
 abbrev pub invariant-loop-next : goal.invariant-loop-next

@@ -1,8 +1,8 @@
 -- How the telling of a run goes on.
-use Rattle.std.proofs.Common.{◌≡◌, ◌∙◌, ℕ, ◌+◌, Bool, true, false, ◌||◌, List, [], ◌∷◌, ◌++◌, length, ◌⊎◌, inl, inr, Option, Result, Ok, Err, IfErr, IfOk, ◌≢◌, refl, sym, ap, subst, append_assoc, if◌then◌else◌}
+use Rattle.std.proofs.Common.{◌≡◌, ◌∙◌, ℕ, ◌+◌, ◌-◌, Bool, true, false, ◌||◌, List, [], ◌∷◌, ◌++◌, length, ◌⊎◌, inl, inr, Option, Result, Ok, Err, IfErr, IfOk, ◌≢◌, refl, sym, ap, subst, append_assoc, if◌then◌else◌}
 use Rattle.std.proofs.lemmas.List.{append-nil}
 use Rattle.std.specs.List.{list_any}
-use Rattle.std.specs.Prelude.{codes}
+use Rattle.std.specs.Prelude.{codes, take}
 use Rattle.std.specs.Io.KnownBytes.{Appends}
 use Rattle.audit.specs.declared.findings.Findings.{Findings}
 use Rattle.audit.specs.Findings.{AreFindings, any_of, has_findings}
@@ -20,6 +20,7 @@ use Rattle.model.specs.Set.{Set}
 use Rattle.model.specs.Typable.{IsFirstFault, at_start}
 use Rattle.model.specs.World.{World}
 use Rattle.report.specs.Fault.{schedule_fault_line}
+use Rattle.report.specs.Reply.{reply_line}
 use Rattle.report.specs.Verdict.{refusal_line}
 use Rattle.drvhost_parts.specs.declared.fault.End.{End}
 use Rattle.drvhost_parts.specs.declared.fault.End.TheVariants.{Complete, Stopped}
@@ -32,7 +33,7 @@ use Rattle.drvhost_parts.specs.Device.{Supply, TakesBeginning}
 use Rattle.drvhost_parts.specs.declared.verification.Verification.{Verification}
 use Rattle.drvhost_parts.specs.Ends.{HoldsRun}
 use Rattle.drvhost_parts.specs.Fault.{Goes, ReadsSchedule, ReadsSet}
-use Rattle.drvhost_parts.specs.Told.{HasTold, IsRunTold, IsScheduleTold, IsTold, IsToldRunOf, Tells, replies_by, run_to_end, told_end, told_line, world_by}
+use Rattle.drvhost_parts.specs.Told.{HasTold, IsRunTold, IsScheduleTold, IsTold, IsToldRunOf, Tells, is_left_out, replies_by, reply_head, run_to_end, told_end, told_line, world_by}
 use Rattle.drvhost_parts.proofs.Following.{run_more}
 use Rattle.drvhost_parts.proofs.Writing.{keeps_same}
 
@@ -152,6 +153,29 @@ module _ (detail : Detail) (set : Set) (threads : ℕ) (events : List Event) (m 
         left = shows.world ∙ ap (λ (s : Set). (run s threads past).world) same
             ∙ ap (λ (r : Run). r.world) (sym end);
       }
+
+-- a line is told of an event
+pub line_told : (detail : Detail) (number : ℕ) (reply : Reply)
+    (text more head words line : List ℕ) → is_left_out detail reply ≡ false
+    → line ≡ reply_line number reply → head ≡ take (length line - 1) line
+    → more ≡ text ++ (head ++ (words ++ 10 ∷ []))
+    → more ≡ text ++ told_line detail number reply words
+line_told detail number reply text more head words line told said begins added =
+    added ∙ ap (λ h. text ++ (h ++ (words ++ 10 ∷ [])))
+    (begins ∙ ap (λ l. take (length l - 1) l) said)
+    ∙ ap (λ (b : Bool). text ++ (if b then [] else reply_head number reply ++ (words ++ 10 ∷ [])))
+    (sym told)
+
+-- or nothing is
+pub nothing_told : (detail : Detail) (number : ℕ) (reply : Reply) (text : List ℕ)
+    → is_left_out detail reply ≡ true
+    → (words : List ℕ) × (text ≡ text ++ told_line detail number reply words)
+nothing_told detail number reply text left = (
+  [],
+  sym (append-nil text)
+      ∙ ap (λ (b : Bool). text ++ (if b then [] else reply_head number reply ++ ([] ++ 10 ∷ [])))
+      (sym left),
+)
 
 -- no event is left
 pub told_all : (detail : Detail) (set : Set) (threads : ℕ) (events : List Event) (m : Machine)
