@@ -11,6 +11,7 @@ use drvhost_parts::explaining::{Extent, explain};
 use drvhost_parts::host::host;
 use drvhost_parts::list::list;
 use drvhost_parts::rewriting::rewrite;
+use drvhost_parts::tell::{Detail, tell};
 use drvhost_parts::trace::trace;
 use drvhost_parts::verification::Verification;
 use drvhost_parts::version::version;
@@ -77,6 +78,8 @@ enum Job {
     Rewrite,
     /// A schedule is run.
     Trace(&'static [u8], Verification),
+    /// And told in words.
+    Tell(&'static [u8], Verification, Detail),
     /// A script is served by one worker.
     Host(&'static [u8]),
 }
@@ -224,7 +227,7 @@ static CASES: [Case; 15] = [
 ];
 
 /// Runs of schedules, and of scripts.
-static RUNS: [Case; 7] = [
+static RUNS: [Case; 9] = [
     Case {
         set: TEXT,
         job: Job::Trace(SCHEDULE, Verification::Required),
@@ -256,6 +259,20 @@ static RUNS: [Case; 7] = [
     Case {
         set: &ONE_READ,
         job: Job::Trace(b"threads 65\n", Verification::Required),
+        status: 2,
+        lines: b"",
+        told: b"schedule fault 3 OutOfRange line 1\n",
+    },
+    Case {
+        set: &ONE_READ,
+        job: Job::Tell(SCHEDULE, Verification::Required, Detail::Quiet),
+        status: 0,
+        lines: TOLD,
+        told: b"",
+    },
+    Case {
+        set: TEXT,
+        job: Job::Tell(b"threads 65\n", Verification::Skipped, Detail::Whole),
         status: 2,
         lines: b"",
         told: b"schedule fault 3 OutOfRange line 1\n",
@@ -298,6 +315,10 @@ fn answer<R: Threads + Wait + Sync>(
         Job::Trace(schedule, verification) => {
             let mut schedule = Slow::new(schedule, devices.step, devices.orders);
             trace(alloc, set, &mut schedule, verification, out, err)
+        }
+        Job::Tell(schedule, verification, detail) => {
+            let mut schedule = Slow::new(schedule, devices.step, devices.orders);
+            tell(alloc, set, &mut schedule, verification, detail, out, err)
         }
         Job::Host(script) => {
             let mut script = Slow::new(script, devices.step, devices.orders);
@@ -381,7 +402,9 @@ fn each_read_of_the_set_of_a_run_fails_in_turn(rt: HostRuntime) {
 /// How many calls read the orders of a case.
 fn calls_of_orders(case: &Case) -> usize {
     match case.job {
-        Job::Trace(orders, _) | Job::Host(orders) => orders.len().saturating_add(1),
+        Job::Trace(orders, _) | Job::Tell(orders, _, _) | Job::Host(orders) => {
+            orders.len().saturating_add(1)
+        }
         Job::Check | Job::Explain(_) | Job::List | Job::Rewrite => 0,
     }
 }
