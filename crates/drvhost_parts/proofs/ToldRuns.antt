@@ -1,8 +1,8 @@
 -- How the telling of a run goes on.
-use Rattle.std.proofs.Common.{◌≡◌, ◌∙◌, ℕ, ◌+◌, ◌-◌, Bool, true, false, ◌||◌, List, [], ◌∷◌, ◌++◌, length, ◌⊎◌, inl, inr, Option, Result, Ok, Err, IfErr, IfOk, ◌≢◌, refl, sym, ap, subst, append_assoc, if◌then◌else◌}
+use Rattle.std.proofs.Common.{◌≡◌, ◌∙◌, ℕ, ◌+◌, Bool, true, false, ◌||◌, List, [], ◌∷◌, ◌++◌, ◌⊎◌, inl, inr, Option, Result, Ok, Err, IfErr, IfOk, ◌≢◌, refl, sym, ap, subst, append_assoc, if◌then◌else◌}
 use Rattle.std.proofs.lemmas.List.{append-nil}
 use Rattle.std.specs.List.{list_any}
-use Rattle.std.specs.Prelude.{codes, take}
+use Rattle.std.specs.Prelude.{codes}
 use Rattle.std.specs.Io.KnownBytes.{Appends}
 use Rattle.audit.specs.declared.findings.Findings.{Findings}
 use Rattle.audit.specs.Findings.{AreFindings, any_of, has_findings}
@@ -20,7 +20,6 @@ use Rattle.model.specs.Set.{Set}
 use Rattle.model.specs.Typable.{IsFirstFault, at_start}
 use Rattle.model.specs.World.{World}
 use Rattle.report.specs.Fault.{schedule_fault_line}
-use Rattle.report.specs.Reply.{reply_line}
 use Rattle.report.specs.Verdict.{refusal_line}
 use Rattle.drvhost_parts.specs.declared.fault.End.{End}
 use Rattle.drvhost_parts.specs.declared.fault.End.TheVariants.{Complete, Stopped}
@@ -155,14 +154,12 @@ module _ (detail : Detail) (set : Set) (threads : ℕ) (events : List Event) (m 
       }
 
 -- a line is told of an event
-pub line_told : (detail : Detail) (number : ℕ) (reply : Reply)
-    (text more head words line : List ℕ) → is_left_out detail reply ≡ false
-    → line ≡ reply_line number reply → head ≡ take (length line - 1) line
+pub line_told : (detail : Detail) (number : ℕ) (reply : Reply) (text more head words : List ℕ)
+    → is_left_out detail reply ≡ false → head ≡ reply_head number reply
     → more ≡ text ++ (head ++ (words ++ 10 ∷ []))
     → more ≡ text ++ told_line detail number reply words
-line_told detail number reply text more head words line told said begins added =
-    added ∙ ap (λ h. text ++ (h ++ (words ++ 10 ∷ [])))
-    (begins ∙ ap (λ l. take (length l - 1) l) said)
+line_told detail number reply text more head words told begins added =
+    added ∙ ap (λ h. text ++ (h ++ (words ++ 10 ∷ []))) begins
     ∙ ap (λ (b : Bool). text ++ (if b then [] else reply_head number reply ++ (words ++ 10 ∷ [])))
     (sym told)
 

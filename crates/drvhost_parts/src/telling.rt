@@ -5,7 +5,7 @@ ghost use Rattle.interleave.specs.Listing.{IsWithinLimits};
 ghost use Rattle.model.specs.Machine.{AppliesWhole, ShowsWhole};
 ghost use Rattle.drvhost_parts.specs.Answer.{ended};
 ghost use Rattle.drvhost_parts.specs.Repeats.{awaited};
-ghost use Rattle.drvhost_parts.specs.Told.{HasTold, IsRunTold, is_left_out, told_line};
+ghost use Rattle.drvhost_parts.specs.Told.{HasTold, IsRunTold, is_left_out, reply_head, told_line};
 
 use crate::fault::End;
 use crate::follow::{is_last, next_run, next_single, rest_of};
@@ -180,21 +180,25 @@ fn add_event(
     ensures told { OnOk result ((words : List ℕ) × (text.new.items
         ≡ text.old.items ++ told_line detail number.old happened.now.reply words)) }
 {
-    let Happened {
-        event,
-        moment,
-        reply,
-    } = *happened;
-    if is_left_out(detail, &reply) {
+    if is_left_out(detail, &happened.reply) {
         return Ok(());
     }
-    lines.clear();
-    lines.reply(number, &reply);
-    let line = lines.bytes();
-    let head = &line[..line.len().saturating_sub(1)];
-    teller.tell(head.len(), &event, &moment, &reply, machine)?;
+    let head = head_of(number, &happened.reply, lines);
+    let moment = &happened.moment;
+    teller.tell(head.len(), &happened.event, moment, &happened.reply, machine)?;
     add_line(head, teller.words(), text)?;
     Ok(())
+}
+
+/// The line of the trace for an event, without its end.
+fn head_of<'l>(number: &mut EventNumber, reply: &Reply, lines: &'l mut Lines) -> &'l [u8]
+    ensures head { result.now ≡ reply_head number.old reply.now }
+    ensures number { number.new ≡ number.old }
+{
+    lines.clear();
+    lines.reply(number, reply);
+    let line = lines.bytes();
+    &line[..line.len().saturating_sub(1)]
 }
 
 /// Adds a line of a head and words behind it.
