@@ -1,5 +1,5 @@
 -- What `tell` answers: the trace of a run with words behind the reply of each event, and its audit.
-use Rattle.std.specs.Prelude.{ℕ, ◌≡◌, ◌+◌, ◌-◌, ◌++◌, ◌||◌, Bool, true, false, if◌then◌else◌, List, [], ◌∷◌, codes, length, take, Result, Ok, Err}
+use Rattle.std.specs.Prelude.{ℕ, ⊤, ◌≡◌, ◌+◌, ◌-◌, ◌++◌, ◌||◌, Bool, true, false, if◌then◌else◌, List, [], ◌∷◌, codes, length, take, Result, Ok, Err}
 use Rattle.std.specs.List.{list_any}
 use Rattle.audit.specs.Findings.{has_findings}
 use Rattle.interleave.specs.declared.schedule.Schedule.{Schedule}
