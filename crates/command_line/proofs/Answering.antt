@@ -6,7 +6,7 @@ use Rattle.drvhost_parts.specs.Answer.{Answer}
 use Rattle.drvhost_parts.specs.Device.{Bytes, Closed, Holds, IsSuppliedAs, MayBeClosed, Supply, Unknown}
 use Rattle.drvhost_parts.specs.Ends.{Answers, Ends, HoldsRun, IsCheckOf, IsExplainedOf, IsHostOf, IsListOf, IsRewriteOf, IsTraceOf, OutOfMemory, ReadFailed, Rightly, WriteFailed}
 use Rattle.drvhost_parts.specs.Told.{IsTellOf}
-use Rattle.drvhost_parts.specs.declared.telling.Detail.{Detail}
+use Rattle.drvhost_parts.specs.declared.tell.Detail.{Detail}
 use Rattle.drvhost_parts.specs.declared.verification.Verification.{Verification}
 use Rattle.command_line.specs.declared.job.Job.{Job}
 use Rattle.command_line.specs.declared.job.JobFault.{JobFault}

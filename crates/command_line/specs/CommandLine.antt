@@ -12,8 +12,8 @@ use Rattle.command_line.specs.declared.job.JobFault.{JobFault}
 use Rattle.command_line.specs.declared.job.JobFault.TheVariants.{Usage, Memory}
 use Rattle.drvhost_parts.specs.declared.explaining.Extent.{Extent}
 use Rattle.drvhost_parts.specs.declared.explaining.Extent.TheVariants.{First, Each}
-use Rattle.drvhost_parts.specs.declared.telling.Detail.{Detail}
-use Rattle.drvhost_parts.specs.declared.telling.Detail.TheVariants.{Quiet, Whole}
+use Rattle.drvhost_parts.specs.declared.tell.Detail.{Detail}
+use Rattle.drvhost_parts.specs.declared.tell.Detail.TheVariants.{Quiet, Whole}
 use Rattle.drvhost_parts.specs.declared.verification.Verification.{Verification}
 use Rattle.drvhost_parts.specs.declared.verification.Verification.TheVariants.{Required, Skipped}
 

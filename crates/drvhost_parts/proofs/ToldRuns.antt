@@ -25,7 +25,7 @@ use Rattle.drvhost_parts.specs.declared.fault.End.{End}
 use Rattle.drvhost_parts.specs.declared.fault.End.TheVariants.{Complete, Stopped}
 use Rattle.drvhost_parts.specs.declared.fault.Fault.{Fault}
 use Rattle.drvhost_parts.specs.declared.fault.Fault.TheVariants.{Read, Write, Memory, Text, Image, Schedule as OfSchedule, Script as OfScript}
-use Rattle.drvhost_parts.specs.declared.telling.Detail.{Detail}
+use Rattle.drvhost_parts.specs.declared.tell.Detail.{Detail}
 use Rattle.drvhost_parts.specs.declared.telling.Told.{Told}
 use Rattle.drvhost_parts.specs.Answer.{Answer, IsRefused, IsToRun, ended, faulty, is_last, replies}
 use Rattle.drvhost_parts.specs.Device.{Supply, TakesBeginning}

@@ -17,8 +17,8 @@ use Rattle.drvhost_parts.specs.declared.fault.End.{End}
 use Rattle.drvhost_parts.specs.declared.fault.End.TheVariants.{Complete, Stopped}
 use Rattle.drvhost_parts.specs.declared.fault.Fault.{Fault}
 use Rattle.drvhost_parts.specs.declared.fault.Fault.TheVariants.{Read, Write, Memory, Text, Image, Schedule as OfSchedule, Script as OfScript}
-use Rattle.drvhost_parts.specs.declared.telling.Detail.{Detail}
-use Rattle.drvhost_parts.specs.declared.telling.Detail.TheVariants.{Whole, Quiet}
+use Rattle.drvhost_parts.specs.declared.tell.Detail.{Detail}
+use Rattle.drvhost_parts.specs.declared.tell.Detail.TheVariants.{Whole, Quiet}
 use Rattle.drvhost_parts.specs.declared.telling.Told.{Told}
 use Rattle.drvhost_parts.specs.declared.verification.Verification.{Verification}
 use Rattle.drvhost_parts.specs.Answer.{Answer, IsTraced, ended, faulty, is_last, replies}

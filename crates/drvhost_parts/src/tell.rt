@@ -25,7 +25,14 @@ use report::lines::Lines;
 use std::alloc::{AllocError, Global};
 use verifier::{Accepted, verify};
 
-pub use crate::telling::Detail;
+/// Of which events of a run a line is told.
+#[derive(Clone, Copy, Debug, PartialEq, Eq)]
+pub enum Detail {
+    /// Of each.
+    Whole,
+    /// Of those that do more than make a step or find nothing to do.
+    Quiet,
+}
 
 /// Runs a driver set by a schedule as [`trace`](crate::trace::trace) does, and tells the run in
 /// words: for each event, or for those that do more than make a step or find nothing to do, the

@@ -9,6 +9,7 @@ ghost use Rattle.drvhost_parts.specs.Told.{HasTold, IsRunTold, is_left_out, repl
 
 use crate::fault::End;
 use crate::follow::{is_last, next_run, next_single, rest_of};
+use crate::tell::Detail;
 use audit::findings::Findings;
 use checked::Checked;
 use interleave::events::Upcoming;
@@ -19,15 +20,6 @@ use report::event_number::EventNumber;
 use report::lines::Lines;
 use std::alloc::{AllocError, Global};
 use told::{Moment, Teller};
-
-/// Of which events of a run a line is told.
-#[derive(Clone, Copy, Debug, PartialEq, Eq)]
-pub enum Detail {
-    /// Of each.
-    Whole,
-    /// Of those that do more than make a step or find nothing to do.
-    Quiet,
-}
 
 /// What stands before the words of the audit.
 const AUDIT: &[u8] = b"\naudit\n";
