@@ -275,12 +275,15 @@ refusal_told set refusal (Err fault) e h i = tells_nothing (IsRefused set) fault
 -- the text is written, or a beginning of it, or there is none
 pub told_written : (R : Answer → Type 0) (b n : Option (List ℕ)) (told : Told)
     → Tells R (Ok told) → Appends b n told.text.items → Goes R b n [] [] (Ok told.end)
-told_written R b n told h p =
-    (told.text.items, h, record {
-      written = told.text.items;
-      appended = p;
-      whole = sym (append-nil told.text.items);
-    })
+told_written R b n told h p = (
+  told.text.items,
+  h,
+  record {
+    written = told.text.items;
+    appended = p;
+    whole = sym (append-nil told.text.items);
+  },
+)
 
 pub told_broken : (R : Answer → Type 0) (b n : Option (List ℕ)) (told : Told)
     → Tells R (Ok told) → TakesBeginning b n told.text.items → Goes R b n [] [] (Err Write)

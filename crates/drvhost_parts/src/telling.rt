@@ -88,7 +88,15 @@ fn tell_events(
     let mut upcoming = schedule.events.upcoming();
     let mut rest = None;
     while let Some(next) = next_event(rest, &mut upcoming) {
-        let reply = tell_event(teller, machine, &mut number, &next.event, detail, lines, text)?;
+        let reply = tell_event(
+            teller,
+            machine,
+            &mut number,
+            &next.event,
+            detail,
+            lines,
+            text,
+        )?;
         if is_last(&reply) {
             return Ok(true);
         }
@@ -177,7 +185,13 @@ fn add_event(
     }
     let head = head_of(number, &happened.reply, lines);
     let moment = &happened.moment;
-    teller.tell(head.len(), &happened.event, moment, &happened.reply, machine)?;
+    teller.tell(
+        head.len(),
+        &happened.event,
+        moment,
+        &happened.reply,
+        machine,
+    )?;
     add_line(head, teller.words(), text)?;
     Ok(())
 }

@@ -62,7 +62,15 @@ impl<'a> Teller<'a> {
         add_change(&mut self.change, &self.book, event, moment, reply, machine)?;
         self.words.clear();
         let change = self.change.as_str();
-        add_event(&mut self.words, head, &self.book, event, moment, machine, change)
+        add_event(
+            &mut self.words,
+            head,
+            &self.book,
+            event,
+            moment,
+            machine,
+            change,
+        )
     }
 
     /// Makes the words of the audit, by what was found in the machine after the run.
@@ -77,7 +85,14 @@ impl<'a> Teller<'a> {
         found: &Findings,
     ) -> Result<(), AllocError> {
         self.words.clear();
-        add_audit(alloc, &mut self.words, &self.book, machine, &self.audited, found)
+        add_audit(
+            alloc,
+            &mut self.words,
+            &self.book,
+            machine,
+            &self.audited,
+            found,
+        )
     }
 
     /// The words that were made last.
