@@ -120,7 +120,7 @@ fn next_event(rest: Option<Repeated>, upcoming: &mut Upcoming<'_>) -> Option<Nex
     ensures some { IfSome result (λ next. IfSome next.rest (λ run. 1 ≤ run.count)) }
 {
     if let Some(event) = next_single(&rest, upcoming) {
-        return Some(Next { event, rest: None });
+        return Some(Next { event, rest });
     }
     let Repeated { event, count } = next_run(rest, upcoming)?;
     Some(Next {
