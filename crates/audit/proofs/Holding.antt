@@ -1,8 +1,7 @@
 -- A packet that no place names has no holder; so no run of an accepted set loses a packet.
-use Rattle.std.proofs.Common.{◌≡◌, ℕ, zero, suc, ◌+◌, ◌++◌, List, [], ◌∷◌, length, Option, None, Some, Bool, true, false, refl, ap, sym, ◌∙◌, inl, inr, nat_eq, cond, arith}
+use Rattle.std.proofs.Common.{◌≡◌, ℕ, zero, suc, ◌+◌, ◌++◌, List, [], ◌∷◌, Option, None, Some, Bool, true, false, refl, ap, nat_eq, cond, arith}
 use Rattle.std.specs.Prelude.{◌||◌, slice_get, is_some, if◌then◌else◌}
 use Rattle.std.specs.List.{list_any}
-use Rattle.std.proofs.lemmas.Bool.Decides.{eqb_tells}
 use Rattle.model.specs.declared.abs.Kind.{Kind}
 use Rattle.model.specs.declared.event.Event.{Event}
 use Rattle.model.specs.declared.world.Frame.{Frame}
@@ -16,7 +15,7 @@ use Rattle.model.specs.Queues.{StartState, is_linked}
 use Rattle.model.specs.Run.{run}
 use Rattle.model.specs.Set.{Set, cancel_routine_of}
 use Rattle.model.specs.Effect.{routine_of_device}
-use Rattle.model.specs.World.{World, packet_of, place_of}
+use Rattle.model.specs.World.{World, packet_of}
 use Rattle.run_laws.specs.ArrivingStates.{States}
 use Rattle.run_laws.specs.Holder.{HasOneHolder, PacketsHaveOneHolder, alive, all_walking, frame_rights, frame_walks, holders, is_lent, is_live, named_as, named_in, names, stack_sum, thread_sum, times_at, times_in, times_in_slot, times_named, times_plain, times_plain_on, times_started, times_waiting, waits_cancelable, walking}
 use Rattle.audit.specs.Laws.{AcceptedRunsLoseNoPacket}

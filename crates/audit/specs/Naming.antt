@@ -1,7 +1,7 @@
 -- Which packets the places of a world name, whatever right goes with a place. In the run of a set
 -- that was refused no register has a right: who names a packet may still come to it. A packet that
 -- no place names is lost: nothing that can happen reaches it.
-use Rattle.std.specs.Prelude.{ℕ, ◌||◌, ◌++◌, zero, suc, Bool, false, List, [], ◌∷◌, length, Option, None, Some, is_some, nat_eq, slice_get, if◌then◌else◌}
+use Rattle.std.specs.Prelude.{ℕ, ◌||◌, ◌++◌, zero, suc, Bool, false, List, [], ◌∷◌, Option, None, Some, is_some, nat_eq, if◌then◌else◌}
 use Rattle.std.specs.List.{list_any}
 use Rattle.model.specs.declared.world.Frame.{Frame}
 use Rattle.model.specs.declared.world.Frame.TheVariants.{Routine, Walk, Cancel as CancelFrame}
