@@ -82,6 +82,9 @@ pub(crate) fn add_audit(
     }
     add_findings(words, book, machine, found)?;
     add_refused(words, audited)?;
+    if machine.stopped() {
+        return words.push_str("the run was stopped by a bug check or a wrong operand\n");
+    }
     if !found.any() {
         words.push_str("nothing is amiss\n")?;
     }
@@ -153,12 +156,12 @@ fn add_live(
     write!(words, "packet {n} is live at location {}", packet.depth())?;
     for place in 0..packet.depth() {
         if let Some(location) = packet.location(place as usize) {
-            write!(words, ", {} ", (place as u16).saturating_add(1))?;
+            write!(words, "; location {} of ", (place as u16).saturating_add(1))?;
             book.add_device(words, location.device())?;
             words.push_str(if location.is_marked() {
-                " marked"
+                " is marked"
             } else {
-                " unmarked"
+                " is unmarked"
             })?;
         }
     }
@@ -182,7 +185,7 @@ fn add_site(
             thread,
             frame,
             register,
-        } => write!(words, "r{register} of frame {frame} of thread {thread}"),
+        } => write!(words, "in r{register} of frame {frame} of thread {thread}"),
         Site::Completing { thread, .. } => write!(words, "completed on thread {thread}"),
         Site::Queue { device, queue } => {
             words.push_str("in queue ")?;

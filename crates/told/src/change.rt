@@ -96,10 +96,10 @@ fn add_wait(words: &mut String, event: &Event, machine: &Checked) -> Result<(), 
 
 /// Adds why an event was refused.
 fn add_refusal(words: &mut String, moment: &Moment) -> Result<(), AllocError> {
-    match moment.reason {
-        Some(reason) => write!(words, "refused: {}", reason_words(reason)),
-        None => words.push_str("refused: a list or the thread's stack is full"),
-    }
+    words.push_str(match moment.reason {
+        Some(reason) => reason_words(reason),
+        None => "a list or the thread's stack is full",
+    })
 }
 
 /// Adds what a step changed.
