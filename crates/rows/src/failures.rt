@@ -56,6 +56,19 @@ pub(crate) const SCHEDULE: &[u8] = b"threads 1\nissue 0 0 READ 7\nstep 0 4\n";
 pub(crate) const LINES: &[u8] =
     b"0 started 0\n1 stepped\n2 topped 0 0x00000000 0\n3 finished\n4 idle\n";
 
+/// What `tell` writes in quiet of the run of `ONE_READ`.
+const TOLD: &[u8] = b"\
+      0 started 0               0  -                                           \
+      packet 0: a READ with 7 is issued to v0\n\
+      2 topped 0 0x00000000 0   0  IoCompleteRequest                           \
+      packet 0: tops out with STATUS_SUCCESS, information 0\n\
+      3 finished                0  f0 5: ret SUCCESS                           \
+      STATUS_SUCCESS\n\
+      \n\
+      audit\n\
+      packet 0 topped out with STATUS_SUCCESS, information 0\n\
+      nothing is amiss\n";
+
 const SCRIPT: &[u8] = b"request 0 READ 0\ninterrupt 0\n";
 
 const SERVED: &[u8] = b"0 topped 0 0x00000000 0\n1 stepped\nhistory 17 agrees\n";
