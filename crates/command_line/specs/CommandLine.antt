@@ -7,11 +7,13 @@ use Rattle.interleave.specs.Line.{number_within}
 use Rattle.model.specs.Words.{rule_word}
 use Rattle.model.specs.declared.limits.TheConstants.{MAX_THREADS}
 use Rattle.command_line.specs.declared.job.Job.{Job}
-use Rattle.command_line.specs.declared.job.Job.TheVariants.{Check, Explain, ExplainRule, List as ListJob, Rewrite, Version, Trace, Host}
+use Rattle.command_line.specs.declared.job.Job.TheVariants.{Check, Explain, ExplainRule, List as ListJob, Rewrite, Version, Trace, Tell, Host}
 use Rattle.command_line.specs.declared.job.JobFault.{JobFault}
 use Rattle.command_line.specs.declared.job.JobFault.TheVariants.{Usage, Memory}
 use Rattle.drvhost_parts.specs.declared.explaining.Extent.{Extent}
 use Rattle.drvhost_parts.specs.declared.explaining.Extent.TheVariants.{First, Each}
+use Rattle.drvhost_parts.specs.declared.tell.Detail.{Detail}
+use Rattle.drvhost_parts.specs.declared.tell.Detail.TheVariants.{Quiet, Whole}
 use Rattle.drvhost_parts.specs.declared.verification.Verification.{Verification}
 use Rattle.drvhost_parts.specs.declared.verification.Verification.TheVariants.{Required, Skipped}
 
@@ -67,6 +69,19 @@ trace_command =
     with_rule (with_rule (with_rule (new_app (codes "trace")) (file_argument (codes "FILE")))
     (file_argument (codes "SCHEDULE"))) unchecked_flag
 
+-- `--quiet`
+abbrev pub quiet_flag : Rule
+quiet_flag =
+    record (new_rule (codes "quiet")) { long = Some (codes "quiet"); action = Some SetTrue }
+
+-- `tell FILE SCHEDULE [--unchecked] [--quiet]`
+abbrev pub tell_command : App
+tell_command =
+    with_rule
+    (with_rule (with_rule (with_rule (new_app (codes "tell")) (file_argument (codes "FILE")))
+    (file_argument (codes "SCHEDULE"))) unchecked_flag)
+    quiet_flag
+
 -- `--workers N`, which has to be there
 abbrev pub workers_option : Rule
 workers_option =
@@ -99,7 +114,8 @@ unrun_program =
     with_subcommand (with_subcommand bare_program check_command.top) explain_command.top
 
 abbrev pub unthreaded_program : App
-unthreaded_program = with_subcommand unrun_program trace_command.top
+unthreaded_program =
+    with_subcommand (with_subcommand unrun_program trace_command.top) tell_command.top
 
 abbrev pub judging_program : App
 judging_program = with_subcommand unthreaded_program host_command.top
@@ -123,6 +139,11 @@ pub record IsExtent (value : Option Text) (extent : Extent) : Type 0 where
   pub set : value ≡ Some (codes "true") → extent ≡ Each
   pub other : value ≢ Some (codes "true") → extent ≡ First
 
+-- how much is told, by the value of `--quiet`
+pub record IsDetail (value : Option Text) (detail : Detail) : Type 0 where
+  pub set : value ≡ Some (codes "true") → detail ≡ Quiet
+  pub other : value ≢ Some (codes "true") → detail ≡ Whole
+
 -- a subcommand with its matches names a task; a file is explained, or a rule, and that without
 -- `--all`
 abbrev pub NamesTask : Text × List Row → Job → Type 0
@@ -145,6 +166,11 @@ NamesTask found (Trace set schedule verification) =
     (found.0 ≡ codes "trace") × (first_of (codes "FILE") found.1 ≡ Some set.now)
     × (first_of (codes "SCHEDULE") found.1 ≡ Some schedule.now)
     × IsFlag (first_of (codes "unchecked") found.1) verification
+NamesTask found (Tell set schedule verification detail) =
+    (found.0 ≡ codes "tell") × (first_of (codes "FILE") found.1 ≡ Some set.now)
+    × (first_of (codes "SCHEDULE") found.1 ≡ Some schedule.now)
+    × IsFlag (first_of (codes "unchecked") found.1) verification
+    × IsDetail (first_of (codes "quiet") found.1) detail
 NamesTask found (Host set script workers) =
     (found.0 ≡ codes "host") × (first_of (codes "FILE") found.1 ≡ Some set.now)
     × (first_of (codes "SCRIPT") found.1 ≡ Some script.now)

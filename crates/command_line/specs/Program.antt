@@ -10,21 +10,25 @@ use Rattle.drvhost_parts.specs.Device.{MayBeClosed, Supply}
 use Rattle.drvhost_parts.specs.declared.verification.Verification.{Verification}
 use Rattle.drvhost_parts.specs.declared.verification.Verification.TheVariants.{Required}
 use Rattle.drvhost_parts.specs.Ends.{HoldsRun, IsCheckOf, IsExplainedOf, IsHostOf, IsListOf, IsRewriteOf, IsTraceOf}
+use Rattle.drvhost_parts.specs.Told.{IsTellOf}
 use Rattle.command_line.specs.declared.answer.Way.{Way}
-use Rattle.command_line.specs.declared.answer.Way.TheVariants.{BySchedule, ByWorkers}
+use Rattle.command_line.specs.declared.answer.Way.TheVariants.{BySchedule, InWords, ByWorkers}
 use Rattle.command_line.specs.declared.job.Job.{Job}
-use Rattle.command_line.specs.declared.job.Job.TheVariants.{Check, Explain, ExplainRule, List as ListJob, Rewrite, Version, Trace, Host}
+use Rattle.command_line.specs.declared.job.Job.TheVariants.{Check, Explain, ExplainRule, List as ListJob, Rewrite, Version, Trace, Tell, Host}
 use Rattle.command_line.specs.CommandLine.{Names, program, usage}
 use Rattle.command_line.specs.Files.{Has}
 
 -- what a run of a set by an input answers, where these are what their files have
 abbrev pub IsRunBy : Way → Supply → Supply → Answer → Type 0
 IsRunBy (BySchedule verification) set schedule answer = IsTraceOf verification set schedule answer
+IsRunBy (InWords verification detail) set schedule answer =
+    IsTellOf verification detail set schedule answer
 IsRunBy (ByWorkers workers) set script answer = IsHostOf workers set script answer
 
 -- whether the set has to be accepted
 abbrev pub verification_of : Way → Verification
 verification_of (BySchedule verification) = verification
+verification_of (InWords verification detail) = verification
 verification_of (ByWorkers workers) = Required
 
 -- what is right for what the file of a name has, or where it can't be opened: its name is told
@@ -47,6 +51,8 @@ IsJobOf supply (Rewrite set output) answer = IsQuietly (IsRewriteOf (supply set.
 IsJobOf supply Version answer = IsVersion answer
 IsJobOf supply (Trace set schedule verification) answer =
     IsTraceOf verification (supply set.now) (supply schedule.now) answer
+IsJobOf supply (Tell set schedule verification detail) answer =
+    IsTellOf verification detail (supply set.now) (supply schedule.now) answer
 IsJobOf supply (Host set script workers) answer =
     IsHostOf workers (supply set.now) (supply script.now) answer
 
@@ -64,6 +70,8 @@ Opens supply (ListJob set) count = count ≡ 1
 Opens supply (Rewrite set output) count = count ≡ 1
 Opens supply Version count = count ≡ 0
 Opens supply (Trace set schedule verification) count =
+    OpensToTrace verification (supply set.now) count
+Opens supply (Tell set schedule verification detail) count =
     OpensToTrace verification (supply set.now) count
 Opens supply (Host set script workers) count = OpensToTrace Required (supply set.now) count
 
@@ -146,6 +154,8 @@ JobStores (ExplainRule rule) before after old new status = LeavesFiles before af
 JobStores (ListJob set) before after old new status = LeavesFiles before after old new
 JobStores Version before after old new status = LeavesFiles before after old new
 JobStores (Trace set schedule verification) before after old new status =
+    LeavesFiles before after old new
+JobStores (Tell set schedule verification detail) before after old new status =
     LeavesFiles before after old new
 JobStores (Host set script workers) before after old new status = LeavesFiles before after old new
 

@@ -14,6 +14,7 @@ use drvhost_parts::host::host;
 use drvhost_parts::list::list;
 use drvhost_parts::rewriting::rewrite;
 use drvhost_parts::rule::explain_rule;
+use drvhost_parts::tell::{Detail, tell};
 use drvhost_parts::trace::trace;
 use drvhost_parts::unopened::tell_unopened;
 use drvhost_parts::verification::Verification;
@@ -156,6 +157,15 @@ fn perform<F: Files, O: Sink, E: Sink, R: Threads + Wait + Sync>(
             verification,
         } => {
             let way = Way::BySchedule(verification);
+            run_files(rt, alloc, set, schedule, way, files, out, err)
+        }
+        Job::Tell {
+            set,
+            schedule,
+            verification,
+            detail,
+        } => {
+            let way = Way::InWords(verification, detail);
             run_files(rt, alloc, set, schedule, way, files, out, err)
         }
         Job::Host {
@@ -309,6 +319,8 @@ fn rewrite_file<F: Files, E: Sink>(
 pub(crate) enum Way {
     /// By the events of a schedule.
     BySchedule(Verification),
+    /// By the events of a schedule, and it is told in words.
+    InWords(Verification, Detail),
     /// By workers that serve the commands of a script.
     ByWorkers(Workers),
 }
@@ -386,6 +398,9 @@ fn run<S: Source, P: Source, O: Sink, E: Sink, R: Threads + Wait + Sync>(
 {
     match way {
         Way::BySchedule(verification) => trace(alloc, set, input, verification, out, err),
+        Way::InWords(verification, detail) => {
+            tell(alloc, set, input, verification, detail, out, err)
+        }
         Way::ByWorkers(workers) => {
             let count = workers.count();
             host(rt, alloc, set, input, count, &Open, out, err)

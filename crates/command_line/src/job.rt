@@ -6,7 +6,7 @@ ghost use Rattle.clap.specs.declared.builder.command.Command.TheViews.{out-Comma
 ghost use Rattle.drvhost_parts.specs.Device.{CanCount, Says};
 ghost use Rattle.interleave.specs.Line.{number_within};
 ghost use Rattle.model.specs.declared.limits.TheConstants.{MAX_THREADS};
-ghost use Rattle.command_line.specs.CommandLine.{all_flag, check_command, explain_command, file_argument, host_command, job_fault_status, job_fault_told, judging_program, list_command, program, program_of_files, reading_program, rewrite_command, rule_option, text_told, trace_command, unchecked_flag, unrun_program, unthreaded_program, usage, version_command, workers_option, IsExtent, IsFlag, Names, NamesTask};
+ghost use Rattle.command_line.specs.CommandLine.{all_flag, check_command, explain_command, file_argument, host_command, job_fault_status, job_fault_told, judging_program, list_command, program, program_of_files, quiet_flag, reading_program, rewrite_command, rule_option, tell_command, text_told, trace_command, unchecked_flag, unrun_program, unthreaded_program, usage, version_command, workers_option, IsDetail, IsExtent, IsFlag, Names, NamesTask};
 
 use clap::builder::ValueParser;
 use clap::error::ErrorKind;
@@ -14,6 +14,7 @@ use clap::{Arg, ArgAction, ArgMatches, Command};
 use drvhost_parts::device::Sink;
 use drvhost_parts::explaining::Extent;
 use drvhost_parts::fault::say;
+use drvhost_parts::tell::Detail;
 use drvhost_parts::verification::Verification;
 use interleave::read::number_within;
 use model::abs::Rule;
@@ -70,6 +71,13 @@ pub enum Job<'a> {
         set: &'a str,
         schedule: &'a str,
         verification: Verification,
+    },
+    /// `tell FILE SCHEDULE [--unchecked] [--quiet]`
+    Tell {
+        set: &'a str,
+        schedule: &'a str,
+        verification: Verification,
+        detail: Detail,
     },
     /// `host FILE SCRIPT --workers N`
     Host {
@@ -264,8 +272,9 @@ fn unthreaded_program<'a>(alloc: Global) -> Result<Command<'a>, AllocError>
     ensures { IfOk result (λ command. app_of command ≡ unthreaded_program) }
 {
     let trace = trace_command(alloc)?;
+    let tell = tell_command(alloc)?;
     let program = unrun_program(alloc)?;
-    program.subcommand(trace)
+    program.subcommand(trace)?.subcommand(tell)
 }
 
 /// The part of that which runs nothing.
@@ -342,6 +351,20 @@ fn trace_command<'a>(alloc: Global) -> Result<Command<'a>, AllocError>
     command.arg(set)?.arg(schedule)?.arg(unchecked)
 }
 
+fn tell_command<'a>(alloc: Global) -> Result<Command<'a>, AllocError>
+    ensures app { IfOk result (λ command. app_of command ≡ tell_command) }
+    ensures local { IfOk result (λ command. (fields_of command).has_globals ≡ false) }
+{
+    let set = file(alloc, "FILE", SET);
+    let schedule = file(alloc, "SCHEDULE", "The threads and the events");
+    let unchecked = unchecked_flag(alloc);
+    let quiet = quiet_flag(alloc);
+    let command = Command::new(alloc, "tell").about(
+        "Runs a driver set by a schedule, and tells in words what happens and what is left",
+    );
+    command.arg(set)?.arg(schedule)?.arg(unchecked)?.arg(quiet)
+}
+
 fn host_command<'a>(alloc: Global) -> Result<Command<'a>, AllocError>
     ensures app { IfOk result (λ command. app_of command ≡ host_command) }
     ensures local { IfOk result (λ command. (fields_of command).has_globals ≡ false) }
@@ -398,6 +421,17 @@ fn unchecked_flag<'a>(alloc: Global) -> Arg<'a>
         .help("Runs the set whether or not it is accepted")
 }
 
+/// `--quiet`.
+fn quiet_flag<'a>(alloc: Global) -> Arg<'a>
+    ensures rule { rule_of result ≡ quiet_flag }
+    ensures local { result.global ≡ false }
+{
+    Arg::new(alloc, "quiet")
+        .long("quiet")
+        .action(ArgAction::SetTrue)
+        .help("Leaves out events that only step or find nothing to do")
+}
+
 /// `--workers N`.
 fn workers_option<'a>(alloc: Global) -> Arg<'a>
     ensures rule { rule_of result ≡ workers_option }
@@ -421,6 +455,7 @@ fn named<'a>(matches: &ArgMatches<'a>) -> Option<Job<'a>>
         "check" => check_named(inner),
         "explain" => explain_named(inner),
         "trace" => trace_named(inner),
+        "tell" => tell_named(inner),
         "host" => host_named(inner),
         "list" => list_named(inner),
         "rewrite" => rewrite_named(inner),
@@ -511,6 +546,23 @@ fn trace_named<'a>(matches: &ArgMatches<'a>) -> Option<Job<'a>>
     })
 }
 
+fn tell_named<'a>(matches: &ArgMatches<'a>) -> Option<Job<'a>>
+    ensures some { IfSome result (NamesTask (codes "tell", rows_of (found_of matches.now))) }
+    ensures none { IfNone result
+        ((job : Job) → NamesTask (codes "tell", rows_of (found_of matches.now)) job → ⊥) }
+{
+    let set = argument(matches, "FILE")?;
+    let schedule = argument(matches, "SCHEDULE")?;
+    let verification = flagged(matches);
+    let detail = detail_asked(matches);
+    Some(Job::Tell {
+        set,
+        schedule,
+        verification,
+        detail,
+    })
+}
+
 fn host_named<'a>(matches: &ArgMatches<'a>) -> Option<Job<'a>>
     ensures some { IfSome result (NamesTask (codes "host", rows_of (found_of matches.now))) }
     ensures none { IfNone result
@@ -541,6 +593,16 @@ fn extent_asked(matches: &ArgMatches<'_>) -> Extent
     match argument(matches, "all") {
         Some("true") => Extent::Each,
         _ => Extent::First,
+    }
+}
+
+/// How much is to be told.
+fn detail_asked(matches: &ArgMatches<'_>) -> Detail
+    ensures { IsDetail (first_of (codes "quiet") (rows_of (found_of matches.now))) result }
+{
+    match argument(matches, "quiet") {
+        Some("true") => Detail::Quiet,
+        _ => Detail::Whole,
     }
 }
 

@@ -22,7 +22,7 @@ use Rattle.drvhost_parts.proofs.Judging.{Certified, certified_all, certified_mor
 use Rattle.drvhost_parts.proofs.Writing.{adds_none}
 
 -- the run of one event more
-run_more : (set : Set) (r : Run) (events : List Event) (e : Event)
+pub run_more : (set : Set) (r : Run) (events : List Event) (e : Event)
     → run_from set r (events ++ e ∷ []) ≡ (step set (run_from set r events) e).run
 run_more set r [] e = refl
 run_more set r (x ∷ events) e = run_more set (step set r x).run events e

@@ -9,3 +9,4 @@ pub mod Explained
 pub mod Files
 pub mod Wording
 pub mod Images
+pub mod ToldRuns

@@ -66,7 +66,7 @@ pub(crate) fn follow<M: Machine, O: Sink>(
 /// The next event, where nothing is left of a run, and it is one that happens once: so are most
 /// events of a schedule with a line for each.
 #[inline]
-fn next_single(rest: &Option<Repeated>, upcoming: &mut Upcoming<'_>) -> Option<Event>
+pub(crate) fn next_single(rest: &Option<Repeated>, upcoming: &mut Upcoming<'_>) -> Option<Event>
     ensures { MatchOption result (upcoming.new ≡ upcoming.old) (λ event.
         awaited rest.now upcoming.old ≡ event ∷ awaited rest.now upcoming.new) }
 {
@@ -78,7 +78,7 @@ fn next_single(rest: &Option<Repeated>, upcoming: &mut Upcoming<'_>) -> Option<E
 
 /// The events that come next: what is left of a run, or the next one.
 #[inline]
-fn next_run(rest: Option<Repeated>, upcoming: &mut Upcoming<'_>) -> Option<Repeated>
+pub(crate) fn next_run(rest: Option<Repeated>, upcoming: &mut Upcoming<'_>) -> Option<Repeated>
     requires { IfSome rest (λ run. 1 ≤ run.count) }
     ensures { MatchOption result (awaited rest upcoming.old ≡ []) (λ run. (1 ≤ run.count)
         × (awaited rest upcoming.old ≡ replicate run.count run.event ++ upcoming.new)) }
@@ -91,7 +91,7 @@ fn next_run(rest: Option<Repeated>, upcoming: &mut Upcoming<'_>) -> Option<Repea
 
 /// What is left of a run, where this event is left to happen so often.
 #[inline]
-fn rest_of(event: Event, left: usize) -> Option<Repeated>
+pub(crate) fn rest_of(event: Event, left: usize) -> Option<Repeated>
     ensures events { (later : List Event)
         → awaited result later ≡ replicate left event ++ later }
     ensures some { IfSome result (λ run. 1 ≤ run.count) }
@@ -184,7 +184,7 @@ fn add_words<O: Sink>(
 
 /// Whether the run ends with this reply: a bug check, or a wrong operand.
 #[inline]
-fn is_last(reply: &Reply) -> bool
+pub(crate) fn is_last(reply: &Reply) -> bool
     ensures { result ≡ is_last reply.now }
 {
     matches!(reply, Reply::Bug(_) | Reply::Wrong(_))

@@ -16,6 +16,8 @@ pub mod rewriting;
 pub mod rule;
 mod running;
 mod task;
+pub mod tell;
+mod telling;
 pub mod trace;
 mod transfer;
 pub mod unopened;

@@ -94,7 +94,7 @@ fn told_of<R: Threads + Wait + Sync>(
 #[test]
 fn wrong_words(rt: HostRuntime) {
     let alloc = rt.alloc();
-    let all: [&[&str]; 19] = [
+    let all: [&[&str]; 21] = [
         &[],
         &["drvhost", "explain", "--all"],
         &["drvhost", "explain", "--rule"],
@@ -105,6 +105,8 @@ fn wrong_words(rt: HostRuntime) {
         &["drvhost", "check"],
         &["drvhost", "check", "good.drv", "good.sched"],
         &["drvhost", "list"],
+        &["drvhost", "tell", "good.drv"],
+        &["drvhost", "trace", "good.drv", "good.sched", "--quiet"],
         &["drvhost", "rewrite"],
         &["drvhost", "rewrite", "good.drv"],
         &["drvhost", "rewrite", "good.drv", "good.image", "good.image"],

@@ -3,6 +3,7 @@
 use command_line::job::{Job, JobFault, refuse_words};
 use drvhost_parts::device::Writer;
 use drvhost_parts::explaining::Extent;
+use drvhost_parts::tell::Detail;
 use drvhost_parts::verification::Verification;
 use model::abs::Rule;
 use std::alloc::Global;
@@ -50,7 +51,26 @@ fn tasks(rt: HostRuntime) -> Result<(), Fail> {
             )
         );
     }
+    let job = Job::of(alloc, &["tell", "a", "b"])?;
+    assert!(rt; is_to_tell(&job, Verification::Required, Detail::Whole));
+    let job = Job::of(alloc, &["tell", "a", "--quiet", "b"])?;
+    assert!(rt; is_to_tell(&job, Verification::Required, Detail::Quiet));
+    let job = Job::of(alloc, &["tell", "--unchecked", "a", "b", "--quiet"])?;
+    assert!(rt; is_to_tell(&job, Verification::Skipped, Detail::Quiet));
     Ok(())
+}
+
+/// Whether a job is to tell a run of the set of a file by the schedule of another one so.
+fn is_to_tell(job: &Job<'_>, run: Verification, told: Detail) -> bool {
+    match *job {
+        Job::Tell {
+            set,
+            schedule,
+            verification,
+            detail,
+        } => set == "a" && schedule == "b" && verification == run && detail == told,
+        _ => false,
+    }
 }
 
 /// Whether a job is to explain the set of a file so.

@@ -11,6 +11,7 @@ use drvhost_parts::explaining::{Extent, explain};
 use drvhost_parts::host::host;
 use drvhost_parts::list::list;
 use drvhost_parts::rewriting::rewrite;
+use drvhost_parts::tell::{Detail, tell};
 use drvhost_parts::trace::trace;
 use drvhost_parts::verification::Verification;
 use drvhost_parts::version::version;
@@ -55,6 +56,19 @@ pub(crate) const SCHEDULE: &[u8] = b"threads 1\nissue 0 0 READ 7\nstep 0 4\n";
 pub(crate) const LINES: &[u8] =
     b"0 started 0\n1 stepped\n2 topped 0 0x00000000 0\n3 finished\n4 idle\n";
 
+/// What `tell` writes in quiet of the run of `ONE_READ`.
+const TOLD: &[u8] = b"\
+      0 started 0               0  -                                           \
+      packet 0: a READ with 7 is issued to v0\n\
+      2 topped 0 0x00000000 0   0  IoCompleteRequest                           \
+      packet 0: tops out with STATUS_SUCCESS, information 0\n\
+      3 finished                0  f0 5: ret SUCCESS                           \
+      STATUS_SUCCESS\n\
+      \n\
+      audit\n\
+      packet 0 topped out with STATUS_SUCCESS, information 0\n\
+      nothing is amiss\n";
+
 const SCRIPT: &[u8] = b"request 0 READ 0\ninterrupt 0\n";
 
 const SERVED: &[u8] = b"0 topped 0 0x00000000 0\n1 stepped\nhistory 17 agrees\n";
@@ -77,6 +91,8 @@ enum Job {
     Rewrite,
     /// A schedule is run.
     Trace(&'static [u8], Verification),
+    /// And told in words.
+    Tell(&'static [u8], Verification, Detail),
     /// A script is served by one worker.
     Host(&'static [u8]),
 }
@@ -224,7 +240,7 @@ static CASES: [Case; 15] = [
 ];
 
 /// Runs of schedules, and of scripts.
-static RUNS: [Case; 7] = [
+static RUNS: [Case; 9] = [
     Case {
         set: TEXT,
         job: Job::Trace(SCHEDULE, Verification::Required),
@@ -256,6 +272,20 @@ static RUNS: [Case; 7] = [
     Case {
         set: &ONE_READ,
         job: Job::Trace(b"threads 65\n", Verification::Required),
+        status: 2,
+        lines: b"",
+        told: b"schedule fault 3 OutOfRange line 1\n",
+    },
+    Case {
+        set: &ONE_READ,
+        job: Job::Tell(SCHEDULE, Verification::Required, Detail::Quiet),
+        status: 0,
+        lines: TOLD,
+        told: b"",
+    },
+    Case {
+        set: TEXT,
+        job: Job::Tell(b"threads 65\n", Verification::Skipped, Detail::Whole),
         status: 2,
         lines: b"",
         told: b"schedule fault 3 OutOfRange line 1\n",
@@ -298,6 +328,10 @@ fn answer<R: Threads + Wait + Sync>(
         Job::Trace(schedule, verification) => {
             let mut schedule = Slow::new(schedule, devices.step, devices.orders);
             trace(alloc, set, &mut schedule, verification, out, err)
+        }
+        Job::Tell(schedule, verification, detail) => {
+            let mut schedule = Slow::new(schedule, devices.step, devices.orders);
+            tell(alloc, set, &mut schedule, verification, detail, out, err)
         }
         Job::Host(script) => {
             let mut script = Slow::new(script, devices.step, devices.orders);
@@ -381,7 +415,9 @@ fn each_read_of_the_set_of_a_run_fails_in_turn(rt: HostRuntime) {
 /// How many calls read the orders of a case.
 fn calls_of_orders(case: &Case) -> usize {
     match case.job {
-        Job::Trace(orders, _) | Job::Host(orders) => orders.len().saturating_add(1),
+        Job::Trace(orders, _) | Job::Tell(orders, _, _) | Job::Host(orders) => {
+            orders.len().saturating_add(1)
+        }
         Job::Check | Job::Explain(_) | Job::List | Job::Rewrite => 0,
     }
 }

@@ -74,6 +74,19 @@ returns-in-Trace-clause-stores g c =
 pub returns-in-Trace-clause-opened : goal.returns-in-Trace-clause-opened
 returns-in-Trace-clause-opened g c = rw c.in-Trace.is c.run_files.ensures.opened
 
+pub returns-in-Tell-clause-answers : goal.returns-in-Tell-clause-answers
+returns-in-Tell-clause-answers g c =
+    rw c.in-Tell.is
+    (answers_beside _ _ _ _ _ _ _ _ _ _ _ c.run_files-in-Tell.ensures.answers c.run_files-in-Tell.ensures.unwritten)
+
+pub returns-in-Tell-clause-stores : goal.returns-in-Tell-clause-stores
+returns-in-Tell-clause-stores g c =
+    rw c.in-Tell.is
+    (record { supply = c.run_files-in-Tell.ensures.supply; none = c.run_files-in-Tell.ensures.created })
+
+pub returns-in-Tell-clause-opened : goal.returns-in-Tell-clause-opened
+returns-in-Tell-clause-opened g c = rw c.in-Tell.is c.run_files-in-Tell.ensures.opened
+
 pub returns-in-Host-clause-answers : goal.returns-in-Host-clause-answers
 returns-in-Host-clause-answers g c =
     rw c.in-Host.is

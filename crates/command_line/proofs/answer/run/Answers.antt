@@ -3,5 +3,8 @@ use Rattle.command_line.proofs.answer.run.Goals as goal
 pub returns-in-BySchedule : goal.returns-in-BySchedule
 returns-in-BySchedule g c = rw c.in-BySchedule.is c.trace.ensures
 
+pub returns-in-InWords : goal.returns-in-InWords
+returns-in-InWords g c = rw c.in-InWords.is c.tell.ensures
+
 pub returns-in-ByWorkers : goal.returns-in-ByWorkers
 returns-in-ByWorkers g c = rw (c.in-ByWorkers.is, ← c.count-count.ensures.count) c.host.ensures

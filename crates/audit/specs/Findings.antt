@@ -1,0 +1,38 @@
+-- All that an audit finds amiss: packets that are lost, locks that are left behind, and threads that
+-- wait in a ring.
+use Rattle.std.specs.Prelude.{ℕ, ◌≡◌, ◌++◌, ◌&&◌, not, zero, suc, Bool, List, [], ◌∷◌, length, nat_eq, if◌then◌else◌}
+use Rattle.model.specs.declared.limits.TheConstants.{MAX_THREADS}
+use Rattle.model.specs.Set.{Set}
+use Rattle.model.specs.World.{World}
+use Rattle.audit.specs.declared.findings.Findings.{Findings}
+use Rattle.audit.specs.declared.left.LeftLock.{LeftLock}
+use Rattle.audit.specs.Left.{left_locks}
+use Rattle.audit.specs.Naming.{lost_packets}
+use Rattle.audit.specs.Ring.{is_in_ring}
+
+-- a thread, if it waits in a ring; those of so many; and all of them: no run has more threads
+abbrev pub ring_at : Set → World → ℕ → List ℕ
+ring_at set w t = if is_in_ring set w t then t ∷ [] else []
+
+abbrev pub rings_below : Set → World → ℕ → List ℕ
+rings_below set w zero = []
+rings_below set w (suc t) = rings_below set w t ++ ring_at set w t
+
+abbrev pub ringed_threads : Set → World → List ℕ
+ringed_threads set w = rings_below set w MAX_THREADS
+
+-- one of these lists isn't empty
+abbrev pub any_of : List ℕ → List LeftLock → List ℕ → Bool
+any_of lost left ringed =
+    not (nat_eq (length lost) 0 && nat_eq (length left) 0 && nat_eq (length ringed) 0)
+
+-- something is amiss
+abbrev pub has_findings : Set → World → Bool
+has_findings set w =
+    any_of (lost_packets w) (left_locks w (length set.devices)) (ringed_threads set w)
+
+-- these are all that there is to find
+pub record AreFindings (set : Set) (w : World) (found : Findings) : Type 0 where
+  pub lost : found.lost.items ≡ lost_packets w
+  pub left : found.left.items ≡ left_locks w (length set.devices)
+  pub ringed : found.ringed.items ≡ ringed_threads set w

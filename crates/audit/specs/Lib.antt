@@ -1,0 +1,8 @@
+pub mod Findings
+pub mod Laws
+pub mod Left
+pub mod Naming
+pub mod Pending
+pub mod Refusal
+pub mod Ring
+pub mod Sites

@@ -1,0 +1,69 @@
+//! All that an audit finds amiss.
+
+ghost use Rattle.std.specs.Prelude.{◌≡◌, ◌++◌, IfOk, OnOk};
+ghost use Rattle.audit.specs.Findings.{AreFindings, any_of, ring_at, ringed_threads};
+
+use crate::left::{LeftLock, left_locks};
+use crate::naming::lost_packets;
+use crate::ring::is_in_ring;
+use checked::Checked;
+use model::limits::MAX_THREADS;
+use std::alloc::{AllocError, Global};
+
+/// What is amiss in a machine's world.
+#[derive(Drop)]
+pub struct Findings {
+    /// The live packets that no place names.
+    pub lost: Vec<u64>,
+    /// The locks that idle threads own.
+    pub left: Vec<LeftLock>,
+    /// The threads that wait in a ring.
+    pub ringed: Vec<u8>,
+}
+
+impl Findings {
+    /// All that there is to find.
+    ///
+    /// # Errors
+    ///
+    /// When memory runs out.
+    pub fn of(alloc: Global, machine: &Checked) -> Result<Findings, AllocError>
+        ensures { IfOk result (AreFindings machine.now.set machine.now.world) }
+    {
+        Ok(Findings {
+            lost: lost_packets(alloc, machine)?,
+            left: left_locks(alloc, machine)?,
+            ringed: ringed_threads(alloc, machine)?,
+        })
+    }
+
+    /// Whether anything is amiss.
+    pub fn any(&self) -> bool
+        ensures { result ≡ any_of self.now.lost.items self.now.left.items self.now.ringed.items }
+    {
+        !(self.lost.is_empty() && self.left.is_empty() && self.ringed.is_empty())
+    }
+}
+
+/// Adds a thread, if it waits in a ring.
+fn add_ringed(ringed: &mut Vec<u8>, machine: &Checked, thread: u8) -> Result<(), AllocError>
+    ensures { OnOk result (ringed.new.items
+        ≡ ringed.old.items ++ ring_at machine.now.set machine.now.world thread) }
+{
+    if is_in_ring(machine, thread) {
+        ringed.push(thread)?;
+    }
+    Ok(())
+}
+
+/// The threads that wait in a ring, the lowest number first.
+fn ringed_threads(alloc: Global, machine: &Checked) -> Result<Vec<u8>, AllocError>
+    ensures { IfOk result (λ ringed. ringed.items
+        ≡ ringed_threads machine.now.set machine.now.world) }
+{
+    let mut ringed = Vec::new(alloc);
+    for thread in 0..MAX_THREADS as u8 {
+        add_ringed(&mut ringed, machine, thread)?;
+    }
+    Ok(ringed)
+}

@@ -1,0 +1,128 @@
+-- What `tell` answers: the trace of a run with words behind the reply of each event, and its audit.
+use Rattle.std.specs.Prelude.{ℕ, ⊤, ◌≡◌, ◌+◌, ◌-◌, ◌++◌, ◌||◌, Bool, true, false, if◌then◌else◌, List, [], ◌∷◌, codes, length, take, Result, Ok, Err}
+use Rattle.std.specs.List.{list_any}
+use Rattle.audit.specs.Findings.{has_findings}
+use Rattle.interleave.specs.declared.schedule.Schedule.{Schedule}
+use Rattle.interleave.specs.declared.schedule.ScheduleFault.{ScheduleFault}
+use Rattle.interleave.specs.Listing.{schedule_in}
+use Rattle.model.specs.declared.event.Event.{Event}
+use Rattle.model.specs.declared.event.Reply.{Reply}
+use Rattle.model.specs.declared.event.Reply.TheVariants.{Started, Stepped, Finished, Topped, Waited, Idle, Refused, Bug, Wrong}
+use Rattle.model.specs.Run.{Run, begun, step}
+use Rattle.model.specs.Set.{Set}
+use Rattle.model.specs.World.{World}
+use Rattle.report.specs.Fault.{schedule_fault_line}
+use Rattle.report.specs.Reply.{reply_line}
+use Rattle.drvhost_parts.specs.declared.fault.End.{End}
+use Rattle.drvhost_parts.specs.declared.fault.End.TheVariants.{Complete, Stopped}
+use Rattle.drvhost_parts.specs.declared.fault.Fault.{Fault}
+use Rattle.drvhost_parts.specs.declared.fault.Fault.TheVariants.{Read, Write, Memory, Text, Image, Schedule as OfSchedule, Script as OfScript}
+use Rattle.drvhost_parts.specs.declared.tell.Detail.{Detail}
+use Rattle.drvhost_parts.specs.declared.tell.Detail.TheVariants.{Whole, Quiet}
+use Rattle.drvhost_parts.specs.declared.telling.Told.{Told}
+use Rattle.drvhost_parts.specs.declared.verification.Verification.{Verification}
+use Rattle.drvhost_parts.specs.Answer.{Answer, IsTraced, ended, faulty, is_last, replies}
+use Rattle.drvhost_parts.specs.Device.{Holds, Supply}
+use Rattle.drvhost_parts.specs.Ends.{IsOfSupply}
+
+-- the line of the trace for an event, without its end: its number, and what the run answered
+abbrev pub reply_head : ℕ → Reply → List ℕ
+reply_head number reply =
+    take (length (reply_line number reply) - 1) (reply_line number reply)
+
+-- a reply that only says that a step was made, or that there was nothing to do
+abbrev pub is_quiet : Reply → Bool
+is_quiet Stepped = true
+is_quiet Idle = true
+is_quiet (Started packet) = false
+is_quiet Finished = false
+is_quiet (Topped packet status info) = false
+is_quiet Waited = false
+is_quiet Refused = false
+is_quiet (Bug bug) = false
+is_quiet (Wrong place) = false
+
+-- whether no line is told of it
+abbrev pub is_left_out : Detail → Reply → Bool
+is_left_out Whole reply = false
+is_left_out Quiet reply = is_quiet reply
+
+-- what is told of an event, with these words: a line, or nothing
+abbrev pub told_line : Detail → ℕ → Reply → List ℕ → List ℕ
+told_line detail number reply words =
+    if is_left_out detail reply then [] else reply_head number reply ++ (words ++ 10 ∷ [])
+
+-- what is told of events with these replies, the first of which has this number: of each a line
+-- with some words, or nothing
+abbrev pub IsTold : Detail → ℕ → List Reply → List ℕ → Type 0
+IsTold detail number [] text = text ≡ []
+IsTold detail number (reply ∷ rest) text =
+    (words : List ℕ) × ((later : List ℕ)
+    × (text ≡ told_line detail number reply words ++ later)
+    × IsTold detail (number + 1) rest later)
+
+-- a run after these events, or after the first of them that stops it
+abbrev pub run_to_end : Set → Run → List Event → Run
+run_to_end set r [] = r
+run_to_end set r (e ∷ events) =
+    if is_last (step set r e).reply then (step set r e).run
+    else run_to_end set (step set r e).run events
+
+-- the replies to the events of a schedule, and the world that they leave
+abbrev pub replies_by : Set → ℕ → List Event → List Reply
+replies_by set threads events = replies set (begun set threads) events
+
+abbrev pub world_by : Set → ℕ → List Event → World
+world_by set threads events = (run_to_end set (begun set threads) events).world
+
+-- how a run that is told ends: stopped also where its audit finds anything amiss
+abbrev pub told_end : Set → ℕ → List Event → End
+told_end set threads events =
+    if list_any is_last (replies_by set threads events)
+    || has_findings set (world_by set threads events) then Stopped else Complete
+
+-- a run by a schedule is told: the lines of its events, and then some words on its audit
+pub record IsRunTold (detail : Detail) (set : Set) (threads : ℕ) (events : List Event)
+    (answer : Answer) : Type 0 where
+  pub lines : List ℕ
+  pub words : List ℕ
+  pub told : IsTold detail 0 (replies_by set threads events) lines
+  pub is : answer ≡ ended (told_end set threads events) (lines ++ (codes "\naudit\n" ++ words))
+
+-- or the fault of the schedule is
+abbrev pub IsScheduleTold : Detail → Set → Result Schedule ScheduleFault → Answer → Type 0
+IsScheduleTold detail set (Ok schedule) answer =
+    IsRunTold detail set schedule.threads schedule.events answer
+IsScheduleTold detail set (Err fault) answer = answer ≡ faulty (schedule_fault_line fault)
+
+-- what is told of a run of a set by the schedule that a source has
+abbrev pub IsToldRunOf : Detail → Supply → Set → Answer → Type 0
+IsToldRunOf detail supply set answer =
+    (schedule : List ℕ) × Holds supply schedule
+    × IsScheduleTold detail set (schedule_in schedule) answer
+
+-- what `tell` answers for what its sources have: it reads the schedule's for a run alone
+abbrev pub IsTellOf : Verification → Detail → Supply → Supply → Answer → Type 0
+IsTellOf verification detail supply schedule answer =
+    IsOfSupply (IsTraced verification (IsToldRunOf detail schedule)) supply answer
+
+-- a text was made, and with the way that the job ends it is a right answer; or an input is rightly
+-- told as faulty, or a read failed or memory ran out
+abbrev pub Tells : (Answer → Type 0) → Result Told Fault → Type 0
+Tells Right (Ok told) = Right (ended told.end told.text.items)
+Tells Right (Err (OfSchedule fault)) = Right (faulty (schedule_fault_line fault))
+Tells Right (Err Read) = ⊤
+Tells Right (Err Memory) = ⊤
+Tells Right (Err Write) = ⊥
+Tells Right (Err (Text fault)) = ⊥
+Tells Right (Err (Image fault)) = ⊥
+Tells Right (Err (OfScript fault)) = ⊥
+
+-- the events of a run over so many threads were told: what they left in a machine's set and world,
+-- whether one of them stopped the run, and the text
+pub record HasTold (detail : Detail) (set : Set) (threads : ℕ) (events : List Event) (after : Set)
+    (world : World) (stopped : Bool) (text : List ℕ) : Type 0 where
+  pub same : after ≡ set
+  pub told : IsTold detail 0 (replies_by set threads events) text
+  pub last : list_any is_last (replies_by set threads events) ≡ stopped
+  pub left : world ≡ world_by set threads events

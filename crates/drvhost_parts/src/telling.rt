@@ -1,0 +1,239 @@
+//! Runs that are told in words.
+
+ghost use Rattle.std.specs.Prelude.{◌≡◌, ◌+◌, ◌++◌, ◌∷◌, ◌<◌, ◌≤◌, ◌^◌, ◌||◌, List, ℕ, [], IfOk, IfSome, MatchOption, OnOk, codes, if◌then◌else◌};
+ghost use Rattle.interleave.specs.Listing.{IsWithinLimits};
+ghost use Rattle.model.specs.Machine.{AppliesWhole, ShowsWhole};
+ghost use Rattle.drvhost_parts.specs.Answer.{ended};
+ghost use Rattle.drvhost_parts.specs.Repeats.{awaited};
+ghost use Rattle.drvhost_parts.specs.Told.{HasTold, IsRunTold, is_left_out, reply_head, told_line};
+
+use crate::fault::End;
+use crate::follow::{is_last, next_run, next_single, rest_of};
+use crate::tell::Detail;
+use audit::findings::Findings;
+use checked::Checked;
+use interleave::events::Upcoming;
+use interleave::read::Repeated;
+use interleave::schedule::Schedule;
+use model::event::{Event, Reply};
+use report::event_number::EventNumber;
+use report::lines::Lines;
+use std::alloc::{AllocError, Global};
+use told::{Moment, Teller};
+
+/// What stands before the words of the audit.
+const AUDIT: &[u8] = b"\naudit\n";
+
+/// A text, and how the job ends of which it tells.
+#[derive(Drop)]
+pub(crate) struct Told {
+    pub(crate) text: Vec<u8>,
+    pub(crate) end: End,
+}
+
+/// Tells the run of a machine by a schedule, up to an event that stops it, and its audit: with the
+/// names and the lines of a text that names its set.
+pub(crate) fn tell_run(
+    alloc: Global,
+    source: &[u8],
+    machine: &mut Checked,
+    schedule: &Schedule,
+    detail: Detail,
+    lines: &mut Lines,
+) -> Result<Told, AllocError>
+    requires begun { ShowsWhole machine.old schedule.now.threads [] }
+    requires limits { IsWithinLimits schedule.now }
+    ensures { IfOk result (λ told. IsRunTold detail machine.old.set schedule.now.threads
+        schedule.now.events (ended told.end told.text.items)) }
+{
+    let mut teller = Teller::of(alloc, source)?;
+    let mut text = Vec::new(alloc);
+    let stopped = tell_events(&mut teller, machine, schedule, detail, lines, &mut text)?;
+    let found = Findings::of(alloc, machine)?;
+    teller.tell_audit(alloc, machine, &found)?;
+    add_audit(teller.words(), &mut text)?;
+    Ok(Told {
+        text,
+        end: end_of(stopped, found.any()),
+    })
+}
+
+/// How a run ends that has stopped or not, and of which something was found amiss or not.
+fn end_of(stopped: bool, amiss: bool) -> End
+    ensures { result ≡ (if stopped || amiss then End.Stopped else End.Complete) }
+{
+    if stopped || amiss {
+        End::Stopped
+    } else {
+        End::Complete
+    }
+}
+
+/// Tells the events of a schedule, up to one that stops the run, and answers whether one did.
+fn tell_events(
+    teller: &mut Teller<'_>,
+    machine: &mut Checked,
+    schedule: &Schedule,
+    detail: Detail,
+    lines: &mut Lines,
+    text: &mut Vec<u8>,
+) -> Result<bool, AllocError>
+    requires begun { ShowsWhole machine.old schedule.now.threads [] }
+    requires limits { IsWithinLimits schedule.now }
+    requires empty { text.old.items ≡ [] }
+    ensures { IfOk result (λ stopped. HasTold detail machine.old.set schedule.now.threads
+        schedule.now.events machine.new.set machine.new.world stopped text.new.items) }
+{
+    let mut number = EventNumber::first();
+    let mut upcoming = schedule.events.upcoming();
+    let mut rest = None;
+    while let Some(next) = next_event(rest, &mut upcoming) {
+        let reply = tell_event(
+            teller,
+            machine,
+            &mut number,
+            &next.event,
+            detail,
+            lines,
+            text,
+        )?;
+        if is_last(&reply) {
+            return Ok(true);
+        }
+        rest = next.rest;
+    }
+    Ok(false)
+}
+
+/// An event that comes next, and what is left of a run of equal ones behind it.
+#[derive(Clone, Copy)]
+struct Next {
+    event: Event,
+    rest: Option<Repeated>,
+}
+
+/// The event that comes next, if there is one.
+fn next_event(rest: Option<Repeated>, upcoming: &mut Upcoming<'_>) -> Option<Next>
+    requires { IfSome rest (λ run. 1 ≤ run.count) }
+    ensures next { MatchOption result (awaited rest upcoming.old ≡ []) (λ next.
+        awaited rest upcoming.old ≡ next.event ∷ awaited next.rest upcoming.new) }
+    ensures some { IfSome result (λ next. IfSome next.rest (λ run. 1 ≤ run.count)) }
+{
+    if let Some(event) = next_single(&rest, upcoming) {
+        return Some(Next { event, rest });
+    }
+    let Repeated { event, count } = next_run(rest, upcoming)?;
+    Some(Next {
+        event,
+        rest: rest_of(event, count - 1),
+    })
+}
+
+/// Runs an event, and adds what is told of it.
+fn tell_event(
+    teller: &mut Teller<'_>,
+    machine: &mut Checked,
+    number: &mut EventNumber,
+    event: &Event,
+    detail: Detail,
+    lines: &mut Lines,
+    text: &mut Vec<u8>,
+) -> Result<Reply, AllocError>
+    requires { number.old + 1 < 2 ^ 64 }
+    ensures number { OnOk result (number.new ≡ number.old + 1) }
+    ensures applied { IfOk result (λ reply. AppliesWhole machine.old event.now machine.new reply) }
+    ensures told { IfOk result (λ reply. (words : List ℕ) × (text.new.items
+        ≡ text.old.items ++ told_line detail number.old reply words)) }
+{
+    let moment = Moment::before(machine, event);
+    let reply = machine.apply(event);
+    teller.note(&moment, &reply)?;
+    let happened = Happened {
+        event: *event,
+        moment,
+        reply,
+    };
+    add_event(teller, machine, number, &happened, detail, lines, text)?;
+    number.advance();
+    Ok(reply)
+}
+
+/// An event that has happened, and what is told of it as it was before.
+#[derive(Clone, Copy)]
+struct Happened {
+    event: Event,
+    moment: Moment,
+    reply: Reply,
+}
+
+/// Adds what is told of an event: a line, unless it is left out.
+fn add_event(
+    teller: &mut Teller<'_>,
+    machine: &Checked,
+    number: &mut EventNumber,
+    happened: &Happened,
+    detail: Detail,
+    lines: &mut Lines,
+    text: &mut Vec<u8>,
+) -> Result<(), AllocError>
+    ensures number { number.new ≡ number.old }
+    ensures told { OnOk result ((words : List ℕ) × (text.new.items
+        ≡ text.old.items ++ told_line detail number.old happened.now.reply words)) }
+{
+    if is_left_out(detail, &happened.reply) {
+        return Ok(());
+    }
+    let head = head_of(number, &happened.reply, lines);
+    let moment = &happened.moment;
+    teller.tell(
+        head.len(),
+        &happened.event,
+        moment,
+        &happened.reply,
+        machine,
+    )?;
+    add_line(head, teller.words(), text)?;
+    Ok(())
+}
+
+/// The line of the trace for an event, without its end.
+fn head_of<'l>(number: &mut EventNumber, reply: &Reply, lines: &'l mut Lines) -> &'l [u8]
+    ensures head { result.now ≡ reply_head number.old reply.now }
+    ensures number { number.new ≡ number.old }
+{
+    lines.clear();
+    lines.reply(number, reply);
+    let line = lines.bytes();
+    &line[..line.len().saturating_sub(1)]
+}
+
+/// Adds a line of a head and words behind it.
+fn add_line(head: &[u8], words: &[u8], text: &mut Vec<u8>) -> Result<(), AllocError>
+    ensures { OnOk result
+        (text.new.items ≡ text.old.items ++ (head.now ++ (words.now ++ 10 ∷ []))) }
+{
+    text.extend_from_slice(head)?;
+    text.extend_from_slice(words)?;
+    text.push(b'\n')?;
+    Ok(())
+}
+
+/// Adds the audit of a run: that it is one, and words on it.
+fn add_audit(words: &[u8], text: &mut Vec<u8>) -> Result<(), AllocError>
+    ensures { OnOk result
+        (text.new.items ≡ text.old.items ++ (codes "\naudit\n" ++ words.now)) }
+{
+    text.extend_from_slice(AUDIT)?;
+    text.extend_from_slice(words)?;
+    Ok(())
+}
+
+/// Whether nothing is told of an event with this reply.
+fn is_left_out(detail: Detail, reply: &Reply) -> bool
+    ensures { result ≡ is_left_out detail reply.now }
+{
+    match detail {
+        Detail::Whole => false,
+        Detail::Quiet => matches!(reply, Reply::Stepped | Reply::Idle),
+    }
+}

@@ -1,0 +1,223 @@
+//! What the audit of a run says, in words.
+
+use crate::book::Book;
+use crate::line::Moment;
+use crate::words::{add_lock, reason_words, status_name};
+use audit::findings::Findings;
+use audit::refusal::Reason;
+use audit::ring::waits_for;
+use audit::sites::{Site, sites_of};
+use checked::Checked;
+use irp::Packet;
+use model::event::Reply;
+use model::history::TopOut;
+use model::set::QueueName;
+use std::alloc::{AllocError, Global};
+
+/// An event that was refused.
+#[derive(Clone, Copy)]
+struct Refused {
+    number: u64,
+    reason: Option<Reason>,
+}
+
+/// What is noted of a run while it goes: packets that topped out, and events that were refused.
+#[derive(Drop)]
+pub(crate) struct Audited {
+    /// How many events there were.
+    events: u64,
+    topped: Vec<TopOut>,
+    refused: Vec<Refused>,
+}
+
+impl Audited {
+    /// Of a run without events.
+    pub(crate) fn new(alloc: Global) -> Audited {
+        Audited {
+            events: 0,
+            topped: Vec::new(alloc),
+            refused: Vec::new(alloc),
+        }
+    }
+
+    /// Notes the reply to the next event.
+    pub(crate) fn note(&mut self, moment: &Moment, reply: &Reply) -> Result<(), AllocError> {
+        let number = self.events;
+        self.events = number.wrapping_add(1);
+        match *reply {
+            Reply::Topped {
+                packet,
+                status,
+                info,
+            } => self.topped.push(TopOut {
+                packet,
+                status,
+                info,
+            })?,
+            Reply::Refused => self.refused.push(Refused {
+                number,
+                reason: moment.reason,
+            })?,
+            _ => {}
+        }
+        Ok(())
+    }
+}
+
+/// Adds the audit of a run: what topped out, what lives and where it is named, what was found amiss,
+/// and the events that were refused.
+pub(crate) fn add_audit(
+    alloc: Global,
+    words: &mut String,
+    book: &Book<'_>,
+    machine: &Checked,
+    audited: &Audited,
+    found: &Findings,
+) -> Result<(), AllocError> {
+    add_topped(words, audited)?;
+    for number in 0..machine.shared().issued() {
+        if let Some(packet) = machine.shared().live_packet(number) {
+            add_live(alloc, words, book, machine, packet)?;
+        }
+    }
+    add_findings(words, book, machine, found)?;
+    add_refused(words, audited)?;
+    if machine.stopped() {
+        return words.push_str("the run was stopped by a bug check or a wrong operand\n");
+    }
+    if !found.any() {
+        words.push_str("nothing is amiss\n")?;
+    }
+    Ok(())
+}
+
+/// Adds the packets that topped out, in order.
+fn add_topped(words: &mut String, audited: &Audited) -> Result<(), AllocError> {
+    for top in audited.topped.iter() {
+        let name = status_name(top.status);
+        write!(
+            words,
+            "packet {} topped out with {name}, information {}\n",
+            top.packet, top.info
+        )?;
+    }
+    Ok(())
+}
+
+/// Adds what was found amiss.
+fn add_findings(
+    words: &mut String,
+    book: &Book<'_>,
+    machine: &Checked,
+    found: &Findings,
+) -> Result<(), AllocError> {
+    for packet in found.lost.iter() {
+        write!(words, "packet {packet} is lost: no place names it\n")?;
+    }
+    for lock in found.left.iter() {
+        add_lock(words, book, lock.lock)?;
+        write!(
+            words,
+            " is left behind: thread {} owns it and is idle\n",
+            lock.thread
+        )?;
+    }
+    for thread in found.ringed.iter() {
+        write!(words, "thread {thread} waits in a ring")?;
+        if let Some(owner) = waits_for(machine, *thread) {
+            write!(words, ", for thread {owner}")?;
+        }
+        words.push_str("\n")?;
+    }
+    Ok(())
+}
+
+/// Adds the events that were refused, and why.
+fn add_refused(words: &mut String, audited: &Audited) -> Result<(), AllocError> {
+    for refused in audited.refused.iter() {
+        let why = match refused.reason {
+            Some(reason) => reason_words(reason),
+            None => "a list or the thread's stack is full, or the run has stopped",
+        };
+        write!(words, "event {} was refused: {why}\n", refused.number)?;
+    }
+    Ok(())
+}
+
+/// Adds a live packet: its locations with their marks, and the places that name it.
+fn add_live(
+    alloc: Global,
+    words: &mut String,
+    book: &Book<'_>,
+    machine: &Checked,
+    packet: &Packet,
+) -> Result<(), AllocError> {
+    let n = packet.number();
+    write!(words, "packet {n} is live at location {}", packet.depth())?;
+    for place in 0..packet.depth() {
+        if let Some(location) = packet.location(place as usize) {
+            write!(words, "; location {} of ", (place as u16).saturating_add(1))?;
+            book.add_device(words, location.device())?;
+            words.push_str(if location.is_marked() {
+                " is marked"
+            } else {
+                " is unmarked"
+            })?;
+        }
+    }
+    let sites = sites_of(alloc, machine, n)?;
+    for site in sites.iter() {
+        words.push_str("; ")?;
+        add_site(words, book, machine, *site)?;
+    }
+    words.push_str("\n")
+}
+
+/// Adds a place.
+fn add_site(
+    words: &mut String,
+    book: &Book<'_>,
+    machine: &Checked,
+    site: Site,
+) -> Result<(), AllocError> {
+    match site {
+        Site::Register {
+            thread,
+            frame,
+            register,
+        } => write!(words, "in r{register} of frame {frame} of thread {thread}"),
+        Site::Completing { thread, .. } => write!(words, "completed on thread {thread}"),
+        Site::Queue { device, queue } => {
+            words.push_str("in queue ")?;
+            book.add_device(words, device)?;
+            words.push_str(".")?;
+            match machine.set().devices().get(device as usize) {
+                Some(its) => book.add_queue(words, its.driver, queue),
+                None => Ok(()),
+            }
+        }
+        Site::StartList { device } => add_list(words, book, "start list", device),
+        Site::DeviceQueue { device } => add_list(words, book, "device queue", device),
+        Site::Slot { device } => add_list(words, book, "current slot", device),
+        Site::CancelWord(armer) => {
+            words.push_str("its cancel routine is set, of ")?;
+            book.add_device(words, armer.device)?;
+            match armer.queue {
+                QueueName::Declared(queue) => {
+                    words.push_str(".")?;
+                    match machine.set().devices().get(armer.device as usize) {
+                        Some(its) => book.add_queue(words, its.driver, queue),
+                        None => Ok(()),
+                    }
+                }
+                QueueName::DeviceQueue => words.push_str("'s device queue"),
+            }
+        }
+    }
+}
+
+/// Adds a list of a device.
+fn add_list(words: &mut String, book: &Book<'_>, name: &str, device: u8) -> Result<(), AllocError> {
+    write!(words, "in the {name} of ")?;
+    book.add_device(words, device)
+}

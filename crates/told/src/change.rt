@@ -1,0 +1,364 @@
+//! What an event changed, in words.
+
+use crate::acting::Acting;
+use crate::book::Book;
+use crate::columns::thread_of;
+use crate::line::Moment;
+use crate::words::{add_lock, cause_of, check_name, major_name, reason_words, status_name};
+use audit::ring::waits_for;
+use checked::Checked;
+use model::event::{Event, Lock, OfDevice, Reply};
+use model::instr::{Instr, Return};
+use model::view::{FrameView, LiveView, PacketView};
+use model::world::CancelStep;
+use std::alloc::AllocError;
+
+/// Adds what an event changed.
+pub(crate) fn add_change(
+    words: &mut String,
+    book: &Book<'_>,
+    event: &Event,
+    moment: &Moment,
+    reply: &Reply,
+    machine: &Checked,
+) -> Result<(), AllocError> {
+    match *reply {
+        Reply::Started(packet) => add_start(words, book, event, packet),
+        Reply::Waited => add_wait(words, event, machine),
+        Reply::Idle => words.push_str(match event {
+            Event::Interrupt { .. } => "the DPC is queued already",
+            Event::Dpc { .. } => "no DPC is queued",
+            Event::StartIo { .. } => "the start list is empty",
+            _ => "the thread has no frame",
+        }),
+        Reply::Refused => add_refusal(words, moment),
+        Reply::Bug(bug) => {
+            let cause = cause_of(bug.check, bug.subject);
+            write!(words, "{}: {}: {cause}", check_name(bug.check), bug.subject)
+        }
+        Reply::Wrong(_) => words.push_str(
+            "an operand is of a wrong kind, or the routine has ended",
+        ),
+        Reply::Topped {
+            packet,
+            status,
+            info,
+        } => {
+            let name = status_name(status);
+            write!(
+                words,
+                "packet {packet}: tops out with {name}, information {info}"
+            )
+        }
+        Reply::Stepped | Reply::Finished => add_step(words, book, event, moment, machine),
+    }
+}
+
+/// Adds what begins.
+fn add_start(
+    words: &mut String,
+    book: &Book<'_>,
+    event: &Event,
+    packet: u64,
+) -> Result<(), AllocError> {
+    match *event {
+        Event::Issue {
+            device,
+            major,
+            argument,
+            ..
+        } => {
+            let major = major_name(major);
+            write!(
+                words,
+                "packet {packet}: a {major} with {argument} is issued to "
+            )?;
+            book.add_device(words, device)
+        }
+        Event::Cancel { .. } => write!(words, "packet {packet}: IoCancelIrp begins"),
+        _ => write!(
+            words,
+            "packet {packet}: taken off the start list, StartIo begins"
+        ),
+    }
+}
+
+/// Adds whom a thread waits for.
+fn add_wait(words: &mut String, event: &Event, machine: &Checked) -> Result<(), AllocError> {
+    let Some(thread) = thread_of(event) else {
+        return Ok(());
+    };
+    match waits_for(machine, thread) {
+        Some(owner) => write!(words, "waits: thread {owner} owns the lock"),
+        None => words.push_str("waits"),
+    }
+}
+
+/// Adds why an event was refused.
+fn add_refusal(words: &mut String, moment: &Moment) -> Result<(), AllocError> {
+    words.push_str(match moment.reason {
+        Some(reason) => reason_words(reason),
+        None => "a list or the thread's stack is full",
+    })
+}
+
+/// Adds what a step changed.
+fn add_step(
+    words: &mut String,
+    book: &Book<'_>,
+    event: &Event,
+    moment: &Moment,
+    machine: &Checked,
+) -> Result<(), AllocError> {
+    let Some(acting) = moment.acting else {
+        return match *event {
+            Event::Interrupt { device } => {
+                book.add_device(words, device)?;
+                words.push_str(": its DPC is queued")
+            }
+            Event::Dpc { device, .. } => {
+                book.add_device(words, device)?;
+                words.push_str(": its DPC routine begins")
+            }
+            Event::Cancel { packet, .. } => {
+                write!(words, "packet {packet}: has topped out, nothing to cancel")
+            }
+            _ => Ok(()),
+        };
+    };
+    match (acting.frame, acting.packet) {
+        (FrameView::Walk(n), _) => add_walk(words, n, moment, machine),
+        (FrameView::Cancel(canceller), _) => {
+            add_cancelling(words, canceller.packet, canceller.next, machine)
+        }
+        (FrameView::Routine { driver, device, .. }, Some(n)) => {
+            add_about(words, book, machine, moment, n, driver, device, acting)
+        }
+        (FrameView::Routine { driver, device, .. }, None) => {
+            add_other(words, book, event, driver, device, acting)
+        }
+    }
+}
+
+/// Adds how completion goes on.
+fn add_walk(
+    words: &mut String,
+    n: u64,
+    moment: &Moment,
+    machine: &Checked,
+) -> Result<(), AllocError> {
+    let Some(PacketView::Live(before)) = moment.packet else {
+        return Ok(());
+    };
+    let depth = before.depth;
+    write!(words, "packet {n}: completion leaves location {depth}")?;
+    let PacketView::Live(after) = machine.packet(n) else {
+        return Ok(());
+    };
+    if is_marked(&after) && !mark_at(&before, after.depth) {
+        write!(words, ", the mark is carried up to {}", after.depth)?;
+    }
+    Ok(())
+}
+
+/// Whether the current location is marked.
+fn is_marked(packet: &LiveView) -> bool {
+    mark_at(packet, packet.depth)
+}
+
+/// Whether the location of a depth is marked.
+fn mark_at(packet: &LiveView, depth: u8) -> bool {
+    match packet.marks.get((depth as usize).saturating_sub(1)) {
+        Some(marked) => *marked,
+        None => false,
+    }
+}
+
+/// Adds what IoCancelIrp has done.
+fn add_cancelling(
+    words: &mut String,
+    n: u64,
+    step: CancelStep,
+    machine: &Checked,
+) -> Result<(), AllocError> {
+    let released = matches!(machine.shared().owner(Lock::SystemCancel), Some(None));
+    match step {
+        CancelStep::Acquire => words.push_str("owns the system cancel spin lock"),
+        CancelStep::SetFlag if released => {
+            write!(
+                words,
+                "packet {n}: has topped out; the system cancel spin lock is free"
+            )
+        }
+        CancelStep::SetFlag => write!(words, "packet {n}: Irp->Cancel is set"),
+        CancelStep::Exchange if released => write!(
+            words,
+            "packet {n}: no cancel routine was set; the system cancel spin lock is free"
+        ),
+        CancelStep::Exchange => write!(words, "packet {n}: its cancel routine is called"),
+    }
+}
+
+/// Adds what an instruction did that is about a packet.
+fn add_about(
+    words: &mut String,
+    book: &Book<'_>,
+    machine: &Checked,
+    moment: &Moment,
+    n: u64,
+    driver: u8,
+    device: u8,
+    acting: Acting,
+) -> Result<(), AllocError> {
+    let Some(instr) = acting.instruction else {
+        return Ok(());
+    };
+    if matches!(instr, Instr::Get(_, _, _)) {
+        return Ok(());
+    }
+    write!(words, "packet {n}: ")?;
+    match instr {
+        Instr::Put(_, _) => words.push_str("its information is set"),
+        Instr::Mark(_) => words.push_str("its current location is marked pending"),
+        Instr::Insert(_, queue) => {
+            words.push_str("put into queue ")?;
+            book.add_queue(words, driver, queue)
+        }
+        Instr::Remove(_, queue, _) | Instr::Unlink(_, queue) => {
+            words.push_str("taken off queue ")?;
+            book.add_queue(words, driver, queue)
+        }
+        Instr::Arm(_, queue) => {
+            words.push_str("the cancel routine is set of queue ")?;
+            book.add_queue(words, driver, queue)
+        }
+        Instr::Disarm(_, _) => words.push_str(match moment.packet {
+            Some(PacketView::Live(LiveView { armer: Some(_), .. })) => {
+                "its cancel routine is set no more"
+            }
+            _ => "none set any more",
+        }),
+        Instr::IfCancel(_, _) => words.push_str(match moment.packet {
+            Some(PacketView::Live(LiveView { cancel: true, .. })) => "Irp->Cancel is set",
+            _ => "Irp->Cancel isn't set",
+        }),
+        Instr::Start(_) => add_started(words, machine, device, n),
+        Instr::Take(_, _) => words.push_str("taken out of the current slot"),
+        Instr::Begin(_) => words.push_str("put into the current slot"),
+        Instr::Next => words.push_str("goes from the device queue to the start list"),
+        Instr::Dequeue(_) => words.push_str("taken off the device queue"),
+        Instr::Pass(_) | Instr::Call(_, _) => add_sent(words, book, machine, device, n),
+        Instr::Complete(_, status) => {
+            write!(
+                words,
+                "IoCompleteRequest is called with {}",
+                status_name(status)
+            )
+        }
+        Instr::IfPending(_, _) => words.push_str("PendingReturned is looked at"),
+        _ => Ok(()),
+    }
+}
+
+/// Adds where a packet was put that was started.
+fn add_started(
+    words: &mut String,
+    machine: &Checked,
+    device: u8,
+    n: u64,
+) -> Result<(), AllocError> {
+    let starts = match machine.shared().start_of(device) {
+        Some(start) => start.start_list().has(n),
+        None => false,
+    };
+    words.push_str(if starts {
+        "put into the start list"
+    } else {
+        "waits in the device queue"
+    })
+}
+
+/// Adds to where a packet was sent down.
+fn add_sent(
+    words: &mut String,
+    book: &Book<'_>,
+    machine: &Checked,
+    device: u8,
+    n: u64,
+) -> Result<(), AllocError> {
+    words.push_str("sent down")?;
+    if let Some(lower) = machine.set().lower(device) {
+        words.push_str(" to ")?;
+        book.add_device(words, lower)?;
+    }
+    match machine.packet(n) {
+        PacketView::Live(after) => write!(words, ", location {}", after.depth),
+        _ => Ok(()),
+    }
+}
+
+/// Adds what an instruction did that is about no packet.
+fn add_other(
+    words: &mut String,
+    book: &Book<'_>,
+    event: &Event,
+    driver: u8,
+    device: u8,
+    acting: Acting,
+) -> Result<(), AllocError> {
+    let Some(instr) = acting.instruction else {
+        return Ok(());
+    };
+    match instr {
+        Instr::Acquire(lock) => add_owner(words, book, event, spin(device, lock.index())),
+        Instr::AcquireCancel => add_owner(words, book, event, Lock::SystemCancel),
+        Instr::Release(lock) => add_free(words, book, spin(device, lock.index())),
+        Instr::ReleaseCancel => add_free(words, book, Lock::SystemCancel),
+        Instr::Remove(_, queue, _) => {
+            words.push_str("queue ")?;
+            book.add_queue(words, driver, queue)?;
+            words.push_str(" is empty")
+        }
+        Instr::Take(_, _) => words.push_str("the current slot is empty"),
+        Instr::Next => {
+            book.add_device(words, device)?;
+            words.push_str(" is idle: no packet waits")
+        }
+        Instr::Ret(form) => words.push_str(match form {
+            Return::WithStatus(status) => status_name(status),
+            Return::Lower(_) => "the status that the lower driver returned",
+            Return::Continue => "completion goes on",
+            Return::Stop => "STATUS_MORE_PROCESSING_REQUIRED: the packet is held",
+            Return::Void => "",
+        }),
+        _ => Ok(()),
+    }
+}
+
+/// A spin lock of a device.
+fn spin(device: u8, number: usize) -> Lock {
+    Lock::Spin(OfDevice {
+        device,
+        number: number.min(255) as u8,
+    })
+}
+
+/// Adds who owns a lock now.
+fn add_owner(
+    words: &mut String,
+    book: &Book<'_>,
+    event: &Event,
+    lock: Lock,
+) -> Result<(), AllocError> {
+    if let Some(thread) = thread_of(event) {
+        write!(words, "thread {thread} owns ")?;
+        add_lock(words, book, lock)?;
+    }
+    Ok(())
+}
+
+/// Adds that a lock is free.
+fn add_free(words: &mut String, book: &Book<'_>, lock: Lock) -> Result<(), AllocError> {
+    add_lock(words, book, lock)?;
+    words.push_str(" is free")
+}

@@ -1,0 +1,17 @@
+//! A run told event by event: which frame acts, where it stands in the text, and in words what its
+//! step changed. What acts and where is by contract; the words are plain code round it.
+#![tactic(auto)]
+
+mod acting;
+mod audited;
+mod book;
+mod change;
+mod columns;
+mod line;
+mod teller;
+mod words;
+
+pub use acting::{Acting, acting_in};
+pub use book::Book;
+pub use line::Moment;
+pub use teller::Teller;

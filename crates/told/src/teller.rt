@@ -1,0 +1,102 @@
+//! What tells a run.
+
+use crate::audited::{Audited, add_audit};
+use crate::book::Book;
+use crate::change::add_change;
+use crate::line::{Moment, add_event};
+use audit::findings::Findings;
+use checked::Checked;
+use model::event::{Event, Reply};
+use std::alloc::{AllocError, Global};
+
+/// What tells a run: how the text calls things, what is noted for the audit, and the words that were
+/// made last.
+#[derive(Drop)]
+pub struct Teller<'a> {
+    book: Book<'a>,
+    audited: Audited,
+    words: String,
+    /// What the last event changed.
+    change: String,
+}
+
+impl<'a> Teller<'a> {
+    /// That of a run before the first event, with the names and the lines of the text of its set.
+    ///
+    /// # Errors
+    ///
+    /// When memory runs out.
+    pub fn of(alloc: Global, text: &'a [u8]) -> Result<Teller<'a>, AllocError> {
+        Ok(Teller {
+            book: Book::of(alloc, text)?,
+            audited: Audited::new(alloc),
+            words: String::new(alloc),
+            change: String::new(alloc),
+        })
+    }
+
+    /// Notes the reply to the next event.
+    ///
+    /// # Errors
+    ///
+    /// When memory runs out.
+    pub fn note(&mut self, moment: &Moment, reply: &Reply) -> Result<(), AllocError> {
+        self.audited.note(moment, reply)
+    }
+
+    /// Makes the words that stand behind an event's number and its reply, which are so many bytes:
+    /// by what it was before, and by the machine after it.
+    ///
+    /// # Errors
+    ///
+    /// When memory runs out.
+    pub fn tell(
+        &mut self,
+        head: usize,
+        event: &Event,
+        moment: &Moment,
+        reply: &Reply,
+        machine: &Checked,
+    ) -> Result<(), AllocError> {
+        self.change.clear();
+        add_change(&mut self.change, &self.book, event, moment, reply, machine)?;
+        self.words.clear();
+        let change = self.change.as_str();
+        add_event(
+            &mut self.words,
+            head,
+            &self.book,
+            event,
+            moment,
+            machine,
+            change,
+        )
+    }
+
+    /// Makes the words of the audit, by what was found in the machine after the run.
+    ///
+    /// # Errors
+    ///
+    /// When memory runs out.
+    pub fn tell_audit(
+        &mut self,
+        alloc: Global,
+        machine: &Checked,
+        found: &Findings,
+    ) -> Result<(), AllocError> {
+        self.words.clear();
+        add_audit(
+            alloc,
+            &mut self.words,
+            &self.book,
+            machine,
+            &self.audited,
+            found,
+        )
+    }
+
+    /// The words that were made last.
+    pub fn words(&self) -> &[u8] {
+        self.words.as_bytes()
+    }
+}

@@ -1,0 +1,81 @@
+//! Words for values.
+
+use crate::book::Book;
+use audit::refusal::Reason;
+use model::event::{BugCheck, Lock, OfDevice, Subject};
+use model::status::{Major, Status};
+use std::alloc::AllocError;
+
+/// The name of a status value.
+pub(crate) fn status_name(status: Status) -> &'static str {
+    match status {
+        Status::Success => "STATUS_SUCCESS",
+        Status::Pending => "STATUS_PENDING",
+        Status::Busy => "STATUS_DEVICE_BUSY",
+        Status::Unsuccessful => "STATUS_UNSUCCESSFUL",
+        Status::InvalidParameter => "STATUS_INVALID_PARAMETER",
+        Status::InvalidDeviceRequest => "STATUS_INVALID_DEVICE_REQUEST",
+        Status::Cancelled => "STATUS_CANCELLED",
+    }
+}
+
+/// The word of a major function.
+pub(crate) fn major_name(major: Major) -> &'static str {
+    match major {
+        Major::Read => "READ",
+        Major::Write => "WRITE",
+        Major::Control => "CONTROL",
+    }
+}
+
+/// The name of a bug check.
+pub(crate) fn check_name(check: BugCheck) -> &'static str {
+    match check {
+        BugCheck::IrqlNotLessOrEqual => "IRQL_NOT_LESS_OR_EQUAL",
+        BugCheck::SpinLockAlreadyOwned => "SPIN_LOCK_ALREADY_OWNED",
+        BugCheck::SpinLockNotOwned => "SPIN_LOCK_NOT_OWNED",
+        BugCheck::NoMoreIrpStackLocations => "NO_MORE_IRP_STACK_LOCATIONS",
+        BugCheck::MultipleIrpCompleteRequests => "MULTIPLE_IRP_COMPLETE_REQUESTS",
+        BugCheck::CancelStateInCompletedIrp => "CANCEL_STATE_IN_COMPLETED_IRP",
+    }
+}
+
+/// Why a bug check is raised, by what it is about.
+pub(crate) fn cause_of(check: BugCheck, subject: Subject) -> &'static str {
+    match (check, subject) {
+        (BugCheck::IrqlNotLessOrEqual, Subject::Cell(_)) => {
+            "a paged cell is touched at DISPATCH_LEVEL"
+        }
+        (BugCheck::IrqlNotLessOrEqual, _) => "a packet is touched that has topped out",
+        (BugCheck::SpinLockAlreadyOwned, _) => "the thread owns the lock already",
+        (BugCheck::SpinLockNotOwned, _) => "the thread doesn't own the lock that it releases",
+        (BugCheck::NoMoreIrpStackLocations, _) => "no stack location is left for the device below",
+        (BugCheck::MultipleIrpCompleteRequests, _) => "the packet is completed already",
+        (BugCheck::CancelStateInCompletedIrp, _) => "its cancel routine is still set",
+    }
+}
+
+/// Why an event is refused.
+pub(crate) fn reason_words(reason: Reason) -> &'static str {
+    match reason {
+        Reason::NoThread => "there is no such thread",
+        Reason::NotIdle => "the thread isn't idle",
+        Reason::NoDevice => "there is no such device",
+        Reason::NoRoom => "there is no room for another packet",
+        Reason::NoLevel => "there is no such level",
+        Reason::NotIssued => "no such packet was issued",
+        Reason::NoDpc => "the device has no DPC routine",
+        Reason::NoStartIo => "the device has no StartIo routine",
+    }
+}
+
+/// Adds a lock.
+pub(crate) fn add_lock(words: &mut String, book: &Book<'_>, lock: Lock) -> Result<(), AllocError> {
+    match lock {
+        Lock::SystemCancel => words.push_str("the system cancel spin lock"),
+        Lock::Spin(OfDevice { device, number }) => {
+            book.add_device(words, device)?;
+            write!(words, ".l{number}")
+        }
+    }
+}
