@@ -13,5 +13,7 @@ mod words;
 
 pub use acting::{Acting, acting_in};
 pub use book::Book;
+pub use change::add_change;
+pub use columns::thread_of;
 pub use line::Moment;
 pub use teller::Teller;
