@@ -31,8 +31,13 @@ pub fn explain(alloc: Global, extent: Extent, set: &[u8]) -> Result<Told, OutOfM
     let mut source = Reader::new(Some(set));
     let mut output = Writer::new(Vec::new(alloc));
     let mut errors = Writer::new(Vec::new(alloc));
-    let exit =
-        drvhost_parts::explaining::explain(alloc, extent, &mut source, &mut output, &mut errors);
+    let exit = drvhost_parts::explaining::explain(
+        alloc,
+        extent,
+        &mut source,
+        &mut output,
+        &mut errors,
+    );
     collected(exit, source.failures(), output, errors)
 }
 

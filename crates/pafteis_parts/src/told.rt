@@ -58,8 +58,7 @@ pub(crate) fn collected(
 ) -> Result<Told, OutOfMemory>
     ensures { IfOk result (Collects exit unread
         (⟦<Writer<Vec<u8>> as Sink>⟧.failures output) (⟦<Writer<Vec<u8>> as Sink>⟧.contents output)
-        (⟦<Writer<Vec<u8>> as Sink>⟧.failures errors) (⟦<Writer<Vec<u8>> as Sink>⟧.contents errors))
-        }
+        (⟦<Writer<Vec<u8>> as Sink>⟧.failures errors) (⟦<Writer<Vec<u8>> as Sink>⟧.contents errors)) }
 {
     if exit == NO_MEMORY || unread > 0 || output.failures() > 0 || errors.failures() > 0 {
         return Err(OutOfMemory);
