@@ -1,5 +1,5 @@
 -- A world behind a handle, driven.
-use Rattle.std.specs.Prelude.{ℕ, ⊥, ⊤, ◌≡◌, ◌≢◌, ◌≤◌, ◌<◌, Bool, true, false, List, [], Option, None, Some, if◌then◌else◌, option_map}
+use Rattle.std.specs.Prelude.{ℕ, ⊤, ◌≡◌, ◌≢◌, ◌≤◌, ◌<◌, Bool, true, false, List, [], Option, None, Some, if◌then◌else◌, option_map}
 use Rattle.machine.specs.declared.world.Steps.{Steps}
 use Rattle.machine.specs.Runs.{GoesOn, RulesKept, StepsThreads, TellsOf}
 use Rattle.machine.specs.Steps.{MakesSteps}
@@ -58,7 +58,7 @@ pub record Applied (e : Event) (before : Shown) (reply : Reply) (after : Shown) 
   pub applies : Applies before e after reply
   pub rules : RulesKept before e
   pub goes_on : GoesOn before reply
-  pub steps : StepsThreads before e reply
+  pub threads : StepsThreads before e reply
 
 abbrev pub Drives : Event → Handle → Option Reply → Handle → Type 0
 Drives e before reply after = Does (Applied e) (world_in before) reply (world_in after)
@@ -69,7 +69,7 @@ pub record Stepped (t count : ℕ) (before : Shown) (steps : Steps) (after : Sho
   pub makes : MakesSteps before t steps.made after steps.last
   pub all : steps.made < count → steps.last ≢ OnlyStepped
   pub goes_on : GoesOn before steps.last
-  pub steps : StepsThreads before (Step t) steps.last
+  pub threads : StepsThreads before (Step t) steps.last
 
 abbrev pub StepsOn : ℕ → ℕ → Handle → Option Steps → Handle → Type 0
 StepsOn t count before steps after =

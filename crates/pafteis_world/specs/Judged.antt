@@ -1,5 +1,5 @@
 -- The verdict on the set that bytes name.
-use Rattle.std.specs.Prelude.{ℕ, ⊤, ⊥, nat_eq, ◌≡◌, ◌≢◌, Bool, true, false, List, [], ◌∷◌}
+use Rattle.std.specs.Prelude.{ℕ, ⊤, nat_eq, ◌≡◌, ◌≢◌, Bool, true, false, List, [], ◌∷◌}
 use Rattle.std.specs.List.{starts_with}
 use Rattle.asm.specs.declared.fault.AsmFault.{AsmFault}
 use Rattle.asm.specs.declared.fault.AsmKind.{AsmKind}
@@ -42,6 +42,14 @@ IsJudged bytes (Refused refusal) = (set : Set) × Names bytes set × IsFirstFaul
 IsJudged bytes (Text fault) = IsUnread bytes (Text fault)
 IsJudged bytes (Image fault) = IsUnread bytes (Image fault)
 IsJudged bytes NoMemory = ⊤
+
+-- the same of what isn't accepted
+abbrev pub IsTurnedAway : List ℕ → Verdict → Type 0
+IsTurnedAway bytes Accepted = ⊥
+IsTurnedAway bytes (Refused refusal) = IsJudged bytes (Refused refusal)
+IsTurnedAway bytes (Text fault) = IsUnread bytes (Text fault)
+IsTurnedAway bytes (Image fault) = IsUnread bytes (Image fault)
+IsTurnedAway bytes NoMemory = ⊤
 
 -- what is said of a text whose fault is of this kind
 abbrev pub text_verdict_of : AsmKind → AsmFault → Verdict

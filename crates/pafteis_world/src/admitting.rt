@@ -2,7 +2,7 @@
 
 ghost use Rattle.std.specs.Prelude.{◌≡◌, IfErr, IfOk, true, false};
 ghost use Rattle.model.specs.Typable.{IsTypable};
-ghost use Rattle.pafteis_world.specs.Judged.{IsJudged, IsUnread, Names, is_image, text_verdict};
+ghost use Rattle.pafteis_world.specs.Judged.{IsJudged, IsTurnedAway, IsUnread, Names, is_image, text_verdict};
 
 use asm::{AsmFault, AsmKind};
 use driver_set::DriverSet;
@@ -25,7 +25,7 @@ pub fn judge(alloc: Global, bytes: &[u8]) -> Verdict
 /// The set that the bytes of a text or of an image name, where it is accepted; else why not.
 pub(crate) fn admit(alloc: Global, bytes: &[u8]) -> Result<Accepted, Verdict>
     ensures accepted { IfOk result (λ set. Names bytes.now set × IsTypable set) }
-    ensures judged { IfErr result (IsJudged bytes.now) }
+    ensures turned_away { IfErr result (IsTurnedAway bytes.now) }
 {
     match set_of(alloc, bytes) {
         Ok(set) => admit_set(alloc, bytes, set),
@@ -37,7 +37,7 @@ pub(crate) fn admit(alloc: Global, bytes: &[u8]) -> Result<Accepted, Verdict>
 fn admit_set(alloc: Global, bytes: &[u8], set: DriverSet) -> Result<Accepted, Verdict>
     requires { Names bytes.now set }
     ensures accepted { IfOk result (λ accepted. Names bytes.now accepted × IsTypable accepted) }
-    ensures judged { IfErr result (IsJudged bytes.now) }
+    ensures turned_away { IfErr result (IsTurnedAway bytes.now) }
 {
     match verify(alloc, set) {
         Ok(accepted) => Ok(accepted),
