@@ -34,6 +34,7 @@ int main(int count, char **words) {
     apply(&world, (pafteis_event){.kind = PAFTEIS_ISSUE, .major = PAFTEIS_READ, .argument = 7});
     for (int step = 0; step < 4; step++)
         apply(&world, (pafteis_event){.kind = PAFTEIS_STEP});
-    printf("freed %u, again %u\n", pafteis_world_free(&world), pafteis_world_free(&world));
+    printf("freed %u, ", pafteis_world_free(&world));
+    printf("again %u\n", pafteis_world_free(&world));
     return 0;
 }
