@@ -3,6 +3,7 @@
 ghost use Rattle.std.specs.Prelude.{◌≡◌, None, true, false, IfSome, IsSome};
 ghost use Rattle.model.specs.Shown.{Shown};
 
+use crate::loose::Loose;
 use machine::World;
 use std::alloc::Global;
 use std::marker::Model;
@@ -27,7 +28,7 @@ impl Model for Handle {
 
 impl Handle {
     /// An empty one.
-    pub fn empty() -> Handle
+    pub(crate) fn empty() -> Handle
         ensures { result.live ≡ false }
     {
         Handle {
@@ -37,28 +38,48 @@ impl Handle {
     }
 
     /// One with a world.
-    pub fn of(world: Box<World>) -> Handle
+    pub(crate) fn of(world: Box<World>) -> Handle
         ensures live { result.live ≡ true }
         ensures world { result.world ≡ world.value }
     {
-        let at = Box::into_raw(world);
+        Handle::holding(Loose::of(world))
+    }
+
+    /// The world that it has, if one is there.
+    pub(crate) fn into_world(self, alloc: Global) -> Option<Box<World>>
+        ensures empty { self.live ≡ false → result ≡ None }
+        ensures live { self.live ≡ true → IsSome result }
+        ensures world { IfSome result (λ world. world.value ≡ self.world) }
+    {
+        match self.into_loose(alloc) {
+            Some(loose) => Some(loose.into_box()),
+            None => None,
+        }
+    }
+
+    fn holding(loose: Loose<World, Global>) -> Handle
+        ensures live { result.live ≡ true }
+        ensures world { result.world ≡ loose.value }
+    {
+        let Loose { at, alloc: _ } = loose;
         Handle {
             live: true,
             at: at as *mut u8,
         }
     }
 
-    /// The world that it has, if one is there.
-    pub fn into_world(self, alloc: Global) -> Option<Box<World>>
+    fn into_loose(self, alloc: Global) -> Option<Loose<World, Global>>
         ensures empty { self.live ≡ false → result ≡ None }
         ensures live { self.live ≡ true → IsSome result }
-        ensures world { IfSome result (λ world. world.value ≡ self.world) }
+        ensures world { IfSome result (λ loose. loose.value ≡ self.world) }
     {
         let Handle { live, at } = self;
         if live {
-            Some(unsafe { Box::from_raw(alloc, at as *mut World) })
-        } else {
-            None
+            return Some(Loose {
+                at: at as *mut World,
+                alloc,
+            });
         }
+        None
     }
 }

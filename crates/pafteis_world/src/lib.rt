@@ -5,3 +5,4 @@
 pub mod admitting;
 pub mod driving;
 pub mod handle;
+mod loose;
