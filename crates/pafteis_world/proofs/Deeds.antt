@@ -1,5 +1,5 @@
 -- What is done to the world of a handle.
-use Rattle.std.proofs.Common.{◌≡◌, Bool, true, Option, Some, subst, sym}
+use Rattle.std.proofs.Common.{◌≡◌, Bool, true, Option, Some}
 use Rattle.model.specs.Shown.{Shown}
 use Rattle.pafteis_world.specs.Driven.{Does, shown_if}
 

@@ -1,5 +1,5 @@
 -- A world behind a handle, driven.
-use Rattle.std.specs.Prelude.{ℕ, ⊤, ◌≡◌, ◌≢◌, ◌≤◌, ◌<◌, Bool, true, false, List, [], Option, None, Some, if◌then◌else◌, option_map}
+use Rattle.std.specs.Prelude.{ℕ, ⊤, ◌≡◌, ◌≢◌, ◌≤◌, ◌<◌, Bool, true, false, List, [], Option, None, Some}
 use Rattle.machine.specs.declared.world.Steps.{Steps}
 use Rattle.machine.specs.Runs.{GoesOn, RulesKept, StepsThreads, TellsOf}
 use Rattle.machine.specs.Steps.{MakesSteps}

@@ -1,5 +1,5 @@
 -- The verdict on the set that bytes name.
-use Rattle.std.specs.Prelude.{ℕ, ⊤, nat_eq, ◌≡◌, ◌≢◌, Bool, true, false, List, [], ◌∷◌}
+use Rattle.std.specs.Prelude.{ℕ, ⊤, nat_eq, ◌≡◌, Bool, true, false, List, [], ◌∷◌}
 use Rattle.std.specs.List.{starts_with}
 use Rattle.asm.specs.declared.fault.AsmFault.{AsmFault}
 use Rattle.asm.specs.declared.fault.AsmKind.{AsmKind}

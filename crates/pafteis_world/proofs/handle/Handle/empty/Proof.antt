@@ -1,11 +1,9 @@
 -- `empty` makes the struct, which owns nothing but itself.
-use Rattle.std.proofs.Common.{◌≡◌, ℕ, List, [], ◌∷◌, ◌++◌, false, refl, lit<, w64}
+use Rattle.std.proofs.Common.{◌≡◌, List, [], ◌∷◌, false, refl, lit<, w64}
 use mir.Val.{Val, vint, vbool, vstruct, of_list}
 use base.Logic.{emp}
 use base.Fml.{ftrue}
-use prog.Wp.{WpFn}
 use contract.Monad.{fact, fact_i}
-use contract.Running.{tables}
 use types.Kit.{‵, raw, ◌⊛◌, ◌$◌, ◌∵◌, !, qed, by, drop, keep, use0, fjoin, fpack, feq_i}
 use types.Part.{agg}
 use types.Run.{lit, no_more, and_then, enter, returns, false_lit}

@@ -1,5 +1,5 @@
 -- `holding` takes what is left of a box, and keeps its pointer.
-use Rattle.std.proofs.Common.{◌≡◌, ℕ, List, [], ◌∷◌, ◌++◌, true, refl, sym, subst}
+use Rattle.std.proofs.Common.{◌≡◌, List, [], ◌∷◌, ◌++◌, true, refl, sym, subst}
 use mir.Val.{Val, vptr, vbool, vstruct, of_list}
 use base.Logic.{SProp, ent, emp, id⊢}
 use base.Fml.{ftrue}
