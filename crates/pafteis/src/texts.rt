@@ -8,10 +8,10 @@ ghost use Rattle.pafteis.specs.Called.{Answers, ExplainsRule, ExplainsSet, IsChe
 
 use drvhost_parts::explaining::Extent;
 use drvhost_parts::verification::Verification;
+use model::memory::OutOfMemory;
 use pafteis_parts::answers;
 use pafteis_parts::delivery::deliver;
 use pafteis_parts::told::Told;
-use model::memory::OutOfMemory;
 use pafteis_values::rule::rule_of;
 use pafteis_values::verdict::VerdictValue;
 use pafteis_world::admitting::judge;
@@ -98,7 +98,11 @@ pub extern "C" fn pafteis_trace(
         1 => Verification::Skipped,
         _ => return wrong(needed),
     };
-    put(answers::trace(alloc, set, schedule, verification), buffer, needed)
+    put(
+        answers::trace(alloc, set, schedule, verification),
+        buffer,
+        needed,
+    )
 }
 
 /// The listing of a set.
