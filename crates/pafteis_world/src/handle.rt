@@ -28,7 +28,7 @@ impl Model for Handle {
 
 impl Handle {
     /// An empty one.
-    pub(crate) fn empty() -> Handle
+    pub fn empty() -> Handle
         ensures { result.live ≡ false }
     {
         Handle {
