@@ -98,6 +98,6 @@ fn buffers(rt: HostRuntime) -> Result<(), Fail> {
     assert!(rt; buffer == [7u8; 16]);
     let whole = deliver(version(alloc), &mut buffer);
     assert_eq!(rt; whole.status, 0);
-    assert!(rt; &buffer[..] == b"drvhost 0.1.0\n\x07\x07");
+    assert!(rt; buffer.as_slice() == b"drvhost 0.1.0\n\x07\x07".as_slice());
     Ok(())
 }
