@@ -36,13 +36,17 @@ def read(name):
 
 
 def answered(word, names):
+    if word == "version":
+        return called("pafteis_version")
+    if word == "rule":
+        return called("pafteis_explain_rule", ctypes.c_uint32(int(names[0])))
     texts = [it for name in names for it in passed(read(name))]
     if word == "check":
         return called("pafteis_report", *texts)
     if word in ("explain", "explain-each"):
         return called("pafteis_explain", *texts, ctypes.c_uint32(word != "explain"))
-    if word == "list":
-        return called("pafteis_list", *texts)
+    if word in ("list", "rewrite"):
+        return called("pafteis_" + word, *texts)
     return called("pafteis_trace", *texts, ctypes.c_uint32(word != "trace"))
 
 
