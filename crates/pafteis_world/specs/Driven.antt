@@ -66,6 +66,7 @@ Drives e before reply after = Does (Applied e) (world_in before) reply (world_in
 -- steps of a thread are made, as `machine::World::steps` does
 pub record Stepped (t count : ℕ) (before : Shown) (steps : Steps) (after : Shown) : Type 0 where
   pub few : steps.made ≤ count
+  pub none : steps.made ≡ 0 → steps.last ≡ OnlyStepped
   pub makes : MakesSteps before t steps.made after steps.last
   pub all : steps.made < count → steps.last ≢ OnlyStepped
   pub goes_on : GoesOn before steps.last

@@ -9,4 +9,11 @@ returns c =
     let e = rw c.deref_mut.ensures.value at c.steps-steps.ensures in
     does (Stepped c.args.thread c.args.count) _ _ _ c.in_ok-world.world.value c.steps-steps.new.self
     c.steps-steps.result at c.of.ensures.live c.of.ensures.world
-    (record { few = e.few; makes = e.makes; all = e.all; goes_on = e.goes_on; threads = e.steps })
+    (record {
+      few = e.few;
+      none = e.none;
+      makes = e.makes;
+      all = e.all;
+      goes_on = e.goes_on;
+      threads = e.steps;
+    })
