@@ -32,9 +32,9 @@ enum {
     PAFTEIS_DONE = 0,           /* done; of a driver set: accepted, or run to the schedule's end */
     PAFTEIS_REFUSED = 1,        /* the set is refused, or a bug check stopped its run */
     PAFTEIS_FAULTY = 2,         /* the bytes are no text and no image of a set, or no schedule */
-    PAFTEIS_NO_MEMORY = 3,      /* memory was refused; what is passed is as it was */
-    PAFTEIS_WRONG_ARGUMENT = 4, /* a number that names nothing; what is passed is as it was */
-    PAFTEIS_NO_WORLD = 5        /* no world was made, or it was freed */
+    PAFTEIS_NO_MEMORY = 3,      /* memory was refused; buffers and worlds are as they were */
+    PAFTEIS_WRONG_ARGUMENT = 4, /* a number that names nothing; buffers and worlds likewise */
+    PAFTEIS_NO_WORLD = 5        /* no world was made, or it was freed; nothing is written */
 };
 
 /* Verdicts ---------------------------------------------------------------------------------- */
@@ -149,7 +149,8 @@ typedef struct {
 #define PAFTEIS_EMPTY_WORLD { false, NULL }
 
 /* Makes the world of the set that a text or an image names, before its first event, with 1 to 64
- * threads. With PAFTEIS_DONE there is one; else `world` is as it was, and `verdict` tells why.
+ * threads. With PAFTEIS_DONE there is one; else `world` is as it was, and `verdict` tells why, as
+ * that of pafteis_check does; with _WRONG_ARGUMENT, of another number of threads, it is all 0.
  * Takes memory, all that the world ever needs. */
 uint32_t pafteis_world_new(const uint8_t *set, size_t set_length, uint8_t threads,
                            pafteis_world *world, pafteis_verdict *verdict);
@@ -194,8 +195,8 @@ typedef struct {
     uint32_t status; /* NTSTATUS */
 } pafteis_reply;
 
-/* One event, which is one atomic step. PAFTEIS_DONE, _WRONG_ARGUMENT where it has no such kind or
- * no such major function, or _NO_WORLD. */
+/* One event, which is one atomic step. PAFTEIS_DONE, _WRONG_ARGUMENT where there is no such kind or
+ * no such major function, or _NO_WORLD. `reply` is written with PAFTEIS_DONE alone. */
 uint32_t pafteis_world_apply(pafteis_world *world, const pafteis_event *event,
                              pafteis_reply *reply);
 
