@@ -21,5 +21,5 @@ pub opened : (bytes : List ℕ) (threads : ℕ) (live : Bool) (world m : Shown) 
     → Holds (IsOpened bytes threads) (shown_if live world)
 opened bytes threads live world m set e f g named shows rules =
     let h : IsOpened bytes threads m =
-      record { named = rw g named; shows = shows; rules = λ events. rw g (rules events) }
+    record { named = rw g named; shows = shows; rules = λ events. rw g (rules events) }
     in rw (e, f) h
