@@ -3,6 +3,8 @@
 #![tactic(auto)]
 
 #[cfg(test)]
+mod handles;
+#[cfg(test)]
 mod rows;
 #[cfg(test)]
 mod sets;

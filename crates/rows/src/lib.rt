@@ -20,6 +20,8 @@ mod failures;
 #[cfg(test)]
 mod images;
 #[cfg(test)]
+mod in_memory;
+#[cfg(test)]
 mod limits;
 #[cfg(test)]
 mod links;

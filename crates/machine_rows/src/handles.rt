@@ -1,0 +1,61 @@
+//! A world behind a handle, as the library for C has it.
+
+use crate::sets::COMPLETES;
+use model::event::{Event, Reply};
+use model::status::Major;
+use model::view::PacketView;
+use pafteis_values::verdict::Verdict;
+use pafteis_world::admitting::judge;
+use pafteis_world::driving::{apply, close, due, open, packet, steps, thread};
+use pafteis_world::handle::Handle;
+use std::test::Fail;
+
+/// A driver that completes each read twice.
+const TWICE: &[u8] = b"driver d\n\
+      dispatch READ f\n\
+      routine f dispatch\n\
+      complete r0 SUCCESS\n\
+      complete r0 SUCCESS\n\
+      ret SUCCESS\n\
+      endr\n\
+      endd\n\
+      device v d 1\n";
+
+#[test]
+fn a_read_is_done_behind_a_handle(rt: HostRuntime) -> Result<(), Fail> {
+    let alloc = rt.alloc();
+    let mut handle = Handle::empty();
+    let opened = open(alloc, COMPLETES, 2, &mut handle);
+    assert!(rt; matches!(opened, Verdict::Accepted));
+    let issue = Event::Issue {
+        thread: 0,
+        device: 0,
+        major: Major::Read,
+        argument: 7,
+    };
+    assert!(rt; matches!(apply(alloc, &mut handle, &issue), Some(Reply::Started(0))));
+    assert!(rt; matches!(packet(alloc, &mut handle, 0), Some(PacketView::Live(_))));
+    let told = thread(alloc, &mut handle, 0);
+    assert!(rt; matches!(told, Some(Some(view)) if view.frames == 1));
+    assert!(rt; matches!(thread(alloc, &mut handle, 2), Some(None)));
+    let made = steps(alloc, &mut handle, 0, 10).expect(&rt, "a world");
+    assert_eq!(rt; made.made, 2);
+    assert!(rt; matches!(made.last, Reply::Topped { packet: 0, .. }));
+    assert!(rt; matches!(due(alloc, &mut handle, 0), Some((false, false))));
+    assert!(rt; close(alloc, &mut handle));
+    assert!(rt; !close(alloc, &mut handle));
+    assert!(rt; apply(alloc, &mut handle, &issue).is_none());
+    Ok(())
+}
+
+#[test]
+fn a_refused_set_has_no_world(rt: HostRuntime) {
+    let alloc = rt.alloc();
+    let mut handle = Handle::empty();
+    let opened = open(alloc, TWICE, 1, &mut handle);
+    assert_eq!(rt; opened.value().rule, 5);
+    assert_eq!(rt; opened.value().position, 1);
+    assert!(rt; !close(alloc, &mut handle));
+    assert_eq!(rt; judge(alloc, b"DVB1").value().image_fault, 2);
+    assert_eq!(rt; judge(alloc, b"driver d\n").value().line, 2);
+}

@@ -1,0 +1,94 @@
+-- What the exported functions about a world answer.
+use Rattle.std.specs.Prelude.{ℕ, ◌≡◌, ◌≤◌, ◌<◌, ◌⊎◌, Bool, true, false, List, Option, None, Some, if◌then◌else◌}
+use Rattle.machine.specs.declared.world.Steps.{Steps as StepsMade}
+use Rattle.model.specs.declared.event.Event.{Event}
+use Rattle.model.specs.declared.limits.TheConstants.{MAX_THREADS}
+use Rattle.model.specs.declared.event.Reply.{Reply}
+use Rattle.model.specs.World.{World}
+use Rattle.pafteis_values.specs.declared.event.EventValue.{EventValue}
+use Rattle.pafteis_values.specs.declared.reply.ReplyValue.{ReplyValue}
+use Rattle.pafteis_values.specs.declared.verdict.Verdict.{Verdict}
+use Rattle.pafteis_values.specs.declared.verdict.VerdictValue.{VerdictValue}
+use Rattle.pafteis_values.specs.Event.{event_named}
+use Rattle.pafteis_values.specs.Reply.{reply_value}
+use Rattle.pafteis_values.specs.Verdict.{no_value, status_number, verdict_value}
+use Rattle.pafteis_world.specs.declared.handle.Handle.{Handle}
+use Rattle.pafteis_world.specs.Driven as driven
+use Rattle.pafteis_world.specs.Judged.{IsJudged}
+
+-- a world was made, or not, and the verdict says why
+pub record IsOpened (bytes : List ℕ) (threads : ℕ) (before after : Handle) (value : VerdictValue)
+    (status : ℕ) : Type 0 where
+  pub verdict : Verdict
+  pub judged : IsJudged bytes verdict
+  pub opens : driven.Opens bytes threads verdict before after
+  pub told : value ≡ verdict_value verdict
+  pub is : status ≡ status_number verdict
+
+-- so many threads may be
+abbrev pub MayHave : ℕ → Type 0
+MayHave threads = (1 ≤ threads) × (threads ≤ MAX_THREADS)
+
+-- there can't be so many threads, and nothing was done
+pub record HasNoThreads (threads : ℕ) (before after : Handle) (value : VerdictValue) (status : ℕ)
+    : Type 0 where
+  pub wrong : MayHave threads → ⊥
+  pub same : after ≡ before
+  pub nothing : value ≡ no_value
+  pub is : status ≡ 4
+
+abbrev pub Opens : List ℕ → ℕ → Handle → Handle → VerdictValue → ℕ → Type 0
+Opens bytes threads before after value status =
+    (MayHave threads × IsOpened bytes threads before after value status)
+    ⊎ HasNoThreads threads before after value status
+
+-- an answer of a world is told as a value, with the status 0; 5 where there is no world, and the
+-- value is as it was
+abbrev pub IsTold : {A V : Type 0} → (A → V) → Option A → V → V → ℕ → Type 0
+IsTold value None before after status = (after ≡ before) × (status ≡ 5)
+IsTold value (Some answer) before after status = (after ≡ value answer) × (status ≡ 0)
+
+-- an event was applied
+abbrev pub AppliesIf : Option Event → Handle → Handle → ReplyValue → ReplyValue → ℕ → Type 0
+AppliesIf None before after value told status = (after ≡ before) × (told ≡ value) × (status ≡ 4)
+AppliesIf (Some e) before after value told status =
+    (reply : Option Reply) × driven.Drives e before reply after
+    × IsTold reply_value reply value told status
+
+abbrev pub Applies : EventValue → Handle → Handle → ReplyValue → ReplyValue → ℕ → Type 0
+Applies event before after value told status =
+    AppliesIf (event_named event) before after value told status
+
+-- steps were made, and how many is told, with the reply to the last
+abbrev pub Steps : ℕ → ℕ → Handle → Handle → ℕ → ℕ → ReplyValue → ReplyValue → ℕ → Type 0
+Steps t count before after counted made value told status =
+    (steps : Option StepsMade) × driven.StepsOn t count before steps after
+    × IsTold (λ s. s.made) steps counted made status
+    × IsTold (λ s. reply_value s.last) steps value told status
+
+-- something was told of the world
+abbrev pub TellsAll : {A V : Type 0} → (World → A) → (A → V) → Handle → Handle → V → V → ℕ → Type 0
+TellsAll {A} tell value before after old new status =
+    (answer : Option A) × driven.Tells tell before answer after
+    × IsTold value answer old new status
+
+-- something was told that there may not be: 4 where there isn't
+abbrev pub IsToldIf : {A V : Type 0} → (A → V) → Option (Option A) → V → V → ℕ → Type 0
+IsToldIf value None before after status = (after ≡ before) × (status ≡ 5)
+IsToldIf value (Some None) before after status = (after ≡ before) × (status ≡ 4)
+IsToldIf value (Some (Some answer)) before after status = (after ≡ value answer) × (status ≡ 0)
+
+abbrev pub TellsIf : {A V : Type 0} → (World → Option A) → (A → V) → Handle → Handle → V → V → ℕ
+    → Type 0
+TellsIf {A} tell value before after old new status =
+    (answer : Option (Option A)) × driven.Tells tell before answer after
+    × IsToldIf value answer old new status
+
+-- a world was freed, if there was one
+abbrev pub closed_status : Bool → ℕ
+closed_status true = 0
+closed_status false = 5
+
+abbrev pub Closes : Handle → Handle → ℕ → Type 0
+Closes before after status =
+    (after.live ≡ false) × (status ≡ closed_status before.live)

@@ -1,0 +1,6 @@
+//! The library for C and whoever calls C: thin functions over what stands. include/pafteis.h tells
+//! of each.
+#![tactic(auto)]
+
+pub mod texts;
+pub mod worlds;

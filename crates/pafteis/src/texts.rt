@@ -1,0 +1,158 @@
+//! Bytes in, bytes out.
+
+ghost use Rattle.std.specs.Prelude.{◌≡◌};
+ghost use Rattle.drvhost_parts.specs.Answer.{IsVersion};
+ghost use Rattle.drvhost_parts.specs.Device.{Bytes};
+ghost use Rattle.drvhost_parts.specs.Ends.{IsCheckOf, IsListOf, IsRewriteOf};
+ghost use Rattle.pafteis.specs.Called.{Answers, ExplainsRule, ExplainsSet, IsCheckedAs, Puts, Traces};
+
+use drvhost_parts::explaining::Extent;
+use drvhost_parts::verification::Verification;
+use model::memory::OutOfMemory;
+use pafteis_parts::answers;
+use pafteis_parts::delivery::deliver;
+use pafteis_parts::told::Told;
+use pafteis_values::rule::rule_of;
+use pafteis_values::verdict::VerdictValue;
+use pafteis_world::admitting::judge;
+use std::alloc::Global;
+
+/// The status where an argument is a number that names nothing.
+pub const WRONG_ARGUMENT: u32 = 4;
+
+/// The verdict on the set that a text or an image names: 0 accepted, 1 refused, 2 faulty, 3 no
+/// memory; and why not.
+#[unsafe(no_mangle)]
+pub extern "C" fn pafteis_check(alloc: Global, set: &[u8], verdict: &mut VerdictValue) -> u32
+    ensures { IsCheckedAs set.now verdict.new result }
+{
+    let judged = judge(alloc, set);
+    *verdict = judged.value();
+    judged.status()
+}
+
+/// The same in the program's lines, with a certificate for each routine.
+#[unsafe(no_mangle)]
+pub extern "C" fn pafteis_report(
+    alloc: Global,
+    set: &[u8],
+    buffer: &mut [u8],
+    needed: &mut usize,
+) -> u32
+    ensures { Answers (IsCheckOf (Bytes set.now)) buffer.old buffer.new needed.new result }
+{
+    put(answers::check(alloc, set), buffer, needed)
+}
+
+/// The same with words behind: of the first fault where `extent` is 0, of each routine's where it is
+/// 1.
+#[unsafe(no_mangle)]
+pub extern "C" fn pafteis_explain(
+    alloc: Global,
+    set: &[u8],
+    extent: u32,
+    buffer: &mut [u8],
+    needed: &mut usize,
+) -> u32
+    ensures { ExplainsSet extent set.now buffer.old buffer.new needed.new result }
+{
+    let extent = match extent {
+        0 => Extent::First,
+        1 => Extent::Each,
+        _ => return wrong(needed),
+    };
+    put(answers::explain(alloc, extent, set), buffer, needed)
+}
+
+/// A rule in words, by its number, 1 to 20.
+#[unsafe(no_mangle)]
+pub extern "C" fn pafteis_explain_rule(
+    alloc: Global,
+    rule: u32,
+    buffer: &mut [u8],
+    needed: &mut usize,
+) -> u32
+    ensures { ExplainsRule rule buffer.old buffer.new needed.new result }
+{
+    match rule_of(rule) {
+        Some(rule) => put(answers::explain_rule(alloc, rule), buffer, needed),
+        None => wrong(needed),
+    }
+}
+
+/// The trace of a set by a schedule. Where `flags` is 0 a refused set isn't run, where it is 1 any
+/// set is.
+#[unsafe(no_mangle)]
+pub extern "C" fn pafteis_trace(
+    alloc: Global,
+    set: &[u8],
+    schedule: &[u8],
+    flags: u32,
+    buffer: &mut [u8],
+    needed: &mut usize,
+) -> u32
+    ensures { Traces flags set.now schedule.now buffer.old buffer.new needed.new result }
+{
+    let verification = match flags {
+        0 => Verification::Required,
+        1 => Verification::Skipped,
+        _ => return wrong(needed),
+    };
+    put(
+        answers::trace(alloc, set, schedule, verification),
+        buffer,
+        needed,
+    )
+}
+
+/// The listing of a set.
+#[unsafe(no_mangle)]
+pub extern "C" fn pafteis_list(
+    alloc: Global,
+    set: &[u8],
+    buffer: &mut [u8],
+    needed: &mut usize,
+) -> u32
+    ensures { Answers (IsListOf (Bytes set.now)) buffer.old buffer.new needed.new result }
+{
+    put(answers::list(alloc, set), buffer, needed)
+}
+
+/// The image of a set, of the second edition.
+#[unsafe(no_mangle)]
+pub extern "C" fn pafteis_rewrite(
+    alloc: Global,
+    set: &[u8],
+    buffer: &mut [u8],
+    needed: &mut usize,
+) -> u32
+    ensures { Answers (IsRewriteOf (Bytes set.now)) buffer.old buffer.new needed.new result }
+{
+    put(answers::rewrite(alloc, set), buffer, needed)
+}
+
+/// The name and the version of the program whose answers these are.
+#[unsafe(no_mangle)]
+pub extern "C" fn pafteis_version(alloc: Global, buffer: &mut [u8], needed: &mut usize) -> u32
+    ensures { Answers IsVersion buffer.old buffer.new needed.new result }
+{
+    put(answers::version(alloc), buffer, needed)
+}
+
+/// An argument names nothing.
+fn wrong(needed: &mut usize) -> u32
+    ensures status { result ≡ WRONG_ARGUMENT }
+    ensures needed { needed.new ≡ 0 }
+{
+    *needed = 0;
+    WRONG_ARGUMENT
+}
+
+/// Puts an answer into a buffer and says how many bytes it has.
+fn put(told: Result<Told, OutOfMemory>, buffer: &mut [u8], needed: &mut usize) -> u32
+    ensures { Puts told buffer.old buffer.new needed.new result }
+{
+    let delivered = deliver(told, buffer);
+    *needed = delivered.needed;
+    delivered.status
+}

@@ -1,0 +1,109 @@
+//! The program's answers, over bytes in memory. An error comes only where a growth was refused.
+
+ghost use Rattle.std.specs.Prelude.{IfOk};
+ghost use Rattle.drvhost_parts.specs.Answer.{IsRuleExplained, IsVersion};
+ghost use Rattle.drvhost_parts.specs.Device.{Bytes};
+ghost use Rattle.drvhost_parts.specs.Ends.{IsCheckOf, IsExplainedOf, IsListOf, IsRewriteOf, IsTraceOf};
+
+use crate::told::{Told, collected};
+use drvhost_parts::device::{Reader, Source, Writer};
+use drvhost_parts::explaining::Extent;
+use drvhost_parts::verification::Verification;
+use model::abs::Rule;
+use model::memory::OutOfMemory;
+use std::alloc::Global;
+
+/// The verdict on the set that a text or an image names.
+pub fn check(alloc: Global, set: &[u8]) -> Result<Told, OutOfMemory>
+    ensures { IfOk result (IsCheckOf (Bytes set.now)) }
+{
+    let mut source = Reader::new(Some(set));
+    let mut output = Writer::new(Vec::new(alloc));
+    let mut errors = Writer::new(Vec::new(alloc));
+    let exit = drvhost_parts::check::check(alloc, &mut source, &mut output, &mut errors);
+    collected(exit, source.failures(), output, errors)
+}
+
+/// The same, explained in words.
+pub fn explain(alloc: Global, extent: Extent, set: &[u8]) -> Result<Told, OutOfMemory>
+    ensures { IfOk result (IsExplainedOf (Bytes set.now)) }
+{
+    let mut source = Reader::new(Some(set));
+    let mut output = Writer::new(Vec::new(alloc));
+    let mut errors = Writer::new(Vec::new(alloc));
+    let exit = drvhost_parts::explaining::explain(
+        alloc,
+        extent,
+        &mut source,
+        &mut output,
+        &mut errors,
+    );
+    collected(exit, source.failures(), output, errors)
+}
+
+/// A rule in words.
+pub fn explain_rule(alloc: Global, rule: Rule) -> Result<Told, OutOfMemory>
+    ensures { IfOk result (IsRuleExplained rule) }
+{
+    let mut output = Writer::new(Vec::new(alloc));
+    let mut errors = Writer::new(Vec::new(alloc));
+    let exit = drvhost_parts::rule::explain_rule(alloc, rule, &mut output, &mut errors);
+    collected(exit, 0, output, errors)
+}
+
+/// The trace of a set by a schedule.
+pub fn trace(
+    alloc: Global,
+    set: &[u8],
+    schedule: &[u8],
+    verification: Verification,
+) -> Result<Told, OutOfMemory>
+    ensures { IfOk result (IsTraceOf verification (Bytes set.now) (Bytes schedule.now)) }
+{
+    let mut source = Reader::new(Some(set));
+    let mut events = Reader::new(Some(schedule));
+    let mut output = Writer::new(Vec::new(alloc));
+    let mut errors = Writer::new(Vec::new(alloc));
+    let exit = drvhost_parts::trace::trace(
+        alloc,
+        &mut source,
+        &mut events,
+        verification,
+        &mut output,
+        &mut errors,
+    );
+    let unread = source.failures().max(events.failures());
+    collected(exit, unread, output, errors)
+}
+
+/// The listing of a set.
+pub fn list(alloc: Global, set: &[u8]) -> Result<Told, OutOfMemory>
+    ensures { IfOk result (IsListOf (Bytes set.now)) }
+{
+    let mut source = Reader::new(Some(set));
+    let mut output = Writer::new(Vec::new(alloc));
+    let mut errors = Writer::new(Vec::new(alloc));
+    let exit = drvhost_parts::list::list(alloc, &mut source, &mut output, &mut errors);
+    collected(exit, source.failures(), output, errors)
+}
+
+/// The image of a set, in the second edition.
+pub fn rewrite(alloc: Global, set: &[u8]) -> Result<Told, OutOfMemory>
+    ensures { IfOk result (IsRewriteOf (Bytes set.now)) }
+{
+    let mut source = Reader::new(Some(set));
+    let mut output = Writer::new(Vec::new(alloc));
+    let mut errors = Writer::new(Vec::new(alloc));
+    let exit = drvhost_parts::rewriting::rewrite(alloc, &mut source, &mut output, &mut errors);
+    collected(exit, source.failures(), output, errors)
+}
+
+/// The name and the version of the program.
+pub fn version(alloc: Global) -> Result<Told, OutOfMemory>
+    ensures { IfOk result IsVersion }
+{
+    let mut output = Writer::new(Vec::new(alloc));
+    let mut errors = Writer::new(Vec::new(alloc));
+    let exit = drvhost_parts::version::version(&mut output, &mut errors);
+    collected(exit, 0, output, errors)
+}

@@ -1,0 +1,9 @@
+//! The structs and numbers of the library's header: what crosses to C of a verdict, an event, a
+//! reply, and what a world tells.
+#![tactic(auto)]
+
+pub mod event;
+pub mod reply;
+pub mod rule;
+pub mod verdict;
+pub mod view;

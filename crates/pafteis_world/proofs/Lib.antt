@@ -1,0 +1,3 @@
+pub mod Deeds
+pub mod Blank
+pub mod LooseValues

@@ -1,0 +1,72 @@
+//! Answers a command of the program from Rust, as answer.c does from C:
+//!
+//!     rustc -O examples/library/answer.rs -L out/lib -o answer && ./answer check FILE
+use std::io::Write;
+use std::process::exit;
+
+#[link(name = "pafteis", kind = "static")]
+unsafe extern "C" {
+    fn pafteis_report(set: *const u8, length: usize, buffer: *mut u8, capacity: usize, needed: *mut usize) -> u32;
+    fn pafteis_explain(set: *const u8, length: usize, extent: u32, buffer: *mut u8, capacity: usize, needed: *mut usize) -> u32;
+    fn pafteis_explain_rule(rule: u32, buffer: *mut u8, capacity: usize, needed: *mut usize) -> u32;
+    fn pafteis_list(set: *const u8, length: usize, buffer: *mut u8, capacity: usize, needed: *mut usize) -> u32;
+    fn pafteis_rewrite(set: *const u8, length: usize, buffer: *mut u8, capacity: usize, needed: *mut usize) -> u32;
+    fn pafteis_trace(set: *const u8, length: usize, schedule: *const u8, schedule_length: usize, flags: u32, buffer: *mut u8, capacity: usize, needed: *mut usize) -> u32;
+    fn pafteis_version(buffer: *mut u8, capacity: usize, needed: *mut usize) -> u32;
+}
+
+/// The status and the bytes of a call that puts its answer into a buffer.
+fn called(call: impl Fn(*mut u8, usize, *mut usize) -> u32) -> (u32, Vec<u8>) {
+    let mut buffer = vec![0; 64];
+    loop {
+        let mut needed = 0;
+        let status = call(buffer.as_mut_ptr(), buffer.len(), &mut needed);
+        if needed <= buffer.len() {
+            buffer.truncate(needed);
+            return (status, buffer);
+        }
+        buffer = vec![0; needed];
+    }
+}
+
+fn answered(words: &[String]) -> (u32, Vec<u8>) {
+    let read = |at: usize| std::fs::read(&words[at]).unwrap_or_else(|_| exit(2));
+    match words[1].as_str() {
+        "version" => return called(|b, c, n| unsafe { pafteis_version(b, c, n) }),
+        "rule" => {
+            let rule = words[2].parse().unwrap_or(0);
+            return called(|b, c, n| unsafe { pafteis_explain_rule(rule, b, c, n) });
+        }
+        _ => {}
+    }
+    let set = read(2);
+    let (at, length) = (set.as_ptr(), set.len());
+    match words[1].as_str() {
+        "check" => called(|b, c, n| unsafe { pafteis_report(at, length, b, c, n) }),
+        "list" => called(|b, c, n| unsafe { pafteis_list(at, length, b, c, n) }),
+        "rewrite" => called(|b, c, n| unsafe { pafteis_rewrite(at, length, b, c, n) }),
+        "explain" | "explain-each" => {
+            let extent = u32::from(words[1] != "explain");
+            called(|b, c, n| unsafe { pafteis_explain(at, length, extent, b, c, n) })
+        }
+        _ => {
+            let flags = u32::from(words[1] != "trace");
+            let events = read(3);
+            called(|b, c, n| unsafe {
+                pafteis_trace(at, length, events.as_ptr(), events.len(), flags, b, c, n)
+            })
+        }
+    }
+}
+
+fn main() {
+    let words: Vec<String> = std::env::args().collect();
+    let (status, answer) = answered(&words);
+    let answer = if status == 3 { b"out of memory\n".to_vec() } else { answer };
+    if status >= 2 {
+        std::io::stderr().write_all(&answer).unwrap();
+    } else {
+        std::io::stdout().write_all(&answer).unwrap();
+    }
+    exit(status as i32);
+}

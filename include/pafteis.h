@@ -1,0 +1,258 @@
+/* Pafteis, a proved host for driver routines, as a library.
+ *
+ * Verdicts on driver sets, their explanations, listings, images and traces, from bytes in memory to
+ * bytes in memory; and the machine of accepted sets, driven event by event. docs/TEXTS.md says what
+ * stands in texts, images and schedules, docs/RULES.md what each refusal and each fault means.
+ *
+ * Rules for every call:
+ *
+ * - Nothing is kept of what is passed, and nothing is written but through the pointers that are not
+ *   const. No call prints, opens a file, starts a thread, takes a lock or waits.
+ * - A pointer is never NULL, and points to as many bytes as the length behind it says, also where
+ *   that is 0. What is written to overlaps with nothing else that is passed.
+ * - Bytes are bytes: nothing ends them but their length. A length is a number of bytes.
+ * - Calls that say "takes memory" take it from malloc and, but for a world, give all of it back
+ *   before they return. Where memory is refused they answer PAFTEIS_NO_MEMORY.
+ * - Calls may be made in several threads at once, as long as no two of them have the same world, or
+ *   a buffer that one of them writes to. No call may be made from a signal handler.
+ */
+#ifndef PAFTEIS_H
+#define PAFTEIS_H
+
+#include <stdbool.h>
+#include <stddef.h>
+#include <stdint.h>
+
+#ifdef __cplusplus
+extern "C" {
+#endif
+
+/* What a call answers. */
+enum {
+    PAFTEIS_DONE = 0,           /* done; of a driver set: accepted, or run to the schedule's end */
+    PAFTEIS_REFUSED = 1,        /* the set is refused, or a bug check stopped its run */
+    PAFTEIS_FAULTY = 2,         /* the bytes are no text and no image of a set, or no schedule */
+    PAFTEIS_NO_MEMORY = 3,      /* memory was refused; buffers and worlds are as they were */
+    PAFTEIS_WRONG_ARGUMENT = 4, /* a number that names nothing; buffers and worlds likewise */
+    PAFTEIS_NO_WORLD = 5        /* no world was made, or it was freed; nothing is written */
+};
+
+/* Verdicts ---------------------------------------------------------------------------------- */
+
+/* The rules that a driver set may break. */
+enum {
+    PAFTEIS_MALFORMED = 1,
+    PAFTEIS_UNREACHABLE = 2,
+    PAFTEIS_STATES_DIFFER = 3,
+    PAFTEIS_WRONG_KIND = 4,
+    PAFTEIS_DOUBLE_COMPLETION = 5,
+    PAFTEIS_MARK_IRP_PENDING = 6,
+    PAFTEIS_CANCEL_SPIN_LOCK = 7,
+    PAFTEIS_SPIN_LOCK = 8,
+    PAFTEIS_LOCK_HELD = 9,
+    PAFTEIS_LEVEL = 10,
+    PAFTEIS_GUARD = 11,
+    PAFTEIS_CANCEL_STATE = 12,
+    PAFTEIS_DROPPED = 13,
+    PAFTEIS_TOKEN = 14,
+    PAFTEIS_SORT = 15,
+    PAFTEIS_COMPLETION = 16,
+    PAFTEIS_STACK_TOO_SMALL = 17,
+    PAFTEIS_NO_LOWER = 18,
+    PAFTEIS_TOO_LONG = 19,
+    PAFTEIS_MEMORY = 20 /* never in a verdict: PAFTEIS_NO_MEMORY is the answer then */
+};
+
+/* The faults of a text. */
+enum {
+    PAFTEIS_TEXT_LEX = 1,
+    PAFTEIS_TEXT_UNKNOWN_WORD = 2,
+    PAFTEIS_TEXT_DUPLICATE_NAME = 3,
+    PAFTEIS_TEXT_UNKNOWN_NAME = 4,
+    PAFTEIS_TEXT_OUT_OF_RANGE = 5,
+    PAFTEIS_TEXT_UNCLOSED = 6,
+    PAFTEIS_TEXT_OVER_LIMIT = 7
+};
+
+/* The faults of an image. */
+enum {
+    PAFTEIS_IMAGE_MAGIC = 1,
+    PAFTEIS_IMAGE_TRUNCATED = 2,
+    PAFTEIS_IMAGE_TRAILING = 3,
+    PAFTEIS_IMAGE_BAD_OPCODE = 4,
+    PAFTEIS_IMAGE_OVER_LIMIT = 5
+};
+
+/* Why a set is refused, or why there is none. What tells nothing is 0. */
+typedef struct {
+    uint64_t line;                      /* of a faulty text, from 1 */
+    uint32_t rule;                      /* of a refused set, PAFTEIS_MALFORMED to _TOO_LONG */
+    uint32_t driver, routine, position; /* where it is broken, each from 0 */
+    uint32_t text_fault;                /* of a faulty text, PAFTEIS_TEXT_LEX to _OVER_LIMIT */
+    uint32_t image_fault;               /* of a faulty image, PAFTEIS_IMAGE_MAGIC to _OVER_LIMIT */
+} pafteis_verdict;
+
+/* The verdict on the set that a text or an image names: PAFTEIS_DONE, _REFUSED, _FAULTY or
+ * _NO_MEMORY. Takes memory. */
+uint32_t pafteis_check(const uint8_t *set, size_t set_length, pafteis_verdict *verdict);
+
+/* Answers in bytes ---------------------------------------------------------------------------
+ *
+ * Each writes what the program of the same name writes, on its two streams: of these one is empty,
+ * and the status, which is the program's exit status, tells which. `needed` becomes the number of
+ * these bytes, 0 with _NO_MEMORY and _WRONG_ARGUMENT. Where they are no more than `capacity`, they
+ * are written to the front of the buffer; else nothing is, and a second call with a larger buffer
+ * answers the same. All take memory. */
+
+/* `check`: the verdict, with a line for each routine of an accepted set. */
+uint32_t pafteis_report(const uint8_t *set, size_t set_length,
+                        uint8_t *buffer, size_t capacity, size_t *needed);
+
+enum { PAFTEIS_FIRST = 0, PAFTEIS_EACH = 1 };
+
+/* `explain`: words behind the verdict, of the first fault, or of the first of each routine. */
+uint32_t pafteis_explain(const uint8_t *set, size_t set_length, uint32_t extent,
+                         uint8_t *buffer, size_t capacity, size_t *needed);
+
+/* `explain --rule`: a rule in words, 1 to 20. */
+uint32_t pafteis_explain_rule(uint32_t rule, uint8_t *buffer, size_t capacity, size_t *needed);
+
+enum { PAFTEIS_CHECKED = 0, PAFTEIS_UNCHECKED = 1 };
+
+/* `trace`: a run of a schedule of events; of a refused set only where that is asked for. */
+uint32_t pafteis_trace(const uint8_t *set, size_t set_length,
+                       const uint8_t *schedule, size_t schedule_length, uint32_t flags,
+                       uint8_t *buffer, size_t capacity, size_t *needed);
+
+/* `list`: a text that names the set. */
+uint32_t pafteis_list(const uint8_t *set, size_t set_length,
+                      uint8_t *buffer, size_t capacity, size_t *needed);
+
+/* `rewrite`: the set's image, of edition 2. */
+uint32_t pafteis_rewrite(const uint8_t *set, size_t set_length,
+                         uint8_t *buffer, size_t capacity, size_t *needed);
+
+/* `version`. */
+uint32_t pafteis_version(uint8_t *buffer, size_t capacity, size_t *needed);
+
+/* Worlds ------------------------------------------------------------------------------------
+ *
+ * A world of an accepted set. Set the struct to PAFTEIS_EMPTY_WORLD before it is passed for the
+ * first time, and let nothing but the calls below change it; it may be moved, and not copied. A
+ * world that was made is to be freed: pafteis_world_new over one that stands loses its memory. */
+
+typedef struct {
+    bool live;
+    void *inside;
+} pafteis_world;
+
+#define PAFTEIS_EMPTY_WORLD { false, NULL }
+
+/* Makes the world of the set that a text or an image names, before its first event, with 1 to 64
+ * threads. With PAFTEIS_DONE there is one; else `world` is as it was, and `verdict` tells why, as
+ * that of pafteis_check does; with _WRONG_ARGUMENT, of another number of threads, it is all 0.
+ * Takes memory, all that the world ever needs. */
+uint32_t pafteis_world_new(const uint8_t *set, size_t set_length, uint8_t threads,
+                           pafteis_world *world, pafteis_verdict *verdict);
+
+/* Kinds of events, with the fields that each needs. The others may be anything. */
+enum {
+    PAFTEIS_ISSUE = 1,     /* thread, device, major, argument: a request for a device arrives */
+    PAFTEIS_CANCEL = 2,    /* thread, packet, level: IoCancelIrp is called, 0 to 2 for its level */
+    PAFTEIS_INTERRUPT = 3, /* device */
+    PAFTEIS_DPC = 4,       /* thread, device: the queued DPC begins */
+    PAFTEIS_START_IO = 5,  /* thread, device: StartIo begins */
+    PAFTEIS_STEP = 6       /* thread: one step of its top frame */
+};
+
+enum { PAFTEIS_READ = 3, PAFTEIS_WRITE = 4, PAFTEIS_DEVICE_CONTROL = 14 };
+
+typedef struct {
+    uint64_t packet;   /* by the number that PAFTEIS_STARTED told */
+    uint64_t argument; /* of the request; any number */
+    uint32_t kind;
+    uint8_t thread;    /* from 0 */
+    uint8_t device;    /* from 0, in the order of the text */
+    uint8_t major;
+    uint8_t level;
+} pafteis_event;
+
+/* Kinds of replies. A world never replies with a bug check or a wrong operand (8, 9). */
+enum {
+    PAFTEIS_STARTED = 1,  /* packet: a root frame stands on the thread, for this packet */
+    PAFTEIS_STEPPED = 2,
+    PAFTEIS_FINISHED = 3, /* the thread has no frame left */
+    PAFTEIS_TOPPED = 4,   /* packet, status, info: the packet topped out */
+    PAFTEIS_WAITED = 5,   /* another thread holds the lock; nothing changed */
+    PAFTEIS_IDLE = 6,     /* the thread has no frame; nothing changed */
+    PAFTEIS_NOT_POSSIBLE = 7 /* the event can't be; nothing changed */
+};
+
+typedef struct {
+    uint64_t packet;
+    uint64_t info;   /* IoStatus.Information */
+    uint32_t kind;
+    uint32_t status; /* NTSTATUS */
+} pafteis_reply;
+
+/* One event, which is one atomic step. PAFTEIS_DONE, _WRONG_ARGUMENT where there is no such kind or
+ * no such major function, or _NO_WORLD. `reply` is written with PAFTEIS_DONE alone. */
+uint32_t pafteis_world_apply(pafteis_world *world, const pafteis_event *event,
+                             pafteis_reply *reply);
+
+/* Steps of a thread, at most `count`, up to the first that replies otherwise than _STEPPED; how
+ * many were made, and the reply to the last of them (_STEPPED where none was). */
+uint32_t pafteis_world_steps(pafteis_world *world, uint8_t thread, size_t count, size_t *made,
+                             pafteis_reply *reply);
+
+/* The top frame of a thread. */
+typedef struct {
+    uint64_t packet;   /* of the I/O manager's frames */
+    uint32_t kind;     /* 0 none, 1 a routine, 2 a packet is completed, 3 a packet is cancelled */
+    uint32_t position; /* the instruction before which the routine stands, from 0 */
+    uint8_t driver, routine, device;
+    uint8_t next;      /* of a cancel: 1 it acquires the lock, 2 sets the flag, 3 exchanges */
+} pafteis_frame;
+
+typedef struct {
+    uint64_t frames; /* at most 32 */
+    uint32_t level;  /* of the lowest frame: 0 PASSIVE_LEVEL, 1 APC_LEVEL, 2 DISPATCH_LEVEL */
+    pafteis_frame top;
+} pafteis_thread;
+
+/* Tells of a thread; _WRONG_ARGUMENT where the world has none of this number. */
+uint32_t pafteis_world_thread(pafteis_world *world, uint8_t number, pafteis_thread *thread);
+
+/* Whose cancel routine is set. */
+typedef struct {
+    uint8_t kind; /* 0 none, 1 that of a queue, 2 that of a device queue */
+    uint8_t device, queue;
+} pafteis_armed;
+
+typedef struct {
+    uint32_t kind;   /* 0 none of this number was issued, 1 it is live, 2 it has topped out */
+    uint8_t depth;   /* the current location; 1 is the top driver's */
+    pafteis_armed armed;
+    bool cancel;     /* Irp->Cancel */
+    bool marks[16];  /* SL_PENDING_RETURNED of each location, that of depth 1 first */
+} pafteis_packet;
+
+/* Tells of a packet. */
+uint32_t pafteis_world_packet(pafteis_world *world, uint64_t number, pafteis_packet *packet);
+
+typedef struct {
+    bool start_io; /* its StartIo routine has to begin */
+    bool dpc;      /* its DPC is queued */
+} pafteis_due;
+
+/* Tells what is due of a device: nothing where there is none of this number. */
+uint32_t pafteis_world_due(pafteis_world *world, uint8_t device, pafteis_due *due);
+
+/* Frees a world; _NO_WORLD where there is none, as where it was freed before. */
+uint32_t pafteis_world_free(pafteis_world *world);
+
+#ifdef __cplusplus
+}
+#endif
+
+#endif
