@@ -1,5 +1,5 @@
 -- Which frame acts in an event, where it stands, and the packet that its step is about.
-use Rattle.std.specs.Prelude.{ℕ, List, [], Option, None, Some, option_and_then, option_map}
+use Rattle.std.specs.Prelude.{ℕ, Option, None, Some, option_and_then, option_map}
 use Rattle.model.specs.declared.event.Event.{Event}
 use Rattle.model.specs.declared.event.Event.TheVariants.{Issue, Cancel as CancelEvent, Interrupt, Dpc as DpcEvent, StartIo as StartIoEvent, Step}
 use Rattle.model.specs.declared.instr.Instr.{Instr}
