@@ -10,3 +10,4 @@ pub mod Files
 pub mod Wording
 pub mod Images
 pub mod ToldRuns
+pub mod DrawnRuns

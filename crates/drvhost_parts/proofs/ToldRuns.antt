@@ -25,6 +25,7 @@ use Rattle.drvhost_parts.specs.declared.fault.End.{End}
 use Rattle.drvhost_parts.specs.declared.fault.End.TheVariants.{Complete, Stopped}
 use Rattle.drvhost_parts.specs.declared.fault.Fault.{Fault}
 use Rattle.drvhost_parts.specs.declared.fault.Fault.TheVariants.{Read, Write, Memory, Text, Image, Schedule as OfSchedule, Script as OfScript}
+use Rattle.drvhost_parts.specs.declared.show.Showing.{Showing}
 use Rattle.drvhost_parts.specs.declared.tell.Detail.{Detail}
 use Rattle.drvhost_parts.specs.declared.telling.Told.{Told}
 use Rattle.drvhost_parts.specs.Answer.{Answer, IsRefused, IsToRun, ended, faulty, is_last, replies}
@@ -32,7 +33,7 @@ use Rattle.drvhost_parts.specs.Device.{Supply, TakesBeginning}
 use Rattle.drvhost_parts.specs.declared.verification.Verification.{Verification}
 use Rattle.drvhost_parts.specs.Ends.{HoldsRun}
 use Rattle.drvhost_parts.specs.Fault.{Goes, ReadsSchedule, ReadsSet}
-use Rattle.drvhost_parts.specs.Told.{HasTold, IsRunTold, IsScheduleTold, IsTold, IsToldRunOf, Tells, is_left_out, replies_by, reply_head, run_to_end, told_end, told_line, world_by}
+use Rattle.drvhost_parts.specs.Told.{HasTold, IsRunShown, IsRunTold, IsScheduleShown, IsShownRunOf, IsTold, Tells, is_left_out, replies_by, reply_head, run_to_end, told_end, told_line, world_by}
 use Rattle.drvhost_parts.proofs.Following.{run_more}
 use Rattle.drvhost_parts.proofs.Writing.{keeps_same}
 
@@ -69,7 +70,7 @@ module _ (set : Set) (threads : ℕ) (past : List Event) (e : Event) (rest : Lis
   abbrev after : Run
   after = run set threads (past ++ e ∷ [])
 
-  next_replies : replies set (run set threads past) (e ∷ rest)
+  pub next_replies : replies set (run set threads past) (e ∷ rest)
       ≡ reply ∷ (if is_last reply then [] else replies set after rest)
   next_replies =
       let answered = step set (run set threads past) e in
@@ -216,29 +217,29 @@ run_told detail set threads events after world stopped amiss text words found h 
           then Stopped else Complete) all) same;
     }
 
--- a schedule was read, and its run is told
-pub schedule_told : (detail : Detail) (held : Supply) (set : Set) (schedule : Schedule)
+-- a schedule was read, and its run is shown
+pub schedule_shown : (showing : Showing) (held : Supply) (set : Set) (schedule : Schedule)
     (told : Told) → ReadsSchedule held (Ok schedule)
-    → IsRunTold detail set schedule.threads schedule.events (ended told.end told.text.items)
-    → Tells (IsToldRunOf detail held set) (Ok told)
-schedule_told detail held set schedule told (text, holds, lists) right =
+    → IsRunShown showing set schedule.threads schedule.events (ended told.end told.text.items)
+    → Tells (IsShownRunOf showing held set) (Ok told)
+schedule_shown showing held set schedule told (text, holds, lists) right =
     let P : Result Schedule ScheduleFault → Type 0 = λ s.
-    IsScheduleTold detail set s (ended told.end told.text.items) in
+    IsScheduleShown showing set s (ended told.end told.text.items) in
     (text, holds, subst P (sym lists) right)
 
 -- it can't be read
-pub schedule_unread : (detail : Detail) (held : Supply) (set : Set) (fault : Fault)
-    → ReadsSchedule held (Err fault) → Tells (IsToldRunOf detail held set) (Err fault)
-schedule_unread detail held set (OfSchedule fault) (text, holds, lists) =
+pub schedule_unread : (showing : Showing) (held : Supply) (set : Set) (fault : Fault)
+    → ReadsSchedule held (Err fault) → Tells (IsShownRunOf showing held set) (Err fault)
+schedule_unread showing held set (OfSchedule fault) (text, holds, lists) =
     let P : Result Schedule ScheduleFault → Type 0 = λ s.
-    IsScheduleTold detail set s (faulty (schedule_fault_line fault)) in
+    IsScheduleShown showing set s (faulty (schedule_fault_line fault)) in
     (text, holds, subst P (sym lists) refl)
-schedule_unread detail held set Read h = tt
-schedule_unread detail held set Memory h = tt
-schedule_unread detail held set Write h = absurd h
-schedule_unread detail held set (Text fault) h = absurd h
-schedule_unread detail held set (Image fault) h = absurd h
-schedule_unread detail held set (OfScript fault) h = absurd h
+schedule_unread showing held set Read h = tt
+schedule_unread showing held set Memory h = tt
+schedule_unread showing held set Write h = absurd h
+schedule_unread showing held set (Text fault) h = absurd h
+schedule_unread showing held set (Image fault) h = absurd h
+schedule_unread showing held set (OfScript fault) h = absurd h
 
 pub tells_nothing : (R : Answer → Type 0) (fault : Fault) → fault ≡ Memory → Tells R (Err fault)
 tells_nothing R fault is =

@@ -1,4 +1,5 @@
--- What `tell` answers: the trace of a run with words behind the reply of each event, and its audit.
+-- What `tell` answers: the trace of a run with words behind the reply of each event, and its audit;
+-- and what `draw` does: a picture of the run.
 use Rattle.std.specs.Prelude.{ℕ, ⊤, ◌≡◌, ◌+◌, ◌-◌, ◌++◌, ◌||◌, Bool, true, false, if◌then◌else◌, List, [], ◌∷◌, codes, length, take, Result, Ok, Err}
 use Rattle.std.specs.List.{list_any}
 use Rattle.audit.specs.Findings.{has_findings}
@@ -17,6 +18,8 @@ use Rattle.drvhost_parts.specs.declared.fault.End.{End}
 use Rattle.drvhost_parts.specs.declared.fault.End.TheVariants.{Complete, Stopped}
 use Rattle.drvhost_parts.specs.declared.fault.Fault.{Fault}
 use Rattle.drvhost_parts.specs.declared.fault.Fault.TheVariants.{Read, Write, Memory, Text, Image, Schedule as OfSchedule, Script as OfScript}
+use Rattle.drvhost_parts.specs.declared.show.Showing.{Showing}
+use Rattle.drvhost_parts.specs.declared.show.Showing.TheVariants.{InWords, AsPicture}
 use Rattle.drvhost_parts.specs.declared.tell.Detail.{Detail}
 use Rattle.drvhost_parts.specs.declared.tell.Detail.TheVariants.{Whole, Quiet}
 use Rattle.drvhost_parts.specs.declared.telling.Told.{Told}
@@ -89,22 +92,44 @@ pub record IsRunTold (detail : Detail) (set : Set) (threads : ℕ) (events : Lis
   pub told : IsTold detail 0 (replies_by set threads events) lines
   pub is : answer ≡ ended (told_end set threads events) (lines ++ (codes "\naudit\n" ++ words))
 
--- or the fault of the schedule is
-abbrev pub IsScheduleTold : Detail → Set → Result Schedule ScheduleFault → Answer → Type 0
-IsScheduleTold detail set (Ok schedule) answer =
-    IsRunTold detail set schedule.threads schedule.events answer
-IsScheduleTold detail set (Err fault) answer = answer ≡ faulty (schedule_fault_line fault)
+-- a run by a schedule is drawn: a picture, and the run's end
+pub record IsRunDrawn (set : Set) (threads : ℕ) (events : List Event) (answer : Answer)
+    : Type 0 where
+  pub picture : List ℕ
+  pub is : answer ≡ ended (if list_any is_last (replies_by set threads events)
+      then Stopped else Complete) picture
 
--- what is told of a run of a set by the schedule that a source has
-abbrev pub IsToldRunOf : Detail → Supply → Set → Answer → Type 0
-IsToldRunOf detail supply set answer =
+-- a run is shown in words, or as a picture
+abbrev pub IsRunShown : Showing → Set → ℕ → List Event → Answer → Type 0
+IsRunShown (InWords detail) set threads events answer = IsRunTold detail set threads events answer
+IsRunShown AsPicture set threads events answer = IsRunDrawn set threads events answer
+
+-- or the fault of the schedule is told
+abbrev pub IsScheduleShown : Showing → Set → Result Schedule ScheduleFault → Answer → Type 0
+IsScheduleShown showing set (Ok schedule) answer =
+    IsRunShown showing set schedule.threads schedule.events answer
+IsScheduleShown showing set (Err fault) answer = answer ≡ faulty (schedule_fault_line fault)
+
+-- what is shown of a run of a set by the schedule that a source has
+abbrev pub IsShownRunOf : Showing → Supply → Set → Answer → Type 0
+IsShownRunOf showing supply set answer =
     (schedule : List ℕ) × Holds supply schedule
-    × IsScheduleTold detail set (schedule_in schedule) answer
+    × IsScheduleShown showing set (schedule_in schedule) answer
 
--- what `tell` answers for what its sources have: it reads the schedule's for a run alone
+-- what is answered for what the sources have where a run is shown: the schedule's is read for a
+-- run alone
+abbrev pub IsShownOf : Verification → Showing → Supply → Supply → Answer → Type 0
+IsShownOf verification showing supply schedule answer =
+    IsOfSupply (IsTraced verification (IsShownRunOf showing schedule)) supply answer
+
+-- what `tell` answers, and what `draw` does
 abbrev pub IsTellOf : Verification → Detail → Supply → Supply → Answer → Type 0
 IsTellOf verification detail supply schedule answer =
-    IsOfSupply (IsTraced verification (IsToldRunOf detail schedule)) supply answer
+    IsShownOf verification (InWords detail) supply schedule answer
+
+abbrev pub IsDrawOf : Verification → Supply → Supply → Answer → Type 0
+IsDrawOf verification supply schedule answer =
+    IsShownOf verification AsPicture supply schedule answer
 
 -- a text was made, and with the way that the job ends it is a right answer; or an input is rightly
 -- told as faulty, or a read failed or memory ran out

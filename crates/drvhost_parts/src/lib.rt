@@ -5,6 +5,8 @@
 
 pub mod check;
 pub mod device;
+pub mod draw;
+mod drawing;
 pub mod explaining;
 pub mod fault;
 mod follow;
@@ -15,6 +17,7 @@ mod reading;
 pub mod rewriting;
 pub mod rule;
 mod running;
+mod show;
 mod task;
 pub mod tell;
 mod telling;

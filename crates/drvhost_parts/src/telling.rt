@@ -59,7 +59,7 @@ pub(crate) fn tell_run(
 }
 
 /// How a run ends that has stopped or not, and of which something was found amiss or not.
-fn end_of(stopped: bool, amiss: bool) -> End
+pub(crate) fn end_of(stopped: bool, amiss: bool) -> End
     ensures { result ≡ (if stopped || amiss then End.Stopped else End.Complete) }
 {
     if stopped || amiss {
@@ -107,13 +107,13 @@ fn tell_events(
 
 /// An event that comes next, and what is left of a run of equal ones behind it.
 #[derive(Clone, Copy)]
-struct Next {
-    event: Event,
-    rest: Option<Repeated>,
+pub(crate) struct Next {
+    pub(crate) event: Event,
+    pub(crate) rest: Option<Repeated>,
 }
 
 /// The event that comes next, if there is one.
-fn next_event(rest: Option<Repeated>, upcoming: &mut Upcoming<'_>) -> Option<Next>
+pub(crate) fn next_event(rest: Option<Repeated>, upcoming: &mut Upcoming<'_>) -> Option<Next>
     requires { IfSome rest (λ run. 1 ≤ run.count) }
     ensures next { MatchOption result (awaited rest upcoming.old ≡ []) (λ next.
         awaited rest upcoming.old ≡ next.event ∷ awaited next.rest upcoming.new) }

@@ -2,25 +2,25 @@ use Rattle.std.proofs.Common.{arith, refl}
 use Rattle.drvhost_parts.specs.declared.fault.Fault.TheVariants.{Memory}
 use Rattle.drvhost_parts.specs.Ends.{OutOfMemory}
 use Rattle.drvhost_parts.specs.Fault.{fault_told, reads_failed, told_of, writes_failed}
-use Rattle.drvhost_parts.specs.Told.{IsTellOf}
+use Rattle.drvhost_parts.specs.Told.{IsShownOf}
 use Rattle.drvhost_parts.proofs.Jobs.{ends_of}
 use Rattle.drvhost_parts.proofs.Writing.{keeps_same}
-use Rattle.drvhost_parts.proofs.tell.tell.Goals as goal
+use Rattle.drvhost_parts.proofs.show.show.Goals as goal
 
 pub returns-in-Ok-clause-answers : goal.returns-in-Ok-clause-answers
 returns-in-Ok-clause-answers g c =
-    let end = c.tell_set-end.result in
+    let end = c.show_set-end.result in
     record {
       reads = reads_failed end;
       writes = writes_failed end;
       told = told_of end;
-      reads_are = c.tell_set-end.ensures.reads;
-      writes_are = c.tell_set-end.ensures.writes;
+      reads_are = c.show_set-end.ensures.reads;
+      writes_are = c.show_set-end.ensures.writes;
       tells = c.finish.ensures.told;
       ends = rw c.finish.ensures.status
-          (ends_of (IsTellOf c.args.verification c.args.detail
+          (ends_of (IsShownOf c.args.verification c.args.showing
           (g.S.Source.supply c.args.set.now) (g.P.Source.supply c.args.schedule.now)) _ _ end
-          c.tell_set-end.ensures.goes);
+          c.show_set-end.ensures.goes);
     }
 
 pub returns-in-Err-clause-answers : goal.returns-in-Err-clause-answers

@@ -2,18 +2,18 @@ use Rattle.std.proofs.Common.{[], ℕ, List, Err, Ok, subst, sym}
 use Rattle.std.proofs.lemmas.Result.{err_from_is_err_and}
 use Rattle.drvhost_parts.specs.Answer.{IsTraced}
 use Rattle.drvhost_parts.specs.Device.{Holds}
-use Rattle.drvhost_parts.specs.Told.{IsTellOf, IsToldRunOf}
+use Rattle.drvhost_parts.specs.Told.{IsShownOf, IsShownRunOf}
 use Rattle.drvhost_parts.proofs.Files.{set_read}
 use Rattle.drvhost_parts.proofs.Jobs.{bytes_unread, right_on, set_unread}
 use Rattle.drvhost_parts.proofs.ToldRuns.{holds_run, tells_rightly, told_broken, told_written, untold}
-use Rattle.drvhost_parts.proofs.tell.tell_set.Goals as goal
+use Rattle.drvhost_parts.proofs.show.show_set.Goals as goal
 
 pub returns-in_err-bytes-clause-goes : goal.returns-in_err-bytes-clause-goes
 returns-in_err-bytes-clause-goes g c =
     let p = err_from_is_err_and c.from_residual.result c.from_residual.ensures.1 in
     let held = g.S.Source.supply c.args.set.now in
     let Right = IsTraced c.args.verification
-    (IsToldRunOf c.args.detail (g.P.Source.supply c.args.schedule.now)) in
+    (IsShownRunOf c.args.showing (g.P.Source.supply c.args.schedule.now)) in
     rw (p.1, p.2)
     (set_unread Right held (g.O.Sink.contents c.args.out.now) [] [] c.in_err-bytes.field-0.0
     (bytes_unread held c.in_err-bytes.field-0.0 c.in_err-bytes.ensures.fault))
@@ -24,7 +24,7 @@ returns-in_err-set-clause-goes g c =
     c.from_residual-in_err-set.ensures.1 in
     let held = g.S.Source.supply c.args.set.now in
     let Right = IsTraced c.args.verification
-    (IsToldRunOf c.args.detail (g.P.Source.supply c.args.schedule.now)) in
+    (IsShownRunOf c.args.showing (g.P.Source.supply c.args.schedule.now)) in
     let bytes = c.as_slice-bytes.result.now in
     let holds = subst (λ (bytes : List ℕ). Holds held bytes) (sym c.as_slice-bytes.ensures.value)
     c.in_ok-bytes.ensures.bytes in
@@ -48,8 +48,8 @@ returns-in_err-told-clause-goes g c =
     c.from_residual-in_err-told.ensures.1 in
     let held = g.S.Source.supply c.args.set.now in
     let scheduled = g.P.Source.supply c.args.schedule.now in
-    let Right = IsTraced c.args.verification (IsToldRunOf c.args.detail scheduled) in
-    let All = IsTellOf c.args.verification c.args.detail held scheduled in
+    let Right = IsTraced c.args.verification (IsShownRunOf c.args.showing scheduled) in
+    let All = IsShownOf c.args.verification c.args.showing held scheduled in
     let bytes = c.as_slice-bytes.result.now in
     let holds = subst (λ (bytes : List ℕ). Holds held bytes) (sym c.as_slice-bytes.ensures.value)
     c.in_ok-bytes.ensures.bytes in
@@ -76,8 +76,8 @@ returns-in_err-write_bytes-clause-goes g c =
     c.from_residual-in_err-write_bytes.ensures.1 in
     let held = g.S.Source.supply c.args.set.now in
     let scheduled = g.P.Source.supply c.args.schedule.now in
-    let Right = IsTraced c.args.verification (IsToldRunOf c.args.detail scheduled) in
-    let All = IsTellOf c.args.verification c.args.detail held scheduled in
+    let Right = IsTraced c.args.verification (IsShownRunOf c.args.showing scheduled) in
+    let All = IsShownOf c.args.verification c.args.showing held scheduled in
     let bytes = c.as_slice-bytes.result.now in
     let holds = subst (λ (bytes : List ℕ). Holds held bytes) (sym c.as_slice-bytes.ensures.value)
     c.in_ok-bytes.ensures.bytes in
@@ -105,8 +105,8 @@ pub returns-clause-goes : goal.returns-clause-goes
 returns-clause-goes g c =
     let held = g.S.Source.supply c.args.set.now in
     let scheduled = g.P.Source.supply c.args.schedule.now in
-    let Right = IsTraced c.args.verification (IsToldRunOf c.args.detail scheduled) in
-    let All = IsTellOf c.args.verification c.args.detail held scheduled in
+    let Right = IsTraced c.args.verification (IsShownRunOf c.args.showing scheduled) in
+    let All = IsShownOf c.args.verification c.args.showing held scheduled in
     let bytes = c.as_slice-bytes.result.now in
     let holds = subst (λ (bytes : List ℕ). Holds held bytes) (sym c.as_slice-bytes.ensures.value)
     c.in_ok-bytes.ensures.bytes in
