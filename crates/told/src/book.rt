@@ -92,7 +92,7 @@ impl<'a> Book<'a> {
     }
 
     /// Where the instruction of a position of a routine stands.
-    pub(crate) fn line_of(&self, driver: u8, routine: u8, position: u16) -> Option<Spot> {
+    pub fn line_of(&self, driver: u8, routine: u8, position: u16) -> Option<Spot> {
         let page = self.drivers.get(driver as usize)?;
         page.lines.get(routine as usize)?.get(position as usize)
     }
@@ -106,7 +106,11 @@ impl<'a> Book<'a> {
     }
 
     /// Adds the name of a routine.
-    pub(crate) fn add_routine(
+    ///
+    /// # Errors
+    ///
+    /// When memory runs out.
+    pub fn add_routine(
         &self,
         words: &mut String,
         driver: u8,
@@ -120,7 +124,11 @@ impl<'a> Book<'a> {
     }
 
     /// Adds the name of a queue of a driver.
-    pub(crate) fn add_queue(
+    ///
+    /// # Errors
+    ///
+    /// When memory runs out.
+    pub fn add_queue(
         &self,
         words: &mut String,
         driver: u8,
@@ -134,7 +142,11 @@ impl<'a> Book<'a> {
     }
 
     /// Adds the name of a device.
-    pub(crate) fn add_device(&self, words: &mut String, device: u8) -> Result<(), AllocError> {
+    ///
+    /// # Errors
+    ///
+    /// When memory runs out.
+    pub fn add_device(&self, words: &mut String, device: u8) -> Result<(), AllocError> {
         match self.devices.get(device as usize) {
             Some(name) => add_bytes(words, name.bytes()),
             None => write!(words, "device {device}"),

@@ -14,7 +14,11 @@ use model::world::CancelStep;
 use std::alloc::AllocError;
 
 /// Adds what an event changed.
-pub(crate) fn add_change(
+///
+/// # Errors
+///
+/// When memory runs out.
+pub fn add_change(
     words: &mut String,
     book: &Book<'_>,
     event: &Event,

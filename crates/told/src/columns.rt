@@ -5,7 +5,7 @@ use model::event::Event;
 use std::alloc::AllocError;
 
 /// The thread that an event is about.
-pub(crate) fn thread_of(event: &Event) -> Option<u8> {
+pub fn thread_of(event: &Event) -> Option<u8> {
     match *event {
         Event::Issue { thread, .. }
         | Event::Cancel { thread, .. }

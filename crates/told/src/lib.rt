@@ -13,4 +13,6 @@ mod words;
 pub use acting::{Acting, acting_in};
 pub use audited::{Audited, add_audit};
 pub use book::Book;
+pub use change::add_change;
+pub use columns::thread_of;
 pub use line::{Moment, add_event, is_quiet};

@@ -1,0 +1,387 @@
+//! The picture of a run.
+
+use crate::drawing::{Drawing, MOST_ROWS, Move, Row, Stand};
+use crate::lane::{Lane, Post, Span, State};
+use crate::layout::{LINE, Layout, MARGIN, NAME, PLACE, WORDS};
+use crate::legend::{add_legend, height_of_legend};
+use crate::lines::{Lines, MOST_LINES};
+use crate::sign::Sign;
+use crate::style::{STYLE, class_of_hold, class_of_state};
+use crate::svg::{
+    Point, add_circle, add_line, add_rectangle, add_shape, add_text, add_upward, at,
+};
+use std::alloc::AllocError;
+
+/// Where a packet's line begins that is drawn next.
+#[derive(Clone, Copy)]
+struct Begun {
+    stand: Stand,
+    row: usize,
+}
+
+impl Drawing {
+    /// Whether a row stands behind the band for events that there was no room for: that of what
+    /// stops the run.
+    pub(crate) fn is_behind_band(&self, row: usize) -> bool {
+        self.left_out > 0 && row == MOST_ROWS - 1
+    }
+
+    /// Adds the whole picture.
+    ///
+    /// # Errors
+    ///
+    /// When memory runs out.
+    pub fn add_picture(&self, words: &mut String) -> Result<(), AllocError> {
+        let layout = Layout::of(self)?;
+        self.open(words, &layout)?;
+        self.add_ground(words, &layout)?;
+        self.add_head(words, &layout)?;
+        self.add_spans(words, &layout)?;
+        self.add_moves(words, &layout)?;
+        for (number, row) in self.rows.iter().enumerate() {
+            self.add_sign_of(words, &layout, number, row)?;
+            add_row(words, &layout, number, row)?;
+        }
+        self.add_band(words, &layout)?;
+        self.add_foot(words, &layout)?;
+        words.push_str("</svg>\n")
+    }
+
+    /// Opens the picture, with its size, its title and its style.
+    fn open(&self, words: &mut String, layout: &Layout) -> Result<(), AllocError> {
+        let width = layout.width;
+        let height = layout.bottom.saturating_add(height_of_legend()).saturating_add(40);
+        words.push_str("<?xml version=\"1.0\" encoding=\"UTF-8\"?>\n")?;
+        write!(
+            words,
+            "<svg xmlns=\"http://www.w3.org/2000/svg\" width=\"{width}\" height=\"{height}\" "
+        )?;
+        write!(words, "viewBox=\"0 0 {width} {height}\">\n<title>")?;
+        self.add_title(words)?;
+        words.push_str("</title>\n")?;
+        words.push_str(STYLE)?;
+        add_rectangle(words, "paper", at(0, 0), width, height)
+    }
+
+    /// Adds the words of the title.
+    fn add_title(&self, words: &mut String) -> Result<(), AllocError> {
+        let threads = self.threads;
+        let events = self.events;
+        let end = if threads == 1 { "" } else { "s" };
+        write!(words, "A run of {events} events on {threads} thread{end}")
+    }
+
+    /// Adds what stands behind all: every other row, and the lanes.
+    fn add_ground(&self, words: &mut String, layout: &Layout) -> Result<(), AllocError> {
+        let width = layout.width.saturating_sub(MARGIN);
+        for (number, _row) in self.rows.iter().enumerate() {
+            if number % 2 == 0 {
+                let corner = at(MARGIN / 2, layout.top(number).saturating_sub(2));
+                add_rectangle(words, "zebra", corner, width, layout.height(number))?;
+            }
+        }
+        for (number, lane) in self.lanes.iter().enumerate() {
+            add_lane(words, layout, number, lane)?;
+        }
+        Ok(())
+    }
+
+    /// Adds the words at the top, and the names of the columns.
+    fn add_head(&self, words: &mut String, layout: &Layout) -> Result<(), AllocError> {
+        let mut title = String::new(self.alloc);
+        self.add_title(&mut title)?;
+        add_text(words, "title", at(MARGIN, 26), title.as_bytes())?;
+        let drawn = self.rows.len();
+        let folded = self.events.saturating_sub(drawn as u64);
+        let mut note = String::new(self.alloc);
+        write!(
+            note,
+            "Time goes downwards. {drawn} of the events are drawn, at most {MOST_ROWS}; "
+        )?;
+        write!(note, "{folded} are folded, which step in")?;
+        add_text(words, "small", at(MARGIN, 43), note.as_bytes())?;
+        let note = b"registers and cells, go on with a completion or a wait, or find nothing to do: \
+\"+3\" says how many before a row.";
+        add_text(words, "small", at(MARGIN, 56), note.as_slice())?;
+        let line = layout.head.saturating_sub(6);
+        add_text(words, "small end", at(layout.folds, line), b"event")?;
+        add_text(words, "small", at(layout.place, line), b"where (line)")?;
+        add_text(words, "small", at(layout.words, line), b"what happens")?;
+        add_line(
+            words,
+            "rule",
+            at(MARGIN / 2, layout.head),
+            at(layout.width.saturating_sub(MARGIN / 2), layout.head),
+        )
+    }
+
+    /// Adds what lasts from row to row.
+    fn add_spans(&self, words: &mut String, layout: &Layout) -> Result<(), AllocError> {
+        for span in self.spans.iter() {
+            if matches!(span.state, State::Busy) {
+                add_span(words, layout, *span)?;
+            }
+        }
+        for span in self.spans.iter() {
+            if !matches!(span.state, State::Busy) {
+                add_span(words, layout, *span)?;
+            }
+        }
+        Ok(())
+    }
+
+    /// Adds the lines of the packets.
+    fn add_moves(&self, words: &mut String, layout: &Layout) -> Result<(), AllocError> {
+        let mut begun: Vec<Option<Begun>> = Vec::new(self.alloc);
+        for step in self.moves.iter() {
+            if step.packet >= begun.len() {
+                begun.push(None)?;
+            }
+            let before = match begun.get(step.packet) {
+                Some(before) => *before,
+                None => None,
+            };
+            self.add_move(words, layout, *step, before)?;
+            if let Some(line) = begun.get_mut(step.packet) {
+                *line = begun_at(*step);
+            }
+        }
+        for line in begun.iter() {
+            if let Some(line) = line {
+                self.add_open_end(words, layout, *line)?;
+            }
+        }
+        Ok(())
+    }
+
+    /// Adds the line of a packet up to where it goes, and the connector to its new lane.
+    fn add_move(
+        &self,
+        words: &mut String,
+        layout: &Layout,
+        step: Move,
+        before: Option<Begun>,
+    ) -> Result<(), AllocError> {
+        let y = layout.middle(step.row);
+        if let Some(before) = before {
+            let x = self.line_of(layout, before.stand);
+            let class = class_of_hold(before.stand.hold);
+            add_line(words, class, at(x, layout.middle(before.row)), at(x, y))?;
+        }
+        let Some(stand) = step.to else {
+            return Ok(());
+        };
+        let x = self.line_of(layout, stand);
+        match before {
+            Some(before) if before.stand.lane == stand.lane => return Ok(()),
+            Some(before) => add_connector(words, self.line_of(layout, before.stand), at(x, y))?,
+            None => {}
+        }
+        let mut number = String::new(self.alloc);
+        write!(number, "{}", step.packet)?;
+        let start = at(x.saturating_add(4), y.saturating_add(10));
+        add_text(words, "packet", start, number.as_bytes())
+    }
+
+    /// Adds the line of a packet that goes on where the picture ends.
+    fn add_open_end(
+        &self,
+        words: &mut String,
+        layout: &Layout,
+        line: Begun,
+    ) -> Result<(), AllocError> {
+        let x = self.line_of(layout, line.stand);
+        let class = class_of_hold(line.stand.hold);
+        let end = layout.end().saturating_sub(5);
+        add_line(words, class, at(x, layout.middle(line.row)), at(x, end))?;
+        add_shape(words, "black", at(x, end), "m-4-3h8l-4 7z")
+    }
+
+    /// Where the line of a packet is.
+    fn line_of(&self, layout: &Layout, stand: Stand) -> u32 {
+        layout.track(self.lanes.as_slice(), stand.lane, stand.track)
+    }
+
+    /// Adds the sign of a row, and where that is on a packet's line, that the thread acts.
+    fn add_sign_of(
+        &self,
+        words: &mut String,
+        layout: &Layout,
+        number: usize,
+        row: &Row,
+    ) -> Result<(), AllocError> {
+        let Some(spot) = row.spot else {
+            return Ok(());
+        };
+        if let (Some(lane), Some(_)) = (row.acts, spot.track) {
+            let x = layout.left(lane).saturating_add(8);
+            add_sign(words, Sign::Acts, at(x, layout.middle(number)))?;
+        }
+        add_sign(words, row.sign, layout.spot(self.lanes.as_slice(), number, spot))
+    }
+
+    /// Adds the band that stands for events that there was no room for.
+    fn add_band(&self, words: &mut String, layout: &Layout) -> Result<(), AllocError> {
+        let Some(top) = layout.band else {
+            return Ok(());
+        };
+        let width = layout.width.saturating_sub(MARGIN);
+        add_rectangle(words, "queued", at(MARGIN / 2, top.saturating_add(2)), width, 18)?;
+        let mut note = String::new(self.alloc);
+        let left_out = self.left_out;
+        write!(
+            note,
+            "Here {left_out} more events of interest are folded: {MOST_ROWS} are drawn at most."
+        )?;
+        add_text(words, "", at(MARGIN, top.saturating_add(15)), note.as_bytes())
+    }
+
+    /// Adds what stands below the rows: how many events are folded there, and the legend.
+    fn add_foot(&self, words: &mut String, layout: &Layout) -> Result<(), AllocError> {
+        let top = layout.bottom;
+        add_line(
+            words,
+            "rule",
+            at(MARGIN / 2, top),
+            at(layout.width.saturating_sub(MARGIN / 2), top),
+        )?;
+        if self.folded > 0 {
+            let mut note = String::new(self.alloc);
+            write!(note, "+{} events are folded behind the last row.", self.folded)?;
+            add_text(words, "small", at(MARGIN, top.saturating_add(15)), note.as_bytes())?;
+        }
+        add_legend(words, layout, top.saturating_add(22))
+    }
+}
+
+/// Where the line begins that a move draws next.
+fn begun_at(step: Move) -> Option<Begun> {
+    match step.to {
+        Some(stand) => Some(Begun {
+            stand,
+            row: step.row,
+        }),
+        None => None,
+    }
+}
+
+/// Adds a lane and its name.
+fn add_lane(
+    words: &mut String,
+    layout: &Layout,
+    number: usize,
+    lane: &Lane,
+) -> Result<(), AllocError> {
+    let width = layout.lane_width(number);
+    if width == 0 {
+        return Ok(());
+    }
+    let (left, end) = (layout.left(number), layout.end());
+    let middle = left.saturating_add(if matches!(lane.post, Post::Thread(_)) { 8 } else { 10 });
+    let name = lane.name.as_bytes();
+    let name = name.get(..NAME).unwrap_or(name);
+    let foot = layout.head.saturating_sub(6);
+    add_upward(words, "", at(middle.saturating_add(4), foot), name)?;
+    add_line(words, "side", at(left, layout.head), at(left, end))?;
+    let right = left.saturating_add(width);
+    add_line(words, "side", at(right, layout.head), at(right, end))?;
+    match lane.post {
+        Post::Thread(_) => {
+            add_line(words, "life", at(middle, layout.head), at(middle, end))
+        }
+        _ => Ok(()),
+    }
+}
+
+/// Adds what lasts in a lane.
+fn add_span(words: &mut String, layout: &Layout, span: Span) -> Result<(), AllocError> {
+    let top = layout.middle(span.from);
+    let end = match span.to {
+        Some(row) => layout.middle(row),
+        None => layout.end(),
+    };
+    let height = end.saturating_sub(top);
+    let (left, width) = (layout.left(span.lane), layout.lane_width(span.lane));
+    let (corner, width) = match span.state {
+        State::Busy => (left.saturating_add(3), width.saturating_sub(6)),
+        State::Waits => (left.saturating_add(4), width.saturating_sub(12)),
+        State::Owns => (left.saturating_add(width).saturating_sub(8), 4),
+        State::Queued => (left.saturating_add(7), 6),
+    };
+    add_rectangle(words, class_of_state(span.state), at(corner, top), width, height)
+}
+
+/// Adds a connector, with a point at its end.
+fn add_connector(words: &mut String, from: u32, to: Point) -> Result<(), AllocError> {
+    add_line(words, "goes", at(from, to.y), to)?;
+    let point = if from < to.x { "m0 0l-7-3v6z" } else { "m0 0l7-3v6z" };
+    add_shape(words, "black", to, point)
+}
+
+/// Adds a sign.
+pub(crate) fn add_sign(words: &mut String, sign: Sign, middle: Point) -> Result<(), AllocError> {
+    match sign {
+        Sign::Acts => add_circle(words, "black", middle, 3),
+        Sign::Mark => add_shape(words, "hollow", middle, "m0-5l5 5l-5 5l-5-5z"),
+        Sign::Complete => add_shape(words, "black", middle, "m-4-4h8v8h-8z"),
+        Sign::TopsOut => {
+            add_circle(words, "hollow", middle, 5)?;
+            add_circle(words, "black", middle, 3)
+        }
+        Sign::Cancel => add_shape(words, "cross", middle, "m-4-4l8 8m0-8l-8 8"),
+        Sign::Arm => add_shape(words, "hollow", middle, "m0-5l5 9h-10z"),
+        Sign::Disarm => add_shape(words, "hollow", middle, "m0 5l5-9h-10z"),
+        Sign::Acquire => add_shape(words, "black", middle, "m-4-5l9 5l-9 5z"),
+        Sign::Release => add_shape(words, "hollow", middle, "m-4-5l9 5l-9 5z"),
+        Sign::Interrupt => add_shape(words, "black", middle, "m2-7l-6 8h4l-2 6l6-8h-4z"),
+        Sign::Refused => {
+            add_circle(words, "hollow", middle, 4)?;
+            add_shape(words, "goes", middle, "m-3 3l6-6")
+        }
+        Sign::Stop => {
+            add_shape(words, "stop", middle, "m-3-7h6l4 4v6l-4 4h-6l-4-4v-6z")?;
+            add_shape(words, "white", middle, "m-3-3l6 6m0-6l-6 6")
+        }
+    }
+}
+
+/// Adds the number of a row, how many are folded before it, and its words.
+fn add_row(
+    words: &mut String,
+    layout: &Layout,
+    number: usize,
+    row: &Row,
+) -> Result<(), AllocError> {
+    let line = layout.top(number).saturating_add(11);
+    add_number(words, layout, line, row)?;
+    let place = row.place.as_bytes();
+    let place = place.get(..PLACE - 1).unwrap_or(place);
+    add_text(words, "place", at(layout.place, line), place)?;
+    let class = if row.sign == Sign::Stop { "bad" } else { "" };
+    let mut lines = Lines::of(row.words.as_bytes());
+    let mut y = line;
+    for _line in 0..MOST_LINES {
+        if let Some(part) = lines.next(WORDS) {
+            add_text(words, class, at(layout.words, y), part)?;
+            y = y.saturating_add(LINE);
+        }
+    }
+    Ok(())
+}
+
+/// Adds the number of a row, and how many events are folded before it.
+fn add_number(
+    words: &mut String,
+    layout: &Layout,
+    line: u32,
+    row: &Row,
+) -> Result<(), AllocError> {
+    let x = layout.numbers;
+    write!(words, "<text class=\"end\" x=\"{x}\" y=\"{line}\">{}</text>\n", row.number)?;
+    if row.folded > 0 {
+        let x = layout.folds;
+        let line = line.saturating_sub(8);
+        write!(words, "<text class=\"fold\" x=\"{x}\" y=\"{line}\">+{}</text>\n", row.folded)?;
+    }
+    Ok(())
+}
