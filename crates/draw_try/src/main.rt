@@ -1,5 +1,5 @@
 //! Draws a run on standard output: a trial, until `drvhost draw` is there. Its words are a driver
-//! text and a schedule.
+//! text and a schedule for each run; a line before each picture has the text's name.
 #![tactic(auto)]
 
 use asm::assemble;
@@ -16,11 +16,16 @@ fn main(rt: HostRuntime) -> io::Result<()> {
     let alloc = rt.alloc();
     let words: Vec<String> = env::args(&rt)?.collect(alloc)?;
     let mut out = rt.stdout();
-    if let (Some(file), Some(schedule)) = (words.get(1), words.get(2)) {
+    let mut place = 1;
+    while let (Some(file), Some(schedule)) = (words.get(place), words.get(place + 1)) {
         let text = fs::read(&rt, file.as_str())?;
         let events = fs::read(&rt, schedule.as_str())?;
         let picture = drawn_run(alloc, text.as_slice(), events.as_slice())?;
+        out.write_all(b"@@ ")?;
+        out.write_all(file.as_bytes())?;
+        out.write_all(b"\n")?;
         out.write_all(picture.as_bytes())?;
+        place += 2;
     }
     Ok(())
 }

@@ -8,10 +8,10 @@ use std::alloc::AllocError;
 
 /// The margin round the picture.
 pub(crate) const MARGIN: u32 = 12;
-/// A letter is no wider than this.
-const LETTER: u32 = 7;
+/// Ten letters of a font of fixed width are no wider than this.
+const TEN_LETTERS: u32 = 62;
 /// From one line of words to the next.
-pub(crate) const LINE: u32 = 13;
+pub(crate) const LINE: u32 = 12;
 /// What a row has above and below its lines.
 const ROOM: u32 = 7;
 /// From one track of a lane to the next.
@@ -20,12 +20,12 @@ const TRACK: u32 = 22;
 const LEFT: u32 = 20;
 const LIST_LEFT: u32 = 10;
 /// Letters of a place and of a line of words.
-pub(crate) const PLACE: usize = 20;
-pub(crate) const WORDS: usize = 54;
+pub(crate) const PLACE: usize = 18;
+pub(crate) const WORDS: usize = 60;
 /// Letters of a lane's name, at most.
 pub(crate) const NAME: usize = 40;
 /// The width that the words at the top and the legend need.
-const NARROWEST: u32 = 690;
+const NARROWEST: u32 = 680;
 /// The height of the words at the top.
 const TITLE: u32 = 66;
 /// The height of the band that stands for what is folded where there is no more room.
@@ -58,9 +58,9 @@ pub(crate) struct Layout {
 impl Layout {
     /// That of a run.
     pub(crate) fn of(drawing: &Drawing) -> Result<Layout, AllocError> {
-        let digits = count_digits(drawing.events);
-        let numbers = MARGIN.saturating_add(digits.saturating_mul(LETTER)).max(40);
-        let folds = numbers.saturating_add(digits.saturating_mul(LETTER)).saturating_add(10);
+        let digits = width_of_letters(count_digits(drawing.events));
+        let numbers = MARGIN.saturating_add(digits).max(30);
+        let folds = numbers.saturating_add(digits).saturating_add(10).max(46);
         let mut layout = Layout {
             numbers,
             folds,
@@ -87,9 +87,9 @@ impl Layout {
         }
         self.lefts.push(left)?;
         self.place = left.saturating_add(10);
-        self.words = self.place.saturating_add(PLACE as u32 * LETTER);
-        let width = self.words.saturating_add(WORDS as u32 * LETTER + MARGIN);
-        self.width = width.max(NARROWEST);
+        self.words = self.place.saturating_add(width_of_letters(PLACE as u32));
+        let width = self.words.saturating_add(width_of_letters(WORDS as u32));
+        self.width = width.saturating_add(MARGIN).max(NARROWEST);
         Ok(())
     }
 
@@ -178,6 +178,11 @@ impl Layout {
     }
 }
 
+/// The width of so many letters.
+fn width_of_letters(letters: u32) -> u32 {
+    letters.min(1_000) * TEN_LETTERS / 10
+}
+
 /// The width of so many tracks.
 fn tracks_width(tracks: usize) -> u32 {
     (tracks.min(1_000) as u32) * TRACK
@@ -200,7 +205,7 @@ fn head_of(drawing: &Drawing) -> u32 {
     for lane in drawing.lanes.iter() {
         longest = lane.name.len().min(NAME).max(longest);
     }
-    TITLE + longest.min(NAME) as u32 * LETTER + 12
+    TITLE + width_of_letters(longest.min(NAME) as u32) + 10
 }
 
 /// How many decimal digits a number has.

@@ -75,8 +75,9 @@ fn add_more_signs(words: &mut String, top: u32) -> Result<(), AllocError> {
     add_item(words, top, 18, Sample::Sign(Sign::Arm), "cancel routine set")?;
     add_item(words, top, 19, Sample::Sign(Sign::Disarm), "cancel routine cleared")?;
     add_item(words, top, 20, Sample::Sign(Sign::Cancel), "IoCancelIrp")?;
-    add_item(words, top, 21, Sample::Sign(Sign::Refused), "event refused")?;
-    add_item(words, top, 22, Sample::Sign(Sign::Stop), "bug check, the run stops")
+    add_item(words, top, 21, Sample::Sign(Sign::Flag), "Irp->Cancel set")?;
+    add_item(words, top, 22, Sample::Sign(Sign::Refused), "event refused")?;
+    add_item(words, top, 23, Sample::Sign(Sign::Stop), "bug check, the run stops")
 }
 
 /// Adds an item, by its number.

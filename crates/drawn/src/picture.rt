@@ -96,12 +96,12 @@ impl Drawing {
         let mut note = String::new(self.alloc);
         write!(
             note,
-            "Time goes downwards. {drawn} of the events are drawn, at most {MOST_ROWS}; "
+            "Time goes downwards. {drawn} of the events are drawn, at most {MOST_ROWS}. {folded} are folded: "
         )?;
-        write!(note, "{folded} are folded, which step in")?;
+        note.push_str("they step in registers or cells,")?;
         add_text(words, "small", at(MARGIN, 43), note.as_bytes())?;
-        let note = b"registers and cells, go on with a completion or a wait, or find nothing to do: \
-\"+3\" says how many before a row.";
+        let note = b"go on with a completion or a wait, or find nothing to do. \"+3\" at a row says how many \
+before it.";
         add_text(words, "small", at(MARGIN, 56), note.as_slice())?;
         let line = layout.head.saturating_sub(6);
         add_text(words, "small end", at(layout.folds, line), b"event")?;
@@ -329,6 +329,10 @@ pub(crate) fn add_sign(words: &mut String, sign: Sign, middle: Point) -> Result<
             add_circle(words, "black", middle, 3)
         }
         Sign::Cancel => add_shape(words, "cross", middle, "m-4-4l8 8m0-8l-8 8"),
+        Sign::Flag => {
+            add_circle(words, "hollow", middle, 5)?;
+            add_shape(words, "cross", middle, "m-3-3l6 6m0-6l-6 6")
+        }
         Sign::Arm => add_shape(words, "hollow", middle, "m0-5l5 9h-10z"),
         Sign::Disarm => add_shape(words, "hollow", middle, "m0 5l5-9h-10z"),
         Sign::Acquire => add_shape(words, "black", middle, "m-4-5l9 5l-9 5z"),

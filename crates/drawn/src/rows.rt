@@ -97,21 +97,27 @@ fn add_called(
     acting: Acting,
     top: Option<FrameView>,
 ) -> Result<(), AllocError> {
-    let calls = match acting.frame {
-        FrameView::Routine { .. } => matches!(
-            acting.instruction,
-            Some(Instr::Pass(_) | Instr::Call(_, _))
-        ),
-        FrameView::Walk(_) | FrameView::Cancel(_) => true,
-    };
-    match top {
+    let (
+        Some(how),
         Some(FrameView::Routine {
             driver, routine, ..
-        }) if calls => {
-            words.push_str("; ")?;
-            book.add_routine(words, driver, routine)?;
-            words.push_str(" begins")
-        }
-        _ => Ok(()),
+        }),
+    ) = (how_called(acting), top)
+    else {
+        return Ok(());
+    };
+    words.push_str(how)?;
+    book.add_routine(words, driver, routine)
+}
+
+/// How a step calls a routine, if it does where one stands on top after it.
+fn how_called(acting: Acting) -> Option<&'static str> {
+    match acting.frame {
+        FrameView::Routine { .. } => match acting.instruction {
+            Some(Instr::Pass(_) | Instr::Call(_, _)) => Some("; calls "),
+            _ => None,
+        },
+        FrameView::Walk(_) => Some("; calls "),
+        FrameView::Cancel(_) => Some(": "),
     }
 }

@@ -2,7 +2,7 @@
 
 use model::event::{Event, Reply};
 use model::instr::Instr;
-use model::view::FrameView;
+use model::view::{FrameView, LiveView, PacketView};
 use model::world::CancelStep;
 use told::{Acting, Moment};
 
@@ -16,8 +16,10 @@ pub(crate) enum Sign {
     /// IoCompleteRequest.
     Complete,
     TopsOut,
-    /// IoCancelIrp begins, sets Irp->Cancel, or calls the cancel routine.
+    /// IoCancelIrp begins, or calls the cancel routine.
     Cancel,
+    /// It sets Irp->Cancel.
+    Flag,
     /// A cancel routine is set.
     Arm,
     /// It is set no more.
@@ -36,7 +38,12 @@ impl Sign {
     pub(crate) fn is_on_line(self) -> bool {
         matches!(
             self,
-            Sign::Mark | Sign::Complete | Sign::TopsOut | Sign::Arm | Sign::Disarm
+            Sign::Mark
+                | Sign::Complete
+                | Sign::TopsOut
+                | Sign::Flag
+                | Sign::Arm
+                | Sign::Disarm
         )
     }
 }
@@ -49,7 +56,7 @@ pub(crate) fn sign_of(event: &Event, moment: &Moment, reply: &Reply) -> Sign {
         Reply::Topped { .. } => Sign::TopsOut,
         Reply::Waited | Reply::Idle => Sign::Acts,
         Reply::Started(_) | Reply::Stepped | Reply::Finished => match moment.acting {
-            Some(acting) => sign_of_step(acting),
+            Some(acting) => sign_of_step(acting, moment.packet),
             None => sign_of_begin(event),
         },
     }
@@ -64,28 +71,37 @@ fn sign_of_begin(event: &Event) -> Sign {
     }
 }
 
-/// The sign of a frame's step.
-fn sign_of_step(acting: Acting) -> Sign {
+/// The sign of a frame's step, by the packet that it is about.
+fn sign_of_step(acting: Acting, packet: Option<PacketView>) -> Sign {
     match acting.frame {
         FrameView::Walk(_) => Sign::Acts,
-        FrameView::Cancel(canceller) => match canceller.next {
-            CancelStep::Acquire => Sign::Acquire,
-            CancelStep::SetFlag | CancelStep::Exchange => Sign::Cancel,
+        FrameView::Cancel(canceller) => match (canceller.next, packet) {
+            (CancelStep::Acquire, _) => Sign::Acquire,
+            (CancelStep::SetFlag, Some(PacketView::Live(_))) => Sign::Flag,
+            _ => Sign::Cancel,
         },
         FrameView::Routine { .. } => match acting.instruction {
-            Some(instr) => sign_of_instruction(&instr),
+            Some(instr) => sign_of_instruction(&instr, is_armed(packet)),
             None => Sign::Acts,
         },
     }
 }
 
-/// The sign of an instruction's step.
-fn sign_of_instruction(instr: &Instr) -> Sign {
+/// Whether the cancel routine of a packet is set.
+fn is_armed(packet: Option<PacketView>) -> bool {
+    matches!(
+        packet,
+        Some(PacketView::Live(LiveView { armer: Some(_), .. }))
+    )
+}
+
+/// The sign of an instruction's step, by whether the cancel routine of its packet is set before it.
+fn sign_of_instruction(instr: &Instr, armed: bool) -> Sign {
     match *instr {
         Instr::Mark(_) => Sign::Mark,
         Instr::Complete(_, _) => Sign::Complete,
         Instr::Arm(_, _) => Sign::Arm,
-        Instr::Disarm(_, _) => Sign::Disarm,
+        Instr::Disarm(_, _) if armed => Sign::Disarm,
         Instr::Acquire(_) | Instr::AcquireCancel => Sign::Acquire,
         Instr::Release(_) | Instr::ReleaseCancel => Sign::Release,
         _ => Sign::Acts,

@@ -6,12 +6,12 @@ use crate::lane::State;
 
 /// The style sheet, and the hatching of waits.
 pub(crate) const STYLE: &str = "<style>\
-text{font-family:'DejaVu Sans Mono','Liberation Mono',Consolas,Menlo,monospace;font-size:11px;\
+text{font-family:'DejaVu Sans Mono','Liberation Mono',Consolas,Menlo,monospace;font-size:10px;\
 fill:#111}\n\
 .title{font-size:14px;font-weight:bold}\n\
-.small{font-size:10px;fill:#333}\n\
+.small{fill:#333}\n\
 .end{text-anchor:end}\n\
-.fold{text-anchor:end;font-size:9px;fill:#666}\n\
+.fold{text-anchor:end;font-size:8px;fill:#555}\n\
 .place{fill:#444}\n\
 .bad{fill:#a00018;font-weight:bold}\n\
 .packet{font-size:8px;font-weight:bold;fill:#000}\n\
