@@ -242,7 +242,7 @@ impl Drawing {
             }
             (Reply::Topped { packet, .. }, _) => self.end(packet),
             (Reply::Stepped | Reply::Finished, Event::Step { thread }) => {
-                match seen.moment.acting {
+                match &seen.moment.acting {
                     Some(acting) => self.follow_step(seen.machine, thread, acting),
                     None => Ok(()),
                 }
@@ -256,20 +256,32 @@ impl Drawing {
         &mut self,
         machine: &Checked,
         thread: u8,
-        acting: Acting,
+        acting: &Acting,
     ) -> Result<(), AllocError> {
         if let Some(n) = acting.packet {
-            if calls_cancel_routine(machine, thread, acting) && !self.is_listed(n) {
-                self.go(n, Stay::at(Post::Thread(thread)))?;
-            }
-            if let Some(stay) = goes_to(machine, thread, acting, n) {
-                self.go(n, stay)?;
-            }
+            self.follow_packet(machine, thread, acting, n)?;
         }
         if matches!(acting.instruction, Some(Instr::Ret(_))) {
             self.follow_rest(machine, thread)?;
         }
         Ok(())
+    }
+
+    /// Follows the packet that a step of a thread is about.
+    fn follow_packet(
+        &mut self,
+        machine: &Checked,
+        thread: u8,
+        acting: &Acting,
+        n: u64,
+    ) -> Result<(), AllocError> {
+        if calls_cancel_routine(machine, thread, acting.frame) && !self.is_listed(n) {
+            return self.go(n, Stay::at(Post::Thread(thread)));
+        }
+        match goes_to(machine, thread, acting, n) {
+            Some(stay) => self.go(n, stay),
+            None => Ok(()),
+        }
     }
 
     /// Whether a packet's line is in the lane of a list.

@@ -56,7 +56,7 @@ impl Stay {
 
 /// Where a packet goes in the step of a frame of a thread that is about it, by the machine after
 /// it. None where it stays where it is.
-pub(crate) fn goes_to(machine: &Checked, thread: u8, acting: Acting, n: u64) -> Option<Stay> {
+pub(crate) fn goes_to(machine: &Checked, thread: u8, acting: &Acting, n: u64) -> Option<Stay> {
     match acting.frame {
         FrameView::Walk(_) => stay_on_top(machine, thread, n),
         FrameView::Cancel(_) => None,
@@ -107,9 +107,10 @@ fn stay_on_top(machine: &Checked, thread: u8, n: u64) -> Option<Stay> {
     }
 }
 
-/// Whether IoCancelIrp has called a cancel routine in a step of a frame of a thread.
-pub(crate) fn calls_cancel_routine(machine: &Checked, thread: u8, acting: Acting) -> bool {
-    match acting.frame {
+/// Whether IoCancelIrp has called a cancel routine in a step of a frame of a thread, by the machine
+/// after it.
+pub(crate) fn calls_cancel_routine(machine: &Checked, thread: u8, frame: FrameView) -> bool {
+    match frame {
         FrameView::Cancel(canceller) => {
             matches!(canceller.next, CancelStep::Exchange)
                 && matches!(top_of(machine, thread), Some(FrameView::Routine { .. }))

@@ -67,7 +67,7 @@ impl Lane {
             Some(track) => track,
             None if self.tracks.len() < TRACKS => {
                 self.tracks.push(0)?;
-                self.tracks.len() - 1
+                self.tracks.len().saturating_sub(1)
             }
             None => TRACKS - 1,
         };
@@ -86,7 +86,12 @@ impl Lane {
 }
 
 /// Adds a lane without packets.
-fn add_lane(lanes: &mut Vec<Lane>, alloc: Global, post: Post, name: String) -> Result<(), AllocError> {
+fn add_lane(
+    lanes: &mut Vec<Lane>,
+    alloc: Global,
+    post: Post,
+    name: String,
+) -> Result<(), AllocError> {
     lanes.push(Lane {
         post,
         name,

@@ -192,10 +192,10 @@ fn tracks_width(tracks: usize) -> u32 {
 fn width_of(lane: &Lane) -> u32 {
     let tracks = tracks_width(lane.tracks());
     match lane.post {
-        Post::Thread(_) => LEFT + 8 + tracks,
+        Post::Thread(_) => (LEFT + 8).saturating_add(tracks),
         Post::Device(_) => 20,
         Post::Nobody if lane.tracks() == 0 => 0,
-        _ => LIST_LEFT + tracks.max(12),
+        _ => LIST_LEFT.saturating_add(tracks.max(12)),
     }
 }
 
@@ -205,7 +205,7 @@ fn head_of(drawing: &Drawing) -> u32 {
     for lane in drawing.lanes.iter() {
         longest = lane.name.len().min(NAME).max(longest);
     }
-    TITLE + width_of_letters(longest.min(NAME) as u32) + 10
+    (TITLE + 10).saturating_add(width_of_letters(longest.min(NAME) as u32))
 }
 
 /// How many decimal digits a number has.

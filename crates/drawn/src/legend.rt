@@ -2,7 +2,7 @@
 
 use crate::follow::Hold;
 use crate::lane::State;
-use crate::layout::{Layout, MARGIN};
+use crate::layout::MARGIN;
 use crate::picture::add_sign;
 use crate::sign::Sign;
 use crate::style::{class_of_hold, class_of_state};
@@ -33,12 +33,7 @@ pub(crate) fn height_of_legend() -> u32 {
 }
 
 /// Adds the legend, from a height on.
-pub(crate) fn add_legend(
-    words: &mut String,
-    layout: &Layout,
-    top: u32,
-) -> Result<(), AllocError> {
-    let _ = layout;
+pub(crate) fn add_legend(words: &mut String, top: u32) -> Result<(), AllocError> {
     add_lines(words, top)?;
     add_signs(words, top)?;
     add_more_signs(words, top)
@@ -116,7 +111,7 @@ fn add_sample(words: &mut String, sample: Sample, corner: Point) -> Result<(), A
         Sample::Open => {
             let middle = at(x.saturating_add(17), y);
             add_line(words, "goes", at(middle.x, corner.y), middle)?;
-            add_shape(words, "black", middle, "m-4-3h8l-4 7z")
+            add_shape(words, "black", middle, "m-3-3h6l-3 7z")
         }
     }
 }

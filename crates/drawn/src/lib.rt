@@ -1,5 +1,5 @@
-//! A run drawn as one SVG picture: a lane for each thread, and for each device and its lists; a line
-//! for each packet through the lanes; and a row of words for each event of interest.
+//! A run drawn as one SVG picture: a lane for each thread, and for each device and its lists; a
+//! line for each packet through the lanes; and a row of words for each event of interest.
 //!
 //! Time goes downwards. Each event that is drawn has a row: its number, what happens in the lanes,
 //! where the frame stands that acts, and words for what it changed. No text lies over another: the

@@ -12,6 +12,10 @@ use crate::svg::{
 };
 use std::alloc::AllocError;
 
+/// The second line of what is said at the top of the events that are folded.
+const FOLDED: &[u8] = b"go on with a completion or a wait, or find nothing to do. \
+\"+3\" at a row says how many before it.";
+
 /// Where a packet's line begins that is drawn next.
 #[derive(Clone, Copy)]
 struct Begun {
@@ -96,13 +100,11 @@ impl Drawing {
         let mut note = String::new(self.alloc);
         write!(
             note,
-            "Time goes downwards. {drawn} of the events are drawn, at most {MOST_ROWS}. {folded} are folded: "
+            "Time goes downwards. {drawn} of the events are drawn, at most {MOST_ROWS}. "
         )?;
-        note.push_str("they step in registers or cells,")?;
+        write!(note, "{folded} are folded: they step in registers or cells,")?;
         add_text(words, "small", at(MARGIN, 43), note.as_bytes())?;
-        let note = b"go on with a completion or a wait, or find nothing to do. \"+3\" at a row says how many \
-before it.";
-        add_text(words, "small", at(MARGIN, 56), note.as_slice())?;
+        add_text(words, "small", at(MARGIN, 56), FOLDED)?;
         let line = layout.head.saturating_sub(6);
         add_text(words, "small end", at(layout.folds, line), b"event")?;
         add_text(words, "small", at(layout.place, line), b"where (line)")?;
@@ -179,7 +181,7 @@ before it.";
         }
         let mut number = String::new(self.alloc);
         write!(number, "{}", step.packet)?;
-        let start = at(x.saturating_add(4), y.saturating_add(10));
+        let start = at(x.saturating_add(5), y.saturating_add(10));
         add_text(words, "packet", start, number.as_bytes())
     }
 
@@ -194,7 +196,7 @@ before it.";
         let class = class_of_hold(line.stand.hold);
         let end = layout.end().saturating_sub(5);
         add_line(words, class, at(x, layout.middle(line.row)), at(x, end))?;
-        add_shape(words, "black", at(x, end), "m-4-3h8l-4 7z")
+        add_shape(words, "black", at(x, end), "m-3-3h6l-3 7z")
     }
 
     /// Where the line of a packet is.
@@ -250,7 +252,7 @@ before it.";
             write!(note, "+{} events are folded behind the last row.", self.folded)?;
             add_text(words, "small", at(MARGIN, top.saturating_add(15)), note.as_bytes())?;
         }
-        add_legend(words, layout, top.saturating_add(22))
+        add_legend(words, top.saturating_add(22))
     }
 }
 

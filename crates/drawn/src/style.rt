@@ -1,5 +1,5 @@
-//! What the elements of a picture look like. What differs in colour differs in its dashes, its width
-//! or its lightness too, so that it can be told apart in grey.
+//! What the elements of a picture look like. What differs in colour differs in its dashes, its
+//! width or its lightness too, so that it can be told apart in grey.
 
 use crate::follow::Hold;
 use crate::lane::State;
